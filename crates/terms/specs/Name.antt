@@ -1,5 +1,4 @@
 -- The orders of addresses, tags and instances: by the collection's number, then by the key.
-use Rattle.std.specs.Prelude.{}
 use Rattle.std.specs.declared.cmp.Ordering.{Ordering}
 use Rattle.std.specs.Ordering.{nat_cmp, ordering_then}
 use Rattle.terms.specs.Key.{key_cmp}

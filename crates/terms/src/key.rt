@@ -1,9 +1,8 @@
 ghost use Rattle.std.specs.Prelude.{◌≡◌, ℤ, ◌≤◌, List, length, take};
-ghost use Rattle.std.specs.Cmp.{int_cmp_total, partial_order_from_own_ties};
-ghost use Rattle.std.specs.Cmp.Rules.{comparing};
-ghost use Rattle.std.proofs.Common.{rules, refl, sym, arith, length-take-le};
 ghost use Rattle.std.specs.Ordering.{int_cmp, int_eq, as_partial_cmp};
-ghost use Rattle.std.specs.Cmp.Lexicographic.{pointwise, lists_ties, lists_total};
+ghost use Rattle.std.specs.Cmp.{int_cmp_total, int_eq_equiv, partial_equiv_from_equiv, po};
+ghost use Rattle.std.specs.Cmp.Lexicographic.{pointwise, lists_equiv, lists_per, lists_ties, lists_total};
+ghost use Rattle.std.proofs.Common.{refl, sym, length-take-le};
 ghost use Rattle.terms.specs.declared.key.TheConstants.{MAX_COMPONENTS};
 ghost use Rattle.terms.specs.Key.{key_cmp, padded};
 
@@ -14,6 +13,8 @@ use std::marker::Model;
 pub const MAX_COMPONENTS: usize = 4;
 
 /// What names an item, a tag or an instance within its collection: 0 to `MAX_COMPONENTS` whole numbers.
+///
+/// Keys are ordered component by component, and a key stands before each longer one that it begins.
 #[derive(Clone, Copy, Debug)]
 pub struct Key {
     components: [i64; MAX_COMPONENTS],
@@ -26,15 +27,15 @@ impl Model for Key {
     ghost view = { λ k. take k.count k.components };
 
     // The places behind the count hold zeros, so that a list of components has one key.
-    ghost invariant = { λ k. (k.count ≤ MAX_COMPONENTS) × (length k.components ≡ MAX_COMPONENTS) × (k.components ≡ padded (take k.count k.components)) };
+    ghost invariant = { λ k. (k.count ≤ length k.components) × (k.components ≡ padded (take k.count k.components)) };
 
     ghost inverse = { λ components. record { components = padded components; count = length components } };
 
-    ghost inverse_ok = { λ a h. λ i. record { components = sym h.2 i; count = length-take-le a.count a.components (Prim.omega arith) i } };
+    ghost inverse_ok = { λ k whole. λ i. record { components = sym whole.1 i; count = length-take-le k.count k.components whole.0 i } };
 }
 
 impl Key {
-    /// The key with these components.
+    /// The key with these components. A list that comes from outside is measured against `MAX_COMPONENTS` first.
     pub fn new(components: &[i64]) -> Self
         requires { length components.now ≤ MAX_COMPONENTS }
         ensures { result ≡ components.now }
@@ -60,7 +61,7 @@ impl Key {
 impl PartialEq for Key {
     ghost eq = { pointwise int_eq };
 
-    ghost laws = { Prim.search (comparing, rules) };
+    ghost laws = { lists_per (partial_equiv_from_equiv int_eq_equiv) };
 
     fn eq(&self, other: &Self) -> bool {
         self.components() == other.components()
@@ -68,13 +69,13 @@ impl PartialEq for Key {
 }
 
 impl Eq for Key {
-    ghost laws = { Prim.search (comparing, rules) };
+    ghost laws = { lists_equiv int_eq_equiv };
 }
 
 impl PartialOrd for Key {
     ghost partial_cmp = { as_partial_cmp key_cmp };
 
-    ghost laws = { partial_order_from_own_ties (lists_total int_cmp_total) (lists_ties int_cmp (λ x y. refl)) };
+    ghost laws = { po (lists_total int_cmp_total) (lists_ties int_cmp (λ x y. refl)) };
 
     fn partial_cmp(&self, other: &Self) -> Option<Ordering> {
         Some(self.cmp(other))
@@ -86,11 +87,48 @@ impl Ord for Key {
 
     ghost total = { lists_total int_cmp_total };
 
-    ghost matches_partial_cmp = { Prim.search (comparing, rules) };
+    ghost matches_partial_cmp = { λ x y. refl };
 
     ghost matches_eq = { lists_ties int_cmp (λ x y. refl) };
 
     fn cmp(&self, other: &Self) -> Ordering {
         self.components().cmp(other.components())
+    }
+}
+
+#[cfg(test)]
+mod tests {
+    use super::*;
+
+    #[test]
+    fn components_come_back(rt: HostRuntime) {
+        assert_eq!(rt; Key::new(&[]).components(), [].as_slice());
+        let ends = [i64::MIN, 0, i64::MAX];
+        assert_eq!(rt; Key::new(&ends).components(), ends.as_slice());
+        let full = [7; MAX_COMPONENTS];
+        assert_eq!(rt; Key::new(&full).components(), full.as_slice());
+    }
+
+    #[test]
+    fn keys_rise(rt: HostRuntime) {
+        let rising = [
+            Key::new(&[]),
+            Key::new(&[-1]),
+            Key::new(&[-1, 5]),
+            Key::new(&[0]),
+            Key::new(&[0, -9223372036854775808]),
+            Key::new(&[0, 0]),
+            Key::new(&[0, 0, 0]),
+            Key::new(&[0, 0, 0, 0]),
+            Key::new(&[0, 1]),
+            Key::new(&[9223372036854775807]),
+        ];
+        for (i, a) in rising.iter().enumerate() {
+            for (j, b) in rising.iter().enumerate() {
+                assert_eq!(rt; a.cmp(b), i.cmp(&j), "at {i} and {j}");
+                assert_eq!(rt; a < b, i < j, "at {i} and {j}");
+                assert_eq!(rt; a == b, i == j, "at {i} and {j}");
+            }
+        }
     }
 }

@@ -1,12 +1,14 @@
 //! The names of Concurrent Collections: keys, addresses of items, tags and instances of steps, with their orders.
 //!
 //! A `Key` is seen as the list of its components. Addresses, tags and instances are a collection's number and a key.
-//! The layer above stands on the total orders: `cmp` of keys is `slice_cmp int_cmp`, and of the others
-//! the collection's number comes first.
+//! The layer above stands on `cmp`: of keys it is `key_cmp`, and of the others `addr_cmp`, `tag_cmp` and `inst_cmp`,
+//! where the collection's number comes first. The functions of `order` carry the laws of the four.
 #![tactic(auto)]
 
 mod key;
 mod name;
+mod order;
 
 pub use key::{Key, MAX_COMPONENTS};
 pub use name::{Addr, Inst, ItemCollection, StepCollection, Tag, TagCollection};
+pub use order::{addr_order, inst_order, key_order, orders_are_total, tag_order};

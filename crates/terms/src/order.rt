@@ -1,0 +1,83 @@
+ghost use Rattle.std.specs.Prelude.{◌≡◌};
+ghost use Rattle.std.specs.Cmp.{IsTotalOrder};
+ghost use Rattle.std.specs.FinMap.{IsAntisymmetric};
+ghost use Rattle.terms.specs.Key.{key_cmp, BeginningFirst, FirstDifferenceDecides};
+ghost use Rattle.terms.specs.Name.{addr_cmp, tag_cmp, inst_cmp};
+
+use crate::{Addr, Inst, Tag};
+use std::cmp::Ordering;
+
+/// A law, with nothing to run: what decides between two keys.
+pub fn key_order()
+    ensures beginning { BeginningFirst }
+    ensures first_difference { FirstDifferenceDecides }
+{}
+
+/// What `cmp` answers of two addresses: the collection's number decides, and then the key.
+pub fn addr_order(a: &Addr, b: &Addr) -> Ordering
+    ensures { result ≡ addr_cmp a.now b.now }
+{
+    a.cmp(b)
+}
+
+/// What `cmp` answers of two tags, by the same rule.
+pub fn tag_order(a: &Tag, b: &Tag) -> Ordering
+    ensures { result ≡ tag_cmp a.now b.now }
+{
+    a.cmp(b)
+}
+
+/// What `cmp` answers of two instances, by the same rule.
+pub fn inst_order(a: &Inst, b: &Inst) -> Ordering
+    ensures { result ≡ inst_cmp a.now b.now }
+{
+    a.cmp(b)
+}
+
+/// A law, with nothing to run: each of the four orders is total, and ties only at equal values.
+pub fn orders_are_total()
+    ensures keys { IsTotalOrder key_cmp }
+    ensures keys_tie { IsAntisymmetric key_cmp }
+    ensures addresses { IsTotalOrder addr_cmp }
+    ensures addresses_tie { IsAntisymmetric addr_cmp }
+    ensures tags { IsTotalOrder tag_cmp }
+    ensures tags_tie { IsAntisymmetric tag_cmp }
+    ensures instances { IsTotalOrder inst_cmp }
+    ensures instances_tie { IsAntisymmetric inst_cmp }
+{}
+
+#[cfg(test)]
+mod tests {
+    use super::*;
+    use crate::{ItemCollection, Key, StepCollection, TagCollection};
+
+    #[test]
+    fn the_collection_comes_first(rt: HostRuntime) {
+        key_order();
+        orders_are_total();
+        let (small, great) = (Key::new(&[0]), Key::new(&[i64::MAX]));
+
+        let item = |number, key| Addr {
+            collection: ItemCollection(number),
+            key,
+        };
+        let (before, after) = (item(0, great), item(1, small));
+        assert_eq!(rt; addr_order(&before, &after), Ordering::Less);
+        assert!(rt; after > before && after < item(1, great));
+        assert!(rt; after == item(1, small) && after != before);
+
+        let tag = |number, key| Tag {
+            collection: TagCollection(number),
+            key,
+        };
+        let (before, after) = (tag(0, great), tag(1, small));
+        assert_eq!(rt; tag_order(&before, &after), Ordering::Less);
+
+        let instance = |number, key| Inst {
+            collection: StepCollection(number),
+            key,
+        };
+        let (before, after) = (instance(0, great), instance(1, small));
+        assert_eq!(rt; inst_order(&before, &after), Ordering::Less);
+    }
+}
