@@ -18,9 +18,11 @@ pub record Agrees (touched : ℕ → Bool) (old new : List ℕ) : Type 0 where
   pub elsewhere : (at : ℕ) → touched at ≡ false → slice_get new at ≡ slice_get old at
   pub length_stays : ((at : ℕ) → length old ≤ at → touched at ≡ false) → length new ≡ length old
 
--- each is a byte
+abbrev pub IsByte : ℕ → Type 0
+IsByte number = number < 2 ^ 8
+
 abbrev pub AreBytes : List ℕ → Type 0
-AreBytes bytes = All (λ byte. byte < 2 ^ 8) bytes
+AreBytes numbers = All IsByte numbers
 
 -- a crash may leave any bytes that agree with the synced ones at every position that is not touched
 pub record MayLeave (durable : Durable) (bytes : List ℕ) : Type 0 where

@@ -6,9 +6,12 @@
 #![tactic(auto)]
 
 mod error;
+mod mem_disk;
+mod record;
 mod side;
 mod storage;
 
 pub use error::DiskError;
+pub use mem_disk::{Fill, MemDisk};
 pub use side::Side;
 pub use storage::Disk;

@@ -1,0 +1,55 @@
+-- What a record of calls says of the two files: what is durable now, and what a crash since a moment may have left.
+use Rattle.std.specs.Prelude.{◌≡◌, ◌≤◌, ℕ, List, [], ◌∷◌, ◌++◌, length, take, if◌then◌else◌, count_by}
+use Rattle.std.proofs.Common.{sym, subst, arith}
+use Rattle.std.proofs.lemmas.List.{take_all}
+use Rattle.disk.specs.declared.side.Side.{Side}
+use Rattle.disk.specs.declared.error.DiskError.{DiskError}
+use Rattle.disk.specs.declared.error.DiskError.TheVariants.{Device, NoMemory}
+use Rattle.disk.specs.declared.record.Call.{Call}
+use Rattle.disk.specs.declared.record.Change.{Change}
+use Rattle.disk.specs.declared.record.Change.TheVariants.{Nothing, Write, Cut, Sync}
+use Rattle.disk.specs.Side.{is_side, pick}
+use Rattle.disk.specs.File.{Durable, File, MayLeave, settled, touching, write_touches, cut_touches}
+use Rattle.disk.specs.Time.{Contents}
+
+-- what a change does to what is durable of its file
+abbrev pub changed : Change → Durable → Durable
+changed Nothing durable = durable
+changed (Write at count) durable = touching (write_touches durable at count) durable
+changed (Cut count) durable = touching (cut_touches count) durable
+changed (Sync content) durable = settled content.items
+
+-- what is durable of a file after these calls, of which only those on this side count
+abbrev pub durable_after : Side → List Call → Durable → Durable
+durable_after side [] durable = durable
+durable_after side (call ∷ calls) durable = durable_after side calls (if is_side call.side side then changed call.change durable else durable)
+
+-- on a new disk, whose files are empty
+abbrev pub durable_of : List Call → Side → Durable
+durable_of calls side = durable_after side calls (settled [])
+
+-- the files whose reads give these bytes, after these calls
+abbrev pub files_after : List ℕ → List ℕ → List Call → Side → File
+files_after a b calls side = record { content = pick a b side; durable = durable_of calls side }
+
+-- a call that was begun and ended with an error: it failed on the device and is kept, or the record could not grow
+abbrev pub Kept : DiskError → Call → List Call → List Call → Type 0
+Kept Device call old new = new ≡ old ++ call ∷ []
+Kept NoMemory call old new = new ≡ old
+
+-- a crash after some number of the calls, t of them at least, may have left these bytes
+abbrev pub LeftSince : List Call → ℕ → Contents → Type 0
+LeftSince calls t contents = (k : ℕ) × (t ≤ k) × (k ≤ length calls) × ((side : Side) → MayLeave (durable_of (take k calls) side) (contents side))
+
+-- how many of the calls failed
+abbrev pub failures_of : List Call → ℕ
+failures_of calls = count_by (λ call. call.failed) calls
+
+-- this moment is one of those since an earlier one
+pub counts_now : (calls : List Call) (t : ℕ) (contents : Contents) → t ≤ length calls → ((side : Side) → MayLeave (durable_of calls side) (contents side)) → LeftSince calls t contents
+counts_now calls t contents le now =
+    (length calls, le, omega arith, λ side. subst (λ (l : List Call). MayLeave (durable_of l side) (contents side)) (sym (take_all (length calls) calls (omega arith))) (now side))
+
+-- since this moment there is no other
+pub only_now : (calls : List Call) (contents : Contents) → LeftSince calls (length calls) contents → (side : Side) → MayLeave (durable_of calls side) (contents side)
+only_now calls contents left side = subst (λ (l : List Call). MayLeave (durable_of l side) (contents side)) (take_all left.0 calls left.1) (left.3 side)

@@ -1,0 +1,16 @@
+-- The two files of a disk.
+use Rattle.std.specs.Prelude.{Bool, true, false}
+use Rattle.disk.specs.declared.side.Side.{Side}
+use Rattle.disk.specs.declared.side.Side.TheVariants.{A, B}
+
+-- whether these are one side
+abbrev pub is_side : Side → Side → Bool
+is_side A A = true
+is_side A B = false
+is_side B A = false
+is_side B B = true
+
+-- what stands at a side, of what A has and what B has
+abbrev pub pick : {X : Type 0} → X → X → Side → X
+pick a b A = a
+pick a b B = b

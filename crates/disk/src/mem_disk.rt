@@ -1,0 +1,162 @@
+ghost use Rattle.std.specs.Prelude.{◌≡◌, ◌≤◌, [], take, length, vec_len, if◌then◌else◌, IsTrue, ◌↔◌, OnOk, OnErr, IfErr, IsOk};
+ghost use Rattle.disk.specs.declared.side.Side.{Side};
+ghost use Rattle.disk.specs.Side.{is_side, pick};
+ghost use Rattle.disk.specs.File.{MayLeave, overwritten};
+ghost use Rattle.disk.specs.Calls.{durable_of};
+
+use crate::record::{Change, Record};
+use crate::{Disk, DiskError, Side};
+use std::alloc::{AllocError, Global};
+
+/// What a crash is to leave of both files.
+#[derive(Debug, Drop)]
+pub struct Fill {
+    pub a: Vec<u8>,
+    pub b: Vec<u8>,
+}
+
+/// An honest disk in memory, whose crashes are chosen by the caller.
+///
+/// It keeps a record of all its calls, from which it tells what a crash may leave: a call answers `NoMemory`
+/// where the record cannot grow, and then nothing has changed.
+#[derive(Drop)]
+pub struct MemDisk {
+    alloc: Global,
+    a: Vec<u8>,
+    b: Vec<u8>,
+    history: Record,
+    ghost reads_left: { (side : Side) → MayLeave (durable_of history.calls.items side) (pick a.items b.items side) },
+}
+
+impl MemDisk {
+    ghost use Rattle.disk.specs.File.{settled};
+    ghost use Rattle.disk.specs.MemDisk.{files_of};
+
+    /// A disk of two empty files, all of it durable.
+    pub fn new(alloc: Global) -> Self
+        ensures { (side : Side) → files_of result side ≡ record { content = []; durable = settled [] } }
+    {
+        MemDisk {
+            alloc,
+            a: Vec::new(alloc),
+            b: Vec::new(alloc),
+            history: Record::new(alloc),
+        }
+    }
+
+    /// The call of the five with this number from now on, from 1, answers `Device`. A write or a cut that fails so
+    /// leaves what reads give.
+    pub fn fail_call(&mut self, number: u64)
+        ensures { files_of self.new ≡ files_of self.old }
+    {
+        self.history.fail(number);
+    }
+
+    // What reads of a file give.
+    fn content(&self, side: Side) -> &[u8]
+        ensures { result.now ≡ (files_of self.now side).content }
+    {
+        match side {
+            Side::A => &self.a,
+            Side::B => &self.b,
+        }
+    }
+}
+
+impl Disk for MemDisk {
+    ghost use Rattle.std.specs.Prelude.{true, length};
+    ghost use Rattle.disk.specs.Calls.{LeftSince, failures_of, counts_now, only_now};
+    ghost use Rattle.disk.specs.MemDisk.{files_of, reads_left};
+
+    ghost is_honest = { true };
+
+    ghost files = { files_of };
+
+    ghost moment = { λ disk. length disk.history.calls.items };
+
+    ghost left_since = { λ disk. LeftSince disk.history.calls.items };
+
+    ghost failures = { λ disk. failures_of disk.history.calls.items };
+
+    ghost counts_now = { λ _ disk. counts_now disk.history.calls.items };
+
+    ghost only_now = { λ _ disk. only_now disk.history.calls.items };
+
+    ghost reads_left = { λ _. reads_left };
+
+    fn len(&mut self, side: Side) -> Result<u64, DiskError> {
+        let change = self.history.begin(side, Change::Nothing)?;
+        self.history.end(side, change);
+        Ok(self.content(side).len() as u64)
+    }
+
+    fn read(&mut self, side: Side, at: u64, buffer: &mut [u8]) -> Result<(), DiskError> {
+        let change = self.history.begin(side, Change::Nothing)?;
+        self.history.end(side, change);
+        let from = at as usize;
+        buffer.copy_from_slice(&self.content(side)[from..from + buffer.len()]);
+        Ok(())
+    }
+
+    fn write_at(&mut self, side: Side, at: u64, bytes: &[u8]) -> Result<(), DiskError> {
+        let count = bytes.len() as u64;
+        let change = self.history.begin(side, Change::Write { at, count })?;
+        write_side(&mut self.a, &mut self.b, side, at as usize, bytes)?;
+        self.history.end(side, change);
+        Ok(())
+    }
+
+    fn cut(&mut self, side: Side, count: u64) -> Result<(), DiskError> {
+        let change = self.history.begin(side, Change::Cut { count })?;
+        cut_side(&mut self.a, &mut self.b, side, count as usize);
+        self.history.end(side, change);
+        Ok(())
+    }
+
+    fn sync(&mut self, side: Side) -> Result<(), DiskError> {
+        let content = self.content(side).to_vec(self.alloc)?;
+        let _nothing = self.history.begin(side, Change::Nothing)?;
+        self.history.end(side, Change::Sync { content });
+        Ok(())
+    }
+}
+
+// Puts bytes over what one of the files has from a place on.
+fn write_side(
+    a: &mut Vec<u8>,
+    b: &mut Vec<u8>,
+    side: Side,
+    at: usize,
+    bytes: &[u8],
+) -> Result<(), AllocError>
+    requires { at ≤ length (pick a.old.items b.old.items side) }
+    ensures ok { OnOk result ((each : Side) → pick a.new.items b.new.items each ≡ (if is_side side each then overwritten (pick a.old.items b.old.items each) at bytes.now else pick a.old.items b.old.items each)) }
+    ensures err { OnErr result ((each : Side) → pick a.new.items b.new.items each ≡ pick a.old.items b.old.items each) }
+{
+    match side {
+        Side::A => overwrite(a, at, bytes),
+        Side::B => overwrite(b, at, bytes),
+    }
+}
+
+// Cuts one of the files.
+fn cut_side(a: &mut Vec<u8>, b: &mut Vec<u8>, side: Side, count: usize)
+    ensures { (each : Side) → pick a.new.items b.new.items each ≡ (if is_side side each then take count (pick a.old.items b.old.items each) else pick a.old.items b.old.items each) }
+{
+    match side {
+        Side::A => a.truncate(count),
+        Side::B => b.truncate(count),
+    }
+}
+
+// Puts bytes over what is there from a place on, and past the end.
+fn overwrite(content: &mut Vec<u8>, at: usize, bytes: &[u8]) -> Result<(), AllocError>
+    requires { at ≤ vec_len content.old }
+    ensures ok { OnOk result (content.new.items ≡ overwritten content.old.items at bytes.now) }
+    ensures err { OnErr result (content.new.items ≡ content.old.items) }
+{
+    let over = bytes.len().min(content.len() - at);
+    content.extend_from_slice(&bytes[over..])?;
+    content[at..at + over].copy_from_slice(&bytes[..over]);
+    Ok(())
+}

@@ -1,0 +1,82 @@
+ghost use Rattle.std.specs.Prelude.{◌≡◌, ◌<◌, ◌++◌, ◌∷◌, [], true, false, vec_len, vec_capacity, IfOk, IfErr};
+
+use crate::{DiskError, Side};
+use std::alloc::Global;
+
+/// What a call did to what is durable of its file.
+#[derive(Drop)]
+pub(crate) enum Change {
+    Nothing,
+    Write { at: u64, count: u64 },
+    Cut { count: u64 },
+    Sync { content: Vec<u8> },
+}
+
+/// One call of a disk.
+#[derive(Drop)]
+pub(crate) struct Call {
+    pub(crate) side: Side,
+    pub(crate) change: Change,
+    pub(crate) failed: bool,
+}
+
+/// The calls of a disk so far, and which of those to come is to fail.
+#[derive(Drop)]
+pub(crate) struct Record {
+    pub(crate) calls: Vec<Call>,
+    until_failure: u64,
+}
+
+impl Record {
+    ghost use Rattle.disk.specs.Calls.{Kept};
+
+    /// No calls, and none that is to fail.
+    pub(crate) fn new(alloc: Global) -> Self
+        ensures { result.calls.items ≡ [] }
+    {
+        Record {
+            calls: Vec::new(alloc),
+            until_failure: 0,
+        }
+    }
+
+    /// The call with this number from now on, from 1, is to fail.
+    pub(crate) fn fail(&mut self, number: u64)
+        ensures { self.new.calls.items ≡ self.old.calls.items }
+    {
+        self.until_failure = number;
+    }
+
+    /// Begins a call: makes room for it, and keeps it as one that failed if it is the one that is to fail.
+    pub(crate) fn begin(&mut self, side: Side, change: Change) -> Result<Change, DiskError>
+        ensures change { IfOk result (λ kept. kept ≡ change) }
+        ensures room { IfOk result (λ _. vec_len self.new.calls < vec_capacity self.new.calls) }
+        ensures ok { IfOk result (λ _. self.new.calls.items ≡ self.old.calls.items) }
+        ensures err { IfErr result (λ error. Kept error (record { side = side; change = change; failed = true }) self.old.calls.items self.new.calls.items) }
+    {
+        self.calls.reserve(1)?;
+        let fails = self.until_failure == 1;
+        self.until_failure = self.until_failure.saturating_sub(1);
+        if fails {
+            self.calls.push_reserved(Call {
+                side,
+                change,
+                failed: true,
+            });
+            return Err(DiskError::Device);
+        }
+        Ok(change)
+    }
+
+    /// Ends a call that did what it was to do.
+    pub(crate) fn end(&mut self, side: Side, change: Change)
+        requires { vec_len self.old.calls < vec_capacity self.old.calls }
+        ensures { self.new.calls.items ≡ self.old.calls.items ++ record { side = side; change = change; failed = false } ∷ [] }
+    {
+        self.calls.push_reserved(Call {
+            side,
+            change,
+            failed: false,
+        });
+    }
+}
