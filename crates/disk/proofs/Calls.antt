@@ -57,6 +57,13 @@ is_other A B differs = refl
 is_other B A differs = refl
 is_other B B differs = absurd (differs refl)
 
+-- one side or the other
+pub which : (side each : Side) → (side ≡ each) ⊎ (each ≢ side)
+which A A = inl refl
+which A B = inr (λ e. cc)
+which B A = inr (λ e. cc)
+which B B = inl refl
+
 either_false : (b : Bool) → b ≡ (b || false)
 either_false true = refl
 either_false false = refl
@@ -151,12 +158,6 @@ module _ (call : Call) (calls after : List Call) where
     | inl it ↦ subst (λ (s : Side). MayLeave (durable_of after s) (content' s)) it (subst (λ (d : Durable). MayLeave d (content' call.side)) (sym (push_same is)) here)
     | inr differs ↦ subst (λ (d : Durable). MayLeave d (content' each)) (sym (push_other is each differs)) (subst (MayLeave (durable_of calls each)) (sym (same each differs)) (left each))
   ]
-    where
-      which : (side each : Side) → (side ≡ each) ⊎ (each ≢ side)
-      which A A = inl refl
-      which A B = inr (λ e. cc)
-      which B A = inr (λ e. cc)
-      which B B = inl refl
 
 -- what one of two files has after a change of one of them
 pub chosen_same : (a b : List ℕ) (side : Side) (x : List ℕ) → (if is_side side side then x else pick a b side) ≡ x

@@ -1,3 +1,5 @@
 pub mod Calls
+pub mod Durability
 pub mod Left
+pub mod Moments
 pub mod Places

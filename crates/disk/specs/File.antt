@@ -33,6 +33,10 @@ pub record MayLeave (durable : Durable) (bytes : List ℕ) : Type 0 where
 abbrev pub settled : List ℕ → Durable
 settled bytes = record { synced = bytes; touched = λ _. false }
 
+-- what reads give is these bytes, and all of it is on the disk
+abbrev pub at_rest : List ℕ → File
+at_rest bytes = record { content = bytes; durable = settled bytes }
+
 -- with these positions touched too
 abbrev pub touching : (ℕ → Bool) → Durable → Durable
 touching touches durable = record { synced = durable.synced; touched = λ at. durable.touched at || touches at }
@@ -78,5 +82,12 @@ Changes done touches (Err NoMemory) old new = FailsWithin touches old new
 
 -- what a sync does to its file, by its answer: one that fails clears nothing
 abbrev pub Syncs : {T : Type 0} → Result T DiskError → File → File → Type 0
-Syncs (Ok _) old new = new ≡ record { content = old.content; durable = settled old.content }
+Syncs (Ok _) old new = new ≡ at_rest old.content
 Syncs (Err _) old new = new ≡ old
+
+-- what a write of so many bytes may leave of synced ones: the same in front of it, and behind it too where it ends within them
+pub record WriteLeaves (synced : List ℕ) (from count : ℕ) (bytes : List ℕ) : Type 0 where
+  pub front : take from bytes ≡ take from synced
+  pub reaches : from ≤ length bytes
+  pub length_stays : from + count ≤ length synced → length bytes ≡ length synced
+  pub back : from + count ≤ length synced → drop (from + count) bytes ≡ drop (from + count) synced

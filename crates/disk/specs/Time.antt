@@ -17,6 +17,10 @@ MayLeaveNow files contents = (side : Side) → MayLeave (files side).durable (co
 abbrev pub OtherStays : Side → (Side → File) → (Side → File) → Type 0
 OtherStays side old new = (other : Side) → other ≢ side → new other ≡ old other
 
+-- of the other file this is what a crash might have left of it
+abbrev pub OtherMayBe : Side → (Side → File) → Contents → Type 0
+OtherMayBe side files contents = (other : Side) → other ≢ side → MayLeave (files other).durable (contents other)
+
 -- Time goes on by one call: a crash since t might have left what it might have left before, or what it may leave now.
 pub record Elapses (before now : ℕ) (past since : ℕ → Contents → Type 0) (may_leave : Contents → Type 0) : Type 0 where
   pub later : before ≤ now

@@ -6,12 +6,16 @@
 #![tactic(auto)]
 
 mod error;
+mod file_disk;
 mod mem_disk;
 mod record;
 mod side;
 mod storage;
+mod synced;
 
 pub use error::DiskError;
+pub use file_disk::FileDisk;
 pub use mem_disk::{Fill, MemDisk};
 pub use side::Side;
 pub use storage::Disk;
+pub use synced::write_synced;

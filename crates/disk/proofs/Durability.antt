@@ -1,0 +1,120 @@
+-- What a write and the sync behind it may leave.
+use Rattle.std.proofs.Common.{◌≡◌, ◌≢◌, ◌⊎◌, inl, inr, ℕ, zero, suc, ◌+◌, ◌≤◌, ◌<◌, min, Bool, true, false, ◌||◌, List, [], ◌∷◌, length, take, drop, refl, sym, ap, subst, ◌∙◌, arith, length-take, length-drop}
+use Rattle.std.specs.Prelude.{Option, Some, None, Result, Ok, Err, slice_get, nat_lt, nat_le}
+use Rattle.std.proofs.lemmas.List.{drop_all}
+use Rattle.std.proofs.lemmas.Bool.Decides.{nat_tests}
+use Rattle.disk.specs.declared.side.Side.{Side}
+use Rattle.disk.specs.declared.error.DiskError.{DiskError}
+use Rattle.disk.specs.declared.error.DiskError.TheVariants.{Device, NoMemory}
+use Rattle.disk.specs.File.{Durable, File, Agrees, MayLeave, Fails, FailsWithin, Changes, Syncs, WriteLeaves, at_rest, settled, touching, write_touches, overwritten, written}
+use Rattle.disk.specs.Time.{Contents, MayLeaveNow, OtherStays, OtherMayBe}
+use Rattle.disk.proofs.Places.{same_places}
+use Rattle.disk.proofs.Calls.{which}
+
+-- lists that agree at each place in front of k, or from k on
+same_front : (xs ys : List ℕ) (k : ℕ) → ((i : ℕ) → i < k → slice_get xs i ≡ slice_get ys i) → take k xs ≡ take k ys
+same_front xs ys zero same = refl
+same_front [] [] (suc k) same = refl
+same_front [] (y ∷ ys) (suc k) same = let first = same zero (omega arith) in cc
+same_front (x ∷ xs) [] (suc k) same = let first = same zero (omega arith) in cc
+same_front (x ∷ xs) (y ∷ ys) (suc k) same = let first = same zero (omega arith) in let rest = same_front xs ys k (λ i lt. same (suc i) (omega arith)) in cc
+
+same_back : (xs ys : List ℕ) (k : ℕ) → ((i : ℕ) → k ≤ i → slice_get xs i ≡ slice_get ys i) → drop k xs ≡ drop k ys
+same_back xs ys zero same = same_places xs ys (λ i. same i (omega arith))
+same_back [] [] (suc k) same = refl
+same_back [] (y ∷ ys) (suc k) same = sym (drop_all k [] (omega arith)) ∙ same_back [] ys k (λ i le. same (suc i) (omega arith))
+same_back (x ∷ xs) [] (suc k) same = same_back xs [] k (λ i le. same (suc i) (omega arith)) ∙ drop_all k [] (omega arith)
+same_back (x ∷ xs) (y ∷ ys) (suc k) same = same_back xs ys k (λ i le. same (suc i) (omega arith))
+
+either_false : (a b : Bool) → a ≡ false → b ≡ false → (a || b) ≡ false
+either_false a b left right = ap (λ (x : Bool). x || b) left ∙ right
+
+-- with more touched a crash may leave as much
+more_touched : (d : Durable) (some all : ℕ → Bool) → ((at : ℕ) → some at ≡ true → all at ≡ true) → (bytes : List ℕ) → MayLeave (touching some d) bytes → MayLeave (touching all d) bytes
+more_touched d some all within bytes left = record {
+  are_bytes = left.are_bytes;
+  agrees = record {
+    elsewhere = λ at h. left.agrees.elsewhere at (fewer (d.touched at) at h);
+    length_stays = λ h. left.agrees.length_stays (λ at le. fewer (d.touched at) at (h at le));
+  };
+}
+  where
+    not_all : (at : ℕ) (b : Bool) → some at ≡ b → all at ≡ false → b ≡ false
+    not_all at true is h = let e = within at is in cc
+    not_all at false is h = refl
+
+    fewer : (b : Bool) (at : ℕ) → (b || all at) ≡ false → (b || some at) ≡ false
+    fewer true at h = h
+    fewer false at h = not_all at (some at) refl h
+
+-- what a write or a cut leaves behind, by its answer, is at most what it leaves where it succeeds
+pub changes_leave : (T : Type 0) (done : File → File) (touches : ℕ → Bool) (result : Result T DiskError) (old new : File) → (done old).durable ≡ touching touches old.durable → Changes done touches result old new
+    → (bytes : List ℕ) → MayLeave new.durable bytes → MayLeave (touching touches old.durable) bytes
+changes_leave T done touches (Ok _) old new is changes bytes left = subst (λ (d : Durable). MayLeave d bytes) (ap (λ (f : File). f.durable) changes ∙ is) left
+changes_leave T done touches (Err Device) old new is changes bytes left = subst (λ (d : Durable). MayLeave d bytes) changes.durable left
+changes_leave T done touches (Err NoMemory) old new is changes bytes left =
+    more_touched old.durable changes.touched touches changes.within bytes (subst (λ (d : Durable). MayLeave d bytes) changes.fails.durable left)
+
+-- where all is on the disk a crash leaves that
+pub settled_only : (synced bytes : List ℕ) → MayLeave (settled synced) bytes → bytes ≡ synced
+settled_only synced bytes left = same_places bytes synced (λ at. left.agrees.elsewhere at refl)
+
+-- a sync lets a crash leave nothing new
+pub sync_leaves : (T : Type 0) (result : Result T DiskError) (old new : File) → Syncs result old new → MayLeave old.durable old.content → (bytes : List ℕ) → MayLeave new.durable bytes → MayLeave old.durable bytes
+sync_leaves T (Ok _) old new syncs reads bytes left =
+    subst (MayLeave old.durable) (sym (settled_only old.content bytes (subst (λ (f : File). MayLeave f.durable bytes) syncs left))) reads
+sync_leaves T (Err _) old new syncs reads bytes left = subst (λ (f : File). MayLeave f.durable bytes) syncs left
+
+-- what a write may leave of synced bytes, as lists
+pub write_leaves : (synced : List ℕ) (from count : ℕ) (bytes : List ℕ) → from ≤ length synced → MayLeave (touching (write_touches (settled synced) from count) (settled synced)) bytes → WriteLeaves synced from count bytes
+write_leaves synced from count bytes le left = record {
+  front = front;
+  reaches = omega (arith, ap length front, length-take from bytes, length-take from synced);
+  length_stays = λ within. left.agrees.length_stays (λ at ge. behind within at ge);
+  back = λ within. same_back bytes synced (from + count) (λ at ge. left.agrees.elsewhere at (past within at ge));
+}
+  where
+    before : (at : ℕ) → at < from → write_touches (settled synced) from count at ≡ false
+    before at lt = grind (arith, nat_tests)
+
+    front : take from bytes ≡ take from synced
+    front = same_front bytes synced from (λ at lt. left.agrees.elsewhere at (before at lt))
+
+    past : from + count ≤ length synced → (at : ℕ) → from + count ≤ at → write_touches (settled synced) from count at ≡ false
+    past within at ge = grind (arith, nat_tests)
+
+    behind : from + count ≤ length synced → (at : ℕ) → length synced ≤ at → write_touches (settled synced) from count at ≡ false
+    behind within at ge = past within at (omega arith)
+
+-- ---- a write and the sync behind it, of a synced file
+
+module _ (side : Side) (synced : List ℕ) (from count : ℕ) (reach : from ≤ length synced) where
+  -- what a crash leaves of both files
+  abbrev pub Leaves : (Side → File) → Contents → Type 0
+  Leaves files contents = WriteLeaves synced from count (contents side) × OtherMayBe side files contents
+
+  -- before the write
+  pub leaves_before : (old : Side → File) → old side ≡ at_rest synced → (contents : Contents) → MayLeaveNow old contents → Leaves old contents
+  leaves_before old is contents left = (
+    write_leaves synced from count (contents side) reach
+    (more_touched (settled synced) (λ _. false) (write_touches (settled synced) from count) (λ at h. cc) (contents side) (subst (λ (f : File). MayLeave f.durable (contents side)) is (left side))),
+    λ other differs. left other,
+  )
+
+  -- after it, whatever it answered
+  pub leaves_after : (T : Type 0) (done : File → File) (result : Result T DiskError) (old mid : Side → File) → old side ≡ at_rest synced
+      → (done (at_rest synced)).durable ≡ touching (write_touches (settled synced) from count) (settled synced)
+      → Changes done (write_touches (settled synced) from count) result (at_rest synced) (mid side) → OtherStays side old mid
+      → (contents : Contents) → MayLeaveNow mid contents → Leaves old contents
+  leaves_after T done result old mid is touches changes others contents left = (
+    write_leaves synced from count (contents side) reach (changes_leave T done (write_touches (settled synced) from count) result (at_rest synced) (mid side) touches changes (contents side) (left side)),
+    λ other differs. subst (λ (f : File). MayLeave f.durable (contents other)) (others other differs) (left other),
+  )
+
+-- a sync of one file, whatever it answered
+pub now_after_sync : (T : Type 0) (side : Side) (result : Result T DiskError) (mid new : Side → File) → Syncs result (mid side) (new side) → OtherStays side mid new → MayLeave (mid side).durable (mid side).content
+    → (contents : Contents) → MayLeaveNow new contents → MayLeaveNow mid contents
+now_after_sync T side result mid new syncs others reads contents left each = elim (which side each) [
+  | inl it ↦ subst (λ (s : Side). MayLeave (mid s).durable (contents s)) it (sync_leaves T result (mid side) (new side) syncs reads (contents side) (left side))
+  | inr differs ↦ subst (λ (f : File). MayLeave f.durable (contents each)) (others each differs) (left each)
+]

@@ -1,0 +1,220 @@
+ghost use Rattle.std.specs.Prelude.{◌≡◌, ◌+◌, ◌^◌, ◌<◌, ◌↔◌, [], false, vec_len, IsTrue, IfOk, IfErr, IsErr};
+ghost use Rattle.std.proofs.lemmas.Bool.{false≢true};
+ghost use Rattle.disk.specs.File.{settled};
+ghost use Rattle.disk.specs.Time.{HasCause};
+
+use crate::{Disk, DiskError, Side};
+use std::alloc::Global;
+use std::fs::{File, OpenOptions};
+use std::io;
+use std::os::unix::fs::FileExt;
+use std::path::Path;
+use std::rt::Files;
+
+// The greatest position that the system can count.
+const GREATEST_POSITION: u64 = i64::MAX as u64;
+
+/// A disk of two real files, `A` and `B` of one directory.
+///
+/// Nothing is claimed of bytes: that real files behave as those of an honest disk is the user's premise.
+/// A call answers `Device` where the system refuses what it asks, where a read meets the end of its file, and where a
+/// range ends past `2 ^ 63 - 1`, the greatest position that the system can count.
+/// While the disk lives, it holds an exclusive advisory lock on `A`.
+#[derive(Drop)]
+pub struct FileDisk {
+    a: File,
+    b: File,
+    // One unit for each failure of the device.
+    failures: Vec<()>,
+}
+
+impl FileDisk {
+    /// Opens the files `A` and `B` of a directory for reading and writing, and makes those that are missing, empty.
+    /// Where one is empty, it syncs the directory. The bytes of a file that is there stay as they are.
+    ///
+    /// `NoMemory` is answered where an allocation is refused, and then nothing was opened or made.
+    /// `Device` is answered where the directory is missing, where a call of the system fails, and where a `FileDisk`
+    /// of this or another process has the directory open. A file that was made before the failure stays.
+    pub fn open<R: Files<File = File>>(
+        alloc: Global,
+        rt: &R,
+        directory: &str,
+    ) -> Result<FileDisk, DiskError>
+        ensures { IfOk result (λ disk. ⟦<FileDisk as Disk>⟧.failures disk ≡ 0) }
+    {
+        // Units have no size, so there is room for all that a `Vec` can hold: to count a failure allocates nothing.
+        let failures = Vec::with_capacity(alloc, isize::MAX as usize)?;
+        let a = Path::new(directory).join(alloc, "A")?;
+        let b = Path::new(directory).join(alloc, "B")?;
+        match open_both(rt, Path::new(directory), a.as_path(), b.as_path()) {
+            Ok((a, b)) => Ok(FileDisk { a, b, failures }),
+            Err(_) => Err(DiskError::Device),
+        }
+    }
+
+    fn file(&self, side: Side) -> &File {
+        match side {
+            Side::A => &self.a,
+            Side::B => &self.b,
+        }
+    }
+
+    /// Counts a failure of the device and answers `Device`, or `NoMemory` where the count cannot grow.
+    fn fail<T>(&mut self) -> Result<T, DiskError>
+        ensures cause { HasCause (vec_len self.old.failures) (vec_len self.new.failures) result }
+        ensures fails { IsErr result }
+    {
+        self.failures.push(())?;
+        Err(DiskError::Device)
+    }
+
+    /// Answers as the system did, and counts where it failed.
+    fn outcome<T: Drop>(&mut self, answer: io::Result<T>) -> Result<T, DiskError>
+        ensures cause { HasCause (vec_len self.old.failures) (vec_len self.new.failures) result }
+        ensures value { IfOk answer (λ value. result ≡ Ok value) }
+        ensures failure { IfErr answer (λ _. IsErr result) }
+    {
+        match answer {
+            Ok(value) => Ok(value),
+            Err(_) => self.fail(),
+        }
+    }
+}
+
+/// Opens `A` and `B`, and touches `B` only once `A` is locked.
+fn open_both<R: Files<File = File>>(
+    rt: &R,
+    directory: Path<'_>,
+    a: Path<'_>,
+    b: Path<'_>,
+) -> io::Result<(File, File)> {
+    let directory = File::open(rt, directory)?;
+    let a = open_or_make(rt, &directory, a)?;
+    a.try_lock()?;
+    let b = open_or_make(rt, &directory, b)?;
+    Ok((a, b))
+}
+
+/// Opens a file of the directory, or makes it where it is missing.
+///
+/// The directory is synced where the file is empty, since it may be new there: an earlier opening may have made it
+/// and failed before its sync. A file with bytes was written through a disk that was open, so after that sync.
+fn open_or_make<R: Files<File = File>>(
+    rt: &R,
+    directory: &File,
+    path: Path<'_>,
+) -> io::Result<File> {
+    let file = OpenOptions::new()
+        .read(true)
+        .write(true)
+        .create(true)
+        .open(rt, path)?;
+    if file.metadata()?.len() == 0 {
+        directory.sync_all()?;
+    }
+    Ok(file)
+}
+
+/// Whether the system can count to the end of a range.
+fn is_countable(at: u64, count: usize) -> bool
+    ensures { IsTrue result ↔ (at + count < 2 ^ 63) }
+{
+    at.checked_add(count as u64)
+        .is_some_and(|end| end <= GREATEST_POSITION)
+}
+
+impl Disk for FileDisk {
+    ghost is_honest = { false };
+
+    ghost files = { λ _ _. record { content = []; durable = settled [] } };
+
+    ghost moment = { λ _. 0 };
+
+    ghost left_since = { λ _ _ _. ⊥ };
+
+    ghost failures = { λ disk. vec_len disk.failures };
+
+    ghost counts_now = { λ honest. absurd (false≢true honest) };
+
+    ghost only_now = { λ honest. absurd (false≢true honest) };
+
+    ghost reads_left = { λ honest. absurd (false≢true honest) };
+
+    fn len(&mut self, side: Side) -> Result<u64, DiskError> {
+        let answer = self.file(side).metadata();
+        self.outcome(answer.map(|metadata| metadata.len()))
+    }
+
+    fn read(&mut self, side: Side, at: u64, buffer: &mut [u8]) -> Result<(), DiskError> {
+        if !is_countable(at, buffer.len()) {
+            return self.fail();
+        }
+        let answer = self.file(side).read_exact_at(buffer, at);
+        self.outcome(answer)
+    }
+
+    fn write_at(&mut self, side: Side, at: u64, bytes: &[u8]) -> Result<(), DiskError> {
+        if !is_countable(at, bytes.len()) {
+            return self.fail();
+        }
+        let answer = self.file(side).write_all_at(bytes, at);
+        self.outcome(answer)
+    }
+
+    // The system refuses a count past `GREATEST_POSITION` by an error.
+    fn cut(&mut self, side: Side, count: u64) -> Result<(), DiskError> {
+        let answer = self.file(side).set_len(count);
+        self.outcome(answer)
+    }
+
+    fn sync(&mut self, side: Side) -> Result<(), DiskError> {
+        let answer = self.file(side).sync_all();
+        self.outcome(answer)
+    }
+}
+
+#[cfg(test)]
+mod tests {
+    use super::*;
+    use std::test::Fail;
+    use std::{env, fs, process};
+
+    #[test]
+    fn keeps_two_files(rt: HostRuntime) -> Result<(), Fail> {
+        let name = format!(in rt.alloc(); "file_disk_{}", process::id(rt.process()))?;
+        let path = env::temp_dir(&rt)?.join(rt.alloc(), name)?;
+        let directory = path.as_str();
+        let _ = fs::remove_dir_all(&rt, directory);
+        let missing = FileDisk::open(rt.alloc(), &rt, directory).err();
+        assert_eq!(rt; missing, Some(DiskError::Device));
+
+        fs::create_dir(&rt, directory)?;
+        let mut disk = FileDisk::open(rt.alloc(), &rt, directory)?;
+        disk.write_at(Side::A, 0, &[1, 2, 3])?;
+        disk.sync(Side::A)?;
+        assert_eq!(rt; disk.len(Side::A)?, 3);
+        let mut bytes = [0; 2];
+        disk.read(Side::A, 1, &mut bytes)?;
+        assert_eq!(rt; bytes, [2, 3]);
+        disk.cut(Side::A, 1)?;
+        assert_eq!(rt; disk.len(Side::A)?, 1);
+        assert_eq!(rt; disk.len(Side::B)?, 0);
+
+        let refused = Err(DiskError::Device);
+        assert_eq!(rt; disk.read(Side::A, 0, &mut bytes), refused, "past the end");
+        assert_eq!(rt; disk.read(Side::A, u64::MAX, &mut bytes), refused);
+        assert_eq!(rt; disk.write_at(Side::B, GREATEST_POSITION, &[1]), refused);
+        assert_eq!(rt; disk.cut(Side::A, GREATEST_POSITION + 1), refused);
+
+        let second = FileDisk::open(rt.alloc(), &rt, directory).err();
+        assert_eq!(rt; second, Some(DiskError::Device), "while the first lives");
+        drop(disk);
+        let kept = fs::read(&rt, path.join(rt.alloc(), "A")?)?;
+        assert_eq!(rt; kept.as_slice(), [1].as_slice());
+        let mut again = FileDisk::open(rt.alloc(), &rt, directory)?;
+        assert_eq!(rt; again.len(Side::A)?, 1);
+        drop(again);
+        fs::remove_dir_all(&rt, directory)?;
+        Ok(())
+    }
+}

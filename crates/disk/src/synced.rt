@@ -1,0 +1,25 @@
+ghost use Rattle.std.specs.Prelude.{◌≡◌, ◌≤◌, IsTrue, List, ℕ, length, OnOk};
+ghost use Rattle.disk.specs.File.{WriteLeaves, at_rest, overwritten, settled};
+ghost use Rattle.disk.specs.Time.{OtherStays, OtherMayBe, LeavesOnly, HasCause};
+
+use crate::{Disk, DiskError, Side};
+
+/// Writes bytes from a position on, and syncs the file. After an error what reads give there is open.
+pub fn write_synced<D: Disk>(
+    disk: &mut D,
+    side: Side,
+    at: u64,
+    bytes: &[u8],
+) -> Result<(), DiskError>
+    requires { IsTrue D.is_honest → at ≤ length (D.files disk.old side).content }
+    ensures ok { IsTrue D.is_honest → OnOk result (D.files disk.new side ≡ at_rest (overwritten (D.files disk.old side).content at bytes.now)) }
+    ensures other { IsTrue D.is_honest → OtherStays side (D.files disk.old) (D.files disk.new) }
+
+    // A crash at any moment of the call leaves of a synced file what the write may leave, and nothing else.
+    ensures any_moment { IsTrue D.is_honest → (synced : List ℕ) → D.files disk.old side ≡ at_rest synced → LeavesOnly D.moment D.left_since disk.old disk.new
+        (λ contents. WriteLeaves synced at (length bytes.now) (contents side) × OtherMayBe side (D.files disk.old) contents) }
+    ensures cause { HasCause (D.failures disk.old) (D.failures disk.new) result }
+{
+    disk.write_at(side, at, bytes)?;
+    disk.sync(side)
+}
