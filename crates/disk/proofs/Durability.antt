@@ -8,7 +8,7 @@ use Rattle.disk.specs.declared.error.DiskError.{DiskError}
 use Rattle.disk.specs.declared.error.DiskError.TheVariants.{Device, NoMemory}
 use Rattle.disk.specs.File.{Durable, File, Agrees, MayLeave, Fails, FailsWithin, Changes, Syncs, WriteLeaves, at_rest, settled, touching, write_touches, overwritten, written}
 use Rattle.disk.specs.Time.{Contents, MayLeaveNow, OtherStays, OtherMayBe}
-use Rattle.disk.proofs.Places.{same_places}
+use Rattle.disk.specs.Settled.{same_places, settled_only}
 use Rattle.disk.proofs.Calls.{which}
 
 -- lists that agree at each place in front of k, or from k on
@@ -54,10 +54,6 @@ changes_leave T done touches (Ok _) old new is changes bytes left = subst (λ (d
 changes_leave T done touches (Err Device) old new is changes bytes left = subst (λ (d : Durable). MayLeave d bytes) changes.durable left
 changes_leave T done touches (Err NoMemory) old new is changes bytes left =
     more_touched old.durable changes.touched touches changes.within bytes (subst (λ (d : Durable). MayLeave d bytes) changes.fails.durable left)
-
--- where all is on the disk a crash leaves that
-pub settled_only : (synced bytes : List ℕ) → MayLeave (settled synced) bytes → bytes ≡ synced
-settled_only synced bytes left = same_places bytes synced (λ at. left.agrees.elsewhere at refl)
 
 -- a sync lets a crash leave nothing new
 pub sync_leaves : (T : Type 0) (result : Result T DiskError) (old new : File) → Syncs result old new → MayLeave old.durable old.content → (bytes : List ℕ) → MayLeave new.durable bytes → MayLeave old.durable bytes

@@ -31,13 +31,6 @@ slice_get-drop [] (suc n) i le = refl
 slice_get-drop (x ∷ xs) (suc n) zero le = absurd (omega arith)
 slice_get-drop (x ∷ xs) (suc n) (suc i) le = ap (slice_get (drop n xs)) (omega arith) ∙ slice_get-drop xs n i (omega arith)
 
--- lists that have the same at each place are one list
-pub same_places : (xs ys : List ℕ) → ((i : ℕ) → slice_get xs i ≡ slice_get ys i) → xs ≡ ys
-same_places [] [] same = refl
-same_places [] (y ∷ ys) same = let none = same zero in cc
-same_places (x ∷ xs) [] same = let none = same zero in cc
-same_places (x ∷ xs) (y ∷ ys) same = let first = same zero in let rest = same_places xs ys (λ i. same (suc i)) in cc
-
 -- the bytes in front of a write, and those behind it
 pub overwritten-before : (old bytes : List ℕ) (from at : ℕ) → from ≤ length old → at < from → slice_get (overwritten old from bytes) at ≡ slice_get old at
 overwritten-before old bytes from at le lt =

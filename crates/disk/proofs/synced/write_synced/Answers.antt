@@ -1,7 +1,7 @@
 use Rattle.std.proofs.Common.{length, ◌≤◌, refl, subst}
 use Rattle.disk.specs.File.{File, Changes, written, write_touches}
 use Rattle.disk.specs.Time.{Contents}
-use Rattle.disk.proofs.Moments.{begun, goes_on}
+use Rattle.disk.specs.Moments.{begun, goes_on}
 use Rattle.disk.proofs.Durability.{Leaves, leaves_before, leaves_after, now_after_sync}
 use Rattle.disk.proofs.synced.write_synced.Goals as goal
 

@@ -1,6 +1,8 @@
 -- How a list of calls goes on, one call at a time.
-use Rattle.std.proofs.Common.{ℕ, inl, inr, ⊎_elim, arith}
-use Rattle.disk.specs.Time.{Contents, Elapses, LeavesOnly}
+use Rattle.std.proofs.Common.{ℕ, inl, inr, ⊎_elim, subst, arith}
+use Rattle.disk.specs.declared.side.Side.{Side}
+use Rattle.disk.specs.File.{File, MayLeave}
+use Rattle.disk.specs.Time.{Contents, OtherStays, OtherMayBe, Elapses, LeavesOnly}
 
 module _ {D : Type 0} (moment : D → ℕ) (left_since : D → ℕ → Contents → Type 0) where
   -- before the first call
@@ -16,6 +18,14 @@ module _ {D : Type 0} (moment : D → ℕ) (left_since : D → ℕ → Contents 
     before = λ t c le left. ⊎_elim (so_far.before t c le) (λ here. inr (now c here)) (time.nothing_else t c (omega (arith, le, so_far.later)) left);
   }
 
+  -- what has P has Q
+  pub weakened : (old new : D) (P Q : Contents → Type 0) → LeavesOnly moment left_since old new P → ((c : Contents) → P c → Q c) → LeavesOnly moment left_since old new Q
+  weakened old new P Q only from = record {
+    later = only.later;
+    each = λ c left. from c (only.each c left);
+    before = λ t c le left. ⊎_elim (λ early. inl early) (λ here. inr (from c here)) (only.before t c le left);
+  }
+
   -- two lists of calls, one after the other
   pub joined : (old mid new : D) (P Q R : Contents → Type 0) → LeavesOnly moment left_since old mid P → LeavesOnly moment left_since mid new Q
       → ((c : Contents) → P c → R c) → ((c : Contents) → Q c → R c) → LeavesOnly moment left_since old new R
@@ -24,3 +34,7 @@ module _ {D : Type 0} (moment : D → ℕ) (left_since : D → ℕ → Contents 
     each = λ c left. ⊎_elim (λ before. from_first c (first.each c before)) (from_second c) (second.before (moment old) c first.later left);
     before = λ t c le left. ⊎_elim (λ early. ⊎_elim (λ before. inl before) (λ here. inr (from_first c here)) (first.before t c le early)) (λ here. inr (from_second c here)) (second.before t c (omega (arith, le, first.later)) left);
   }
+
+-- of the other file a crash leaves now what it might have left before calls on this one
+pub other_before : (side : Side) (old new : Side → File) → OtherStays side old new → (c : Contents) → OtherMayBe side new c → OtherMayBe side old c
+other_before side old new stays c left other differs = subst (λ (f : File). MayLeave f.durable (c other)) (stays other differs) (left other differs)

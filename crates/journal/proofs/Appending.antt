@@ -1,0 +1,171 @@
+-- What a file stands for while a record is appended: behind the closed gate first, and then by opening the gate.
+use Rattle.std.proofs.Common.{◌≡◌, ◌≢◌, ◌⊎◌, inl, inr, ℕ, ◌+◌, ◌≤◌, ◌<◌, ◌^◌, List, [], ◌∷◌, ◌++◌, length, take, drop, get_or, All, refl, sym, ap, subst, ◌∙◌, arith, append_assoc, length-append, length-take, length-drop, take-append-drop}
+use Rattle.std.proofs.lemmas.List.{take_at, drop_at, drop_more, drop-drop, flat_map_more}
+use Rattle.std.proofs.lemmas.List.Elements.{All-append, All-cons, All-nil}
+use Rattle.std.proofs.lemmas.Bool.{cases_eq}
+use Rattle.byteorder.specs.Endian.{little_bytes}
+use Rattle.disk.specs.File.{WriteLeaves, overwritten}
+use Rattle.journal.specs.Records.{record_of, records, IsShort, StandsFor}
+use Rattle.journal.specs.Journal.{BeforeOrAfter}
+
+-- what stands behind the gate of a record
+abbrev pub body_of : List ℕ → List ℕ
+body_of payload = little_bytes 4 (length payload) ++ payload
+
+pub records-push : (payloads : List (List ℕ)) (payload : List ℕ) → records (payloads ++ payload ∷ []) ≡ records payloads ++ record_of payload
+records-push payloads payload = sym (flat_map_more record_of [] payloads payload)
+
+pub short-push : (payloads : List (List ℕ)) (payload : List ℕ) → All IsShort payloads → IsShort payload → All IsShort (payloads ++ payload ∷ [])
+short-push payloads payload short last = All-append IsShort payloads (payload ∷ []) short (All-cons IsShort payload [] last (All-nil IsShort))
+
+-- ---- a file in parts: what stands in front of the journal, the records, a gate, and what stands behind it
+
+module _ (front recs : List ℕ) (start end : ℕ) (long : length front ≡ start) (ends : end ≡ start + length recs) where
+  abbrev pub parts : ℕ → List ℕ → List ℕ
+  parts gate behind = front ++ (recs ++ gate ∷ behind)
+
+  to_gate : (gate : ℕ) (behind : List ℕ) → parts gate behind ≡ (front ++ recs) ++ gate ∷ behind
+  to_gate gate behind = sym (append_assoc front recs (gate ∷ behind))
+
+  past_gate : (gate : ℕ) (behind : List ℕ) → parts gate behind ≡ (front ++ recs ++ gate ∷ []) ++ behind
+  past_gate gate behind = to_gate gate behind ∙ sym (append_assoc (front ++ recs) (gate ∷ []) behind)
+
+  length_to_gate : length (front ++ recs) ≡ end
+  length_to_gate = omega (arith, length-append front recs)
+
+  length_past_gate : (gate : ℕ) → length (front ++ recs ++ gate ∷ []) ≡ end + 1
+  length_past_gate gate = omega (arith, length_to_gate, length-append (front ++ recs) (gate ∷ []))
+
+  pub length-parts : (gate : ℕ) (behind : List ℕ) → length (parts gate behind) ≡ end + 1 + length behind
+  length-parts gate behind = ap length (past_gate gate behind) ∙ omega (arith, length_past_gate gate, length-append (front ++ recs ++ gate ∷ []) behind)
+
+  -- what keeps everything up to the gate and the gate itself
+  pub gate_kept : (gate : ℕ) (behind c : List ℕ) → take (end + 1) c ≡ take (end + 1) (parts gate behind) → c ≡ parts gate (drop (end + 1) c)
+  gate_kept gate behind c same =
+      sym (take-append-drop (end + 1) c)
+      ∙ ap (λ (l : List ℕ). l ++ drop (end + 1) c) (same ∙ ap (take (end + 1)) (past_gate gate behind) ∙ take_at (front ++ recs ++ gate ∷ []) behind (end + 1) (length_past_gate gate))
+      ∙ sym (past_gate gate (drop (end + 1) c))
+
+  -- what keeps everything but the gate
+  pub gate_open : (gate : ℕ) (behind c : List ℕ) → WriteLeaves (parts gate behind) end 1 c → c ≡ parts (get_or c end 0) behind
+  gate_open gate behind c left =
+      let within : end + 1 ≤ length (parts gate behind) = omega (arith, length-parts gate behind) in
+      let same_length = left.length_stays within in
+      sym (take-append-drop end c)
+      ∙ ap (λ (l : List ℕ). l ++ drop end c) (left.front ∙ ap (take end) (to_gate gate behind) ∙ take_at (front ++ recs) (gate ∷ behind) end length_to_gate)
+      ∙ ap (λ (l : List ℕ). front ++ recs ++ l) (drop_more c end 0 (omega (arith, same_length, length-parts gate behind)))
+      ∙ ap (λ (l : List ℕ). front ++ recs ++ get_or c end 0 ∷ l) (left.back within ∙ ap (drop (end + 1)) (past_gate gate behind) ∙ drop_at (front ++ recs ++ gate ∷ []) behind (end + 1) (length_past_gate gate))
+      ∙ sym (to_gate (get_or c end 0) behind)
+
+  -- bytes written behind the gate
+  pub behind_gate : (gate : ℕ) (behind bytes : List ℕ) → overwritten (parts gate behind) (end + 1) bytes ≡ parts gate (bytes ++ drop (length bytes) behind)
+  behind_gate gate behind bytes =
+      ap (λ (l : List ℕ). overwritten l (end + 1) bytes) (past_gate gate behind)
+      ∙ ap (λ (l : List ℕ). l ++ bytes ++ drop (end + 1 + length bytes) ((front ++ recs ++ gate ∷ []) ++ behind)) (take_at (front ++ recs ++ gate ∷ []) behind (end + 1) (length_past_gate gate))
+      ∙ ap (λ (l : List ℕ). (front ++ recs ++ gate ∷ []) ++ bytes ++ l) (sym (drop-drop (length bytes) (end + 1) ((front ++ recs ++ gate ∷ []) ++ behind)) ∙ ap (drop (length bytes)) (drop_at (front ++ recs ++ gate ∷ []) behind (end + 1) (length_past_gate gate)))
+      ∙ append_assoc (front ++ recs ++ gate ∷ []) bytes (drop (length bytes) behind)
+      ∙ sym (past_gate gate (bytes ++ drop (length bytes) behind))
+
+  -- the gate opened
+  pub opened_gate : (gate : ℕ) (behind : List ℕ) → overwritten (parts gate behind) end (1 ∷ []) ≡ parts 1 behind
+  opened_gate gate behind =
+      ap (λ (l : List ℕ). l ++ 1 ∷ [] ++ drop (end + 1) (parts gate behind)) (ap (take end) (to_gate gate behind) ∙ take_at (front ++ recs) (gate ∷ behind) end length_to_gate)
+      ∙ ap (λ (l : List ℕ). front ++ recs ++ 1 ∷ [] ++ l) (ap (drop (end + 1)) (past_gate gate behind) ∙ drop_at (front ++ recs ++ gate ∷ []) behind (end + 1) (length_past_gate gate))
+      ∙ sym (past_gate 1 behind)
+
+  pub front_of : (gate : ℕ) (behind c : List ℕ) → c ≡ parts gate behind → take start c ≡ front
+  front_of gate behind c is = ap (take start) is ∙ take_at front (recs ++ gate ∷ behind) start long
+
+  pub rest_of : (gate : ℕ) (behind c : List ℕ) → c ≡ parts gate behind → drop start c ≡ recs ++ gate ∷ behind
+  rest_of gate behind c is = ap (drop start) is ∙ drop_at front (recs ++ gate ∷ behind) start long
+
+-- ---- what a file in parts stands for
+
+module _ (start : ℕ) (content : List ℕ) (payloads : List (List ℕ)) (end : ℕ) (stands : StandsFor (drop start content) payloads) (ends : end ≡ start + length (records payloads)) where
+  abbrev front : List ℕ
+  front = take start content
+
+  abbrev pub with_gate : ℕ → List ℕ → List ℕ
+  with_gate gate behind = front ++ (records payloads ++ gate ∷ behind)
+
+  reaches : start ≤ length content
+  reaches = omega (arith, ap length stands.spelled, length-drop start content, length-append (records payloads) (stands.gate ∷ stands.rest))
+
+  long : length front ≡ start
+  long = omega (arith, reaches, length-take start content)
+
+  pub whole : content ≡ with_gate stands.gate stands.rest
+  whole = sym (take-append-drop start content) ∙ ap (λ (l : List ℕ). front ++ l) stands.spelled
+
+  pub end_within : end < length content
+  end_within = omega (arith, ap length whole, length-parts front (records payloads) start end long ends stands.gate stands.rest)
+
+  -- behind a closed gate nothing counts
+  pub stands_before : (gate : ℕ) (behind c : List ℕ) → gate ≢ 1 → c ≡ with_gate gate behind → StandsFor (drop start c) payloads
+  stands_before gate behind c closed is = record {
+    short = stands.short;
+    gate = gate;
+    closed = closed;
+    rest = behind;
+    spelled = rest_of front (records payloads) start end long ends gate behind c is;
+  }
+
+  pub front_kept : (gate : ℕ) (behind c : List ℕ) → c ≡ with_gate gate behind → take start c ≡ front
+  front_kept gate behind c is = front_of front (records payloads) start end long ends gate behind c is
+
+  module _ (payload : List ℕ) (short : IsShort payload) where
+    -- what stands behind the gate once the record is written there
+    abbrev pub staged : List ℕ
+    staged = (body_of payload ++ 0 ∷ []) ++ drop (length (body_of payload ++ 0 ∷ [])) stands.rest
+
+    stands_after : (c : List ℕ) → c ≡ with_gate 1 staged → StandsFor (drop start c) (payloads ++ payload ∷ [])
+    stands_after c is = record {
+      short = short-push payloads payload stands.short short;
+      gate = 0;
+      closed = omega arith;
+      rest = drop (length (body_of payload ++ 0 ∷ [])) stands.rest;
+      spelled =
+        rest_of front (records payloads) start end long ends 1 staged c is
+        ∙ ap (λ (l : List ℕ). records payloads ++ 1 ∷ l) (append_assoc (body_of payload) (0 ∷ []) (drop (length (body_of payload ++ 0 ∷ [])) stands.rest))
+        ∙ sym (append_assoc (records payloads) (record_of payload) (0 ∷ drop (length (body_of payload ++ 0 ∷ [])) stands.rest))
+        ∙ ap (λ (l : List ℕ). l ++ 0 ∷ drop (length (body_of payload ++ 0 ∷ [])) stands.rest) (sym (records-push payloads payload));
+    }
+
+    abbrev pub after_stage : List ℕ
+    after_stage = overwritten content (end + 1) (body_of payload ++ 0 ∷ [])
+
+    pub after_stage_is : after_stage ≡ with_gate stands.gate staged
+    after_stage_is = ap (λ (l : List ℕ). overwritten l (end + 1) (body_of payload ++ 0 ∷ [])) whole ∙ behind_gate front (records payloads) start end long ends stands.gate stands.rest (body_of payload ++ 0 ∷ [])
+
+    pub end_within_stage : end < length after_stage
+    end_within_stage = omega (arith, ap length after_stage_is, length-parts front (records payloads) start end long ends stands.gate staged)
+
+    -- a crash while the record is written behind the gate
+    pub crash_behind : (count : ℕ) (c : List ℕ) → WriteLeaves content (end + 1) count c → BeforeOrAfter start content payloads payload c
+    crash_behind count c left =
+        let is : c ≡ with_gate stands.gate (drop (end + 1) c) = gate_kept front (records payloads) start end long ends stands.gate stands.rest c (left.front ∙ ap (take (end + 1)) whole) in
+        record { front = front_kept stands.gate (drop (end + 1) c) c is; stands = inl (stands_before stands.gate (drop (end + 1) c) c stands.closed is) }
+
+    -- a crash while the gate is opened
+    pub crash_at_gate : (c : List ℕ) → WriteLeaves after_stage end 1 c → BeforeOrAfter start content payloads payload c
+    crash_at_gate c left =
+        let gate = get_or c end 0 in
+        let is : c ≡ with_gate gate staged = gate_open front (records payloads) start end long ends stands.gate staged c (subst (λ (l : List ℕ). WriteLeaves l end 1 c) after_stage_is left) in
+        record { front = front_kept gate staged c is; stands = by gate is }
+      where
+        by : (gate : ℕ) → c ≡ with_gate gate staged → StandsFor (drop start c) payloads ⊎ StandsFor (drop start c) (payloads ++ payload ∷ [])
+        by gate is = elim (cases_eq gate 1) [
+          | inl open_gate ↦ inr (stands_after c (is ∙ ap (λ (g : ℕ). with_gate g staged) open_gate))
+          | inr shut ↦ inl (stands_before gate staged c shut is)
+        ]
+
+    -- and the file when it is open
+    pub appended : StandsFor (drop start (overwritten after_stage end (1 ∷ []))) (payloads ++ payload ∷ [])
+    appended = stands_after _ (ap (λ (l : List ℕ). overwritten l end (1 ∷ [])) after_stage_is ∙ opened_gate front (records payloads) start end long ends stands.gate staged)
+
+    pub end_after : end + 5 + length payload ≡ start + length (records (payloads ++ payload ∷ []))
+    end_after = omega (arith, ap length (records-push payloads payload), length-append (records payloads) (record_of payload), length-append (little_bytes 4 (length payload)) payload)
+
+-- a crash before the first call of the disk
+pub crash_now : (start : ℕ) (content : List ℕ) (payloads : List (List ℕ)) (payload : List ℕ) → StandsFor (drop start content) payloads → (c : List ℕ) → c ≡ content → BeforeOrAfter start content payloads payload c
+crash_now start content payloads payload stands c is = record { front = ap (take start) is; stands = inl (subst (λ (l : List ℕ). StandsFor (drop start l) payloads) (sym is) stands) }

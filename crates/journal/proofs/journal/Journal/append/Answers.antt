@@ -1,0 +1,70 @@
+use Rattle.std.proofs.Common.{◌≡◌, ◌<◌, ◌+◌, ◌++◌, ◌∷◌, ◌^◌, [], ℕ, List, length, drop, refl, sym, ap, subst, ◌∙◌, arith}
+use Rattle.disk.specs.File.{File, MayLeave, WriteLeaves, at_rest, overwritten}
+use Rattle.disk.specs.Time.{Contents, OtherMayBe, LeavesOnly}
+use Rattle.disk.specs.Settled.{settled_only}
+use Rattle.disk.specs.Moments.{begun, joined, weakened, other_before}
+use Rattle.journal.specs.Records.{StandsFor}
+use Rattle.journal.proofs.Appending.{crash_now, crash_behind, crash_at_gate, appended, end_after, after_stage, body_of}
+use Rattle.journal.proofs.journal.Journal.append.Goals as goal
+
+-- no call of the disk was made
+pub returns-then-not-fits-clause-any_moment : goal.returns-then-not-fits-clause-any_moment
+returns-then-not-fits-clause-any_moment g c honest start payloads content is at =
+    begun g.D.Disk.moment g.D.Disk.left_since c.args.disk.now _ (λ contents left.
+    let now = g.met.D.Disk.only_now honest c.args.disk.now contents left in
+    let here = settled_only content (contents c.args.self.now.side) (subst (λ (f : File). MayLeave f.durable (contents c.args.self.now.side)) is (now c.args.self.now.side)) in
+    (crash_now start content payloads c.args.payload.now at.stands (contents c.args.self.now.side) here, λ other differs. now other))
+
+pub returns-in_err-spell-clause-any_moment : goal.returns-in_err-spell-clause-any_moment
+returns-in_err-spell-clause-any_moment g c honest start payloads content is at =
+    begun g.D.Disk.moment g.D.Disk.left_since c.args.disk.now _ (λ contents left.
+    let now = g.met.D.Disk.only_now honest c.args.disk.now contents left in
+    let here = settled_only content (contents c.args.self.now.side) (subst (λ (f : File). MayLeave f.durable (contents c.args.self.now.side)) is (now c.args.self.now.side)) in
+    (crash_now start content payloads c.args.payload.now at.stands (contents c.args.self.now.side) here, λ other differs. now other))
+
+-- the record is written behind the closed gate
+pub returns-in_err-write_synced-clause-any_moment : goal.returns-in_err-write_synced-clause-any_moment
+returns-in_err-write_synced-clause-any_moment g c honest start payloads content is at =
+    weakened g.D.Disk.moment g.D.Disk.left_since c.args.disk.now c.write_synced.new.disk _ _ (c.write_synced.ensures.any_moment honest content is)
+    (λ contents leaves. (crash_behind start content payloads c.args.self.now.end at.stands at.end c.args.payload.now (omega arith) _ (contents c.args.self.now.side) leaves.0, leaves.1))
+
+-- the gate is opened
+pub returns-in_err-write_synced-2-clause-any_moment : goal.returns-in_err-write_synced-2-clause-any_moment
+returns-in_err-write_synced-2-clause-any_moment g c honest start payloads content is at =
+    let side = c.args.self.now.side in
+    let short : length c.args.payload.now < 2 ^ 32 = omega arith in
+    let spelled : c.deref.result.now ≡ body_of c.args.payload.now ++ 0 ∷ [] = c.deref.ensures.value ∙ c.in_ok-spell.ensures in
+    let staged : g.D.Disk.files c.write_synced.new.disk side ≡ at_rest (overwritten content (c.args.self.now.end + 1) (body_of c.args.payload.now ++ 0 ∷ [])) =
+    c.in_ok-write_synced.ensures.ok honest ∙ ap (λ (f : File). at_rest (overwritten f.content (c.args.self.now.end + 1) c.deref.result.now)) is ∙ ap (λ (l : List ℕ). at_rest (overwritten content (c.args.self.now.end + 1) l)) spelled in
+    joined g.D.Disk.moment g.D.Disk.left_since c.args.disk.now c.write_synced.new.disk c.write_synced-2.new.disk _ _ _
+    (c.write_synced.ensures.any_moment honest content is) (c.write_synced-2.ensures.any_moment honest _ staged)
+    (λ contents leaves. (crash_behind start content payloads c.args.self.now.end at.stands at.end c.args.payload.now short _ (contents side) leaves.0, leaves.1))
+    (λ contents leaves. (crash_at_gate start content payloads c.args.self.now.end at.stands at.end c.args.payload.now short (contents side) leaves.0, other_before side (g.D.Disk.files c.args.disk.now) (g.D.Disk.files c.write_synced.new.disk) (c.write_synced.ensures.other honest) contents leaves.1))
+
+pub returns-clause-any_moment : goal.returns-clause-any_moment
+returns-clause-any_moment g c honest start payloads content is at =
+    let side = c.args.self.now.side in
+    let short : length c.args.payload.now < 2 ^ 32 = omega arith in
+    let spelled : c.deref.result.now ≡ body_of c.args.payload.now ++ 0 ∷ [] = c.deref.ensures.value ∙ c.in_ok-spell.ensures in
+    let staged : g.D.Disk.files c.write_synced.new.disk side ≡ at_rest (overwritten content (c.args.self.now.end + 1) (body_of c.args.payload.now ++ 0 ∷ [])) =
+    c.in_ok-write_synced.ensures.ok honest ∙ ap (λ (f : File). at_rest (overwritten f.content (c.args.self.now.end + 1) c.deref.result.now)) is ∙ ap (λ (l : List ℕ). at_rest (overwritten content (c.args.self.now.end + 1) l)) spelled in
+    joined g.D.Disk.moment g.D.Disk.left_since c.args.disk.now c.write_synced.new.disk c.write_synced-2.new.disk _ _ _
+    (c.write_synced.ensures.any_moment honest content is) (c.write_synced-2.ensures.any_moment honest _ staged)
+    (λ contents leaves. (crash_behind start content payloads c.args.self.now.end at.stands at.end c.args.payload.now short _ (contents side) leaves.0, leaves.1))
+    (λ contents leaves. (crash_at_gate start content payloads c.args.self.now.end at.stands at.end c.args.payload.now short (contents side) leaves.0, other_before side (g.D.Disk.files c.args.disk.now) (g.D.Disk.files c.write_synced.new.disk) (c.write_synced.ensures.other honest) contents leaves.1))
+
+-- and then the file stands for one payload more
+pub returns-clause-added : goal.returns-clause-added
+returns-clause-added g c honest start payloads at =
+    let side = c.args.self.now.side in
+    let content = (g.D.Disk.files c.args.disk.now side).content in
+    let short : length c.args.payload.now < 2 ^ 32 = omega arith in
+    let spelled : c.deref.result.now ≡ body_of c.args.payload.now ++ 0 ∷ [] = c.deref.ensures.value ∙ c.in_ok-spell.ensures in
+    let staged : (g.D.Disk.files c.write_synced.new.disk side).content ≡ overwritten content (c.args.self.now.end + 1) (body_of c.args.payload.now ++ 0 ∷ []) =
+    ap (λ (f : File). f.content) (c.in_ok-write_synced.ensures.ok honest) ∙ ap (λ (l : List ℕ). overwritten content (c.args.self.now.end + 1) l) spelled in
+    let opened : (g.D.Disk.files c.write_synced-2.new.disk side).content ≡ overwritten (overwritten content (c.args.self.now.end + 1) (body_of c.args.payload.now ++ 0 ∷ [])) c.args.self.now.end (1 ∷ []) =
+    ap (λ (f : File). f.content) (c.in_ok-write_synced-2.ensures.ok honest) ∙ ap (λ (l : List ℕ). overwritten l c.args.self.now.end (1 ∷ [])) staged in
+    record {
+      stands = subst (λ (l : List ℕ). StandsFor (drop start l) (payloads ++ c.args.payload.now ∷ [])) (sym opened) (appended start content payloads c.args.self.now.end at.stands at.end c.args.payload.now short);
+      end = omega (arith, end_after start content payloads c.args.self.now.end at.stands at.end c.args.payload.now short);
+    }

@@ -1,0 +1,10 @@
+-- The errors of a journal.
+use Rattle.disk.specs.declared.error.DiskError.{DiskError}
+use Rattle.disk.specs.declared.error.DiskError.TheVariants as Disk
+use Rattle.journal.specs.declared.error.JournalError.{JournalError}
+use Rattle.journal.specs.declared.error.JournalError.TheVariants.{Device, NoMemory}
+
+-- the same cause, as the journal names it
+abbrev pub journal_error : DiskError → JournalError
+journal_error Disk.Device = Device
+journal_error Disk.NoMemory = NoMemory

@@ -1,0 +1,4 @@
+pub mod Errors
+pub mod Journal
+pub mod Places
+pub mod Records

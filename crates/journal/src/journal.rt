@@ -1,0 +1,130 @@
+ghost use Rattle.std.specs.Prelude.{◌≡◌, ◌≤◌, ◌<◌, ◌+◌, ◌^◌, ◌↔◌, [], ◌∷◌, ◌++◌, List, ℕ, length, take, drop, IsTrue, IfOk, OnOk, OnErr, IsErrOf, Err};
+ghost use Rattle.disk.specs.File.{at_rest, overwritten};
+ghost use Rattle.disk.specs.Time.{OtherStays, OtherMayBe, LeavesOnly};
+ghost use Rattle.byteorder.specs.Endian.{little_bytes};
+ghost use Rattle.journal.specs.Records.{record_of};
+ghost use Rattle.journal.specs.declared.journal.TheConstants.{LIMIT};
+ghost use Rattle.journal.specs.declared.error.JournalError.TheVariants.{Device, NoMemory, Damaged, Full};
+
+use crate::JournalError;
+use byteorder::{ByteOrder, LittleEndian};
+use disk::{Disk, Side, write_synced};
+use std::alloc::{AllocError, Global};
+
+/// Positions behind the last byte of a side lie below this.
+pub const LIMIT: u64 = 1 << 30;
+
+// The bytes of a record in front of its payload: the gate and the length.
+const HEAD: usize = 5;
+
+/// Where the records of a journal end.
+#[derive(Drop)]
+pub struct Journal {
+    /// The file that the journal stands on.
+    pub side: Side,
+    /// The position of the closed gate that ends it.
+    pub end: u64,
+    // Holds a record while it is written.
+    buffer: Vec<u8>,
+}
+
+impl Journal {
+    ghost use Rattle.journal.specs.Journal.{IsAt, BeforeOrAfter};
+
+    /// The journal that ends at a position.
+    pub(crate) fn ending(alloc: Global, side: Side, end: u64) -> Self
+        ensures side { result.side ≡ side }
+        ensures end { result.end ≡ end }
+    {
+        Journal {
+            side,
+            end,
+            buffer: Vec::new(alloc),
+        }
+    }
+
+    /// Begins a journal without records at a position: writes a closed gate there, and syncs.
+    ///
+    /// After an error of the disk what the file holds from there on is open.
+    pub fn start<D: Disk>(
+        alloc: Global,
+        disk: &mut D,
+        side: Side,
+        at: u64,
+    ) -> Result<Journal, JournalError>
+        requires { IsTrue D.is_honest → at ≤ length (D.files disk.old side).content }
+        ensures begun { IsTrue D.is_honest → IfOk result (λ journal. IsAt journal at (D.files disk.new side).content []) }
+        ensures side { IfOk result (λ journal. journal.side ≡ side) }
+        ensures file { IsTrue D.is_honest → OnOk result (D.files disk.new side ≡ at_rest (overwritten (D.files disk.old side).content at (0 ∷ []))) }
+        ensures other { IsTrue D.is_honest → OtherStays side (D.files disk.old) (D.files disk.new) }
+
+        ensures full { IsErrOf result Full ↔ (LIMIT ≤ at) }
+        ensures before_the_disk { IsErrOf result Full → disk.new ≡ disk.old }
+        ensures damaged { (place : ℕ) → IsErrOf result (Damaged place) → ⊥ }
+        ensures device { IsErrOf result Device → D.failures disk.old < D.failures disk.new }
+        ensures failures { D.failures disk.old ≤ D.failures disk.new }
+    {
+        if at >= LIMIT {
+            return Err(JournalError::Full);
+        }
+        write_synced(disk, side, at, &[0])?;
+        Ok(Journal::ending(alloc, side, at))
+    }
+
+    /// Adds a record of this payload behind the others. From `Ok` on it is acknowledged: each crash leaves it.
+    ///
+    /// `Full` comes before any call of the disk, and so does `NoMemory` where the buffer cannot grow. After another
+    /// error the payload may be there or not: scan the file again before the next append.
+    pub fn append<D: Disk>(&mut self, disk: &mut D, payload: &[u8]) -> Result<(), JournalError>
+        requires { IsTrue D.is_honest → self.old.end < length (D.files disk.old self.old.side).content }
+
+        ensures added { IsTrue D.is_honest → (start : ℕ) (payloads : List (List ℕ)) → IsAt self.old start (D.files disk.old self.old.side).content payloads
+            → OnOk result (IsAt self.new start (D.files disk.new self.old.side).content (payloads ++ payload.now ∷ [])) }
+        ensures file { IsTrue D.is_honest → OnOk result (D.files disk.new self.old.side ≡ at_rest (overwritten (D.files disk.old self.old.side).content self.old.end (record_of payload.now ++ 0 ∷ []))) }
+        ensures other { IsTrue D.is_honest → OtherStays self.old.side (D.files disk.old) (D.files disk.new) }
+        ensures side { self.new.side ≡ self.old.side }
+        ensures end { OnErr result (self.new.end ≡ self.old.end) }
+
+        // A crash at any moment of the call, on a file of which all is on the disk, leaves the payloads before it or after it.
+        ensures any_moment { IsTrue D.is_honest → (start : ℕ) (payloads : List (List ℕ)) (content : List ℕ) → D.files disk.old self.old.side ≡ at_rest content → IsAt self.old start content payloads
+            → LeavesOnly D.moment D.left_since disk.old disk.new (λ contents. BeforeOrAfter start content payloads payload.now (contents self.old.side) × OtherMayBe self.old.side (D.files disk.old) contents) }
+
+        ensures full { IsErrOf result Full ↔ (LIMIT ≤ self.old.end + 5 + length payload.now) }
+        ensures before_the_disk { IsErrOf result Full → disk.new ≡ disk.old }
+        ensures damaged { (place : ℕ) → IsErrOf result (Damaged place) → ⊥ }
+        ensures device { IsErrOf result Device → D.failures disk.old < D.failures disk.new }
+        ensures failures { D.failures disk.old ≤ D.failures disk.new }
+    {
+        if !fits(self.end, payload.len()) {
+            return Err(JournalError::Full);
+        }
+        spell(&mut self.buffer, payload)?;
+        write_synced(disk, self.side, self.end + 1, &self.buffer)?;
+        write_synced(disk, self.side, self.end, &[1])?;
+        self.end += (HEAD + payload.len()) as u64;
+        Ok(())
+    }
+}
+
+// Whether the closed gate behind a record of such a payload would lie below the limit.
+fn fits(end: u64, count: usize) -> bool
+    ensures { IsTrue result ↔ (end + 5 + count < LIMIT) }
+{
+    let room = LIMIT.saturating_sub(end);
+    (count as u64) < room && count as u64 + (HEAD as u64) < room
+}
+
+// Puts into the buffer what stands behind the gate of a record: the length, the payload, and the closed gate of the next.
+fn spell(buffer: &mut Vec<u8>, payload: &[u8]) -> Result<(), AllocError>
+    requires { length payload.now < 2 ^ 32 }
+    ensures { OnOk result (buffer.new.items ≡ little_bytes 4 (length payload.now) ++ payload.now ++ 0 ∷ []) }
+{
+    buffer.clear();
+    buffer.reserve(payload.len() + HEAD)?;
+    let mut count = [0; 4];
+    LittleEndian::write_u32(&mut count, payload.len() as u32);
+    buffer.extend_from_slice(&count)?;
+    buffer.extend_from_slice(payload)?;
+    buffer.push(0)?;
+    Ok(())
+}
