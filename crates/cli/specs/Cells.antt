@@ -32,8 +32,16 @@ AreOnce (cell ∷ cells) = (value_at cells cell.0 ≡ None) × AreOnce cells
 abbrev pub AreNumbers : Cells → Type 0
 AreNumbers cells = All (λ cell. FitsSigned w64 cell.0 × FitsSigned w64 cell.1) cells
 
--- the bytes of file A stand for these cells: none in an empty file, else one for each payload of its journal
-pub record HoldsCells (content : List ℕ) (cells : Cells) : Type 0 where
+-- the payloads of these cells
+abbrev pub payloads_of : Cells → List (List ℕ)
+payloads_of cells = map (λ cell. item_payload cell.0 cell.1) cells
+
+-- payloads spell these cells
+pub record SpellCells (payloads : List (List ℕ)) (cells : Cells) : Type 0 where
   pub once : AreOnce cells
   pub numbers : AreNumbers cells
-  pub spelled : ((content ≡ []) × (cells ≡ [])) ⊎ StandsFor content (map (λ cell. item_payload cell.0 cell.1) cells)
+  pub spelled : payloads ≡ payloads_of cells
+
+-- the bytes of file A stand for these cells: none in an empty file, else one for each payload of its journal
+abbrev pub HoldsCells : List ℕ → Cells → Type 0
+HoldsCells content cells = ((content ≡ []) × (cells ≡ [])) ⊎ ((payloads : List (List ℕ)) × StandsFor content payloads × SpellCells payloads cells)

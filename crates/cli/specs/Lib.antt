@@ -1,1 +1,5 @@
+pub mod Causes
 pub mod Cells
+pub mod Journal
+pub mod Reply
+pub mod Store

@@ -2,3 +2,7 @@
 #![tactic(auto)]
 
 mod item;
+mod reply;
+mod store;
+
+pub use reply::{Refusal, Reply};

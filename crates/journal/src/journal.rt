@@ -55,6 +55,7 @@ impl Journal {
         requires { IsTrue D.is_honest → at ≤ length (D.files disk.old side).content }
         ensures begun { IsTrue D.is_honest → IfOk result (λ journal. IsAt journal at (D.files disk.new side).content []) }
         ensures side { IfOk result (λ journal. journal.side ≡ side) }
+        ensures end { IfOk result (λ journal. journal.end ≡ at) }
         ensures file { IsTrue D.is_honest → OnOk result (D.files disk.new side ≡ at_rest (overwritten (D.files disk.old side).content at (0 ∷ []))) }
         ensures other { IsTrue D.is_honest → OtherStays side (D.files disk.old) (D.files disk.new) }
 

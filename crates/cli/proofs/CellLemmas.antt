@@ -1,0 +1,91 @@
+-- Cells, and one cell more.
+use Rattle.std.proofs.Common.{◌≡◌, ◌≢◌, ◌⊎◌, inl, inr, ℕ, ℤ, Bool, true, false, cond, List, [], ◌∷◌, ◌++◌, map, refl, sym, ap, subst, ◌∙◌}
+use Rattle.std.specs.Prelude.{Option, Some, None, if◌then◌else◌, FitsSigned, All}
+use Rattle.std.specs.Int.{w64}
+use Rattle.std.specs.declared.cmp.Ordering.{Ordering}
+use Rattle.std.specs.declared.cmp.Ordering.TheVariants.{Less, Equal, Greater}
+use Rattle.std.specs.Ordering.{int_cmp, int_eq, is_eq, ordering_then}
+use Rattle.std.specs.BTreeMap.{BTreeMap, get, is_at}
+use Rattle.std.proofs.lemmas.List.{map-append}
+use Rattle.std.proofs.lemmas.List.Elements.{All-push}
+use Rattle.std.proofs.lemmas.Bool.Decides.{Decides-int_eq}
+use Rattle.terms.specs.Key.{key_cmp}
+use Rattle.cli.specs.Cells.{Cells, value_at, AreOnce, AreNumbers, item_payload, payloads_of, SpellCells}
+use Rattle.cli.specs.Store.{HasCells}
+
+-- keys of one component tie where these do
+pub one_component : (k q : ℤ) → is_at (key_cmp (k ∷ [])) (q ∷ []) ≡ int_eq k q
+one_component k q = by (int_cmp k q)
+  where
+    by : (o : Ordering) → is_eq (ordering_then o Equal) ≡ is_eq o
+    by Less = refl
+    by Equal = refl
+    by Greater = refl
+
+same_keys : (k q : ℤ) → int_eq k q ≡ true → k ≡ q
+same_keys k q = (Decides-int_eq k q).0
+
+equal_keys : (k q : ℤ) → k ≡ q → int_eq k q ≡ true
+equal_keys k q = (Decides-int_eq k q).1
+
+cases_bool : (b : Bool) → (b ≡ true) ⊎ (b ≡ false)
+cases_bool true = inl refl
+cases_bool false = inr refl
+
+-- a key that no cell has is not that of the first
+first_differs : (cell : ℤ × ℤ) (cells : Cells) (key : ℤ) → value_at (cell ∷ cells) key ≡ None → int_eq cell.0 key ≡ false
+first_differs cell cells key none = elim (cases_bool (int_eq cell.0 key)) [
+  | inl same ↦ let there = sym none ∙ ap (λ (b : Bool). if b then Some cell.1 else value_at cells key) same in cc
+  | inr differs ↦ differs
+]
+
+rest_lacks : (cell : ℤ × ℤ) (cells : Cells) (key : ℤ) → value_at (cell ∷ cells) key ≡ None → value_at cells key ≡ None
+rest_lacks cell cells key none = sym (ap (λ (b : Bool). if b then Some cell.1 else value_at cells key) (first_differs cell cells key none)) ∙ none
+
+not_same : (k q : ℤ) → int_eq k q ≡ false → int_eq q k ≡ false
+not_same k q differs = elim (cases_bool (int_eq q k)) [
+  | inl same ↦ let there = equal_keys k q (sym (same_keys q k same)) in cc
+  | inr other ↦ other
+]
+
+-- the value at a key once a cell more was put
+pub value_at-push : (cells : Cells) (key value q : ℤ) → value_at cells key ≡ None → value_at (cells ++ (key, value) ∷ []) q ≡ (if int_eq key q then Some value else value_at cells q)
+value_at-push [] key value q none = refl
+value_at-push (cell ∷ cells) key value q none = elim (cases_bool (int_eq cell.0 q)) [
+  | inl same ↦
+      let other : int_eq key q ≡ false = subst (λ (k : ℤ). int_eq key k ≡ false) (same_keys cell.0 q same) (not_same cell.0 key (first_differs cell cells key none)) in
+      ap (λ (b : Bool). if b then Some cell.1 else value_at (cells ++ (key, value) ∷ []) q) same
+      ∙ sym (ap (λ (b : Bool). if b then Some value else (if int_eq cell.0 q then Some cell.1 else value_at cells q)) other ∙ ap (λ (b : Bool). if b then Some cell.1 else value_at cells q) same)
+  | inr differs ↦
+      ap (λ (b : Bool). if b then Some cell.1 else value_at (cells ++ (key, value) ∷ []) q) differs
+      ∙ value_at-push cells key value q (rest_lacks cell cells key none)
+      ∙ ap (λ (o : Option ℤ). if int_eq key q then Some value else o) (sym (ap (λ (b : Bool). if b then Some cell.1 else value_at cells q) differs))
+]
+
+pub once-push : (cells : Cells) (key value : ℤ) → AreOnce cells → value_at cells key ≡ None → AreOnce (cells ++ (key, value) ∷ [])
+once-push [] key value once none = (refl, tt)
+once-push (cell ∷ cells) key value once none = (
+  value_at-push cells key value cell.0 (rest_lacks cell cells key none)
+  ∙ ap (λ (b : Bool). if b then Some value else value_at cells cell.0) (not_same cell.0 key (first_differs cell cells key none))
+  ∙ once.0,
+  once-push cells key value once.1 (rest_lacks cell cells key none),
+)
+
+pub payloads_of-push : (cells : Cells) (key value : ℤ) → payloads_of (cells ++ (key, value) ∷ []) ≡ payloads_of cells ++ item_payload key value ∷ []
+payloads_of-push cells key value = map-append (λ cell. item_payload cell.0 cell.1) cells ((key, value) ∷ [])
+
+pub spelled-push : (payloads : List (List ℕ)) (cells : Cells) (key value : ℤ) → SpellCells payloads cells → value_at cells key ≡ None → FitsSigned w64 key → FitsSigned w64 value
+    → SpellCells (payloads ++ item_payload key value ∷ []) (cells ++ (key, value) ∷ [])
+spelled-push payloads cells key value spelled none fits_key fits_value = record {
+  once = once-push cells key value spelled.once none;
+  numbers = All-push (λ (cell : ℤ × ℤ). FitsSigned w64 cell.0 × FitsSigned w64 cell.1) cells (key, value) spelled.numbers (fits_key, fits_value);
+  spelled = ap (λ (l : List (List ℕ)). l ++ item_payload key value ∷ []) spelled.spelled ∙ sym (payloads_of-push cells key value);
+}
+
+pub has_cells-push : (old new : BTreeMap (List ℤ) ℤ) (cells : Cells) (key value : ℤ) → ((q : List ℤ) → get key_cmp new q ≡ cond (is_at (key_cmp (key ∷ [])) q) (Some value) (get key_cmp old q))
+    → HasCells old cells → value_at cells key ≡ None → HasCells new (cells ++ (key, value) ∷ [])
+has_cells-push old new cells key value updates has none q =
+    updates (q ∷ [])
+    ∙ ap (λ (b : Bool). cond b (Some value) (get key_cmp old (q ∷ []))) (one_component key q)
+    ∙ ap (cond (int_eq key q) (Some value)) (has q)
+    ∙ sym (value_at-push cells key value q none)

@@ -1,0 +1,25 @@
+use Rattle.std.proofs.Common.{◌≡◌, None, cond, ◌++◌, ◌∷◌, [], List, ℕ, sym, ap, subst, ◌∙◌, rules}
+use Rattle.cli.specs.Cells.{payloads_of, item_payload, value_at, SpellCells}
+use Rattle.std.specs.Prelude.{Some, ℤ}
+use Rattle.std.specs.Int.{w64, cast_signed, cast_unsigned}
+use Rattle.std.proofs.lemmas.Int.{to_z-of_z}
+use Rattle.std.specs.BTreeMap.{get, is_at}
+use Rattle.disk.specs.declared.side.Side.TheVariants.{A}
+use Rattle.terms.specs.Key.{key_cmp}
+use Rattle.cli.specs.Journal.{IsJournalOf}
+use Rattle.cli.proofs.CellLemmas.{spelled-push, payloads_of-push, has_cells-push}
+use Rattle.cli.proofs.store.Store.put.Goals as goal
+
+pub returns-in-Ok-clause-put : goal.returns-in-Ok-clause-put
+returns-in-Ok-clause-put g c honest cells is =
+    let key = c.args.key in
+    let value = c.args.value in
+    let none : value_at cells key ≡ None = search rules in
+    let spelled = spelled-push (payloads_of cells) cells key value is.spelled none c.ranges.key c.ranges.value in
+    let more = payloads_of-push cells key value in
+    let added = c.in-Ok.ensures.added honest (payloads_of cells) is.journal in
+    (none, record {
+      spelled = subst (λ (l : List (List ℕ)). SpellCells l (cells ++ (key, value) ∷ [])) (sym more) spelled;
+      values = has_cells-push c.args.self.now.cells c.insert.new.self cells key value (λ q. c.in_ok-insert.ensures.updates.0 q ∙ ap (λ (v : ℤ). cond (is_at (key_cmp c.new-cell.result) q) (Some v) (get key_cmp c.args.self.now.cells q)) (to_z-of_z w64 value c.ranges.value) ∙ ap (λ (k : List ℤ). cond (is_at (key_cmp k) q) (Some value) (get key_cmp c.args.self.now.cells q)) (c.new-cell.ensures ∙ ap (λ (k : ℤ). k ∷ []) (to_z-of_z w64 key c.ranges.key))) is.values none;
+      journal = subst (IsJournalOf c.append.new.journal (g.D.Disk.files c.append.new.disk A).content) (sym more) (subst (λ (p : List ℕ). IsJournalOf c.append.new.journal (g.D.Disk.files c.append.new.disk A).content (payloads_of cells ++ p ∷ [])) (c.payload_of.ensures ∙ ap (λ (k : ℤ). item_payload k (cast_signed w64 (cast_unsigned w64 value))) (to_z-of_z w64 key c.ranges.key) ∙ ap (item_payload key) (to_z-of_z w64 value c.ranges.value)) added);
+    })

@@ -1,0 +1,118 @@
+ghost use Rattle.std.specs.Prelude.{◌≡◌, ◌≤◌, ◌<◌, ◌+◌, ◌++◌, ◌∷◌, [], ℕ, ℤ, List, length, IsTrue, Some, None, ◌↔◌, IfOk, OnOk, OnErr, IsErrOf, IfSome};
+ghost use Rattle.disk.specs.declared.side.Side.TheVariants.{A};
+ghost use Rattle.journal.specs.declared.journal.TheConstants.{LIMIT};
+ghost use Rattle.cli.specs.Journal.{IsJournalOf};
+ghost use Rattle.cli.specs.Cells.{Cells, value_at, SpellCells, HoldsCells};
+ghost use Rattle.cli.specs.declared.reply.Refusal.TheVariants.{AlreadyPut, Full, Damaged, Device, NoMemory};
+
+use crate::item::payload_of;
+use crate::reply::Refusal;
+use disk::{Disk, Side};
+use journal::Journal;
+use std::alloc::Global;
+use std::collections::BTreeMap;
+use terms::Key;
+
+/// The cells of a directory, and the journal on file A that keeps them.
+#[derive(Drop)]
+pub(crate) struct Store {
+    alloc: Global,
+    // None while file A is empty.
+    journal: Option<Journal>,
+    cells: BTreeMap<Key, i64>,
+}
+
+impl Store {
+    ghost use Rattle.cli.specs.Store.{IsStoreOf};
+
+    /// The value of a cell, or `None` where it was never put.
+    pub(crate) fn get(&self, key: i64) -> Option<i64>
+        ensures { (content : List ℕ) (cells : Cells) → IsStoreOf self.now content cells → result ≡ value_at cells key }
+    {
+        self.cells.get(&Key::new(&[key])).copied()
+    }
+
+    /// Puts a value at a cell that was never put. From `Ok` on it is on the disk.
+    ///
+    /// `AlreadyPut` comes before any call of the disk. After `Device`, or `NoMemory` from a call of the disk, the value
+    /// may be there or not: open the store again.
+    pub(crate) fn put<D: Disk>(
+        &mut self,
+        disk: &mut D,
+        key: i64,
+        value: i64,
+    ) -> Result<(), Refusal>
+        requires { IsTrue D.is_honest → (cells : Cells) × IsStoreOf self.old (D.files disk.old A).content cells }
+
+        ensures put { IsTrue D.is_honest → (cells : Cells) → IsStoreOf self.old (D.files disk.old A).content cells
+            → OnOk result ((value_at cells key ≡ None) × IsStoreOf self.new (D.files disk.new A).content (cells ++ (key, value) ∷ [])) }
+        ensures already { IsTrue D.is_honest → (cells : Cells) → IsStoreOf self.old (D.files disk.old A).content cells
+            → (there : ℤ) → IsErrOf result (AlreadyPut there) ↔ (value_at cells key ≡ Some there) }
+        ensures before_the_disk { (there : ℤ) → IsErrOf result (AlreadyPut there) → disk.new ≡ disk.old }
+        ensures full { IsTrue D.is_honest → IsErrOf result Full → disk.new ≡ disk.old }
+        ensures damaged { (place : ℕ) → IsErrOf result (Damaged place) → ⊥ }
+        ensures device { IsErrOf result Device → D.failures disk.old < D.failures disk.new }
+    {
+        let cell = Key::new(&[key]);
+        if let Some(there) = self.cells.get(&cell) {
+            return Err(Refusal::AlreadyPut(*there));
+        }
+        self.cells.insert(cell, value)?;
+        match append(self.alloc, &mut self.journal, disk, &payload_of(key, value)) {
+            Ok(()) => Ok(()),
+            Err(refusal) => {
+                self.cells.remove(&cell);
+                Err(refusal)
+            }
+        }
+    }
+}
+
+// Adds a payload to the journal of file A, which it begins where there is none.
+fn append<D: Disk>(
+    alloc: Global,
+    journal: &mut Option<Journal>,
+    disk: &mut D,
+    payload: &[u8],
+) -> Result<(), Refusal>
+    requires honest { IsTrue D.is_honest → (payloads : List (List ℕ)) × IsJournalOf journal.old (D.files disk.old A).content payloads }
+    requires small { length payload.now ≤ 20 }
+    ensures added { IsTrue D.is_honest → (payloads : List (List ℕ)) → IsJournalOf journal.old (D.files disk.old A).content payloads
+        → OnOk result (IsJournalOf journal.new (D.files disk.new A).content (payloads ++ payload.now ∷ [])) }
+    ensures already { (there : ℤ) → IsErrOf result (AlreadyPut there) → ⊥ }
+    ensures full { IsErrOf result Full → disk.new ≡ disk.old }
+    ensures damaged { (place : ℕ) → IsErrOf result (Damaged place) → ⊥ }
+    ensures device { IsErrOf result Device → D.failures disk.old < D.failures disk.new }
+{
+    match journal.take() {
+        Some(begun) => add(begun, journal, disk, payload),
+        None => add(
+            Journal::start(alloc, disk, Side::A, 0)?,
+            journal,
+            disk,
+            payload,
+        ),
+    }
+}
+
+// Adds a payload to a journal, and keeps it.
+fn add<D: Disk>(
+    mut begun: Journal,
+    journal: &mut Option<Journal>,
+    disk: &mut D,
+    payload: &[u8],
+) -> Result<(), Refusal>
+    requires { IsTrue D.is_honest → begun.end < length (D.files disk.old begun.side).content }
+    ensures added { IsTrue D.is_honest → (payloads : List (List ℕ)) → IsJournalOf (Some begun) (D.files disk.old A).content payloads
+        → OnOk result (IsJournalOf journal.new (D.files disk.new A).content (payloads ++ payload.now ∷ [])) }
+    ensures already { (there : ℤ) → IsErrOf result (AlreadyPut there) → ⊥ }
+    ensures full { IsErrOf result Full → LIMIT ≤ begun.end + 5 + length payload.now }
+    ensures before_the_disk { IsErrOf result Full → disk.new ≡ disk.old }
+    ensures damaged { (place : ℕ) → IsErrOf result (Damaged place) → ⊥ }
+    ensures device { IsErrOf result Device → D.failures disk.old < D.failures disk.new }
+    ensures failures { D.failures disk.old ≤ D.failures disk.new }
+{
+    let appended = begun.append(disk, payload);
+    *journal = Some(begun);
+    Ok(appended?)
+}
