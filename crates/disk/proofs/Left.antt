@@ -17,7 +17,7 @@ either_false_right true b h = cc
 either_false_right false b h = h
 
 -- a position that a write leaves alone
-alone : (d : Durable) (from count at : ℕ) → write_touches d from count at ≡ false → (at < from) ⊎ (from + count ≤ at)
+pub alone : (d : Durable) (from count at : ℕ) → write_touches d from count at ≡ false → (at < from) ⊎ (from + count ≤ at)
 alone d from count at h = elim (cases_lt at from) [
   | inl before ↦ inl before
   | inr ge ↦ elim (cases_lt at (from + count)) [
@@ -27,7 +27,7 @@ alone d from count at h = elim (cases_lt at from) [
 ]
 
 -- a write that touches nothing at the synced end ends before it
-short : (d : Durable) (from count : ℕ) → ((at : ℕ) → length d.synced ≤ at → write_touches d from count at ≡ false) → from + count ≤ length d.synced
+pub short : (d : Durable) (from count : ℕ) → ((at : ℕ) → length d.synced ≤ at → write_touches d from count at ≡ false) → from + count ≤ length d.synced
 short d from count h = elim (cases_lt (length d.synced) (from + count)) [
   | inl past ↦ let tail = either_false_right (nat_le from (length d.synced) && nat_lt (length d.synced) (from + count)) _ (h (length d.synced) (omega arith)) in absurd (grind (arith, nat_tests))
   | inr le ↦ le

@@ -1,5 +1,7 @@
 pub mod Calls
+pub mod Crash
 pub mod File
+pub mod Laws
 pub mod MemDisk
 pub mod Moments
 pub mod Settled

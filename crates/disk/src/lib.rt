@@ -5,8 +5,10 @@
 //! The layer above stands on the clauses of the trait, and on its three laws.
 #![tactic(auto)]
 
+mod crash;
 mod error;
 mod file_disk;
+pub mod laws;
 mod mem_disk;
 mod record;
 mod side;

@@ -3,7 +3,9 @@ ghost use Rattle.disk.specs.declared.side.Side.{Side};
 ghost use Rattle.disk.specs.Side.{is_side, pick};
 ghost use Rattle.disk.specs.File.{MayLeave, overwritten};
 ghost use Rattle.disk.specs.Calls.{durable_of};
+ghost use Rattle.disk.specs.Crash.{crashed};
 
+use crate::crash::may_leave;
 use crate::record::{Change, Record};
 use crate::{Disk, DiskError, Side};
 use std::alloc::{AllocError, Global};
@@ -30,7 +32,8 @@ pub struct MemDisk {
 
 impl MemDisk {
     ghost use Rattle.disk.specs.File.{settled};
-    ghost use Rattle.disk.specs.MemDisk.{files_of};
+    ghost use Rattle.disk.specs.Time.{MayLeaveNow};
+    ghost use Rattle.disk.specs.MemDisk.{files_of, fill_of};
 
     /// A disk of two empty files, all of it durable.
     pub fn new(alloc: Global) -> Self
@@ -50,6 +53,27 @@ impl MemDisk {
         ensures { files_of self.new ≡ files_of self.old }
     {
         self.history.fail(number);
+    }
+
+    /// A crash that leaves these bytes, where one may leave them; else the fill comes back, and nothing has changed.
+    ///
+    /// It undoes and settles nothing of what was done since the last sync of a file: the next crash may leave
+    /// other bytes.
+    pub fn crash(&mut self, fill: Fill) -> Result<(), Fill>
+        ensures allowed { IsOk result ↔ MayLeaveNow (files_of self.old) (fill_of fill) }
+        ensures ok { OnOk result ((side : Side) → files_of self.new side ≡ crashed (fill_of fill side) (files_of self.old side)) }
+        ensures err { IfErr result (λ back. back ≡ fill) }
+        ensures unchanged { OnErr result ((side : Side) → files_of self.new side ≡ files_of self.old side) }
+        ensures calls { self.new.history.calls.items ≡ self.old.history.calls.items }
+    {
+        let calls = self.history.calls.as_slice();
+        if !may_leave(calls, Side::A, &fill.a) || !may_leave(calls, Side::B, &fill.b) {
+            return Err(fill);
+        }
+        let Fill { a, b } = fill;
+        self.a = a;
+        self.b = b;
+        Ok(())
     }
 
     // What reads of a file give.

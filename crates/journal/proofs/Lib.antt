@@ -1,1 +1,4 @@
 pub mod Appending
+pub mod Reading
+pub mod Spelling
+pub mod Standing

@@ -7,15 +7,13 @@ ghost use Rattle.journal.specs.declared.journal.TheConstants.{LIMIT};
 ghost use Rattle.journal.specs.declared.error.JournalError.TheVariants.{Device, NoMemory, Damaged, Full};
 
 use crate::JournalError;
+use crate::records::HEAD;
 use byteorder::{ByteOrder, LittleEndian};
 use disk::{Disk, Side, write_synced};
 use std::alloc::{AllocError, Global};
 
 /// Positions behind the last byte of a side lie below this.
 pub const LIMIT: u64 = 1 << 30;
-
-// The bytes of a record in front of its payload: the gate and the length.
-const HEAD: usize = 5;
 
 /// Where the records of a journal end.
 #[derive(Drop)]

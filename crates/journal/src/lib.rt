@@ -8,8 +8,15 @@
 
 mod error;
 mod journal;
+mod law;
 mod payloads;
+mod records;
+mod scan;
+#[cfg(test)]
+mod tests;
 
 pub use error::JournalError;
 pub use journal::{Journal, LIMIT};
+pub use law::one_meaning;
 pub use payloads::Payloads;
+pub use records::record_length;

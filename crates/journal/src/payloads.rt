@@ -1,13 +1,12 @@
-ghost use Rattle.std.specs.Prelude.{◌≡◌, ◌<◌, ◌≤◌, ◌+◌, ◌↔◌, Some, List, ℕ, [], ◌∷◌, ◌++◌, length, IsTrue, slice_get, slice_range, OnOk, OnErr, vec_len};
+ghost use Rattle.std.specs.Prelude.{◌≡◌, ◌<◌, ◌↔◌, Some, [], length, IsTrue, slice_get};
 
-use std::alloc::{AllocError, Global};
 use std::marker::Model;
 
 // Where a payload stands among the bytes.
 #[derive(Clone, Copy)]
-struct Place {
-    start: usize,
-    end: usize,
+pub(crate) struct Place {
+    pub(crate) start: usize,
+    pub(crate) end: usize,
 }
 
 /// The payloads of a journal in order, as a list of byte strings.
@@ -27,4 +26,39 @@ impl Model for Payloads {
     ghost view = { λ p. payloads_at p.bytes.items p.places.items };
 
     ghost invariant = { λ p. AreWithin p.bytes.items p.places.items };
+}
+
+impl Payloads {
+    ghost use Rattle.journal.specs.Places.{payloads_at, AreWithin};
+
+    /// The payloads that stand at these places among the bytes.
+    pub(crate) fn at(bytes: Vec<u8>, places: Vec<Place>) -> Self
+        requires { AreWithin bytes.items places.items }
+        ensures { result ≡ payloads_at bytes.items places.items }
+    {
+        Payloads { bytes, places }
+    }
+
+    /// The number of payloads.
+    pub fn len(&self) -> usize
+        ensures { result ≡ length self.now }
+    {
+        self.places.len()
+    }
+
+    /// Whether there is no payload.
+    pub fn is_empty(&self) -> bool
+        ensures { IsTrue result ↔ (self.now ≡ []) }
+    {
+        self.places.is_empty()
+    }
+
+    /// The payload at an index, from 0 in the order of the file.
+    pub fn get(&self, index: usize) -> &[u8]
+        requires { index < length self.now }
+        ensures { slice_get self.now index ≡ Some result.now }
+    {
+        let place = self.places[index];
+        &self.bytes[place.start..place.end]
+    }
 }

@@ -1,0 +1,83 @@
+-- How the bytes of a record are read: each record by its length, and none in two ways.
+use Rattle.std.proofs.Common.{◌≡◌, ◌≤◌, ◌<◌, ◌+◌, ◌-◌, ◌^◌, ℕ, zero, suc, List, [], ◌∷◌, ◌++◌, length, take, drop, get_or, sym, ◌∙◌, ap, refl, arith}
+use Rattle.std.specs.Prelude.{slice_range}
+use Rattle.std.proofs.lemmas.List.{append_assoc, length-take-le, length-drop, take-append-drop, take_at, drop_at, drop-drop, get_or-drop}
+use Rattle.std.proofs.lemmas.List.Elements.{All-head, All-tail}
+use Rattle.std.proofs.lemmas.Nat.{le_bytes_4}
+use Rattle.byteorder.specs.Endian.{little_bytes, little_number}
+use Rattle.byteorder.specs.Numbers.{little_number-reads_back}
+use Rattle.journal.specs.Records.{record_of, records, IsShort, StandsFor}
+use Rattle.journal.specs.WholeRecords.{IsRecordAt}
+
+-- two lists whose fronts are as long have one front and one rest
+same_front : (a b xs ys : List ℕ) → length a ≡ length b → a ++ xs ≡ b ++ ys → (a ≡ b) × (xs ≡ ys)
+same_front a b xs ys long same = (
+  sym (take_at a xs (length b) long) ∙ ap (take (length b)) same ∙ take_at b ys (length b) refl,
+  sym (drop_at a xs (length b) long) ∙ ap (drop (length b)) same ∙ drop_at b ys (length b) refl,
+)
+
+-- behind its gate a record reads as the length of its payload
+pub length_read : (payload rest : List ℕ) → IsShort payload → little_number 4 (drop 1 (record_of payload ++ rest)) ≡ length payload
+length_read payload rest short = little_number-reads_back 4 (length payload) (payload ++ rest) (omega arith)
+
+-- no record is another one, nor begins with it
+pub one_record : (a b xs ys : List ℕ) → IsShort a → IsShort b → record_of a ++ xs ≡ record_of b ++ ys → (a ≡ b) × (xs ≡ ys)
+one_record a b xs ys short_a short_b same =
+    let count = λ (bytes : List ℕ). little_number 4 (drop 1 bytes) in
+    same_front a b xs ys (sym (length_read a xs short_a) ∙ ap count same ∙ length_read b ys short_b) (ap (drop 5) same)
+
+-- bytes stand for one list of payloads
+pub one_meaning : (one two : List (List ℕ)) (bytes : List ℕ) → StandsFor bytes one → StandsFor bytes two → one ≡ two
+one_meaning [] [] bytes a b = refl
+one_meaning [] (y ∷ ys) bytes a b = absurd (a.closed (ap (λ (bytes : List ℕ). get_or bytes 0 0) (sym a.spelled ∙ b.spelled)))
+one_meaning (x ∷ xs) [] bytes a b = absurd (b.closed (ap (λ (bytes : List ℕ). get_or bytes 0 0) (sym b.spelled ∙ a.spelled)))
+one_meaning (x ∷ xs) (y ∷ ys) bytes a b =
+    let same : record_of x ++ (records xs ++ a.gate ∷ a.rest) ≡ record_of y ++ (records ys ++ b.gate ∷ b.rest) = sym (append_assoc (record_of x) (records xs) (a.gate ∷ a.rest)) ∙ sym a.spelled ∙ b.spelled ∙ append_assoc (record_of y) (records ys) (b.gate ∷ b.rest) in
+    let parts = one_record x y _ _ (All-head IsShort x xs a.short) (All-head IsShort y ys b.short) same in
+    let rest = one_meaning xs ys (records xs ++ a.gate ∷ a.rest)
+    (record { short = All-tail IsShort x xs a.short; gate = a.gate; closed = a.closed; rest = a.rest; spelled = refl })
+    (record { short = All-tail IsShort y ys b.short; gate = b.gate; closed = b.closed; rest = b.rest; spelled = parts.1 }) in
+    ap (λ (p : List ℕ). p ∷ xs) parts.0 ∙ ap (λ (ps : List (List ℕ)). y ∷ ps) rest
+
+-- four bytes are all below 256
+four_bytes : (a b c d : ℕ) → a < 256 → b < 256 → c < 256 → d < 256 → (k : ℕ) → get_or (a ∷ b ∷ c ∷ d ∷ []) k 0 < 256
+four_bytes a b c d la lb lc ld zero = la
+four_bytes a b c d la lb lc ld (suc zero) = lb
+four_bytes a b c d la lb lc ld (suc (suc zero)) = lc
+four_bytes a b c d la lb lc ld (suc (suc (suc zero))) = ld
+four_bytes a b c d la lb lc ld (suc (suc (suc (suc k)))) = omega arith
+
+-- bytes begin with the record whose length they spell behind an open gate
+spells_record : (bytes : List ℕ) (count : ℕ) → ((k : ℕ) → get_or bytes k 0 < 256) → 5 + count ≤ length bytes → get_or bytes 0 0 ≡ 1 → count ≡ little_number 4 (drop 1 bytes)
+    → bytes ≡ record_of (take count (drop 5 bytes)) ++ drop count (drop 5 bytes)
+spells_record [] count low fits begins is = absurd (omega arith)
+spells_record (gate ∷ []) count low fits begins is = absurd (omega arith)
+spells_record (gate ∷ a ∷ []) count low fits begins is = absurd (omega arith)
+spells_record (gate ∷ a ∷ b ∷ []) count low fits begins is = absurd (omega arith)
+spells_record (gate ∷ a ∷ b ∷ c ∷ []) count low fits begins is = absurd (omega arith)
+spells_record (gate ∷ a ∷ b ∷ c ∷ d ∷ rest) count low fits begins is =
+    let long : length (take count rest) ≡ count = length-take-le count rest (omega arith) in
+    let spelled : little_bytes 4 count ≡ a ∷ b ∷ c ∷ d ∷ [] = le_bytes_4 (a ∷ b ∷ c ∷ d ∷ []) count refl (four_bytes a b c d (low 1) (low 2) (low 3) (low 4)) (omega arith) in
+    ap (λ (g : ℕ). g ∷ a ∷ b ∷ c ∷ d ∷ rest) begins ∙ ap (λ (bytes : List ℕ). 1 ∷ a ∷ b ∷ c ∷ d ∷ bytes) (sym (take-append-drop count rest))
+    ∙ ap (λ (front : List ℕ). 1 ∷ front ++ (take count rest ++ drop count rest)) (sym spelled)
+    ∙ ap (λ (n : ℕ). 1 ∷ little_bytes 4 n ++ (take count rest ++ drop count rest)) (sym long)
+
+-- the record whose length the bytes from a gate on spell stands there
+pub record_stands : (bytes : List ℕ) (gate count : ℕ) → ((k : ℕ) → get_or bytes k 0 < 256) → gate + 5 + count < length bytes → count < 2 ^ 32 → get_or (drop gate bytes) 0 0 ≡ 1
+    → count ≡ little_number 4 (drop 1 (drop gate bytes)) → IsRecordAt bytes gate (record { start = gate + 5; end = gate + 5 + count })
+record_stands bytes gate count low fits short begins is =
+    let rest = drop gate bytes in
+    let low_rest : (k : ℕ) → get_or rest k 0 < 256 = λ k. rw (get_or-drop gate bytes k 0) (low (gate + k)) in
+    let room : 5 + count ≤ length rest = rw length-drop (omega arith) in
+    let payload_is : slice_range bytes (gate + 5) (gate + 5 + count) ≡ take count (drop 5 rest) =
+    ap (λ (n : ℕ). take n (drop (gate + 5) bytes)) (let n : gate + 5 + count - (gate + 5) ≡ count = omega arith in n) ∙ ap (take count) (sym (drop-drop 5 gate bytes)) in
+    let long : length (take count (drop 5 rest)) ≡ count = length-take-le count (drop 5 rest) (rw length-drop (omega arith)) in
+    let behind : drop count (drop 5 rest) ≡ drop (gate + 5 + count) bytes = ap (drop count) (drop-drop 5 gate bytes) ∙ drop-drop count (gate + 5) bytes in
+    record {
+      ordered = omega arith;
+      within = fits;
+      short = rw (payload_is, long) short;
+      leads = rw (payload_is, long) (omega arith);
+      spelled = spells_record rest count low_rest room begins is ∙ ap (λ (back : List ℕ). record_of (take count (drop 5 rest)) ++ back) behind
+          ∙ ap (λ (payload : List ℕ). record_of payload ++ drop (gate + 5 + count) bytes) (sym payload_is);
+    }

@@ -1,0 +1,37 @@
+-- What bytes stand for that begin with whole records, by what follows these.
+use Rattle.std.proofs.Common.{◌≡◌, ◌+◌, ℕ, List, [], ◌∷◌, ◌++◌, drop, sym, ◌∙◌, ap, subst, refl}
+use Rattle.std.proofs.lemmas.List.{append_assoc, drop-drop}
+use Rattle.std.proofs.lemmas.List.Elements.{All-head}
+use Rattle.journal.specs.Records.{record_of, records, IsShort, StandsFor}
+use Rattle.journal.specs.Journal.{BreaksAt}
+use Rattle.journal.specs.WholeRecords.{BeginsWithNone, LeadsTo}
+
+-- behind records stands a next gate
+next_gate : (payloads : List (List ℕ)) (gate : ℕ) (rest : List ℕ) → (next : ℕ) × (back : List ℕ) × (records payloads ++ gate ∷ rest ≡ next ∷ back)
+next_gate [] gate rest = (gate, rest, refl)
+next_gate (payload ∷ payloads) gate rest = (1, drop 1 (record_of payload) ++ records payloads ++ gate ∷ rest, refl)
+
+-- with no whole record and no closed gate at their front bytes stand for no payloads
+no_meaning : (payloads : List (List ℕ)) (bytes : List ℕ) → BeginsWithNone bytes → (StandsFor bytes [] → ⊥) → StandsFor bytes payloads → ⊥
+no_meaning [] bytes none not_closed stands = not_closed stands
+no_meaning (payload ∷ payloads) bytes none not_closed stands =
+    let next = next_gate payloads stands.gate stands.rest in
+    none payload (record {
+      short = All-head IsShort payload payloads stands.short;
+      gate = next.0;
+      rest = next.1;
+      spelled = stands.spelled ∙ append_assoc (record_of payload) (records payloads) (stands.gate ∷ stands.rest) ∙ ap (λ (back : List ℕ). record_of payload ++ back) next.2;
+    })
+
+-- behind the whole records neither another stands nor a closed gate
+pub breaks_at : (content bytes : List ℕ) (start end : ℕ) (payloads : List (List ℕ)) → bytes ≡ drop start content → LeadsTo bytes end payloads → BeginsWithNone (drop end bytes)
+    → (StandsFor (drop end bytes) [] → ⊥) → BreaksAt start content (start + end)
+breaks_at content bytes start end payloads is leads none not_closed =
+    let behind : drop end bytes ≡ drop (start + end) content = ap (drop end) is ∙ drop-drop end start content in
+    record {
+      before = payloads;
+      short = leads.short;
+      leads = ap (λ (n : ℕ). start + n) leads.leads;
+      spelled = sym is ∙ leads.spelled ∙ ap (λ (back : List ℕ). records payloads ++ back) behind;
+      breaks = λ others stands. no_meaning others (drop end bytes) none not_closed (subst (λ (back : List ℕ). StandsFor back others) (sym behind) stands);
+    }

@@ -1,0 +1,30 @@
+-- Records that stand whole among some bytes.
+use Rattle.std.specs.Prelude.{◌≡◌, ◌≤◌, ◌<◌, ◌+◌, ℕ, List, ◌∷◌, ◌++◌, length, drop, All, slice_range}
+use Rattle.journal.specs.declared.payloads.Place.{Place}
+use Rattle.journal.specs.Records.{record_of, records, IsShort}
+
+-- bytes begin with the record of this payload, and with the gate of a next one behind it
+pub record BeginsWith (payload bytes : List ℕ) : Type 0 where
+  pub short : IsShort payload
+  pub gate : ℕ
+  pub rest : List ℕ
+  pub spelled : bytes ≡ record_of payload ++ gate ∷ rest
+
+-- bytes begin with the record of no payload
+abbrev pub BeginsWithNone : List ℕ → Type 0
+BeginsWithNone bytes = (payload : List ℕ) → BeginsWith payload bytes → ⊥
+
+-- the record at a gate has its payload at this place, and a next gate stands behind it
+pub record IsRecordAt (bytes : List ℕ) (gate : ℕ) (place : Place) : Type 0 where
+  pub ordered : place.start ≤ place.end
+  pub within : place.end < length bytes
+  pub short : IsShort (slice_range bytes place.start place.end)
+  pub leads : place.end ≡ gate + length (record_of (slice_range bytes place.start place.end))
+  pub spelled : drop gate bytes ≡ record_of (slice_range bytes place.start place.end) ++ drop place.end bytes
+
+-- so many bytes from the first on are the records of these payloads
+pub record LeadsTo (bytes : List ℕ) (end : ℕ) (payloads : List (List ℕ)) : Type 0 where
+  pub short : All IsShort payloads
+  pub within : end ≤ length bytes
+  pub leads : end ≡ length (records payloads)
+  pub spelled : bytes ≡ records payloads ++ drop end bytes

@@ -1,0 +1,73 @@
+ghost use Rattle.std.specs.Prelude.{◌≡◌, ◌≤◌, ◌↔◌, [], length, drop, IsTrue, IfOk, MatchOption};
+ghost use Rattle.journal.specs.WholeRecords.{BeginsWithNone, IsRecordAt, LeadsTo};
+ghost use Rattle.journal.specs.Places.{payloads_at, AreWithin};
+ghost use Rattle.journal.specs.Records.{record_of, StandsFor};
+
+use crate::payloads::Place;
+use byteorder::{ByteOrder, LittleEndian};
+use std::alloc::{AllocError, Global};
+
+// The gate of a record that counts. Every other byte is a closed gate.
+const OPEN: u8 = 1;
+
+/// The bytes of a record in front of its payload: the gate and the length.
+pub(crate) const HEAD: usize = 5;
+
+/// The number of bytes of a payload's record.
+pub fn record_length(payload: &[u8]) -> u64
+    ensures { result ≡ length (record_of payload.now) }
+{
+    HEAD as u64 + payload.len() as u64
+}
+
+/// The records that stand whole at the front of some bytes.
+#[derive(Drop)]
+pub(crate) struct Records {
+    /// Where their payloads stand.
+    pub(crate) places: Vec<Place>,
+    /// The offset behind the last of them.
+    pub(crate) end: usize,
+}
+
+/// Finds the records that stand whole at the front of the bytes, each with a next gate behind it.
+pub(crate) fn find_records(alloc: Global, bytes: &[u8]) -> Result<Records, AllocError>
+    ensures within { IfOk result (λ found. AreWithin bytes.now found.places.items) }
+    ensures leads { IfOk result (λ found. LeadsTo bytes.now found.end (payloads_at bytes.now found.places.items)) }
+    ensures last { IfOk result (λ found. BeginsWithNone (drop found.end bytes.now)) }
+{
+    let mut places = Vec::new(alloc);
+    let mut end = 0;
+    while let Some(place) = find_payload(bytes, end) {
+        places.push(place)?;
+        end = place.end;
+    }
+    Ok(Records { places, end })
+}
+
+/// Whether a gate stands there, and is closed.
+pub(crate) fn is_closed(bytes: &[u8], gate: usize) -> bool
+    requires { gate ≤ length bytes.now }
+    ensures { IsTrue result ↔ StandsFor (drop gate bytes.now) [] }
+{
+    gate < bytes.len() && bytes[gate] != OPEN
+}
+
+// Where the payload of the record at a gate stands, if the gate is open, and the record and a next gate are there.
+fn find_payload(bytes: &[u8], gate: usize) -> Option<Place>
+    requires { gate ≤ length bytes.now }
+    ensures { MatchOption result (BeginsWithNone (drop gate bytes.now)) (IsRecordAt bytes.now gate) }
+{
+    let record = &bytes[gate..];
+    if record.len() < HEAD || record[0] != OPEN {
+        return None;
+    }
+    let count = LittleEndian::read_u32(&record[1..]) as usize;
+    if record.len() - HEAD <= count {
+        return None;
+    }
+    let start = gate + HEAD;
+    Some(Place {
+        start,
+        end: start + count,
+    })
+}

@@ -1,0 +1,72 @@
+ghost use Rattle.std.specs.Prelude.{◌≡◌, ◌≤◌, ◌<◌, ◌+◌, ◌^◌, ℕ, List, drop, vec_len, IsTrue, IfOk, IsErrOf};
+ghost use Rattle.disk.specs.declared.side.Side.{Side};
+ghost use Rattle.disk.specs.Time.{LeavesOnly, MayLeaveNow, HasCause};
+ghost use Rattle.journal.specs.Records.{StandsFor};
+ghost use Rattle.journal.specs.declared.error.JournalError.TheVariants.{Device, Damaged, Full};
+
+use crate::records::{find_records, is_closed};
+use crate::{Journal, JournalError, Payloads};
+use disk::{Disk, DiskError, Side};
+use std::alloc::Global;
+
+impl Journal {
+    ghost use Rattle.journal.specs.Journal.{IsAt, BreaksAt};
+
+    /// Reads the journal that begins at a position of a file, and the payloads of its records.
+    ///
+    /// `Damaged` tells the position from which on no record stands whole, nor a closed gate: the file may end there.
+    /// `NoMemory` comes where the file from the position on, or the list of its payloads, does not fit in memory.
+    /// Nothing is written, whatever it answers.
+    pub fn scan<D: Disk>(
+        alloc: Global,
+        disk: &mut D,
+        side: Side,
+        at: u64,
+    ) -> Result<(Journal, Payloads), JournalError>
+        ensures found { IsTrue D.is_honest → IfOk result (λ r. IsAt r.0 at (D.files disk.old side).content r.1) }
+        ensures only { IsTrue D.is_honest → (payloads : List (List ℕ)) → StandsFor (drop at (D.files disk.old side).content) payloads → IfOk result (λ r. r.1 ≡ payloads) }
+        ensures side { IfOk result (λ r. r.0.side ≡ side) }
+
+        // It is damaged exactly where the bytes stand for no payloads.
+        ensures damaged { IsTrue D.is_honest → (place : ℕ) → IsErrOf result (Damaged place) → BreaksAt at (D.files disk.old side).content place }
+        ensures full { IsErrOf result Full → ⊥ }
+        ensures device { IsErrOf result Device → D.failures disk.old < D.failures disk.new }
+        ensures failures { D.failures disk.old ≤ D.failures disk.new }
+
+        ensures same { IsTrue D.is_honest → (each : Side) → D.files disk.new each ≡ D.files disk.old each }
+        ensures any_moment { IsTrue D.is_honest → LeavesOnly D.moment D.left_since disk.old disk.new (MayLeaveNow (D.files disk.old)) }
+    {
+        let bytes = read_from(alloc, disk, side, at)?;
+        let found = find_records(alloc, &bytes)?;
+        let end = at + found.end as u64;
+        if !is_closed(&bytes, found.end) {
+            return Err(JournalError::Damaged(end));
+        }
+        Ok((
+            Journal::ending(alloc, side, end),
+            Payloads::at(bytes, found.places),
+        ))
+    }
+}
+
+// What a file has from a position on: nothing, where it ends in front of it.
+fn read_from<D: Disk>(
+    alloc: Global,
+    disk: &mut D,
+    side: Side,
+    at: u64,
+) -> Result<Vec<u8>, DiskError>
+    ensures value { IsTrue D.is_honest → IfOk result (λ bytes. bytes.items ≡ drop at (D.files disk.old side).content) }
+    ensures fits { IfOk result (λ bytes. at + vec_len bytes < 2 ^ 64) }
+    ensures cause { HasCause (D.failures disk.old) (D.failures disk.new) result }
+    ensures same { IsTrue D.is_honest → (each : Side) → D.files disk.new each ≡ D.files disk.old each }
+    ensures any_moment { IsTrue D.is_honest → LeavesOnly D.moment D.left_since disk.old disk.new (MayLeaveNow (D.files disk.old)) }
+{
+    let end = disk.len(side)?;
+    if end <= at {
+        return Ok(Vec::new(alloc));
+    }
+    let mut bytes = vec![in alloc; 0; (end - at) as usize]?;
+    disk.read(side, at, &mut bytes)?;
+    Ok(bytes)
+}
