@@ -1,16 +1,19 @@
 -- Cells, and one cell more.
-use Rattle.std.proofs.Common.{◌≡◌, ◌≢◌, ◌⊎◌, inl, inr, ℕ, ℤ, Bool, true, false, cond, List, [], ◌∷◌, ◌++◌, map, refl, sym, ap, subst, ◌∙◌}
-use Rattle.std.specs.Prelude.{Option, Some, None, if◌then◌else◌, FitsSigned, All}
-use Rattle.std.specs.Int.{w64}
+use Rattle.std.proofs.Common.{◌≡◌, ◌≢◌, ◌⊎◌, inl, inr, ℕ, ℤ, Bool, true, false, cond, List, [], ◌∷◌, ◌++◌, map, drop, get_or, refl, sym, ap, subst, ◌∙◌}
+use Rattle.std.specs.Prelude.{Option, Some, None, if◌then◌else◌, FitsSigned}
+use Rattle.std.specs.Int.{w64, cast_signed, cast_unsigned}
+use Rattle.std.proofs.lemmas.Int.{to_z-of_z}
+use Rattle.std.proofs.Math.Facts.{Fits-of_z}
+use Rattle.byteorder.specs.Endian.{little_bytes, little_number}
+use Rattle.byteorder.specs.Numbers.{little_number-reads_back}
 use Rattle.std.specs.declared.cmp.Ordering.{Ordering}
 use Rattle.std.specs.declared.cmp.Ordering.TheVariants.{Less, Equal, Greater}
 use Rattle.std.specs.Ordering.{int_cmp, int_eq, is_eq, ordering_then}
 use Rattle.std.specs.BTreeMap.{BTreeMap, get, is_at}
 use Rattle.std.proofs.lemmas.List.{map-append}
-use Rattle.std.proofs.lemmas.List.Elements.{All-push}
 use Rattle.std.proofs.lemmas.Bool.Decides.{Decides-int_eq}
 use Rattle.terms.specs.Key.{key_cmp}
-use Rattle.cli.specs.Cells.{Cells, value_at, AreOnce, AreNumbers, item_payload, payloads_of, SpellCells}
+use Rattle.cli.specs.Cells.{Cells, value_at, AreOnce, AreNumbers, number_bytes, item_payload, payloads_of, SpellCells}
 use Rattle.cli.specs.Store.{HasCells}
 
 -- keys of one component tie where these do
@@ -71,6 +74,10 @@ once-push (cell ∷ cells) key value once none = (
   once-push cells key value once.1 (rest_lacks cell cells key none),
 )
 
+pub numbers-push : (cells : Cells) (key value : ℤ) → AreNumbers cells → FitsSigned w64 key → FitsSigned w64 value → AreNumbers (cells ++ (key, value) ∷ [])
+numbers-push [] key value numbers fits_key fits_value = ((fits_key, fits_value), tt)
+numbers-push (cell ∷ cells) key value numbers fits_key fits_value = (numbers.0, numbers-push cells key value numbers.1 fits_key fits_value)
+
 pub payloads_of-push : (cells : Cells) (key value : ℤ) → payloads_of (cells ++ (key, value) ∷ []) ≡ payloads_of cells ++ item_payload key value ∷ []
 payloads_of-push cells key value = map-append (λ cell. item_payload cell.0 cell.1) cells ((key, value) ∷ [])
 
@@ -78,7 +85,7 @@ pub spelled-push : (payloads : List (List ℕ)) (cells : Cells) (key value : ℤ
     → SpellCells (payloads ++ item_payload key value ∷ []) (cells ++ (key, value) ∷ [])
 spelled-push payloads cells key value spelled none fits_key fits_value = record {
   once = once-push cells key value spelled.once none;
-  numbers = All-push (λ (cell : ℤ × ℤ). FitsSigned w64 cell.0 × FitsSigned w64 cell.1) cells (key, value) spelled.numbers (fits_key, fits_value);
+  numbers = numbers-push cells key value spelled.numbers fits_key fits_value;
   spelled = ap (λ (l : List (List ℕ)). l ++ item_payload key value ∷ []) spelled.spelled ∙ sym (payloads_of-push cells key value);
 }
 
@@ -89,3 +96,27 @@ has_cells-push old new cells key value updates has none q =
     ∙ ap (λ (b : Bool). cond b (Some value) (get key_cmp old (q ∷ []))) (one_component key q)
     ∙ ap (cond (int_eq key q) (Some value)) (has q)
     ∙ sym (value_at-push cells key value q none)
+
+-- ---- payloads spell one list of cells
+
+-- a number that was spelled is read back
+read_back : (z : ℤ) (rest : List ℕ) → FitsSigned w64 z → cast_signed w64 (little_number 8 (number_bytes z ++ rest)) ≡ z
+read_back z rest fits = ap (cast_signed w64) (little_number-reads_back 8 (cast_unsigned w64 z) rest (Fits-of_z fits).fits) ∙ to_z-of_z w64 z fits
+
+-- one payload spells one cell
+pub one_item : (k v l w : ℤ) → FitsSigned w64 k → FitsSigned w64 v → FitsSigned w64 l → FitsSigned w64 w → item_payload k v ≡ item_payload l w → (k ≡ l) × (v ≡ w)
+one_item k v l w fk fv fl fw same =
+    let behind : number_bytes k ++ number_bytes v ≡ number_bytes l ++ number_bytes w = ap (drop 4) same in
+    let last : number_bytes v ≡ number_bytes w = ap (drop 12) same in
+    let key : k ≡ l = sym (read_back k (number_bytes v) fk) ∙ ap (λ (b : List ℕ). cast_signed w64 (little_number 8 b)) behind ∙ read_back l (number_bytes w) fl in
+    (key, sym (read_back v [] fv) ∙ ap (λ (b : List ℕ). cast_signed w64 (little_number 8 b)) last ∙ read_back w [] fw)
+
+pub one_list : (cells others : Cells) → AreNumbers cells → AreNumbers others → payloads_of cells ≡ payloads_of others → cells ≡ others
+one_list [] [] n m same = refl
+one_list [] (other ∷ others) n m same = cc
+one_list (cell ∷ cells) [] n m same = cc
+one_list (cell ∷ cells) (other ∷ others) n m same =
+    let first : item_payload cell.0 cell.1 ≡ item_payload other.0 other.1 = ap (λ (l : List (List ℕ)). get_or l 0 []) same in
+    let rest : payloads_of cells ≡ payloads_of others = ap (drop 1) same in
+    let one = one_item cell.0 cell.1 other.0 other.1 n.0.0 n.0.1 m.0.0 m.0.1 first in
+    λ i. (one.0 i, one.1 i) ∷ one_list cells others n.1 m.1 rest i

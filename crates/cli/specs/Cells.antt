@@ -2,7 +2,7 @@
 use Rattle.std.specs.Prelude.{◌≡◌, ◌⊎◌, ℕ, ℤ, List, [], ◌∷◌, ◌++◌, map, Option, Some, None, if◌then◌else◌}
 use Rattle.std.specs.Ordering.{int_eq}
 use Rattle.std.specs.Int.{w64, cast_unsigned}
-use Rattle.std.specs.Prelude.{FitsSigned, All}
+use Rattle.std.specs.Prelude.{FitsSigned}
 use Rattle.byteorder.specs.Endian.{little_bytes}
 use Rattle.journal.specs.Records.{StandsFor}
 
@@ -30,7 +30,8 @@ AreOnce (cell ∷ cells) = (value_at cells cell.0 ≡ None) × AreOnce cells
 
 -- keys and values are 64 bits wide
 abbrev pub AreNumbers : Cells → Type 0
-AreNumbers cells = All (λ cell. FitsSigned w64 cell.0 × FitsSigned w64 cell.1) cells
+AreNumbers [] = Unit {0}
+AreNumbers (cell ∷ cells) = (FitsSigned w64 cell.0 × FitsSigned w64 cell.1) × AreNumbers cells
 
 -- the payloads of these cells
 abbrev pub payloads_of : Cells → List (List ℕ)

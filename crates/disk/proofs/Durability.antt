@@ -1,7 +1,6 @@
 -- What a write and the sync behind it may leave.
 use Rattle.std.proofs.Common.{◌≡◌, ◌≢◌, ◌⊎◌, inl, inr, ℕ, zero, suc, ◌+◌, ◌≤◌, ◌<◌, min, Bool, true, false, ◌||◌, List, [], ◌∷◌, length, take, drop, refl, sym, ap, subst, ◌∙◌, arith, length-take, length-drop}
 use Rattle.std.specs.Prelude.{Option, Some, None, Result, Ok, Err, slice_get, nat_lt, nat_le}
-use Rattle.std.proofs.lemmas.List.{drop_all}
 use Rattle.std.proofs.lemmas.Bool.Decides.{nat_tests}
 use Rattle.disk.specs.declared.side.Side.{Side}
 use Rattle.disk.specs.declared.error.DiskError.{DiskError}
@@ -10,21 +9,7 @@ use Rattle.disk.specs.File.{Durable, File, Agrees, MayLeave, Fails, FailsWithin,
 use Rattle.disk.specs.Time.{Contents, MayLeaveNow, OtherStays, OtherMayBe}
 use Rattle.disk.specs.Settled.{same_places, settled_only}
 use Rattle.disk.proofs.Calls.{which}
-
--- lists that agree at each place in front of k, or from k on
-same_front : (xs ys : List ℕ) (k : ℕ) → ((i : ℕ) → i < k → slice_get xs i ≡ slice_get ys i) → take k xs ≡ take k ys
-same_front xs ys zero same = refl
-same_front [] [] (suc k) same = refl
-same_front [] (y ∷ ys) (suc k) same = let first = same zero (omega arith) in cc
-same_front (x ∷ xs) [] (suc k) same = let first = same zero (omega arith) in cc
-same_front (x ∷ xs) (y ∷ ys) (suc k) same = let first = same zero (omega arith) in let rest = same_front xs ys k (λ i lt. same (suc i) (omega arith)) in cc
-
-same_back : (xs ys : List ℕ) (k : ℕ) → ((i : ℕ) → k ≤ i → slice_get xs i ≡ slice_get ys i) → drop k xs ≡ drop k ys
-same_back xs ys zero same = same_places xs ys (λ i. same i (omega arith))
-same_back [] [] (suc k) same = refl
-same_back [] (y ∷ ys) (suc k) same = sym (drop_all k [] (omega arith)) ∙ same_back [] ys k (λ i le. same (suc i) (omega arith))
-same_back (x ∷ xs) [] (suc k) same = same_back xs [] k (λ i le. same (suc i) (omega arith)) ∙ drop_all k [] (omega arith)
-same_back (x ∷ xs) (y ∷ ys) (suc k) same = same_back xs ys k (λ i le. same (suc i) (omega arith))
+use Rattle.disk.proofs.Fronts.{front_from_places, back_from_places}
 
 either_false : (a b : Bool) → a ≡ false → b ≡ false → (a || b) ≡ false
 either_false a b left right = ap (λ (x : Bool). x || b) left ∙ right
@@ -67,14 +52,14 @@ write_leaves synced from count bytes le left = record {
   front = front;
   reaches = omega (arith, ap length front, length-take from bytes, length-take from synced);
   length_stays = λ within. left.agrees.length_stays (λ at ge. behind within at ge);
-  back = λ within. same_back bytes synced (from + count) (λ at ge. left.agrees.elsewhere at (past within at ge));
+  back = λ within. back_from_places bytes synced (from + count) (λ at ge. left.agrees.elsewhere at (past within at ge));
 }
   where
     before : (at : ℕ) → at < from → write_touches (settled synced) from count at ≡ false
     before at lt = grind (arith, nat_tests)
 
     front : take from bytes ≡ take from synced
-    front = same_front bytes synced from (λ at lt. left.agrees.elsewhere at (before at lt))
+    front = front_from_places bytes synced from (λ at lt. left.agrees.elsewhere at (before at lt))
 
     past : from + count ≤ length synced → (at : ℕ) → from + count ≤ at → write_touches (settled synced) from count at ≡ false
     past within at ge = grind (arith, nat_tests)
