@@ -1,6 +1,6 @@
 -- Cells, and one cell more.
-use Rattle.std.proofs.Common.{◌≡◌, ◌≢◌, ◌⊎◌, inl, inr, ℕ, ℤ, Bool, true, false, cond, List, [], ◌∷◌, ◌++◌, map, drop, get_or, refl, sym, ap, subst, ◌∙◌}
-use Rattle.std.specs.Prelude.{Option, Some, None, if◌then◌else◌, FitsSigned}
+use Rattle.std.proofs.Common.{◌≡◌, ◌≢◌, ◌⊎◌, inl, inr, ℕ, ℤ, Bool, true, false, cond, List, [], ◌∷◌, ◌++◌, ◌+◌, zero, suc, map, take, drop, get_or, refl, sym, ap, subst, ◌∙◌}
+use Rattle.std.specs.Prelude.{Option, Some, None, if◌then◌else◌, unwrap_or, slice_get, FitsSigned}
 use Rattle.std.specs.Int.{w64, cast_signed, cast_unsigned}
 use Rattle.std.proofs.lemmas.Int.{to_z-of_z}
 use Rattle.std.proofs.Math.Facts.{Fits-of_z}
@@ -10,11 +10,12 @@ use Rattle.std.specs.declared.cmp.Ordering.{Ordering}
 use Rattle.std.specs.declared.cmp.Ordering.TheVariants.{Less, Equal, Greater}
 use Rattle.std.specs.Ordering.{int_cmp, int_eq, is_eq, ordering_then}
 use Rattle.std.specs.BTreeMap.{BTreeMap, get, is_at}
-use Rattle.std.proofs.lemmas.List.{map-append}
+use Rattle.std.proofs.lemmas.List.{map-append, take-map, take_more}
+use Rattle.std.proofs.lemmas.Option.{get_or_from_slice_get, slice_get_within}
 use Rattle.std.proofs.lemmas.Bool.Decides.{Decides-int_eq}
 use Rattle.terms.specs.Key.{key_cmp}
 use Rattle.cli.specs.Cells.{Cells, value_at, AreOnce, AreNumbers, number_bytes, item_payload, payloads_of, SpellCells}
-use Rattle.cli.specs.Store.{HasCells}
+use Rattle.cli.specs.Maps.{HasCells, AddsCell, AddsNone}
 
 -- keys of one component tie where these do
 pub one_component : (k q : ℤ) → is_at (key_cmp (k ∷ [])) (q ∷ []) ≡ int_eq k q
@@ -120,3 +121,62 @@ one_list (cell ∷ cells) (other ∷ others) n m same =
     let rest : payloads_of cells ≡ payloads_of others = ap (drop 1) same in
     let one = one_item cell.0 cell.1 other.0 other.1 n.0.0 n.0.1 m.0.0 m.0.1 first in
     λ i. (one.0 i, one.1 i) ∷ one_list cells others n.1 m.1 rest i
+
+-- ---- the cells of the payloads so far, beside those of all
+
+-- what is there has a value
+present : (cells : Cells) (index : ℕ) (cell : ℤ × ℤ) → slice_get cells index ≡ Some cell → value_at cells cell.0 ≡ None → ⊥
+present [] index cell there none = cc
+present (first ∷ cells) zero cell there none =
+    let same : first ≡ cell = cc in
+    let tie = equal_keys first.0 cell.0 (ap (λ (c : ℤ × ℤ). c.0) same) in
+    let some = sym none ∙ ap (λ (b : Bool). if b then Some first.1 else value_at cells cell.0) tie in cc
+present (first ∷ cells) (suc index) cell there none = present cells index cell there (rest_lacks first cells cell.0 none)
+
+-- a cell's key is none of those in front of it
+once_before : (cells : Cells) (index : ℕ) (cell : ℤ × ℤ) → AreOnce cells → slice_get cells index ≡ Some cell → value_at (take index cells) cell.0 ≡ None
+once_before [] index cell once there = cc
+once_before (first ∷ cells) zero cell once there = refl
+once_before (first ∷ cells) (suc index) cell once there = elim (cases_bool (int_eq first.0 cell.0)) [
+  | inl same ↦ absurd (present cells index cell there (ap (value_at cells) (sym (same_keys first.0 cell.0 same)) ∙ once.0))
+  | inr differs ↦ ap (λ (b : Bool). if b then Some first.1 else value_at (take index cells) cell.0) differs ∙ once_before cells index cell once.1 there
+]
+
+numbers_at : (cells : Cells) (index : ℕ) (cell : ℤ × ℤ) → AreNumbers cells → slice_get cells index ≡ Some cell → FitsSigned w64 cell.0 × FitsSigned w64 cell.1
+numbers_at [] index cell numbers there = cc
+numbers_at (first ∷ cells) zero cell numbers there = let same : first ≡ cell = cc in subst (λ (c : ℤ × ℤ). FitsSigned w64 c.0 × FitsSigned w64 c.1) same numbers.0
+numbers_at (first ∷ cells) (suc index) cell numbers there = numbers_at cells index cell numbers.1 there
+
+numbers-take : (cells : Cells) (index : ℕ) → AreNumbers cells → AreNumbers (take index cells)
+numbers-take cells zero numbers = tt
+numbers-take [] (suc index) numbers = tt
+numbers-take (cell ∷ cells) (suc index) numbers = (numbers.0, numbers-take cells index numbers.1)
+
+-- the cell whose payload stands at an index
+cell_at : (cells : Cells) (index : ℕ) (payload : List ℕ) → slice_get (payloads_of cells) index ≡ Some payload → (cell : ℤ × ℤ) × (slice_get cells index ≡ Some cell) × (payload ≡ item_payload cell.0 cell.1)
+cell_at [] index payload there = cc
+cell_at (cell ∷ cells) zero payload there = (cell, refl, ap (λ (o : Option (List ℕ)). unwrap_or o []) (sym there))
+cell_at (cell ∷ cells) (suc index) payload there = cell_at cells index payload there
+
+-- a payload that adds none to the cells so far leaves no cells that all payloads could spell
+pub none_spelled : (payloads : List (List ℕ)) (index : ℕ) (payload : List ℕ) (map : BTreeMap (List ℤ) ℤ) (cells others : Cells) → SpellCells (take index payloads) cells → HasCells map cells
+    → slice_get payloads index ≡ Some payload → AddsNone map payload → SpellCells payloads others → ⊥
+none_spelled payloads index payload map cells others so_far has there none all =
+    let at = cell_at others index payload (ap (λ (l : List (List ℕ)). slice_get l index) (sym all.spelled) ∙ there) in
+    let front : payloads_of cells ≡ payloads_of (take index others) = sym so_far.spelled ∙ ap (take index) all.spelled ∙ take-map (λ (cell : ℤ × ℤ). item_payload cell.0 cell.1) index others in
+    let same = one_list cells (take index others) so_far.numbers (numbers-take others index all.numbers) front in
+    let fits = numbers_at others index at.0 all.numbers at.1 in
+    none at.0.0 at.0.1 fits.0 fits.1 at.2 (has at.0.0 ∙ ap (λ (c : Cells). value_at c at.0.0) same ∙ once_before others index at.0 all.once at.1)
+
+-- one payload more spells one cell more
+pub one_more : (payloads : List (List ℕ)) (index : ℕ) (payload : List ℕ) (old new : BTreeMap (List ℤ) ℤ) (cells : Cells) → SpellCells (take index payloads) cells → HasCells old cells
+    → slice_get payloads index ≡ Some payload → AddsCell old new payload → (more : Cells) × SpellCells (take (index + 1) payloads) more × HasCells new more
+one_more payloads index payload old new cells spelled has there adds =
+    let none : value_at cells adds.key ≡ None = sym (has adds.key) ∙ adds.absent in
+    let next : take (index + 1) payloads ≡ take index payloads ++ item_payload adds.key adds.value ∷ [] =
+    take_more payloads index [] (slice_get_within payloads index payload there) ∙ ap (λ (p : List ℕ). take index payloads ++ p ∷ []) (get_or_from_slice_get payloads index payload [] there ∙ adds.spelled) in
+    (
+      cells ++ (adds.key, adds.value) ∷ [],
+      subst (λ (l : List (List ℕ)). SpellCells l (cells ++ (adds.key, adds.value) ∷ [])) (sym next) (spelled-push (take index payloads) cells adds.key adds.value spelled none adds.fits_key adds.fits_value),
+      has_cells-push old new cells adds.key adds.value adds.updates has none,
+    )

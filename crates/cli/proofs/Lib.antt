@@ -1,2 +1,3 @@
 pub mod CellLemmas
 pub mod Numbers
+pub mod Opening

@@ -3,12 +3,9 @@ use Rattle.std.specs.Prelude.{◌≡◌, ◌^◌, ◌<◌, ℕ, ℤ, List, [], �
 use Rattle.std.specs.BTreeMap.{BTreeMap, get}
 use Rattle.terms.specs.Key.{key_cmp}
 use Rattle.cli.specs.Journal.{IsJournalOf}
-use Rattle.cli.specs.Cells.{Cells, value_at, payloads_of, SpellCells}
+use Rattle.cli.specs.Cells.{Cells, payloads_of, SpellCells}
+use Rattle.cli.specs.Maps.{HasCells}
 use Rattle.cli.specs.declared.store.Store.{Store}
-
--- the map has the value of each cell and no other
-abbrev pub HasCells : BTreeMap (List ℤ) ℤ → Cells → Type 0
-HasCells map cells = (key : ℤ) → get key_cmp map (key ∷ []) ≡ value_at cells key
 
 -- the store is that of file A with these bytes, which stand for these cells
 pub record IsStoreOf (store : Store) (content : List ℕ) (cells : Cells) : Type 0 where

@@ -1,4 +1,5 @@
-ghost use Rattle.std.specs.Prelude.{◌≡◌, ◌≢◌, ℤ, IfSome, IfNone};
+ghost use Rattle.std.specs.Prelude.{◌≡◌, ◌≢◌, ℤ, FitsSigned, IfSome, IfNone};
+ghost use Rattle.std.specs.Int.{w64};
 ghost use Rattle.cli.specs.Cells.{item_payload};
 
 use byteorder::{ByteOrder, LittleEndian};
@@ -23,6 +24,7 @@ pub(crate) fn payload_of(key: i64, value: i64) -> [u8; PAYLOAD]
 /// The key and the value of a payload, or `None` where it is no item of `[cell]`.
 pub(crate) fn item_in(payload: &[u8]) -> Option<(i64, i64)>
     ensures some { IfSome result (λ cell. payload.now ≡ item_payload cell.0 cell.1) }
+    ensures fits { IfSome result (λ cell. FitsSigned w64 cell.0 × FitsSigned w64 cell.1) }
     ensures none { IfNone result ((key value : ℤ) → payload.now ≢ item_payload key value) }
 {
     if payload.len() != PAYLOAD || !payload.starts_with(&HEAD) {

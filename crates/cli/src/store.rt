@@ -1,14 +1,15 @@
-ghost use Rattle.std.specs.Prelude.{◌≡◌, ◌≤◌, ◌<◌, ◌+◌, ◌++◌, ◌∷◌, [], ℕ, ℤ, List, length, IsTrue, Some, None, ◌↔◌, IfOk, OnOk, OnErr, IsErrOf, IfSome};
+ghost use Rattle.std.specs.Prelude.{◌≡◌, ◌≤◌, ◌<◌, ◌+◌, ◌++◌, ◌∷◌, [], ℕ, ℤ, List, length, IsTrue, Some, None, ◌↔◌, IfOk, IfErr, OnOk, OnErr, IsErrOf, IfSome, MatchBool};
 ghost use Rattle.disk.specs.declared.side.Side.TheVariants.{A};
 ghost use Rattle.journal.specs.declared.journal.TheConstants.{LIMIT};
 ghost use Rattle.cli.specs.Journal.{IsJournalOf};
+ghost use Rattle.cli.specs.Maps.{HasCells, AddsCell, AddsNone};
 ghost use Rattle.cli.specs.Cells.{Cells, value_at, SpellCells, HoldsCells};
 ghost use Rattle.cli.specs.declared.reply.Refusal.TheVariants.{AlreadyPut, Full, Damaged, Device, NoMemory};
 
-use crate::item::payload_of;
+use crate::item::{item_in, payload_of};
 use crate::reply::Refusal;
 use disk::{Disk, Side};
-use journal::Journal;
+use journal::{Journal, Payloads, record_length};
 use std::alloc::Global;
 use std::collections::BTreeMap;
 use terms::Key;
@@ -24,6 +25,34 @@ pub(crate) struct Store {
 
 impl Store {
     ghost use Rattle.cli.specs.Store.{IsStoreOf};
+
+    /// Reads the store of file A, which it syncs first, so that what is read stays.
+    pub(crate) fn open<D: Disk>(alloc: Global, disk: &mut D) -> Result<Store, Refusal>
+        ensures opened { IsTrue D.is_honest → IfOk result (λ store. (cells : Cells) × IsStoreOf store (D.files disk.old A).content cells) }
+        ensures only { IsTrue D.is_honest → (cells : Cells) → HoldsCells (D.files disk.old A).content cells → IfOk result (λ store. IsStoreOf store (D.files disk.old A).content cells) }
+        ensures same { IsTrue D.is_honest → (D.files disk.new A).content ≡ (D.files disk.old A).content }
+        ensures damaged { IsTrue D.is_honest → (place : ℕ) → IsErrOf result (Damaged place) → (cells : Cells) → HoldsCells (D.files disk.old A).content cells → ⊥ }
+        ensures already { (there : ℤ) → IsErrOf result (AlreadyPut there) → ⊥ }
+        ensures full { IsErrOf result Full → ⊥ }
+        ensures device { IsErrOf result Device → D.failures disk.old < D.failures disk.new }
+        ensures failures { D.failures disk.old ≤ D.failures disk.new }
+    {
+        disk.sync(Side::A)?;
+        if disk.len(Side::A)? == 0 {
+            return Ok(Store {
+                alloc,
+                journal: None,
+                cells: BTreeMap::new(alloc),
+            });
+        }
+        let (journal, payloads) = Journal::scan(alloc, disk, Side::A, 0)?;
+        let cells = cells_in(alloc, &payloads)?;
+        Ok(Store {
+            alloc,
+            journal: Some(journal),
+            cells,
+        })
+    }
 
     /// The value of a cell, or `None` where it was never put.
     pub(crate) fn get(&self, key: i64) -> Option<i64>
@@ -115,4 +144,40 @@ fn add<D: Disk>(
     let appended = begun.append(disk, payload);
     *journal = Some(begun);
     Ok(appended?)
+}
+
+// The cells that the payloads spell. It is damaged at the gate of the first that spells none, or names a cell again.
+fn cells_in(alloc: Global, payloads: &Payloads) -> Result<BTreeMap<Key, i64>, Refusal>
+    ensures spelled { IfOk result (λ map. (cells : Cells) × SpellCells payloads.now cells × HasCells map cells) }
+    ensures damaged { (place : ℕ) → IsErrOf result (Damaged place) → (cells : Cells) → SpellCells payloads.now cells → ⊥ }
+    ensures already { (there : ℤ) → IsErrOf result (AlreadyPut there) → ⊥ }
+    ensures full { IsErrOf result Full → ⊥ }
+    ensures device { IsErrOf result Device → ⊥ }
+{
+    let mut cells = BTreeMap::new(alloc);
+    let mut gate = 0u64;
+    for index in 0..payloads.len() {
+        let payload = payloads.get(index);
+        if !add_cell(&mut cells, payload)? {
+            return Err(Refusal::Damaged(gate));
+        }
+        gate = gate.saturating_add(record_length(payload));
+    }
+    Ok(cells)
+}
+
+// Adds the cell that a payload spells. It answers no where the payload spells none, or one whose key is there.
+fn add_cell(cells: &mut BTreeMap<Key, i64>, payload: &[u8]) -> Result<bool, Refusal>
+    ensures added { IfOk result (λ added. MatchBool added (AddsCell cells.old cells.new payload.now) (AddsNone cells.old payload.now)) }
+    ensures err { IfErr result (λ refusal. refusal ≡ NoMemory) }
+{
+    let Some((key, value)) = item_in(payload) else {
+        return Ok(false);
+    };
+    let cell = Key::new(&[key]);
+    if cells.contains_key(&cell) {
+        return Ok(false);
+    }
+    cells.insert(cell, value)?;
+    Ok(true)
 }

@@ -1,9 +1,10 @@
 -- What bytes stand for that begin with whole records, by what follows these.
-use Rattle.std.proofs.Common.{◌≡◌, ◌+◌, ℕ, List, [], ◌∷◌, ◌++◌, drop, sym, ◌∙◌, ap, subst, refl}
+use Rattle.std.proofs.Common.{◌≡◌, ◌+◌, ℕ, List, [], ◌∷◌, ◌++◌, drop, get_or, All, sym, ◌∙◌, ap, subst, refl}
 use Rattle.std.proofs.lemmas.List.{append_assoc, drop-drop}
-use Rattle.std.proofs.lemmas.List.Elements.{All-head}
+use Rattle.std.proofs.lemmas.List.Elements.{All-head, All-tail}
 use Rattle.journal.specs.Records.{record_of, records, IsShort, StandsFor}
 use Rattle.journal.specs.Journal.{BreaksAt}
+use Rattle.journal.proofs.Spelling.{one_record}
 use Rattle.journal.specs.WholeRecords.{BeginsWithNone, LeadsTo}
 
 -- behind records stands a next gate
@@ -35,3 +36,20 @@ breaks_at content bytes start end payloads is leads none not_closed =
       spelled = sym is ∙ leads.spelled ∙ ap (λ (back : List ℕ). records payloads ++ back) behind;
       breaks = λ others stands. no_meaning others (drop end bytes) none not_closed (subst (λ (back : List ℕ). StandsFor back others) (sym behind) stands);
     }
+
+-- what stands for payloads and begins with whole records stands for more behind these
+stands_behind : (before payloads : List (List ℕ)) (rest : List ℕ) → All IsShort before → StandsFor (records before ++ rest) payloads → (others : List (List ℕ)) × StandsFor rest others
+stands_behind [] payloads rest short stands = (payloads, stands)
+stands_behind (payload ∷ before) [] rest short stands = absurd (stands.closed (ap (λ (bytes : List ℕ). get_or bytes 0 0) (sym stands.spelled)))
+stands_behind (payload ∷ before) (first ∷ others) rest short stands =
+    let same : record_of payload ++ (records before ++ rest) ≡ record_of first ++ (records others ++ stands.gate ∷ stands.rest) =
+    sym (append_assoc (record_of payload) (records before) rest) ∙ stands.spelled ∙ append_assoc (record_of first) (records others) (stands.gate ∷ stands.rest) in
+    let parts = one_record payload first _ _ (All-head IsShort payload before short) (All-head IsShort first others stands.short) same in
+    stands_behind before others rest (All-tail IsShort payload before short)
+    (record { short = All-tail IsShort first others stands.short; gate = stands.gate; closed = stands.closed; rest = stands.rest; spelled = parts.1 })
+
+-- what breaks stands for nothing
+pub nothing_stands : (start : ℕ) (content : List ℕ) (place : ℕ) → BreaksAt start content place → (payloads : List (List ℕ)) → StandsFor (drop start content) payloads → ⊥
+nothing_stands start content place breaks payloads stands =
+    let behind = stands_behind breaks.before payloads (drop place content) breaks.short (subst (λ (bytes : List ℕ). StandsFor bytes payloads) breaks.spelled stands) in
+    breaks.breaks behind.0 behind.1

@@ -29,6 +29,7 @@ impl Journal {
 
         // It is damaged exactly where the bytes stand for no payloads.
         ensures damaged { IsTrue D.is_honest → (place : ℕ) → IsErrOf result (Damaged place) → BreaksAt at (D.files disk.old side).content place }
+        ensures nothing { IsTrue D.is_honest → (place : ℕ) → IsErrOf result (Damaged place) → (payloads : List (List ℕ)) → StandsFor (drop at (D.files disk.old side).content) payloads → ⊥ }
         ensures full { IsErrOf result Full → ⊥ }
         ensures device { IsErrOf result Device → D.failures disk.old < D.failures disk.new }
         ensures failures { D.failures disk.old ≤ D.failures disk.new }

@@ -4,7 +4,7 @@ use Rattle.journal.specs.Journal.{BreaksAt}
 use Rattle.std.proofs.Common.{arith}
 use Rattle.std.proofs.lemmas.Grind.{common_steps}
 use Rattle.journal.proofs.Spelling.{one_meaning}
-use Rattle.journal.proofs.Standing.{breaks_at}
+use Rattle.journal.proofs.Standing.{breaks_at, nothing_stands}
 use Rattle.journal.proofs.journal.Journal.scan.Goals as goal
 
 pub returns-then-not-is_closed-clause-damaged : goal.returns-then-not-is_closed-clause-damaged
@@ -23,3 +23,7 @@ returns-clause-only g c honest payloads stands =
     let content = (g.D.Disk.files c.args.disk.now c.args.side).content in
     let found : StandsFor (drop c.args.at content) c.at.result = grind (arith, common_steps) in
     one_meaning c.at.result payloads (drop c.args.at content) found stands
+
+pub returns-then-not-is_closed-clause-nothing : goal.returns-then-not-is_closed-clause-nothing
+returns-then-not-is_closed-clause-nothing g c honest place is =
+    nothing_stands c.args.at (g.D.Disk.files c.args.disk.now c.args.side).content place (returns-then-not-is_closed-clause-damaged g c honest place is)
