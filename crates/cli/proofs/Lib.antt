@@ -1,3 +1,4 @@
 pub mod CellLemmas
 pub mod Numbers
 pub mod Opening
+pub mod Replies

@@ -1,11 +1,12 @@
 //! The program `cnc` as a library: it reads the words of a command, works on a store, and replies.
 #![tactic(auto)]
 
-mod cell;
+mod command;
 mod item;
 mod reply;
 mod store;
 mod words;
 
+pub use command::cell;
 pub use reply::{Refusal, Reply};
 pub use words::Command;

@@ -1,0 +1,92 @@
+-- What a store that is open says of the bytes of file A, and what its answers say of a command.
+use Rattle.std.proofs.Common.{◌≡◌, ◌⊎◌, inl, inr, Bool, true, false, arith, ℕ, ℤ, List, [], ◌∷◌, ◌++◌, refl, sym, ap, subst, ◌∙◌}
+use Rattle.std.specs.Prelude.{Option, Some, None, MatchOption, ⊤}
+use Rattle.journal.specs.declared.journal.Journal.{Journal}
+use Rattle.cli.specs.declared.words.Command.{Command}
+use Rattle.cli.specs.declared.words.Command.TheVariants as asked
+use Rattle.cli.specs.declared.reply.Refusal.{Refusal}
+use Rattle.cli.specs.declared.reply.Refusal.TheVariants as refusal
+use Rattle.cli.specs.declared.reply.Reply.{Reply}
+use Rattle.cli.specs.declared.reply.Reply.TheVariants as reply
+use Rattle.cli.specs.declared.store.Store.{Store}
+use Rattle.cli.specs.Cells.{Cells, value_at, payloads_of, SpellCells, HoldsCells}
+use Rattle.cli.specs.Journal.{IsJournalOf}
+use Rattle.cli.specs.Store.{IsStoreOf}
+use Rattle.cli.specs.Reply.{status_of}
+use Rattle.cli.specs.Answers.{Answers, PutsAt}
+
+no_cells : (cells : Cells) → payloads_of cells ≡ [] → cells ≡ []
+no_cells [] none = refl
+no_cells (cell ∷ cells) none = cc
+
+held_of : (journal : Option Journal) (content : List ℕ) (cells : Cells) → IsJournalOf journal content (payloads_of cells) → SpellCells (payloads_of cells) cells → HoldsCells content cells
+held_of None content cells empty spelled = inl (empty.0, no_cells cells empty.1)
+held_of (Some journal) content cells at spelled = inr (payloads_of cells, at.1.stands, spelled)
+
+-- an open store's cells are those that file A holds
+pub store_holds : (store : Store) (content : List ℕ) (cells : Cells) → IsStoreOf store content cells → HoldsCells content cells
+store_holds store content cells is = held_of store.journal content cells is.journal is.spelled
+
+-- a put that was done
+pub put_done : (command : Command) (key value : ℤ) (cells : Cells) (old new : List ℕ) → PutsAt command key value → value_at cells key ≡ None → HoldsCells new (cells ++ (key, value) ∷ []) → Answers command cells reply.Put old new
+put_done (asked.Put directory at what) key value cells old new puts none holds = (
+  ap (value_at cells) puts.0 ∙ none,
+  subst (λ (k : ℤ). HoldsCells new (cells ++ (k, what) ∷ [])) (sym puts.0) (subst (λ (v : ℤ). HoldsCells new (cells ++ (key, v) ∷ [])) (sym puts.1) holds),
+)
+put_done (asked.Get directory at) key value cells old new puts none holds = absurd puts
+
+-- a put that was refused
+pub put_refused : (why : Refusal) (command : Command) (key value : ℤ) (cells : Cells) (old new : List ℕ) → PutsAt command key value → HoldsCells old cells
+    → ((there : ℤ) → why ≡ refusal.AlreadyPut there → (value_at cells key ≡ Some there) × (new ≡ old)) → (why ≡ refusal.Full → new ≡ old) → ((place : ℕ) → why ≡ refusal.Damaged place → ⊥)
+    → Answers command cells (reply.Refused why) old new
+put_refused (refusal.AlreadyPut there) (asked.Put directory at what) key value cells old new puts holds already full damaged =
+    let is = already there refl in
+    (ap (value_at cells) puts.0 ∙ is.0, (subst (λ (l : List ℕ). HoldsCells l cells) (sym is.1) holds, is.1))
+put_refused refusal.Full (asked.Put directory at what) key value cells old new puts holds already full damaged =
+    (subst (λ (l : List ℕ). HoldsCells l cells) (sym (full refl)) holds, full refl)
+put_refused (refusal.Damaged place) (asked.Put directory at what) key value cells old new puts holds already full damaged = absurd (damaged place refl)
+put_refused refusal.Device (asked.Put directory at what) key value cells old new puts holds already full damaged = tt
+put_refused refusal.NoMemory (asked.Put directory at what) key value cells old new puts holds already full damaged = tt
+put_refused why (asked.Get directory at) key value cells old new puts holds already full damaged = absurd puts
+
+-- a get that was answered
+pub get_done : (answer : Reply) (directory : _) (key : ℤ) (cells : Cells) (old new : List ℕ) → HoldsCells old cells → new ≡ old
+    → MatchOption (value_at cells key) (answer ≡ reply.Absent key) (λ value. answer ≡ reply.Value key value) → Answers (asked.Get directory key) cells answer old new
+get_done answer directory key cells old new holds same is = by (value_at cells key) refl is
+  where
+    unchanged : HoldsCells new cells × (new ≡ old)
+    unchanged = (subst (λ (l : List ℕ). HoldsCells l cells) (sym same) holds, same)
+
+    by : (o : Option ℤ) → value_at cells key ≡ o → MatchOption o (answer ≡ reply.Absent key) (λ value. answer ≡ reply.Value key value) → Answers (asked.Get directory key) cells answer old new
+    by None there is = subst (λ (r : Reply). Answers (asked.Get directory key) cells r old new) (sym is) (refl, there, unchanged)
+    by (Some value) there is = subst (λ (r : Reply). Answers (asked.Get directory key) cells r old new) (sym is) (refl, there, unchanged)
+
+-- a store that was refused when it was opened
+pub open_refused : (why : Refusal) (command : Command) (cells : Cells) (old new : List ℕ) → ((there : ℤ) → why ≡ refusal.AlreadyPut there → ⊥) → (why ≡ refusal.Full → ⊥) → ((place : ℕ) → why ≡ refusal.Damaged place → ⊥)
+    → Answers command cells (reply.Refused why) old new
+open_refused (refusal.AlreadyPut there) command cells old new already full damaged = absurd (already there refl)
+open_refused refusal.Full command cells old new already full damaged = absurd (full refl)
+open_refused (refusal.Damaged place) command cells old new already full damaged = absurd (damaged place refl)
+open_refused refusal.Device (asked.Put directory key value) cells old new already full damaged = tt
+open_refused refusal.Device (asked.Get directory key) cells old new already full damaged = tt
+open_refused refusal.NoMemory (asked.Put directory key value) cells old new already full damaged = tt
+open_refused refusal.NoMemory (asked.Get directory key) cells old new already full damaged = tt
+
+-- status 4 is that of damage
+pub damaged_reply : (answer : Reply) → status_of answer ≡ 4 → (place : ℕ) × (answer ≡ reply.Refused (refusal.Damaged place))
+damaged_reply reply.Put is = absurd (omega arith)
+damaged_reply (reply.Value key value) is = absurd (omega arith)
+damaged_reply (reply.Absent key) is = absurd (omega arith)
+damaged_reply (reply.Refused (refusal.AlreadyPut value)) is = absurd (omega arith)
+damaged_reply (reply.Refused refusal.Full) is = absurd (omega arith)
+damaged_reply (reply.Refused (refusal.Damaged place)) is = (place, refl)
+damaged_reply (reply.Refused refusal.Device) is = absurd (omega arith)
+damaged_reply (reply.Refused refusal.NoMemory) is = absurd (omega arith)
+
+-- a status that was told is the reply's, or 5
+pub told_status : {X Y : Type 0} (fault : Bool) (status wanted : ℕ) → (fault ≡ true → X × (status ≡ wanted)) → (fault ≡ false → (status ≡ 5) ⊎ ((status ≡ wanted) × Y)) → (status ≡ wanted) ⊎ (status ≡ 5)
+told_status true status wanted at_fault told = inl (at_fault refl).1
+told_status false status wanted at_fault told = elim (told refl) [
+  | inl failed ↦ inr failed
+  | inr line ↦ inl line.0
+]
