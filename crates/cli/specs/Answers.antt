@@ -31,6 +31,11 @@ abbrev pub PutsAt : Command → ℤ → ℤ → Type 0
 PutsAt (asked.Put directory at what) key value = (at ≡ key) × (what ≡ value)
 PutsAt (asked.Get directory at) key value = ⊥
 
+-- the command only reads
+abbrev pub Reads : Command → Type 0
+Reads (asked.Put directory key value) = ⊥
+Reads (asked.Get directory key) = ⊤
+
 -- the reply was told: a fault by the status alone as far as `out` is concerned, any other reply by its line, or by status 5 where the output failed
 pub record TellsFault {W : Type 0} (reply : Reply) (old new : W) (status : ℕ) : Type 0 where
   pub out : new ≡ old

@@ -1,8 +1,8 @@
-ghost use Rattle.std.specs.Prelude.{◌≡◌, ◌⊎◌, ◌<◌, ◌++◌, ◌∷◌, [], ℕ, List, IsTrue, MatchOption, Some, false};
+ghost use Rattle.std.specs.Prelude.{◌≡◌, ◌⊎◌, ◌≤◌, ◌<◌, ◌++◌, ◌∷◌, [], ℕ, List, IsTrue, MatchOption, Some, false};
 ghost use Rattle.std.specs.Io.KnownBytes.{Appends};
 ghost use Rattle.disk.specs.declared.side.Side.TheVariants.{A};
 ghost use Rattle.cli.specs.Cells.{Cells, value_at, HoldsCells};
-ghost use Rattle.cli.specs.Answers.{Answers, PutsAt, Tells};
+ghost use Rattle.cli.specs.Answers.{Answers, PutsAt, Reads, Tells};
 ghost use Rattle.cli.specs.Store.{IsStoreOf};
 ghost use Rattle.cli.specs.declared.reply.Reply.{Reply};
 ghost use Rattle.cli.specs.declared.words.Command.{Command};
@@ -31,6 +31,11 @@ pub fn cell<D: Disk, W: Write, E: Write>(
     ensures answers { IsTrue D.is_honest → (cells : Cells) → HoldsCells (D.files disk A).content cells
         → (reply : Reply) × Answers command.now cells reply (D.files disk A).content (D.files result.0 A).content × Tells reply W.contents out.old out.new err.old err.new result.1 }
     ensures damaged { IsTrue D.is_honest → result.1 ≡ 4 → (cells : Cells) → HoldsCells (D.files disk A).content cells → ⊥ }
+
+    // No other reply is given where file A holds no cells.
+    ensures held { IsTrue D.is_honest → result.1 ≤ 1 → (cells : Cells) × HoldsCells (D.files disk A).content cells }
+    ensures kept { IsTrue D.is_honest → result.1 ≡ 4 → (D.files result.0 A).content ≡ (D.files disk A).content }
+    ensures read { IsTrue D.is_honest → Reads command.now → (D.files result.0 A).content ≡ (D.files disk A).content }
 {
     let reply = answer(alloc, command, &mut disk);
     let status = tell(reply, out, err);
@@ -43,6 +48,9 @@ fn answer<D: Disk>(alloc: Global, command: &Command<'_>, disk: &mut D) -> Reply
         → Answers command.now cells result (D.files disk.old A).content (D.files disk.new A).content }
     ensures damaged { IsTrue D.is_honest → (place : ℕ) → result ≡ Refused (Damaged place)
         → (cells : Cells) → HoldsCells (D.files disk.old A).content cells → ⊥ }
+    ensures held { IsTrue D.is_honest → status_of result ≤ 1 → (cells : Cells) × HoldsCells (D.files disk.old A).content cells }
+    ensures kept { IsTrue D.is_honest → (place : ℕ) → result ≡ Refused (Damaged place) → (D.files disk.new A).content ≡ (D.files disk.old A).content }
+    ensures read { IsTrue D.is_honest → Reads command.now → (D.files disk.new A).content ≡ (D.files disk.old A).content }
     ensures device { result ≡ Refused Device → D.failures disk.old < D.failures disk.new }
 {
     match Store::open(alloc, disk) {
