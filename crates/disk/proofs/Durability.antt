@@ -8,6 +8,7 @@ use Rattle.disk.specs.declared.error.DiskError.TheVariants.{Device, NoMemory}
 use Rattle.disk.specs.File.{Durable, File, Agrees, MayLeave, Fails, FailsWithin, Changes, Syncs, WriteLeaves, at_rest, settled, touching, write_touches, overwritten, written}
 use Rattle.disk.specs.Time.{Contents, MayLeaveNow, OtherStays, OtherMayBe}
 use Rattle.disk.specs.Settled.{same_places, settled_only}
+use Rattle.disk.proofs.Left.{touching_left}
 use Rattle.disk.proofs.Calls.{which}
 use Rattle.disk.proofs.Fronts.{front_from_places, back_from_places}
 
@@ -67,29 +68,34 @@ write_leaves synced from count bytes le left = record {
     behind : from + count ≤ length synced → (at : ℕ) → length synced ≤ at → write_touches (settled synced) from count at ≡ false
     behind within at ge = past within at (omega arith)
 
--- ---- a write and the sync behind it, of a synced file
+-- ---- a write and the sync behind it
 
-module _ (side : Side) (synced : List ℕ) (from count : ℕ) (reach : from ≤ length synced) where
+module _ (side : Side) (from count : ℕ) where
+  -- what the write may leave of its file
+  abbrev pub with_write : Durable → Durable
+  with_write durable = touching (write_touches durable from count) durable
+
   -- what a crash leaves of both files
-  abbrev pub Leaves : (Side → File) → Contents → Type 0
-  Leaves files contents = WriteLeaves synced from count (contents side) × OtherMayBe side files contents
+  abbrev pub Touches : (Side → File) → Contents → Type 0
+  Touches files contents = MayLeave (with_write (files side).durable) (contents side) × OtherMayBe side files contents
 
   -- before the write
-  pub leaves_before : (old : Side → File) → old side ≡ at_rest synced → (contents : Contents) → MayLeaveNow old contents → Leaves old contents
-  leaves_before old is contents left = (
-    write_leaves synced from count (contents side) reach
-    (more_touched (settled synced) (λ _. false) (write_touches (settled synced) from count) (λ at h. cc) (contents side) (subst (λ (f : File). MayLeave f.durable (contents side)) is (left side))),
-    λ other differs. left other,
-  )
+  pub touches_before : (old : Side → File) → (contents : Contents) → MayLeaveNow old contents → Touches old contents
+  touches_before old contents left = (touching_left (old side).durable (contents side) (left side) (write_touches (old side).durable from count), λ other differs. left other)
 
   -- after it, whatever it answered
-  pub leaves_after : (T : Type 0) (done : File → File) (result : Result T DiskError) (old mid : Side → File) → old side ≡ at_rest synced
-      → (done (at_rest synced)).durable ≡ touching (write_touches (settled synced) from count) (settled synced)
-      → Changes done (write_touches (settled synced) from count) result (at_rest synced) (mid side) → OtherStays side old mid
-      → (contents : Contents) → MayLeaveNow mid contents → Leaves old contents
-  leaves_after T done result old mid is touches changes others contents left = (
-    write_leaves synced from count (contents side) reach (changes_leave T done (write_touches (settled synced) from count) result (at_rest synced) (mid side) touches changes (contents side) (left side)),
+  pub touches_after : (T : Type 0) (done : File → File) (result : Result T DiskError) (old mid : Side → File) → (done (old side)).durable ≡ with_write (old side).durable
+      → Changes done (write_touches (old side).durable from count) result (old side) (mid side) → OtherStays side old mid → (contents : Contents) → MayLeaveNow mid contents → Touches old contents
+  touches_after T done result old mid touches changes others contents left = (
+    changes_leave T done (write_touches (old side).durable from count) result (old side) (mid side) touches changes (contents side) (left side),
     λ other differs. subst (λ (f : File). MayLeave f.durable (contents other)) (others other differs) (left other),
+  )
+
+  -- of a synced file
+  pub leaves_of : (old : Side → File) (synced : List ℕ) → old side ≡ at_rest synced → from ≤ length synced → (contents : Contents) → Touches old contents → WriteLeaves synced from count (contents side) × OtherMayBe side old contents
+  leaves_of old synced is reach contents touches = (
+    write_leaves synced from count (contents side) reach (subst (λ (f : File). MayLeave (with_write f.durable) (contents side)) is touches.0),
+    touches.1,
   )
 
 -- a sync of one file, whatever it answered

@@ -7,7 +7,7 @@ use Rattle.disk.specs.Time.{Contents, OtherStays, OtherMayBe, Elapses, LeavesOnl
 module _ {D : Type 0} (moment : D → ℕ) (left_since : D → ℕ → Contents → Type 0) where
   -- before the first call
   pub begun : (old : D) (P : Contents → Type 0) → ((c : Contents) → left_since old (moment old) c → P c) → LeavesOnly moment left_since old old P
-  begun old P now = record { later = omega arith; each = now; before = λ t c le left. inl left }
+  begun old P now = record { later = omega arith; each = now; before = λ t c le left. inl left; keeps = λ t c le left. left }
 
   -- after one call more, where a crash leaves what has P
   pub goes_on : (old mid new : D) (P may_leave : Contents → Type 0) → LeavesOnly moment left_since old mid P → Elapses (moment mid) (moment new) (left_since mid) (left_since new) may_leave
@@ -16,6 +16,7 @@ module _ {D : Type 0} (moment : D → ℕ) (left_since : D → ℕ → Contents 
     later = omega (arith, so_far.later, time.later);
     each = λ c left. ⊎_elim (so_far.each c) (now c) (time.nothing_else (moment old) c so_far.later left);
     before = λ t c le left. ⊎_elim (so_far.before t c le) (λ here. inr (now c here)) (time.nothing_else t c (omega (arith, le, so_far.later)) left);
+    keeps = λ t c le left. time.keeps t c (omega (arith, le, so_far.later)) (so_far.keeps t c le left);
   }
 
   -- what has P has Q
@@ -24,6 +25,7 @@ module _ {D : Type 0} (moment : D → ℕ) (left_since : D → ℕ → Contents 
     later = only.later;
     each = λ c left. from c (only.each c left);
     before = λ t c le left. ⊎_elim (λ early. inl early) (λ here. inr (from c here)) (only.before t c le left);
+    keeps = only.keeps;
   }
 
   -- two lists of calls, one after the other
@@ -33,6 +35,7 @@ module _ {D : Type 0} (moment : D → ℕ) (left_since : D → ℕ → Contents 
     later = omega (arith, first.later, second.later);
     each = λ c left. ⊎_elim (λ before. from_first c (first.each c before)) (from_second c) (second.before (moment old) c first.later left);
     before = λ t c le left. ⊎_elim (λ early. ⊎_elim (λ before. inl before) (λ here. inr (from_first c here)) (first.before t c le early)) (λ here. inr (from_second c here)) (second.before t c (omega (arith, le, first.later)) left);
+    keeps = λ t c le left. second.keeps t c (omega (arith, le, first.later)) (first.keeps t c le left);
   }
 
 -- of the other file a crash leaves now what it might have left before calls on this one

@@ -33,6 +33,8 @@ pub record LeavesOnly {D : Type 0} (moment : D → ℕ) (left_since : D → ℕ 
   pub each : (contents : Contents) → left_since new (moment old) contents → P contents
   -- for a list of calls that began earlier
   pub before : (t : ℕ) (contents : Contents) → t ≤ moment old → left_since new t contents → left_since old t contents ⊎ P contents
+  -- and nothing is forgotten
+  pub keeps : (t : ℕ) (contents : Contents) → t ≤ moment old → left_since old t contents → left_since new t contents
 
 -- `Device` is answered only where the count of failures grew
 pub record HasCause {T : Type 0} (before now : ℕ) (result : Result T DiskError) : Type 0 where

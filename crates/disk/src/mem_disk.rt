@@ -31,13 +31,14 @@ pub struct MemDisk {
 }
 
 impl MemDisk {
-    ghost use Rattle.disk.specs.File.{settled};
+    ghost use Rattle.disk.specs.File.{at_rest};
     ghost use Rattle.disk.specs.Time.{MayLeaveNow};
     ghost use Rattle.disk.specs.MemDisk.{files_of, fill_of};
 
     /// A disk of two empty files, all of it durable.
     pub fn new(alloc: Global) -> Self
-        ensures { (side : Side) → files_of result side ≡ record { content = []; durable = settled [] } }
+        ensures empty { (side : Side) → files_of result side ≡ at_rest [] }
+        ensures fresh { result.history.calls.items ≡ [] }
     {
         MemDisk {
             alloc,
@@ -50,7 +51,8 @@ impl MemDisk {
     /// The call of the five with this number from now on, from 1, answers `Device`. A write or a cut that fails so
     /// leaves what reads give.
     pub fn fail_call(&mut self, number: u64)
-        ensures { files_of self.new ≡ files_of self.old }
+        ensures files { (side : Side) → files_of self.new side ≡ files_of self.old side }
+        ensures calls { self.new.history.calls.items ≡ self.old.history.calls.items }
     {
         self.history.fail(number);
     }

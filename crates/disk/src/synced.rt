@@ -1,5 +1,5 @@
 ghost use Rattle.std.specs.Prelude.{◌≡◌, ◌≤◌, IsTrue, List, ℕ, length, OnOk};
-ghost use Rattle.disk.specs.File.{WriteLeaves, at_rest, overwritten, settled};
+ghost use Rattle.disk.specs.File.{MayLeave, WriteLeaves, at_rest, overwritten, touching, write_touches};
 ghost use Rattle.disk.specs.Time.{OtherStays, OtherMayBe, LeavesOnly, HasCause};
 
 use crate::{Disk, DiskError, Side};
@@ -15,7 +15,11 @@ pub fn write_synced<D: Disk>(
     ensures ok { IsTrue D.is_honest → OnOk result (D.files disk.new side ≡ at_rest (overwritten (D.files disk.old side).content at bytes.now)) }
     ensures other { IsTrue D.is_honest → OtherStays side (D.files disk.old) (D.files disk.new) }
 
-    // A crash at any moment of the call leaves of a synced file what the write may leave, and nothing else.
+    // A crash at any moment of the call leaves of the file at most what the write may leave, and of the other what it might before.
+    ensures touches { IsTrue D.is_honest → LeavesOnly D.moment D.left_since disk.old disk.new
+        (λ contents. MayLeave (touching (write_touches (D.files disk.old side).durable at (length bytes.now)) (D.files disk.old side).durable) (contents side) × OtherMayBe side (D.files disk.old) contents) }
+
+    // Of a synced file that is:
     ensures any_moment { IsTrue D.is_honest → (synced : List ℕ) → D.files disk.old side ≡ at_rest synced → LeavesOnly D.moment D.left_since disk.old disk.new
         (λ contents. WriteLeaves synced at (length bytes.now) (contents side) × OtherMayBe side (D.files disk.old) contents) }
     ensures cause { HasCause (D.failures disk.old) (D.failures disk.new) result }

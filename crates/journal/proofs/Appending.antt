@@ -4,7 +4,10 @@ use Rattle.std.proofs.lemmas.List.{take_at, drop_at, drop_more, drop-drop, flat_
 use Rattle.std.proofs.lemmas.List.Elements.{All-append, All-cons, All-nil}
 use Rattle.std.proofs.lemmas.Bool.{cases_eq}
 use Rattle.byteorder.specs.Endian.{little_bytes}
-use Rattle.disk.specs.File.{WriteLeaves, overwritten}
+use Rattle.disk.specs.declared.side.Side.{Side}
+use Rattle.disk.specs.File.{File, WriteLeaves, overwritten}
+use Rattle.disk.specs.Time.{Contents, OtherStays, OtherMayBe, LeavesOnly}
+use Rattle.disk.specs.Moments.{joined, other_before}
 use Rattle.journal.specs.Records.{record_of, records, IsShort, StandsFor}
 use Rattle.journal.specs.Journal.{BeforeOrAfter}
 
@@ -169,3 +172,42 @@ module _ (start : ℕ) (content : List ℕ) (payloads : List (List ℕ)) (end : 
 -- a crash before the first call of the disk
 pub crash_now : (start : ℕ) (content : List ℕ) (payloads : List (List ℕ)) (payload : List ℕ) → StandsFor (drop start content) payloads → (c : List ℕ) → c ≡ content → BeforeOrAfter start content payloads payload c
 crash_now start content payloads payload stands c is = record { front = ap (take start) is; stands = inl (subst (λ (l : List ℕ). StandsFor (drop start l) payloads) (sym is) stands) }
+
+-- ---- the two steps of an append, at every moment
+
+module _ {D : Type 0} (moment : D → ℕ) (left_since : D → ℕ → Contents → Type 0) (old mid new : D) (side : Side) (before between : Side → File) (stays : OtherStays side before between) where
+  pub moments_of_both : (start : ℕ) (content : List ℕ) (payloads : List (List ℕ)) (payload : List ℕ) (end count : ℕ) (stands : StandsFor (drop start content) payloads) (ends : end ≡ start + length (records payloads)) (short : IsShort payload)
+      → LeavesOnly moment left_since old mid (λ contents. WriteLeaves content (end + 1) count (contents side) × OtherMayBe side before contents)
+      → LeavesOnly moment left_since mid new (λ contents. WriteLeaves (overwritten content (end + 1) (body_of payload ++ 0 ∷ [])) end 1 (contents side) × OtherMayBe side between contents)
+      → LeavesOnly moment left_since old new (λ contents. BeforeOrAfter start content payloads payload (contents side) × OtherMayBe side before contents)
+  moments_of_both start content payloads payload end count stands ends short first second =
+      joined moment left_since old mid new _ _ _ first second
+      (λ contents leaves. (crash_behind start content payloads end stands ends payload short count (contents side) leaves.0, leaves.1))
+      (λ contents leaves. (crash_at_gate start content payloads end stands ends payload short (contents side) leaves.0, other_before side before between stays contents leaves.1))
+
+  -- of the other file
+  pub other_moments : (P Q : Contents → Type 0) → LeavesOnly moment left_since old mid (λ contents. P contents × OtherMayBe side before contents)
+      → LeavesOnly moment left_since mid new (λ contents. Q contents × OtherMayBe side between contents) → LeavesOnly moment left_since old new (OtherMayBe side before)
+  other_moments P Q first second =
+      joined moment left_since old mid new _ _ _ first second (λ contents leaves. leaves.1) (λ contents leaves. other_before side before between stays contents leaves.1)
+
+-- ---- the first gate of a journal
+
+-- what was not written is as it was
+pub unwritten : (content : List ℕ) (at count : ℕ) → at ≤ length content → (c : List ℕ) → c ≡ content → WriteLeaves content at count c
+unwritten content at count le c is = record {
+  front = ap (take at) is;
+  reaches = omega (arith, ap length is);
+  length_stays = λ within. ap length is;
+  back = λ within. ap (drop (at + count)) is;
+}
+
+-- behind a closed gate there is no payload yet
+pub stands_for_none : (content : List ℕ) (at : ℕ) → at ≤ length content → StandsFor (drop at (overwritten content at (0 ∷ []))) []
+stands_for_none content at le = record {
+  short = All-nil IsShort;
+  gate = 0;
+  closed = omega arith;
+  rest = drop (at + 1) content;
+  spelled = ap (drop at) (append_assoc (take at content) (0 ∷ []) (drop (at + 1) content)) ∙ drop_at (take at content) (0 ∷ drop (at + 1) content) at (omega (arith, length-take at content));
+}

@@ -34,7 +34,8 @@ breaks_at content bytes start end payloads is leads none not_closed =
       short = leads.short;
       leads = ap (λ (n : ℕ). start + n) leads.leads;
       spelled = sym is ∙ leads.spelled ∙ ap (λ (back : List ℕ). records payloads ++ back) behind;
-      breaks = λ others stands. no_meaning others (drop end bytes) none not_closed (subst (λ (back : List ℕ). StandsFor back others) (sym behind) stands);
+      no_record = subst BeginsWithNone behind none;
+      no_gate = λ stands. not_closed (subst (λ (back : List ℕ). StandsFor back []) (sym behind) stands);
     }
 
 -- what stands for payloads and begins with whole records stands for more behind these
@@ -52,4 +53,4 @@ stands_behind (payload ∷ before) (first ∷ others) rest short stands =
 pub nothing_stands : (start : ℕ) (content : List ℕ) (place : ℕ) → BreaksAt start content place → (payloads : List (List ℕ)) → StandsFor (drop start content) payloads → ⊥
 nothing_stands start content place breaks payloads stands =
     let behind = stands_behind breaks.before payloads (drop place content) breaks.short (subst (λ (bytes : List ℕ). StandsFor bytes payloads) breaks.spelled stands) in
-    breaks.breaks behind.0 behind.1
+    no_meaning behind.0 (drop place content) breaks.no_record breaks.no_gate behind.1

@@ -2,6 +2,7 @@
 use Rattle.std.specs.Prelude.{◌≡◌, ◌⊎◌, ◌+◌, ℕ, List, [], ◌∷◌, ◌++◌, length, take, drop, All}
 use Rattle.journal.specs.declared.journal.Journal.{Journal}
 use Rattle.journal.specs.Records.{records, IsShort, StandsFor}
+use Rattle.journal.specs.WholeRecords.{BeginsWithNone}
 
 -- from a position on a file stands for these payloads, and the journal ends behind their records
 pub record IsAt (journal : Journal) (start : ℕ) (content : List ℕ) (payloads : List (List ℕ)) : Type 0 where
@@ -14,10 +15,11 @@ pub record BeforeOrAfter (start : ℕ) (old : List ℕ) (payloads : List (List �
   pub front : take start content ≡ take start old
   pub stands : StandsFor (drop start content) payloads ⊎ StandsFor (drop start content) (payloads ++ payload ∷ [])
 
--- from a position on a file stands for no payloads: whole records lead to the place, from which on neither another stands whole nor a closed gate
+-- from a position on a file stands for no payloads: whole records lead to the place, where neither another stands whole nor a closed gate
 pub record BreaksAt (start : ℕ) (content : List ℕ) (place : ℕ) : Type 0 where
   pub before : List (List ℕ)
   pub short : All IsShort before
   pub leads : place ≡ start + length (records before)
   pub spelled : drop start content ≡ records before ++ drop place content
-  pub breaks : (payloads : List (List ℕ)) → StandsFor (drop place content) payloads → ⊥
+  pub no_record : BeginsWithNone (drop place content)
+  pub no_gate : StandsFor (drop place content) [] → ⊥

@@ -1,5 +1,5 @@
 ghost use Rattle.std.specs.Prelude.{◌≡◌, ◌≤◌, ◌<◌, ◌+◌, ◌^◌, ◌↔◌, [], ◌∷◌, ◌++◌, List, ℕ, length, take, drop, IsTrue, IfOk, OnOk, OnErr, IsErrOf, Err};
-ghost use Rattle.disk.specs.File.{at_rest, overwritten};
+ghost use Rattle.disk.specs.File.{WriteLeaves, at_rest, overwritten};
 ghost use Rattle.disk.specs.Time.{OtherStays, OtherMayBe, LeavesOnly};
 ghost use Rattle.byteorder.specs.Endian.{little_bytes};
 ghost use Rattle.journal.specs.Records.{record_of};
@@ -57,6 +57,11 @@ impl Journal {
         ensures file { IsTrue D.is_honest → OnOk result (D.files disk.new side ≡ at_rest (overwritten (D.files disk.old side).content at (0 ∷ []))) }
         ensures other { IsTrue D.is_honest → OtherStays side (D.files disk.old) (D.files disk.new) }
 
+        // A crash at any moment of the call, on a file of which all is on the disk, leaves what the one byte's write may leave.
+        ensures any_moment { IsTrue D.is_honest → (content : List ℕ) → D.files disk.old side ≡ at_rest content
+            → LeavesOnly D.moment D.left_since disk.old disk.new (λ contents. WriteLeaves content at 1 (contents side) × OtherMayBe side (D.files disk.old) contents) }
+        ensures other_moments { IsTrue D.is_honest → LeavesOnly D.moment D.left_since disk.old disk.new (OtherMayBe side (D.files disk.old)) }
+
         ensures full { IsErrOf result Full ↔ (LIMIT ≤ at) }
         ensures before_the_disk { IsErrOf result Full → disk.new ≡ disk.old }
         ensures damaged { (place : ℕ) → IsErrOf result (Damaged place) → ⊥ }
@@ -87,6 +92,7 @@ impl Journal {
         // A crash at any moment of the call, on a file of which all is on the disk, leaves the payloads before it or after it.
         ensures any_moment { IsTrue D.is_honest → (start : ℕ) (payloads : List (List ℕ)) (content : List ℕ) → D.files disk.old self.old.side ≡ at_rest content → IsAt self.old start content payloads
             → LeavesOnly D.moment D.left_since disk.old disk.new (λ contents. BeforeOrAfter start content payloads payload.now (contents self.old.side) × OtherMayBe self.old.side (D.files disk.old) contents) }
+        ensures other_moments { IsTrue D.is_honest → LeavesOnly D.moment D.left_since disk.old disk.new (OtherMayBe self.old.side (D.files disk.old)) }
 
         ensures full { IsErrOf result Full ↔ (LIMIT ≤ self.old.end + 5 + length payload.now) }
         ensures before_the_disk { IsErrOf result Full → disk.new ≡ disk.old }

@@ -2,9 +2,9 @@ use Rattle.std.proofs.Common.{◌≡◌, ◌<◌, ◌+◌, ◌++◌, ◌∷◌, 
 use Rattle.disk.specs.File.{File, MayLeave, WriteLeaves, at_rest, overwritten}
 use Rattle.disk.specs.Time.{Contents, OtherMayBe, LeavesOnly}
 use Rattle.disk.specs.Settled.{settled_only}
-use Rattle.disk.specs.Moments.{begun, joined, weakened, other_before}
+use Rattle.disk.specs.Moments.{begun, weakened}
 use Rattle.journal.specs.Records.{StandsFor}
-use Rattle.journal.proofs.Appending.{crash_now, crash_behind, crash_at_gate, appended, end_after, after_stage, body_of}
+use Rattle.journal.proofs.Appending.{crash_now, crash_behind, appended, end_after, body_of, moments_of_both, other_moments}
 use Rattle.journal.proofs.journal.Journal.append.Goals as goal
 
 -- no call of the disk was made
@@ -36,10 +36,8 @@ returns-in_err-write_synced-2-clause-any_moment g c honest start payloads conten
     let spelled : c.deref.result.now ≡ body_of c.args.payload.now ++ 0 ∷ [] = c.deref.ensures.value ∙ c.in_ok-spell.ensures in
     let staged : g.D.Disk.files c.write_synced.new.disk side ≡ at_rest (overwritten content (c.args.self.now.end + 1) (body_of c.args.payload.now ++ 0 ∷ [])) =
     c.in_ok-write_synced.ensures.ok honest ∙ ap (λ (f : File). at_rest (overwritten f.content (c.args.self.now.end + 1) c.deref.result.now)) is ∙ ap (λ (l : List ℕ). at_rest (overwritten content (c.args.self.now.end + 1) l)) spelled in
-    joined g.D.Disk.moment g.D.Disk.left_since c.args.disk.now c.write_synced.new.disk c.write_synced-2.new.disk _ _ _
-    (c.write_synced.ensures.any_moment honest content is) (c.write_synced-2.ensures.any_moment honest _ staged)
-    (λ contents leaves. (crash_behind start content payloads c.args.self.now.end at.stands at.end c.args.payload.now short _ (contents side) leaves.0, leaves.1))
-    (λ contents leaves. (crash_at_gate start content payloads c.args.self.now.end at.stands at.end c.args.payload.now short (contents side) leaves.0, other_before side (g.D.Disk.files c.args.disk.now) (g.D.Disk.files c.write_synced.new.disk) (c.write_synced.ensures.other honest) contents leaves.1))
+    moments_of_both g.D.Disk.moment g.D.Disk.left_since c.args.disk.now c.write_synced.new.disk c.write_synced-2.new.disk side (g.D.Disk.files c.args.disk.now) (g.D.Disk.files c.write_synced.new.disk) (c.write_synced.ensures.other honest)
+    start content payloads c.args.payload.now c.args.self.now.end _ at.stands at.end short (c.write_synced.ensures.any_moment honest content is) (c.write_synced-2.ensures.any_moment honest _ staged)
 
 pub returns-clause-any_moment : goal.returns-clause-any_moment
 returns-clause-any_moment g c honest start payloads content is at =
@@ -48,10 +46,8 @@ returns-clause-any_moment g c honest start payloads content is at =
     let spelled : c.deref.result.now ≡ body_of c.args.payload.now ++ 0 ∷ [] = c.deref.ensures.value ∙ c.in_ok-spell.ensures in
     let staged : g.D.Disk.files c.write_synced.new.disk side ≡ at_rest (overwritten content (c.args.self.now.end + 1) (body_of c.args.payload.now ++ 0 ∷ [])) =
     c.in_ok-write_synced.ensures.ok honest ∙ ap (λ (f : File). at_rest (overwritten f.content (c.args.self.now.end + 1) c.deref.result.now)) is ∙ ap (λ (l : List ℕ). at_rest (overwritten content (c.args.self.now.end + 1) l)) spelled in
-    joined g.D.Disk.moment g.D.Disk.left_since c.args.disk.now c.write_synced.new.disk c.write_synced-2.new.disk _ _ _
-    (c.write_synced.ensures.any_moment honest content is) (c.write_synced-2.ensures.any_moment honest _ staged)
-    (λ contents leaves. (crash_behind start content payloads c.args.self.now.end at.stands at.end c.args.payload.now short _ (contents side) leaves.0, leaves.1))
-    (λ contents leaves. (crash_at_gate start content payloads c.args.self.now.end at.stands at.end c.args.payload.now short (contents side) leaves.0, other_before side (g.D.Disk.files c.args.disk.now) (g.D.Disk.files c.write_synced.new.disk) (c.write_synced.ensures.other honest) contents leaves.1))
+    moments_of_both g.D.Disk.moment g.D.Disk.left_since c.args.disk.now c.write_synced.new.disk c.write_synced-2.new.disk side (g.D.Disk.files c.args.disk.now) (g.D.Disk.files c.write_synced.new.disk) (c.write_synced.ensures.other honest)
+    start content payloads c.args.payload.now c.args.self.now.end _ at.stands at.end short (c.write_synced.ensures.any_moment honest content is) (c.write_synced-2.ensures.any_moment honest _ staged)
 
 -- and then the file stands for one payload more
 pub returns-clause-added : goal.returns-clause-added
@@ -68,3 +64,26 @@ returns-clause-added g c honest start payloads at =
       stands = subst (λ (l : List ℕ). StandsFor (drop start l) (payloads ++ c.args.payload.now ∷ [])) (sym opened) (appended start content payloads c.args.self.now.end at.stands at.end c.args.payload.now short);
       end = omega (arith, end_after start content payloads c.args.self.now.end at.stands at.end c.args.payload.now short);
     }
+
+-- of the other file, whatever this one is like
+pub returns-then-not-fits-clause-other_moments : goal.returns-then-not-fits-clause-other_moments
+returns-then-not-fits-clause-other_moments g c honest =
+    begun g.D.Disk.moment g.D.Disk.left_since c.args.disk.now _ (λ contents left. let now = g.met.D.Disk.only_now honest c.args.disk.now contents left in λ other differs. now other)
+
+pub returns-in_err-spell-clause-other_moments : goal.returns-in_err-spell-clause-other_moments
+returns-in_err-spell-clause-other_moments g c honest =
+    begun g.D.Disk.moment g.D.Disk.left_since c.args.disk.now _ (λ contents left. let now = g.met.D.Disk.only_now honest c.args.disk.now contents left in λ other differs. now other)
+
+pub returns-in_err-write_synced-clause-other_moments : goal.returns-in_err-write_synced-clause-other_moments
+returns-in_err-write_synced-clause-other_moments g c honest =
+    weakened g.D.Disk.moment g.D.Disk.left_since c.args.disk.now c.write_synced.new.disk _ _ (c.write_synced.ensures.touches honest) (λ contents leaves. leaves.1)
+
+pub returns-in_err-write_synced-2-clause-other_moments : goal.returns-in_err-write_synced-2-clause-other_moments
+returns-in_err-write_synced-2-clause-other_moments g c honest =
+    other_moments g.D.Disk.moment g.D.Disk.left_since c.args.disk.now c.write_synced.new.disk c.write_synced-2.new.disk c.args.self.now.side (g.D.Disk.files c.args.disk.now) (g.D.Disk.files c.write_synced.new.disk) (c.write_synced.ensures.other honest)
+    _ _ (c.write_synced.ensures.touches honest) (c.write_synced-2.ensures.touches honest)
+
+pub returns-clause-other_moments : goal.returns-clause-other_moments
+returns-clause-other_moments g c honest =
+    other_moments g.D.Disk.moment g.D.Disk.left_since c.args.disk.now c.write_synced.new.disk c.write_synced-2.new.disk c.args.self.now.side (g.D.Disk.files c.args.disk.now) (g.D.Disk.files c.write_synced.new.disk) (c.write_synced.ensures.other honest)
+    _ _ (c.write_synced.ensures.touches honest) (c.write_synced-2.ensures.touches honest)
