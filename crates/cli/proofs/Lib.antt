@@ -1,4 +1,12 @@
 pub mod CellLemmas
+mod ClapLemmas
+mod NumberLemmas
 pub mod Numbers
+pub mod OpenMoments
 pub mod Opening
+mod PlainLines
+mod PlainWords
+pub mod PutMoments
+mod ReadLemmas
 pub mod Replies
+mod RowLemmas

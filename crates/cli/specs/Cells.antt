@@ -46,3 +46,7 @@ pub record SpellCells (payloads : List (List ℕ)) (cells : Cells) : Type 0 wher
 -- the bytes of file A stand for these cells: none in an empty file, else one for each payload of its journal
 abbrev pub HoldsCells : List ℕ → Cells → Type 0
 HoldsCells content cells = ((content ≡ []) × (cells ≡ [])) ⊎ ((payloads : List (List ℕ)) × StandsFor content payloads × SpellCells payloads cells)
+
+-- the bytes stand for the cells from before a put, or for those with the new one
+abbrev pub HoldsEither : Cells → ℤ → ℤ → List ℕ → Type 0
+HoldsEither cells key value content = HoldsCells content cells ⊎ HoldsCells content (cells ++ (key, value) ∷ [])

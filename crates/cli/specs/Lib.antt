@@ -1,7 +1,10 @@
 pub mod Answers
 pub mod Causes
 pub mod Cells
+pub mod Clap
 pub mod Journal
+pub mod Line
 pub mod Maps
 pub mod Reply
 pub mod Store
+pub mod Words

@@ -9,4 +9,4 @@ mod words;
 
 pub use command::cell;
 pub use reply::{Refusal, Reply};
-pub use words::Command;
+pub use words::{Command, collect_words, read_words, usage_status};

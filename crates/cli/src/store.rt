@@ -1,9 +1,13 @@
-ghost use Rattle.std.specs.Prelude.{◌≡◌, ◌≤◌, ◌<◌, ◌+◌, ◌++◌, ◌∷◌, [], ℕ, ℤ, List, length, IsTrue, Some, None, ◌↔◌, IfOk, IfErr, OnOk, OnErr, IsErrOf, IfSome, MatchBool};
+ghost use Rattle.std.specs.Prelude.{◌≡◌, ◌≢◌, ◌≤◌, ◌<◌, ◌+◌, ◌*◌, ◌++◌, ◌∷◌, [], ℕ, ℤ, List, length, IsTrue, Some, None, ◌↔◌, IfOk, IfErr, OnOk, OnErr, IsErrOf, IfSome, MatchBool};
 ghost use Rattle.disk.specs.declared.side.Side.TheVariants.{A};
+ghost use Rattle.disk.specs.File.{at_rest};
+ghost use Rattle.disk.specs.Time.{OtherStays, OtherMayBe, LeavesOnly, MayLeaveNow};
+ghost use Rattle.journal.specs.Records.{records};
+ghost use Rattle.journal.specs.Journal.{BeforeOrAfter};
 ghost use Rattle.journal.specs.declared.journal.TheConstants.{LIMIT};
 ghost use Rattle.cli.specs.Journal.{IsJournalOf};
 ghost use Rattle.cli.specs.Maps.{HasCells, AddsCell, AddsNone};
-ghost use Rattle.cli.specs.Cells.{Cells, value_at, SpellCells, HoldsCells};
+ghost use Rattle.cli.specs.Cells.{Cells, value_at, SpellCells, HoldsCells, HoldsEither};
 ghost use Rattle.cli.specs.declared.reply.Refusal.TheVariants.{AlreadyPut, Full, Damaged, Device, NoMemory};
 
 use crate::item::{item_in, payload_of};
@@ -32,6 +36,12 @@ impl Store {
         ensures only { IsTrue D.is_honest → (cells : Cells) → HoldsCells (D.files disk.old A).content cells → IfOk result (λ store. IsStoreOf store (D.files disk.old A).content cells) }
         ensures same { IsTrue D.is_honest → (D.files disk.new A).content ≡ (D.files disk.old A).content }
         ensures damaged { IsTrue D.is_honest → (place : ℕ) → IsErrOf result (Damaged place) → (cells : Cells) → HoldsCells (D.files disk.old A).content cells → ⊥ }
+        ensures durable { IsTrue D.is_honest → OnOk result (D.files disk.new A ≡ at_rest (D.files disk.old A).content) }
+        ensures other { IsTrue D.is_honest → OtherStays A (D.files disk.old) (D.files disk.new) }
+
+        // At no moment it adds to what a crash may leave.
+        ensures any_moment { IsTrue D.is_honest → LeavesOnly D.moment D.left_since disk.old disk.new (MayLeaveNow (D.files disk.old)) }
+
         ensures already { (there : ℤ) → IsErrOf result (AlreadyPut there) → ⊥ }
         ensures full { IsErrOf result Full → ⊥ }
         ensures device { IsErrOf result Device → D.failures disk.old < D.failures disk.new }
@@ -78,9 +88,20 @@ impl Store {
         ensures already { IsTrue D.is_honest → (cells : Cells) → IsStoreOf self.old (D.files disk.old A).content cells
             → (there : ℤ) → IsErrOf result (AlreadyPut there) ↔ (value_at cells key ≡ Some there) }
         ensures before_the_disk { (there : ℤ) → IsErrOf result (AlreadyPut there) → disk.new ≡ disk.old }
+        ensures unchanged { (there : ℤ) → IsErrOf result (AlreadyPut there) → self.new ≡ self.old }
+        ensures durable { IsTrue D.is_honest → OnOk result (D.files disk.new A ≡ at_rest (D.files disk.new A).content) }
+        ensures other { IsTrue D.is_honest → OtherStays A (D.files disk.old) (D.files disk.new) }
+
+        // Once the journal of file A was begun, a crash at any moment of the call leaves the cells before it or after it.
+        ensures any_moment { IsTrue D.is_honest → (content : List ℕ) (cells : Cells) → D.files disk.old A ≡ at_rest content → content ≢ [] → IsStoreOf self.old content cells
+            → LeavesOnly D.moment D.left_since disk.old disk.new (λ contents. HoldsEither cells key value (contents A) × OtherMayBe A (D.files disk.old) contents) }
+
         ensures full { IsTrue D.is_honest → IsErrOf result Full → disk.new ≡ disk.old }
+        ensures limit { IsTrue D.is_honest → (cells : Cells) → IsStoreOf self.old (D.files disk.old A).content cells
+            → IsErrOf result Full → (value_at cells key ≡ None) × (LIMIT ≤ 25 * (length cells + 1)) }
         ensures damaged { (place : ℕ) → IsErrOf result (Damaged place) → ⊥ }
         ensures device { IsErrOf result Device → D.failures disk.old < D.failures disk.new }
+        ensures failures { D.failures disk.old ≤ D.failures disk.new }
     {
         let cell = Key::new(&[key]);
         if let Some(there) = self.cells.get(&cell) {
@@ -108,10 +129,17 @@ fn append<D: Disk>(
     requires small { length payload.now ≤ 20 }
     ensures added { IsTrue D.is_honest → (payloads : List (List ℕ)) → IsJournalOf journal.old (D.files disk.old A).content payloads
         → OnOk result (IsJournalOf journal.new (D.files disk.new A).content (payloads ++ payload.now ∷ [])) }
+    ensures durable { IsTrue D.is_honest → OnOk result (D.files disk.new A ≡ at_rest (D.files disk.new A).content) }
+    ensures other { IsTrue D.is_honest → OtherStays A (D.files disk.old) (D.files disk.new) }
+    ensures any_moment { IsTrue D.is_honest → (content : List ℕ) (payloads : List (List ℕ)) → D.files disk.old A ≡ at_rest content → content ≢ [] → IsJournalOf journal.old content payloads
+        → LeavesOnly D.moment D.left_since disk.old disk.new (λ contents. BeforeOrAfter 0 content payloads payload.now (contents A) × OtherMayBe A (D.files disk.old) contents) }
     ensures already { (there : ℤ) → IsErrOf result (AlreadyPut there) → ⊥ }
     ensures full { IsErrOf result Full → disk.new ≡ disk.old }
+    ensures limit { IsTrue D.is_honest → (payloads : List (List ℕ)) → IsJournalOf journal.old (D.files disk.old A).content payloads
+        → IsErrOf result Full → LIMIT ≤ length (records payloads) + 5 + length payload.now }
     ensures damaged { (place : ℕ) → IsErrOf result (Damaged place) → ⊥ }
     ensures device { IsErrOf result Device → D.failures disk.old < D.failures disk.new }
+    ensures failures { D.failures disk.old ≤ D.failures disk.new }
 {
     match journal.take() {
         Some(begun) => add(begun, journal, disk, payload),
@@ -134,6 +162,10 @@ fn add<D: Disk>(
     requires { IsTrue D.is_honest → begun.end < length (D.files disk.old begun.side).content }
     ensures added { IsTrue D.is_honest → (payloads : List (List ℕ)) → IsJournalOf (Some begun) (D.files disk.old A).content payloads
         → OnOk result (IsJournalOf journal.new (D.files disk.new A).content (payloads ++ payload.now ∷ [])) }
+    ensures durable { IsTrue D.is_honest → begun.side ≡ A → OnOk result (D.files disk.new A ≡ at_rest (D.files disk.new A).content) }
+    ensures other { IsTrue D.is_honest → begun.side ≡ A → OtherStays A (D.files disk.old) (D.files disk.new) }
+    ensures any_moment { IsTrue D.is_honest → (content : List ℕ) (payloads : List (List ℕ)) → D.files disk.old A ≡ at_rest content → IsJournalOf (Some begun) content payloads
+        → LeavesOnly D.moment D.left_since disk.old disk.new (λ contents. BeforeOrAfter 0 content payloads payload.now (contents A) × OtherMayBe A (D.files disk.old) contents) }
     ensures already { (there : ℤ) → IsErrOf result (AlreadyPut there) → ⊥ }
     ensures full { IsErrOf result Full → LIMIT ≤ begun.end + 5 + length payload.now }
     ensures before_the_disk { IsErrOf result Full → disk.new ≡ disk.old }

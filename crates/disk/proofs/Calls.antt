@@ -10,7 +10,7 @@ use Rattle.disk.specs.declared.error.DiskError.TheVariants.{Device, NoMemory}
 use Rattle.disk.specs.declared.record.Call.{Call}
 use Rattle.disk.specs.declared.record.Change.{Change}
 use Rattle.disk.specs.declared.record.Change.TheVariants.{Nothing, Write, Cut}
-use Rattle.disk.specs.Side.{is_side, pick}
+use Rattle.disk.specs.Side.{is_side, pick, which}
 use Rattle.disk.specs.File.{Durable, File, MayLeave, Changes, settled, touching, write_touches, cut_touches}
 use Rattle.disk.specs.Time.{Contents, OtherStays, Elapses}
 use Rattle.disk.specs.Calls.{changed, durable_after, durable_of, files_after, Kept, LeftSince}
@@ -56,13 +56,6 @@ is_other A A differs = absurd (differs refl)
 is_other A B differs = refl
 is_other B A differs = refl
 is_other B B differs = absurd (differs refl)
-
--- one side or the other
-pub which : (side each : Side) → (side ≡ each) ⊎ (each ≢ side)
-which A A = inl refl
-which A B = inr (λ e. cc)
-which B A = inr (λ e. cc)
-which B B = inl refl
 
 either_false : (b : Bool) → b ≡ (b || false)
 either_false true = refl

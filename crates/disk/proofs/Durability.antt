@@ -9,7 +9,6 @@ use Rattle.disk.specs.File.{Durable, File, Agrees, MayLeave, Fails, FailsWithin,
 use Rattle.disk.specs.Time.{Contents, MayLeaveNow, OtherStays, OtherMayBe}
 use Rattle.disk.specs.Settled.{same_places, settled_only}
 use Rattle.disk.proofs.Left.{touching_left}
-use Rattle.disk.proofs.Calls.{which}
 use Rattle.disk.proofs.Fronts.{front_from_places, back_from_places}
 
 either_false : (a b : Bool) → a ≡ false → b ≡ false → (a || b) ≡ false
@@ -40,12 +39,6 @@ changes_leave T done touches (Ok _) old new is changes bytes left = subst (λ (d
 changes_leave T done touches (Err Device) old new is changes bytes left = subst (λ (d : Durable). MayLeave d bytes) changes.durable left
 changes_leave T done touches (Err NoMemory) old new is changes bytes left =
     more_touched old.durable changes.touched touches changes.within bytes (subst (λ (d : Durable). MayLeave d bytes) changes.fails.durable left)
-
--- a sync lets a crash leave nothing new
-pub sync_leaves : (T : Type 0) (result : Result T DiskError) (old new : File) → Syncs result old new → MayLeave old.durable old.content → (bytes : List ℕ) → MayLeave new.durable bytes → MayLeave old.durable bytes
-sync_leaves T (Ok _) old new syncs reads bytes left =
-    subst (MayLeave old.durable) (sym (settled_only old.content bytes (subst (λ (f : File). MayLeave f.durable bytes) syncs left))) reads
-sync_leaves T (Err _) old new syncs reads bytes left = subst (λ (f : File). MayLeave f.durable bytes) syncs left
 
 -- what a write may leave of synced bytes, as lists
 pub write_leaves : (synced : List ℕ) (from count : ℕ) (bytes : List ℕ) → from ≤ length synced → MayLeave (touching (write_touches (settled synced) from count) (settled synced)) bytes → WriteLeaves synced from count bytes
@@ -97,11 +90,3 @@ module _ (side : Side) (from count : ℕ) where
     write_leaves synced from count (contents side) reach (subst (λ (f : File). MayLeave (with_write f.durable) (contents side)) is touches.0),
     touches.1,
   )
-
--- a sync of one file, whatever it answered
-pub now_after_sync : (T : Type 0) (side : Side) (result : Result T DiskError) (mid new : Side → File) → Syncs result (mid side) (new side) → OtherStays side mid new → MayLeave (mid side).durable (mid side).content
-    → (contents : Contents) → MayLeaveNow new contents → MayLeaveNow mid contents
-now_after_sync T side result mid new syncs others reads contents left each = elim (which side each) [
-  | inl it ↦ subst (λ (s : Side). MayLeave (mid s).durable (contents s)) it (sync_leaves T result (mid side) (new side) syncs reads (contents side) (left side))
-  | inr differs ↦ subst (λ (f : File). MayLeave f.durable (contents each)) (others each differs) (left each)
-]

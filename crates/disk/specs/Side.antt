@@ -1,5 +1,6 @@
 -- The two files of a disk.
-use Rattle.std.specs.Prelude.{Bool, true, false}
+use Rattle.std.specs.Prelude.{◌≡◌, ◌≢◌, ◌⊎◌, Bool, true, false, refl}
+use Rattle.std.proofs.Common.{inl, inr}
 use Rattle.disk.specs.declared.side.Side.{Side}
 use Rattle.disk.specs.declared.side.Side.TheVariants.{A, B}
 
@@ -14,3 +15,10 @@ is_side B B = true
 abbrev pub pick : {X : Type 0} → X → X → Side → X
 pick a b A = a
 pick a b B = b
+
+-- one side or the other
+pub which : (side each : Side) → (side ≡ each) ⊎ (each ≢ side)
+which A A = inl refl
+which A B = inr (λ e. cc)
+which B A = inr (λ e. cc)
+which B B = inl refl

@@ -2,7 +2,8 @@ use Rattle.std.proofs.Common.{length, ◌≤◌, refl, subst}
 use Rattle.disk.specs.File.{File, written}
 use Rattle.disk.specs.Time.{Contents}
 use Rattle.disk.specs.Moments.{begun, goes_on, weakened}
-use Rattle.disk.proofs.Durability.{Touches, touches_before, touches_after, leaves_of, now_after_sync}
+use Rattle.disk.specs.Settled.{now_after_sync}
+use Rattle.disk.proofs.Durability.{Touches, touches_before, touches_after, leaves_of}
 use Rattle.disk.proofs.synced.write_synced.Goals as goal
 
 pub returns-in_err-write_at-clause-touches : goal.returns-in_err-write_at-clause-touches

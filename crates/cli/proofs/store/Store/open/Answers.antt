@@ -7,6 +7,7 @@ use Rattle.journal.specs.Journal.{IsAt}
 use Rattle.cli.specs.Causes.{journal_refusal}
 use Rattle.cli.specs.declared.reply.Refusal.TheVariants.{Damaged}
 use Rattle.cli.specs.Cells.{SpellCells}
+use Rattle.cli.proofs.OpenMoments.{sync_moments, look_moments, scan_moments}
 use Rattle.cli.proofs.Opening.{damaged_journal, held_by_payloads, store_of}
 use Rattle.cli.proofs.store.Store.open.Goals as goal
 
@@ -46,3 +47,23 @@ returns-clause-only g c honest cells holds =
     let at = subst (λ (l : List ℕ). IsAt c.in_ok-journal.journal 0 l c.in_ok-journal.payloads) scanned (c.in_ok-journal.ensures.found honest) in
     store_of _ c.in_ok-journal.journal (files c.args.disk.now A).content c.in_ok-journal.payloads cells spelled.0 refl c.in_ok-journal.ensures.side at spelled.1 spelled.2
     (subst (λ (l : List (List ℕ)). SpellCells l cells) (sym only) held.2)
+
+-- ---- at no moment more may be left
+
+pub returns-in_err-sync-clause-any_moment : goal.returns-in_err-sync-clause-any_moment
+returns-in_err-sync-clause-any_moment g c honest = sync_moments g.D.Disk.files g.D.Disk.moment g.D.Disk.left_since c.args.disk.now c.sync.new.self _ c.sync.result (c.sync.ensures.file honest) (c.sync.ensures.other honest) (g.met.D.Disk.reads_left honest c.args.disk.now A) (g.met.D.Disk.only_now honest c.args.disk.now) (c.sync.ensures.time honest)
+
+pub returns-in_err-len-clause-any_moment : goal.returns-in_err-len-clause-any_moment
+returns-in_err-len-clause-any_moment g c honest = look_moments g.D.Disk.files g.D.Disk.moment g.D.Disk.left_since c.args.disk.now c.sync.new.self _ c.sync.result (c.sync.ensures.file honest) (c.sync.ensures.other honest) (g.met.D.Disk.reads_left honest c.args.disk.now A) (g.met.D.Disk.only_now honest c.args.disk.now) (c.sync.ensures.time honest) c.len.new.self (c.len.ensures.same honest) (c.len.ensures.time honest)
+
+pub returns-then-branch-eq0-clause-any_moment : goal.returns-then-branch-eq0-clause-any_moment
+returns-then-branch-eq0-clause-any_moment g c honest = look_moments g.D.Disk.files g.D.Disk.moment g.D.Disk.left_since c.args.disk.now c.sync.new.self _ c.sync.result (c.sync.ensures.file honest) (c.sync.ensures.other honest) (g.met.D.Disk.reads_left honest c.args.disk.now A) (g.met.D.Disk.only_now honest c.args.disk.now) (c.sync.ensures.time honest) c.len.new.self (c.len.ensures.same honest) (c.len.ensures.time honest)
+
+pub returns-in_err-journal-clause-any_moment : goal.returns-in_err-journal-clause-any_moment
+returns-in_err-journal-clause-any_moment g c honest = scan_moments g.D.Disk.files g.D.Disk.moment g.D.Disk.left_since c.args.disk.now c.sync.new.self _ c.sync.result (c.sync.ensures.file honest) (c.sync.ensures.other honest) (g.met.D.Disk.reads_left honest c.args.disk.now A) (g.met.D.Disk.only_now honest c.args.disk.now) (c.sync.ensures.time honest) c.len.new.self (c.len.ensures.same honest) (c.len.ensures.time honest) c.scan.new.disk (c.scan.ensures.any_moment honest)
+
+pub returns-in_err-cells-clause-any_moment : goal.returns-in_err-cells-clause-any_moment
+returns-in_err-cells-clause-any_moment g c honest = scan_moments g.D.Disk.files g.D.Disk.moment g.D.Disk.left_since c.args.disk.now c.sync.new.self _ c.sync.result (c.sync.ensures.file honest) (c.sync.ensures.other honest) (g.met.D.Disk.reads_left honest c.args.disk.now A) (g.met.D.Disk.only_now honest c.args.disk.now) (c.sync.ensures.time honest) c.len.new.self (c.len.ensures.same honest) (c.len.ensures.time honest) c.scan.new.disk (c.scan.ensures.any_moment honest)
+
+pub returns-clause-any_moment : goal.returns-clause-any_moment
+returns-clause-any_moment g c honest = scan_moments g.D.Disk.files g.D.Disk.moment g.D.Disk.left_since c.args.disk.now c.sync.new.self _ c.sync.result (c.sync.ensures.file honest) (c.sync.ensures.other honest) (g.met.D.Disk.reads_left honest c.args.disk.now A) (g.met.D.Disk.only_now honest c.args.disk.now) (c.sync.ensures.time honest) c.len.new.self (c.len.ensures.same honest) (c.len.ensures.time honest) c.scan.new.disk (c.scan.ensures.any_moment honest)

@@ -1,4 +1,4 @@
-use Rattle.std.proofs.Common.{◌≡◌, None, cond, ◌++◌, ◌∷◌, [], List, ℕ, sym, ap, subst, ◌∙◌, rules}
+use Rattle.std.proofs.Common.{◌≡◌, arith, length, None, cond, ◌++◌, ◌∷◌, [], List, ℕ, sym, ap, subst, ◌∙◌, rules}
 use Rattle.cli.specs.Cells.{payloads_of, item_payload, value_at, SpellCells}
 use Rattle.std.specs.Prelude.{Some, ℤ}
 use Rattle.std.specs.Int.{w64, cast_signed, cast_unsigned}
@@ -7,6 +7,12 @@ use Rattle.std.specs.BTreeMap.{get, is_at}
 use Rattle.disk.specs.declared.side.Side.TheVariants.{A}
 use Rattle.terms.specs.Key.{key_cmp}
 use Rattle.cli.specs.Journal.{IsJournalOf}
+use Rattle.disk.specs.File.{File, MayLeave}
+use Rattle.disk.specs.Settled.{settled_only}
+use Rattle.disk.specs.Moments.{begun, weakened}
+use Rattle.journal.specs.Journal.{BeforeOrAfter}
+use Rattle.cli.proofs.Replies.{store_holds}
+use Rattle.cli.proofs.PutMoments.{not_yet, cells_either, length-cells}
 use Rattle.cli.proofs.CellLemmas.{spelled-push, payloads_of-push, has_cells-push}
 use Rattle.cli.proofs.store.Store.put.Goals as goal
 
@@ -23,3 +29,39 @@ returns-in-Ok-clause-put g c honest cells is =
       values = has_cells-push c.args.self.now.cells c.insert.new.self cells key value (λ q. c.in_ok-insert.ensures.updates.0 q ∙ ap (λ (v : ℤ). cond (is_at (key_cmp c.new-cell.result) q) (Some v) (get key_cmp c.args.self.now.cells q)) (to_z-of_z w64 value c.ranges.value) ∙ ap (λ (k : List ℤ). cond (is_at (key_cmp k) q) (Some value) (get key_cmp c.args.self.now.cells q)) (c.new-cell.ensures ∙ ap (λ (k : ℤ). k ∷ []) (to_z-of_z w64 key c.ranges.key))) is.values none;
       journal = subst (IsJournalOf c.append.new.journal (g.D.Disk.files c.append.new.disk A).content) (sym more) (subst (λ (p : List ℕ). IsJournalOf c.append.new.journal (g.D.Disk.files c.append.new.disk A).content (payloads_of cells ++ p ∷ [])) (c.payload_of.ensures ∙ ap (λ (k : ℤ). item_payload k (cast_signed w64 (cast_unsigned w64 value))) (to_z-of_z w64 key c.ranges.key) ∙ ap (item_payload key) (to_z-of_z w64 value c.ranges.value)) added);
     })
+
+pub returns-in-Some-clause-any_moment : goal.returns-in-Some-clause-any_moment
+returns-in-Some-clause-any_moment g c honest content cells rest there is =
+    begun g.D.Disk.moment g.D.Disk.left_since c.args.disk.now _ (λ contents left.
+    let now = g.met.D.Disk.only_now honest c.args.disk.now contents left in
+    let here = settled_only content (contents A) (subst (λ (f : File). MayLeave f.durable (contents A)) rest (now A)) in
+    (not_yet content (contents A) cells c.args.key c.args.value (store_holds c.args.self.now content cells is) here, λ other differs. now other))
+
+pub returns-in_err-insert-clause-any_moment : goal.returns-in_err-insert-clause-any_moment
+returns-in_err-insert-clause-any_moment g c honest content cells rest there is =
+    begun g.D.Disk.moment g.D.Disk.left_since c.args.disk.now _ (λ contents left.
+    let now = g.met.D.Disk.only_now honest c.args.disk.now contents left in
+    let here = settled_only content (contents A) (subst (λ (f : File). MayLeave f.durable (contents A)) rest (now A)) in
+    (not_yet content (contents A) cells c.args.key c.args.value (store_holds c.args.self.now content cells is) here, λ other differs. now other))
+
+pub returns-in-Ok-clause-any_moment : goal.returns-in-Ok-clause-any_moment
+returns-in-Ok-clause-any_moment g c honest content cells rest there is =
+    let none : value_at cells c.args.key ≡ None = search rules in
+    let payload = c.payload_of.ensures ∙ ap (λ (k : ℤ). item_payload k (cast_signed w64 (cast_unsigned w64 c.args.value))) (to_z-of_z w64 c.args.key c.ranges.key) ∙ ap (item_payload c.args.key) (to_z-of_z w64 c.args.value c.ranges.value) in
+    weakened g.D.Disk.moment g.D.Disk.left_since c.args.disk.now c.append.new.disk _ _ (c.append.ensures.any_moment honest content (payloads_of cells) rest there is.journal)
+    (λ contents leaves. (cells_either content (contents A) cells c.args.key c.args.value is.spelled none c.ranges.key c.ranges.value
+    (subst (λ (p : List ℕ). BeforeOrAfter 0 content (payloads_of cells) p (contents A)) payload leaves.0), leaves.1))
+
+pub returns-in-Err-clause-any_moment : goal.returns-in-Err-clause-any_moment
+returns-in-Err-clause-any_moment g c honest content cells rest there is =
+    let none : value_at cells c.args.key ≡ None = search rules in
+    let payload = c.payload_of.ensures ∙ ap (λ (k : ℤ). item_payload k (cast_signed w64 (cast_unsigned w64 c.args.value))) (to_z-of_z w64 c.args.key c.ranges.key) ∙ ap (item_payload c.args.key) (to_z-of_z w64 c.args.value c.ranges.value) in
+    weakened g.D.Disk.moment g.D.Disk.left_since c.args.disk.now c.append.new.disk _ _ (c.append.ensures.any_moment honest content (payloads_of cells) rest there is.journal)
+    (λ contents leaves. (cells_either content (contents A) cells c.args.key c.args.value is.spelled none c.ranges.key c.ranges.value
+    (subst (λ (p : List ℕ). BeforeOrAfter 0 content (payloads_of cells) p (contents A)) payload leaves.0), leaves.1))
+
+pub returns-in-Err-clause-limit : goal.returns-in-Err-clause-limit
+returns-in-Err-clause-limit g c honest cells is full =
+    let none : value_at cells c.args.key ≡ None = search rules in
+    let limit = c.in-Err.ensures.limit honest (payloads_of cells) is.journal full in
+    (none, omega (arith, limit, length-cells cells, ap length c.payload_of.ensures))
