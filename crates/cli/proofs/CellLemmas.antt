@@ -70,8 +70,8 @@ pub once-push : (cells : Cells) (key value : ℤ) → AreOnce cells → value_at
 once-push [] key value once none = (refl, tt)
 once-push (cell ∷ cells) key value once none = (
   value_at-push cells key value cell.0 (rest_lacks cell cells key none)
-  ∙ ap (λ (b : Bool). if b then Some value else value_at cells cell.0) (not_same cell.0 key (first_differs cell cells key none))
-  ∙ once.0,
+      ∙ ap (λ (b : Bool). if b then Some value else value_at cells cell.0) (not_same cell.0 key (first_differs cell cells key none))
+      ∙ once.0,
   once-push cells key value once.1 (rest_lacks cell cells key none),
 )
 
@@ -174,8 +174,7 @@ pub one_more : (payloads : List (List ℕ)) (index : ℕ) (payload : List ℕ) (
 one_more payloads index payload old new cells spelled has there adds =
     let none : value_at cells adds.key ≡ None = sym (has adds.key) ∙ adds.absent in
     let next : take (index + 1) payloads ≡ take index payloads ++ item_payload adds.key adds.value ∷ [] =
-    take_more payloads index [] (slice_get_within payloads index payload there) ∙ ap (λ (p : List ℕ). take index payloads ++ p ∷ []) (get_or_from_slice_get payloads index payload [] there ∙ adds.spelled) in
-    (
+    take_more payloads index [] (slice_get_within payloads index payload there) ∙ ap (λ (p : List ℕ). take index payloads ++ p ∷ []) (get_or_from_slice_get payloads index payload [] there ∙ adds.spelled) in (
       cells ++ (adds.key, adds.value) ∷ [],
       subst (λ (l : List (List ℕ)). SpellCells l (cells ++ (adds.key, adds.value) ∷ [])) (sym next) (spelled-push (take index payloads) cells adds.key adds.value spelled none adds.fits_key adds.fits_value),
       has_cells-push old new cells adds.key adds.value adds.updates has none,

@@ -75,12 +75,7 @@ impl Store {
     ///
     /// `AlreadyPut` comes before any call of the disk. After `Device`, or `NoMemory` from a call of the disk, the value
     /// may be there or not: open the store again.
-    pub(crate) fn put<D: Disk>(
-        &mut self,
-        disk: &mut D,
-        key: i64,
-        value: i64,
-    ) -> Result<(), Refusal>
+    pub(crate) fn put<D: Disk>(&mut self, disk: &mut D, key: i64, value: i64) -> Result<(), Refusal>
         requires { IsTrue D.is_honest → (cells : Cells) × IsStoreOf self.old (D.files disk.old A).content cells }
 
         ensures put { IsTrue D.is_honest → (cells : Cells) → IsStoreOf self.old (D.files disk.old A).content cells

@@ -2,8 +2,9 @@
 #![tactic(auto)]
 
 use clap::Error;
-use cli::{collect_words, read_words, usage_status};
-use std::env::Env;
+use cli::{Reply, cell, collect_words, read_words, usage_status};
+use disk::FileDisk;
+use std::io::Write;
 use std::process::ExitCode;
 
 fn main(rt: HostRuntime) -> ExitCode {
@@ -21,9 +22,17 @@ fn main(rt: HostRuntime) -> ExitCode {
 /// Does what the words ask for, and answers with the exit status.
 ///
 /// An `Err` says why the words ask for nothing.
-fn run<R: Env + AllocGlobal>(rt: &R) -> Result<u8, Error> {
+fn run(rt: &HostRuntime) -> Result<u8, Error> {
     let words = collect_words(rt)?;
-    let _command = read_words(rt.alloc(), words.as_slice())?;
-    // Here the command will be done at its cell.
-    Ok(0)
+    let command = read_words(rt.alloc(), words.as_slice())?;
+    let mut out = rt.stdout();
+    let mut err = rt.stderr();
+    match FileDisk::open(rt.alloc(), rt, command.directory()) {
+        Ok(disk) => Ok(cell(rt.alloc(), &command, disk, &mut out, &mut err).1),
+        Err(error) => {
+            let reply = Reply::Refused(error.into());
+            let _ = err.writeln(reply);
+            Ok(reply.status())
+        }
+    }
 }

@@ -128,10 +128,10 @@ module _ (start : ℕ) (content : List ℕ) (payloads : List (List ℕ)) (end : 
       closed = omega arith;
       rest = drop (length (body_of payload ++ 0 ∷ [])) stands.rest;
       spelled =
-        rest_of front (records payloads) start end long ends 1 staged c is
-        ∙ ap (λ (l : List ℕ). records payloads ++ 1 ∷ l) (append_assoc (body_of payload) (0 ∷ []) (drop (length (body_of payload ++ 0 ∷ [])) stands.rest))
-        ∙ sym (append_assoc (records payloads) (record_of payload) (0 ∷ drop (length (body_of payload ++ 0 ∷ [])) stands.rest))
-        ∙ ap (λ (l : List ℕ). l ++ 0 ∷ drop (length (body_of payload ++ 0 ∷ [])) stands.rest) (sym (records-push payloads payload));
+          rest_of front (records payloads) start end long ends 1 staged c is
+          ∙ ap (λ (l : List ℕ). records payloads ++ 1 ∷ l) (append_assoc (body_of payload) (0 ∷ []) (drop (length (body_of payload ++ 0 ∷ [])) stands.rest))
+          ∙ sym (append_assoc (records payloads) (record_of payload) (0 ∷ drop (length (body_of payload ++ 0 ∷ [])) stands.rest))
+          ∙ ap (λ (l : List ℕ). l ++ 0 ∷ drop (length (body_of payload ++ 0 ∷ [])) stands.rest) (sym (records-push payloads payload));
     }
 
     abbrev pub after_stage : List ℕ

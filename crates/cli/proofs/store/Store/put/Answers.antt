@@ -23,12 +23,14 @@ returns-in-Ok-clause-put g c honest cells is =
     let none : value_at cells key ≡ None = search rules in
     let spelled = spelled-push (payloads_of cells) cells key value is.spelled none c.ranges.key c.ranges.value in
     let more = payloads_of-push cells key value in
-    let added = c.in-Ok.ensures.added honest (payloads_of cells) is.journal in
-    (none, record {
-      spelled = subst (λ (l : List (List ℕ)). SpellCells l (cells ++ (key, value) ∷ [])) (sym more) spelled;
-      values = has_cells-push c.args.self.now.cells c.insert.new.self cells key value (λ q. c.in_ok-insert.ensures.updates.0 q ∙ ap (λ (v : ℤ). cond (is_at (key_cmp c.new-cell.result) q) (Some v) (get key_cmp c.args.self.now.cells q)) (to_z-of_z w64 value c.ranges.value) ∙ ap (λ (k : List ℤ). cond (is_at (key_cmp k) q) (Some value) (get key_cmp c.args.self.now.cells q)) (c.new-cell.ensures ∙ ap (λ (k : ℤ). k ∷ []) (to_z-of_z w64 key c.ranges.key))) is.values none;
-      journal = subst (IsJournalOf c.append.new.journal (g.D.Disk.files c.append.new.disk A).content) (sym more) (subst (λ (p : List ℕ). IsJournalOf c.append.new.journal (g.D.Disk.files c.append.new.disk A).content (payloads_of cells ++ p ∷ [])) (c.payload_of.ensures ∙ ap (λ (k : ℤ). item_payload k (cast_signed w64 (cast_unsigned w64 value))) (to_z-of_z w64 key c.ranges.key) ∙ ap (item_payload key) (to_z-of_z w64 value c.ranges.value)) added);
-    })
+    let added = c.in-Ok.ensures.added honest (payloads_of cells) is.journal in (
+      none,
+      record {
+        spelled = subst (λ (l : List (List ℕ)). SpellCells l (cells ++ (key, value) ∷ [])) (sym more) spelled;
+        values = has_cells-push c.args.self.now.cells c.insert.new.self cells key value (λ q. c.in_ok-insert.ensures.updates.0 q ∙ ap (λ (v : ℤ). cond (is_at (key_cmp c.new-cell.result) q) (Some v) (get key_cmp c.args.self.now.cells q)) (to_z-of_z w64 value c.ranges.value) ∙ ap (λ (k : List ℤ). cond (is_at (key_cmp k) q) (Some value) (get key_cmp c.args.self.now.cells q)) (c.new-cell.ensures ∙ ap (λ (k : ℤ). k ∷ []) (to_z-of_z w64 key c.ranges.key))) is.values none;
+        journal = subst (IsJournalOf c.append.new.journal (g.D.Disk.files c.append.new.disk A).content) (sym more) (subst (λ (p : List ℕ). IsJournalOf c.append.new.journal (g.D.Disk.files c.append.new.disk A).content (payloads_of cells ++ p ∷ [])) (c.payload_of.ensures ∙ ap (λ (k : ℤ). item_payload k (cast_signed w64 (cast_unsigned w64 value))) (to_z-of_z w64 key c.ranges.key) ∙ ap (item_payload key) (to_z-of_z w64 value c.ranges.value)) added);
+      },
+    )
 
 pub returns-in-Some-clause-any_moment : goal.returns-in-Some-clause-any_moment
 returns-in-Some-clause-any_moment g c honest content cells rest there is =
@@ -49,16 +51,22 @@ returns-in-Ok-clause-any_moment g c honest content cells rest there is =
     let none : value_at cells c.args.key ≡ None = search rules in
     let payload = c.payload_of.ensures ∙ ap (λ (k : ℤ). item_payload k (cast_signed w64 (cast_unsigned w64 c.args.value))) (to_z-of_z w64 c.args.key c.ranges.key) ∙ ap (item_payload c.args.key) (to_z-of_z w64 c.args.value c.ranges.value) in
     weakened g.D.Disk.moment g.D.Disk.left_since c.args.disk.now c.append.new.disk _ _ (c.append.ensures.any_moment honest content (payloads_of cells) rest there is.journal)
-    (λ contents leaves. (cells_either content (contents A) cells c.args.key c.args.value is.spelled none c.ranges.key c.ranges.value
-    (subst (λ (p : List ℕ). BeforeOrAfter 0 content (payloads_of cells) p (contents A)) payload leaves.0), leaves.1))
+    (λ contents leaves. (
+      cells_either content (contents A) cells c.args.key c.args.value is.spelled none c.ranges.key c.ranges.value
+          (subst (λ (p : List ℕ). BeforeOrAfter 0 content (payloads_of cells) p (contents A)) payload leaves.0),
+      leaves.1,
+    ))
 
 pub returns-in-Err-clause-any_moment : goal.returns-in-Err-clause-any_moment
 returns-in-Err-clause-any_moment g c honest content cells rest there is =
     let none : value_at cells c.args.key ≡ None = search rules in
     let payload = c.payload_of.ensures ∙ ap (λ (k : ℤ). item_payload k (cast_signed w64 (cast_unsigned w64 c.args.value))) (to_z-of_z w64 c.args.key c.ranges.key) ∙ ap (item_payload c.args.key) (to_z-of_z w64 c.args.value c.ranges.value) in
     weakened g.D.Disk.moment g.D.Disk.left_since c.args.disk.now c.append.new.disk _ _ (c.append.ensures.any_moment honest content (payloads_of cells) rest there is.journal)
-    (λ contents leaves. (cells_either content (contents A) cells c.args.key c.args.value is.spelled none c.ranges.key c.ranges.value
-    (subst (λ (p : List ℕ). BeforeOrAfter 0 content (payloads_of cells) p (contents A)) payload leaves.0), leaves.1))
+    (λ contents leaves. (
+      cells_either content (contents A) cells c.args.key c.args.value is.spelled none c.ranges.key c.ranges.value
+          (subst (λ (p : List ℕ). BeforeOrAfter 0 content (payloads_of cells) p (contents A)) payload leaves.0),
+      leaves.1,
+    ))
 
 pub returns-in-Err-clause-limit : goal.returns-in-Err-clause-limit
 returns-in-Err-clause-limit g c honest cells is full =
