@@ -1,5 +1,5 @@
 -- Numbers in eight bytes: the bytes that were read are those that spell the number.
-use Rattle.std.proofs.Common.{◌≡◌, ◌≤◌, ◌<◌, ◌^◌, ℕ, ℤ, ◌+◌, ◌-◌, ◌++◌, true, inl, inr, List, length, take, drop, get_or, slice_index, refl, sym, ap, ◌∙◌, arith, append_assoc, length-take, length-drop, take-append-drop}
+use Rattle.std.proofs.Common.{◌≡◌, ◌≤◌, ◌<◌, ◌^◌, ℕ, ℤ, ◌+◌, ◌-◌, ◌++◌, true, inl, inr, List, length, take, drop, get_or, sym, ap, ◌∙◌, arith, append_assoc, length-take, length-drop, take-append-drop}
 use Rattle.std.specs.Prelude.{nat_eq}
 use Rattle.std.specs.Cmp.Lexicographic.{pointwise, bytes_decides}
 use Rattle.std.proofs.lemmas.Bool.{cases_lt}
@@ -7,7 +7,7 @@ use Rattle.std.proofs.lemmas.List.{get_or-take, get_or-drop, get_or_past, take_a
 use Rattle.std.specs.Int.{w64, cast_signed, cast_unsigned, from_le_bytes}
 use Rattle.std.proofs.lemmas.Int.{of_z-to_z}
 use Rattle.std.proofs.lemmas.Nat.{le_bytes_8}
-use Rattle.byteorder.specs.Endian.{little_bytes, little_number, little_from}
+use Rattle.byteorder.specs.Endian.{little_bytes, little_number}
 use Rattle.byteorder.specs.Numbers.{little_from-take, little_from-lt}
 
 same_number : (xs : List ℕ) → little_number 8 xs ≡ from_le_bytes w64 xs

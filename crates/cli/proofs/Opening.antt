@@ -1,5 +1,5 @@
 -- What file A holds, by what its scan found.
-use Rattle.std.proofs.Common.{◌≡◌, ◌≢◌, ◌⊎◌, inl, inr, ℕ, List, [], length, refl, sym, ap, subst, ◌∙◌, arith}
+use Rattle.std.proofs.Common.{◌≡◌, ◌≢◌, inl, inr, ℕ, List, length, refl, sym, ap, subst, ◌∙◌}
 use Rattle.std.specs.Prelude.{Option, Some}
 use Rattle.disk.specs.declared.side.Side.TheVariants.{A}
 use Rattle.journal.specs.declared.error.JournalError.{JournalError}

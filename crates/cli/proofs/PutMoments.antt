@@ -1,17 +1,18 @@
 -- What a crash leaves while a cell is put.
-use Rattle.std.proofs.Common.{◌≡◌, ◌≢◌, ◌⊎◌, inl, inr, ⊎_elim, ℕ, ℤ, List, [], ◌∷◌, ◌++◌, ◌*◌, ◌+◌, length, drop, length-append, refl, sym, ap, subst, ◌∙◌, arith}
-use Rattle.std.specs.Prelude.{Option, Some, None, FitsSigned}
+use Rattle.std.proofs.Common.{◌≡◌, inl, inr, ⊎_elim, ℕ, ℤ, List, [], ◌∷◌, ◌++◌, ◌*◌, length, length-append, refl, sym, subst, arith}
+use Rattle.std.specs.Prelude.{Some, None, FitsSigned}
 use Rattle.std.specs.Int.{w64}
 use Rattle.disk.specs.declared.side.Side.{Side}
 use Rattle.disk.specs.declared.side.Side.TheVariants.{A}
-use Rattle.disk.specs.File.{File, at_rest}
-use Rattle.disk.specs.Time.{Contents, OtherMayBe, LeavesOnly}
+use Rattle.disk.specs.File.{File, MayLeave, at_rest}
+use Rattle.disk.specs.Settled.{settled_only}
+use Rattle.disk.specs.Time.{Contents, MayLeaveNow, OtherMayBe, LeavesOnly}
 use Rattle.journal.specs.declared.journal.Journal.{Journal}
-use Rattle.journal.specs.Records.{record_of, records, StandsFor}
+use Rattle.journal.specs.Records.{record_of, records}
 use Rattle.journal.specs.Journal.{IsAt, BeforeOrAfter}
 use Rattle.cli.specs.Cells.{Cells, value_at, item_payload, payloads_of, SpellCells, HoldsCells, HoldsEither}
 use Rattle.cli.specs.Journal.{IsJournalOf}
-use Rattle.cli.proofs.CellLemmas.{spelled-push, payloads_of-push}
+use Rattle.cli.proofs.CellLemmas.{spelled-push}
 
 -- the journal of file A is on side A
 pub put_on_a : {D : Type 0} (files : D → Side → File) (moment : D → ℕ) (left_since : D → ℕ → Contents → Type 0) (old new : D) (begun : Journal) (content : List ℕ) (payloads : List (List ℕ)) (payload : List ℕ)
@@ -38,3 +39,11 @@ length-cells (cell ∷ cells) = omega (arith, length-cells cells, length-append 
 -- before any call of the disk
 pub not_yet : (content bytes : List ℕ) (cells : Cells) (key value : ℤ) → HoldsCells content cells → bytes ≡ content → HoldsEither cells key value bytes
 not_yet content bytes cells key value holds is = inl (subst (λ (l : List ℕ). HoldsCells l cells) (sym is) holds)
+
+-- what a crash may leave before the put of file A at rest, and of the other file
+pub opened_either : (files : Side → File) (content : List ℕ) (cells : Cells) (key value : ℤ) → files A ≡ at_rest content → HoldsCells content cells
+    → (contents : Contents) → MayLeaveNow files contents → HoldsEither cells key value (contents A) × OtherMayBe A files contents
+opened_either files content cells key value rest holds contents left = (
+  not_yet content (contents A) cells key value holds (settled_only content (contents A) (subst (λ (f : File). MayLeave f.durable (contents A)) rest (left A))),
+  λ other differs. left other,
+)

@@ -1,7 +1,8 @@
 -- What a store that is open says of the bytes of file A, and what its answers say of a command.
-use Rattle.std.proofs.Common.{◌≡◌, ◌⊎◌, inl, inr, Bool, true, false, arith, ℕ, ℤ, List, [], ◌∷◌, ◌++◌, refl, sym, ap, subst, ◌∙◌}
-use Rattle.std.specs.Prelude.{Option, Some, None, MatchOption, ⊤}
+use Rattle.std.proofs.Common.{◌≡◌, inl, inr, arith, ◌≤◌, ◌+◌, ◌*◌, length, ℕ, ℤ, List, [], ◌∷◌, ◌++◌, refl, sym, ap, subst, ◌∙◌}
+use Rattle.std.specs.Prelude.{Option, Some, None, MatchOption}
 use Rattle.journal.specs.declared.journal.Journal.{Journal}
+use Rattle.journal.specs.declared.journal.TheConstants.{LIMIT}
 use Rattle.cli.specs.declared.words.Command.{Command}
 use Rattle.cli.specs.declared.words.Command.TheVariants as asked
 use Rattle.cli.specs.declared.reply.Refusal.{Refusal}
@@ -37,13 +38,14 @@ put_done (asked.Get directory at) key value cells old new puts none holds = absu
 
 -- a put that was refused
 pub put_refused : (why : Refusal) (command : Command) (key value : ℤ) (cells : Cells) (old new : List ℕ) → PutsAt command key value → HoldsCells old cells
-    → ((there : ℤ) → why ≡ refusal.AlreadyPut there → (value_at cells key ≡ Some there) × (new ≡ old)) → (why ≡ refusal.Full → new ≡ old) → ((place : ℕ) → why ≡ refusal.Damaged place → ⊥)
+    → ((there : ℤ) → why ≡ refusal.AlreadyPut there → (value_at cells key ≡ Some there) × (new ≡ old)) → (why ≡ refusal.Full → (value_at cells key ≡ None) × (LIMIT ≤ 25 * (length cells + 1)) × (new ≡ old)) → ((place : ℕ) → why ≡ refusal.Damaged place → ⊥)
     → Answers command cells (reply.Refused why) old new
 put_refused (refusal.AlreadyPut there) (asked.Put directory at what) key value cells old new puts holds already full damaged =
     let is = already there refl in
     (ap (value_at cells) puts.0 ∙ is.0, (subst (λ (l : List ℕ). HoldsCells l cells) (sym is.1) holds, is.1))
 put_refused refusal.Full (asked.Put directory at what) key value cells old new puts holds already full damaged =
-    (subst (λ (l : List ℕ). HoldsCells l cells) (sym (full refl)) holds, full refl)
+    let is = full refl in
+    (ap (value_at cells) puts.0 ∙ is.0, is.1, (subst (λ (l : List ℕ). HoldsCells l cells) (sym is.2) holds, is.2))
 put_refused (refusal.Damaged place) (asked.Put directory at what) key value cells old new puts holds already full damaged = absurd (damaged place refl)
 put_refused refusal.Device (asked.Put directory at what) key value cells old new puts holds already full damaged = tt
 put_refused refusal.NoMemory (asked.Put directory at what) key value cells old new puts holds already full damaged = tt
@@ -72,21 +74,10 @@ open_refused refusal.Device (asked.Get directory key) cells old new already full
 open_refused refusal.NoMemory (asked.Put directory key value) cells old new already full damaged = tt
 open_refused refusal.NoMemory (asked.Get directory key) cells old new already full damaged = tt
 
--- status 4 is that of damage
-pub damaged_reply : (answer : Reply) → status_of answer ≡ 4 → (place : ℕ) × (answer ≡ reply.Refused (refusal.Damaged place))
-damaged_reply reply.Put is = absurd (omega arith)
-damaged_reply (reply.Value key value) is = absurd (omega arith)
-damaged_reply (reply.Absent key) is = absurd (omega arith)
-damaged_reply (reply.Refused (refusal.AlreadyPut value)) is = absurd (omega arith)
-damaged_reply (reply.Refused refusal.Full) is = absurd (omega arith)
-damaged_reply (reply.Refused (refusal.Damaged place)) is = (place, refl)
-damaged_reply (reply.Refused refusal.Device) is = absurd (omega arith)
-damaged_reply (reply.Refused refusal.NoMemory) is = absurd (omega arith)
-
--- a status that was told is the reply's, or 5
-pub told_status : {X Y : Type 0} (fault : Bool) (status wanted : ℕ) → (fault ≡ true → X × (status ≡ wanted)) → (fault ≡ false → (status ≡ 5) ⊎ ((status ≡ wanted) × Y)) → (status ≡ wanted) ⊎ (status ≡ 5)
-told_status true status wanted at_fault told = inl (at_fault refl).1
-told_status false status wanted at_fault told = elim (told refl) [
-  | inl failed ↦ inr failed
-  | inr line ↦ inl line.0
-]
+-- and it is a fault
+pub fault_is_more : (why : Refusal) → ((there : ℤ) → why ≡ refusal.AlreadyPut there → ⊥) → (why ≡ refusal.Full → ⊥) → status_of (reply.Refused why) ≤ 1 → ⊥
+fault_is_more (refusal.AlreadyPut there) already full few = already there refl
+fault_is_more refusal.Full already full few = full refl
+fault_is_more (refusal.Damaged place) already full few = absurd (omega arith)
+fault_is_more refusal.Device already full few = absurd (omega arith)
+fault_is_more refusal.NoMemory already full few = absurd (omega arith)

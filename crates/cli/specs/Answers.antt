@@ -1,11 +1,15 @@
 -- What a command may come to on a store of these cells, and what file A stands for afterwards.
-use Rattle.std.specs.Prelude.{◌≡◌, ◌⊎◌, ⊤, ℕ, ℤ, List, [], ◌∷◌, ◌++◌, Option, Some, None, MatchBool}
+use Rattle.std.specs.Prelude.{◌≡◌, ◌⊎◌, ◌≤◌, ◌<◌, ◌+◌, ◌*◌, ⊤, ℕ, ℤ, Bool, IsTrue, List, [], ◌∷◌, ◌++◌, length, Option, Some, None, MatchBool}
 use Rattle.std.specs.Io.KnownBytes.{Appends}
+use Rattle.disk.specs.declared.side.Side.{Side}
+use Rattle.disk.specs.declared.side.Side.TheVariants.{A}
+use Rattle.disk.specs.File.{File, at_rest}
+use Rattle.journal.specs.declared.journal.TheConstants.{LIMIT}
 use Rattle.cli.specs.declared.words.Command.{Command}
 use Rattle.cli.specs.declared.words.Command.TheVariants as asked
 use Rattle.cli.specs.declared.reply.Refusal.TheVariants as refusal
 use Rattle.cli.specs.declared.reply.Reply.{Reply}
-use Rattle.cli.specs.declared.reply.Reply.TheVariants as reply
+use Rattle.cli.specs.declared.reply.Reply.TheVariants as said
 use Rattle.cli.specs.Cells.{Cells, value_at, HoldsCells}
 use Rattle.cli.specs.Reply.{reply_text, status_of, is_fault}
 
@@ -15,14 +19,14 @@ Unchanged cells old new = HoldsCells new cells × (new ≡ old)
 
 abbrev pub Answers : Command → Cells → Reply → List ℕ → List ℕ → Type 0
 -- a value is put where none was, and nowhere else
-Answers (asked.Put directory key value) cells reply.Put old new = (value_at cells key ≡ None) × HoldsCells new (cells ++ (key, value) ∷ [])
-Answers (asked.Put directory key value) cells (reply.Refused (refusal.AlreadyPut there)) old new = (value_at cells key ≡ Some there) × Unchanged cells old new
-Answers (asked.Put directory key value) cells (reply.Refused refusal.Full) old new = Unchanged cells old new
-Answers (asked.Get directory key) cells (reply.Value at value) old new = (at ≡ key) × (value_at cells key ≡ Some value) × Unchanged cells old new
-Answers (asked.Get directory key) cells (reply.Absent at) old new = (at ≡ key) × (value_at cells key ≡ None) × Unchanged cells old new
+Answers (asked.Put directory key value) cells said.Put old new = (value_at cells key ≡ None) × HoldsCells new (cells ++ (key, value) ∷ [])
+Answers (asked.Put directory key value) cells (said.Refused (refusal.AlreadyPut there)) old new = (value_at cells key ≡ Some there) × Unchanged cells old new
+Answers (asked.Put directory key value) cells (said.Refused refusal.Full) old new = (value_at cells key ≡ None) × (LIMIT ≤ 25 * (length cells + 1)) × Unchanged cells old new
+Answers (asked.Get directory key) cells (said.Value at value) old new = (at ≡ key) × (value_at cells key ≡ Some value) × Unchanged cells old new
+Answers (asked.Get directory key) cells (said.Absent at) old new = (at ≡ key) × (value_at cells key ≡ None) × Unchanged cells old new
 -- of file A after a failure of the device, or where memory ran out, nothing is said here
-Answers command cells (reply.Refused refusal.Device) old new = ⊤
-Answers command cells (reply.Refused refusal.NoMemory) old new = ⊤
+Answers command cells (said.Refused refusal.Device) old new = ⊤
+Answers command cells (said.Refused refusal.NoMemory) old new = ⊤
 -- no other reply is given
 Answers command cells answer old new = ⊥
 
@@ -36,14 +40,27 @@ abbrev pub Reads : Command → Type 0
 Reads (asked.Put directory key value) = ⊥
 Reads (asked.Get directory key) = ⊤
 
--- the reply was told: a fault by the status alone as far as `out` is concerned, any other reply by its line, or by status 5 where the output failed
-pub record TellsFault {W : Type 0} (reply : Reply) (old new : W) (status : ℕ) : Type 0 where
-  pub out : new ≡ old
-  pub status_is : status ≡ status_of reply
+-- a reply agrees with what file A holds, and file A afterwards with the reply
+pub record Settles (command : Command) (reply : Reply) (old new : List ℕ) : Type 0 where
+  pub by_cells : (cells : Cells) → HoldsCells old cells → Answers command cells reply old new
+  -- a reply about cells is given only where file A holds some
+  pub held : status_of reply ≤ 1 → (cells : Cells) × HoldsCells old cells
+  pub kept : (place : ℕ) → reply ≡ said.Refused (refusal.Damaged place) → new ≡ old
+  pub read : Reads command → new ≡ old
 
-pub record TellsLine {W E : Type 0} (reply : Reply) (contents : W → Option (List ℕ)) (old new : W) (err_old err_new : E) (status : ℕ) : Type 0 where
-  pub err : err_new ≡ err_old
+-- a command came to this reply, and left the disk so
+pub record Comes {D : Type 0} (honest : Bool) (files : D → Side → File) (failures : D → ℕ) (command : Command) (reply : Reply) (old new : D) : Type 0 where
+  pub settles : IsTrue honest → Settles command reply (files old A).content (files new A).content
+  -- what a reply about cells rests on is on the disk
+  pub durable : IsTrue honest → status_of reply ≤ 1 → files new A ≡ at_rest (files new A).content
+  pub device : reply ≡ said.Refused refusal.Device → failures old < failures new
+
+-- the line of the reply was written on one output and nothing on the other, or the status is 5
+pub record TellsOn {T O : Type 0} (reply : Reply) (contents : T → Option (List ℕ)) (old new : T) (other_old other_new : O) (status : ℕ) : Type 0 where
+  pub other : other_new ≡ other_old
   pub told : (status ≡ 5) ⊎ ((status ≡ status_of reply) × Appends (contents old) (contents new) (reply_text reply ++ 10 ∷ []))
 
-abbrev pub Tells : {W E : Type 0} → Reply → (W → Option (List ℕ)) → W → W → E → E → ℕ → Type 0
-Tells reply contents old new err_old err_new status = MatchBool (is_fault reply) (TellsFault reply old new status) (TellsLine reply contents old new err_old err_new status)
+-- a fault is told on the standard error, any other reply on the standard output
+abbrev pub Tells : {W E : Type 0} → Reply → (W → Option (List ℕ)) → (E → Option (List ℕ)) → W → W → E → E → ℕ → Type 0
+Tells reply out_contents err_contents out_old out_new err_old err_new status =
+    MatchBool (is_fault reply) (TellsOn reply err_contents err_old err_new out_old out_new status) (TellsOn reply out_contents out_old out_new err_old err_new status)

@@ -1,5 +1,5 @@
 -- What the program replies to a command, and with which status it ends.
-use Rattle.std.specs.Prelude.{ℕ, ℤ, List, ◌++◌, codes, Bool, true, false}
+use Rattle.std.specs.Prelude.{ℕ, List, ◌++◌, codes, Bool, true, false}
 use Rattle.std.specs.Fmt.{decimal, signed_decimal}
 use Rattle.cli.specs.declared.reply.Refusal.{Refusal}
 use Rattle.cli.specs.declared.reply.Refusal.TheVariants.{AlreadyPut, Full, Damaged, Device, NoMemory}

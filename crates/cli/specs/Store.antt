@@ -1,7 +1,5 @@
 -- A store that was opened, beside the bytes of file A.
-use Rattle.std.specs.Prelude.{◌≡◌, ◌^◌, ◌<◌, ℕ, ℤ, List, [], ◌∷◌, length, take, Option, Some, None, MatchOption}
-use Rattle.std.specs.BTreeMap.{BTreeMap, get}
-use Rattle.terms.specs.Key.{key_cmp}
+use Rattle.std.specs.Prelude.{ℕ, List}
 use Rattle.cli.specs.Journal.{IsJournalOf}
 use Rattle.cli.specs.Cells.{Cells, payloads_of, SpellCells}
 use Rattle.cli.specs.Maps.{HasCells}

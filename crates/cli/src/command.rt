@@ -1,8 +1,10 @@
-ghost use Rattle.std.specs.Prelude.{◌≡◌, ◌⊎◌, ◌≤◌, ◌<◌, ◌++◌, ◌∷◌, [], ℕ, List, IsTrue, MatchOption, Some, false};
+ghost use Rattle.std.specs.Prelude.{◌≡◌, ◌≢◌, ◌⊎◌, ◌≤◌, ◌<◌, ◌++◌, ◌∷◌, [], ℕ, ℤ, List, IsTrue, MatchOption, Some, false};
 ghost use Rattle.std.specs.Io.KnownBytes.{Appends};
 ghost use Rattle.disk.specs.declared.side.Side.TheVariants.{A};
-ghost use Rattle.cli.specs.Cells.{Cells, value_at, HoldsCells};
-ghost use Rattle.cli.specs.Answers.{Answers, PutsAt, Reads, Tells};
+ghost use Rattle.disk.specs.File.{at_rest};
+ghost use Rattle.disk.specs.Time.{OtherStays, OtherMayBe, LeavesOnly, MayLeaveNow};
+ghost use Rattle.cli.specs.Cells.{Cells, value_at, HoldsCells, HoldsEither};
+ghost use Rattle.cli.specs.Answers.{Answers, PutsAt, Reads, Settles, Comes, TellsOn, Tells};
 ghost use Rattle.cli.specs.Store.{IsStoreOf};
 ghost use Rattle.cli.specs.declared.reply.Reply.{Reply};
 ghost use Rattle.cli.specs.declared.words.Command.{Command};
@@ -28,14 +30,17 @@ pub fn cell<D: Disk, W: Write, E: Write>(
     out: &mut W,
     err: &mut E,
 ) -> (D, u8)
-    ensures answers { IsTrue D.is_honest → (cells : Cells) → HoldsCells (D.files disk A).content cells
-        → (reply : Reply) × Answers command.now cells reply (D.files disk A).content (D.files result.0 A).content × Tells reply W.contents out.old out.new err.old err.new result.1 }
-    ensures damaged { IsTrue D.is_honest → result.1 ≡ 4 → (cells : Cells) → HoldsCells (D.files disk A).content cells → ⊥ }
+    ensures comes { (reply : Reply) × Comes D.is_honest D.files D.failures command.now reply disk result.0
+        × Tells reply W.contents E.contents out.old out.new err.old err.new result.1 }
+    ensures other { IsTrue D.is_honest → OtherStays A (D.files disk) (D.files result.0) }
 
-    // No other reply is given where file A holds no cells.
-    ensures held { IsTrue D.is_honest → result.1 ≤ 1 → (cells : Cells) × HoldsCells (D.files disk A).content cells }
-    ensures kept { IsTrue D.is_honest → result.1 ≡ 4 → (D.files result.0 A).content ≡ (D.files disk A).content }
-    ensures read { IsTrue D.is_honest → Reads command.now → (D.files result.0 A).content ≡ (D.files disk A).content }
+    // Once the journal of file A was begun, a crash at any moment of a put leaves the cells before it or after it.
+    ensures put_moments { IsTrue D.is_honest → (key value : ℤ) → PutsAt command.now key value
+        → (content : List ℕ) (cells : Cells) → D.files disk A ≡ at_rest content → content ≢ [] → HoldsCells content cells
+        → LeavesOnly D.moment D.left_since disk result.0 (λ contents. HoldsEither cells key value (contents A) × OtherMayBe A (D.files disk) contents) }
+
+    // A get adds at no moment to what a crash may leave.
+    ensures get_moments { IsTrue D.is_honest → Reads command.now → LeavesOnly D.moment D.left_since disk result.0 (MayLeaveNow (D.files disk)) }
 {
     let reply = answer(alloc, command, &mut disk);
     let status = tell(reply, out, err);
@@ -44,14 +49,14 @@ pub fn cell<D: Disk, W: Write, E: Write>(
 
 // What a command comes to.
 fn answer<D: Disk>(alloc: Global, command: &Command<'_>, disk: &mut D) -> Reply
-    ensures answers { IsTrue D.is_honest → (cells : Cells) → HoldsCells (D.files disk.old A).content cells
-        → Answers command.now cells result (D.files disk.old A).content (D.files disk.new A).content }
-    ensures damaged { IsTrue D.is_honest → (place : ℕ) → result ≡ Refused (Damaged place)
-        → (cells : Cells) → HoldsCells (D.files disk.old A).content cells → ⊥ }
-    ensures held { IsTrue D.is_honest → status_of result ≤ 1 → (cells : Cells) × HoldsCells (D.files disk.old A).content cells }
-    ensures kept { IsTrue D.is_honest → (place : ℕ) → result ≡ Refused (Damaged place) → (D.files disk.new A).content ≡ (D.files disk.old A).content }
-    ensures read { IsTrue D.is_honest → Reads command.now → (D.files disk.new A).content ≡ (D.files disk.old A).content }
+    ensures settles { IsTrue D.is_honest → Settles command.now result (D.files disk.old A).content (D.files disk.new A).content }
+    ensures durable { IsTrue D.is_honest → status_of result ≤ 1 → D.files disk.new A ≡ at_rest (D.files disk.new A).content }
     ensures device { result ≡ Refused Device → D.failures disk.old < D.failures disk.new }
+    ensures other { IsTrue D.is_honest → OtherStays A (D.files disk.old) (D.files disk.new) }
+    ensures put_moments { IsTrue D.is_honest → (key value : ℤ) → PutsAt command.now key value
+        → (content : List ℕ) (cells : Cells) → D.files disk.old A ≡ at_rest content → content ≢ [] → HoldsCells content cells
+        → LeavesOnly D.moment D.left_since disk.old disk.new (λ contents. HoldsEither cells key value (contents A) × OtherMayBe A (D.files disk.old) contents) }
+    ensures get_moments { IsTrue D.is_honest → Reads command.now → LeavesOnly D.moment D.left_since disk.old disk.new (MayLeaveNow (D.files disk.old)) }
 {
     match Store::open(alloc, disk) {
         Ok(mut store) => match *command {
@@ -67,8 +72,13 @@ fn put<D: Disk>(store: &mut Store, disk: &mut D, key: i64, value: i64) -> Reply
     requires { IsTrue D.is_honest → (cells : Cells) × IsStoreOf store.old (D.files disk.old A).content cells }
     ensures puts { IsTrue D.is_honest → (cells : Cells) → IsStoreOf store.old (D.files disk.old A).content cells
         → (command : Command) → PutsAt command key value → Answers command cells result (D.files disk.old A).content (D.files disk.new A).content }
+    ensures durable { IsTrue D.is_honest → D.files disk.old A ≡ at_rest (D.files disk.old A).content → status_of result ≤ 1 → D.files disk.new A ≡ at_rest (D.files disk.new A).content }
+    ensures other { IsTrue D.is_honest → OtherStays A (D.files disk.old) (D.files disk.new) }
+    ensures any_moment { IsTrue D.is_honest → (content : List ℕ) (cells : Cells) → D.files disk.old A ≡ at_rest content → content ≢ [] → IsStoreOf store.old content cells
+        → LeavesOnly D.moment D.left_since disk.old disk.new (λ contents. HoldsEither cells key value (contents A) × OtherMayBe A (D.files disk.old) contents) }
     ensures damaged { (place : ℕ) → result ≡ Refused (Damaged place) → ⊥ }
     ensures device { result ≡ Refused Device → D.failures disk.old < D.failures disk.new }
+    ensures failures { D.failures disk.old ≤ D.failures disk.new }
 {
     match store.put(disk, key, value) {
         Ok(()) => Reply::Put,
@@ -88,17 +98,23 @@ fn get(store: &Store, key: i64) -> Reply
     }
 }
 
-// Writes the reply, and answers the status: 5 where the output failed.
+// Writes the line of a reply, and answers the status: 5 where that output failed.
 fn tell<W: Write, E: Write>(reply: Reply, out: &mut W, err: &mut E) -> u8
-    ensures fault { IsTrue (is_fault reply) → (out.new ≡ out.old) × (result ≡ status_of reply) }
-    ensures told { is_fault reply ≡ false → err.new ≡ err.old }
-    ensures line { is_fault reply ≡ false → (result ≡ 5) ⊎ ((result ≡ status_of reply) × Appends (W.contents out.old) (W.contents out.new) (reply_text reply ++ 10 ∷ [])) }
+    ensures fault { IsTrue (is_fault reply) → TellsOn reply E.contents err.old err.new out.old out.new result }
+    ensures told { is_fault reply ≡ false → TellsOn reply W.contents out.old out.new err.old err.new result }
 {
     if reply.is_fault() {
-        let _ = err.writeln(reply);
-        return reply.status();
+        tell_on(reply, err)
+    } else {
+        tell_on(reply, out)
     }
-    match out.writeln(reply) {
+}
+
+// Writes the line of a reply on one output.
+fn tell_on<W: Write>(reply: Reply, output: &mut W) -> u8
+    ensures { (result ≡ 5) ⊎ ((result ≡ status_of reply) × Appends (W.contents output.old) (W.contents output.new) (reply_text reply ++ 10 ∷ [])) }
+{
+    match output.writeln(reply) {
         Ok(()) => reply.status(),
         Err(_) => 5,
     }

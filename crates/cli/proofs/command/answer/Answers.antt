@@ -1,29 +1,57 @@
-use Rattle.std.proofs.Common.{rules, ℤ, ◌≡◌, List, ℕ, ap, sym, subst, Err}
+use Rattle.std.proofs.Common.{rules, ℕ, ℤ, ◌≡◌, List, ap, sym, subst, ◌∙◌, Err}
 use Rattle.std.specs.Prelude.{MatchOption}
 use Rattle.std.specs.Int.{w64, cast_signed, cast_unsigned}
 use Rattle.disk.specs.declared.side.Side.TheVariants.{A}
-use Rattle.cli.specs.declared.reply.Refusal.TheVariants.{Damaged}
+use Rattle.disk.specs.File.{File, at_rest}
+use Rattle.disk.specs.Moments.{joined, weakened, other_before}
 use Rattle.cli.specs.declared.reply.Reply.TheVariants.{Absent, Value}
 use Rattle.cli.specs.declared.words.Command.{Command}
-use Rattle.cli.specs.Cells.{value_at}
-use Rattle.cli.specs.Answers.{Answers}
+use Rattle.cli.specs.Cells.{value_at, HoldsCells, HoldsEither}
+use Rattle.cli.specs.Answers.{Answers, PutsAt}
 use Rattle.cli.specs.Store.{IsStoreOf}
-use Rattle.cli.proofs.Replies.{get_done, open_refused}
+use Rattle.cli.proofs.PutMoments.{opened_either}
+use Rattle.cli.proofs.Replies.{get_done, store_holds, open_refused, fault_is_more}
 use Rattle.cli.proofs.command.answer.Goals as goal
 
-pub returns-in-Ok-clause-answers : goal.returns-in-Ok-clause-answers
-returns-in-Ok-clause-answers g c honest cells holds =
-    let same : cast_signed w64 (cast_unsigned w64 c.in-Get.key) ≡ c.in-Get.key = search rules in
-    let gets = c.get.ensures.gets _ cells (c.in-Ok.ensures.only honest cells holds) in
-    let got = get_done c.get.result c.in-Get.directory c.in-Get.key cells (g.D.Disk.files c.args.disk.now A).content (g.D.Disk.files c.open.new.disk A).content holds (c.in-Ok.ensures.same honest)
-    (subst (λ (k : ℤ). MatchOption (value_at cells k) (c.get.result ≡ Absent k) (λ value. c.get.result ≡ Value k value)) same gets) in
-    subst (λ (command : Command). Answers command cells c.get.result (g.D.Disk.files c.args.disk.now A).content (g.D.Disk.files c.open.new.disk A).content) (sym c.in-Get.is) got
+pub returns-in-Ok-clause-settles : goal.returns-in-Ok-clause-settles
+returns-in-Ok-clause-settles g c honest = record {
+  by_cells = λ cells holds.
+      let same : cast_signed w64 (cast_unsigned w64 c.in-Get.key) ≡ c.in-Get.key = search rules in
+      let gets = c.get.ensures.gets _ cells (c.in-Ok.ensures.only honest cells holds) in
+      let got = get_done c.get.result c.in-Get.directory c.in-Get.key cells (g.D.Disk.files c.args.disk.now A).content (g.D.Disk.files c.open.new.disk A).content holds (c.in-Ok.ensures.same honest)
+      (subst (λ (k : ℤ). MatchOption (value_at cells k) (c.get.result ≡ Absent k) (λ value. c.get.result ≡ Value k value)) same gets) in
+      subst (λ (command : Command). Answers command cells c.get.result (g.D.Disk.files c.args.disk.now A).content (g.D.Disk.files c.open.new.disk A).content) (sym c.in-Get.is) got;
+  held = λ few. let is = c.in-Ok.ensures.opened honest in (is.0, store_holds _ _ is.0 is.1);
+  kept = λ place why. c.in-Ok.ensures.same honest;
+  read = λ reads. c.in-Ok.ensures.same honest;
+}
 
-pub returns-clause-answers : goal.returns-clause-answers
-returns-clause-answers g c honest cells holds =
-    open_refused c.in-Err.refusal c.args.command.now cells _ _ (λ there why. c.in-Err.ensures.already there (ap Err why)) (λ why. c.in-Err.ensures.full (ap Err why))
-    (λ place why. c.in-Err.ensures.damaged honest place (ap Err why) cells holds)
+pub returns-clause-settles : goal.returns-clause-settles
+returns-clause-settles g c honest = record {
+  by_cells = λ cells holds. open_refused c.in-Err.refusal c.args.command.now cells _ _ (λ there why. c.in-Err.ensures.already there (ap Err why)) (λ why. c.in-Err.ensures.full (ap Err why))
+      (λ place why. c.in-Err.ensures.damaged honest place (ap Err why) cells holds);
+  held = λ few. absurd (fault_is_more c.in-Err.refusal (λ there why. c.in-Err.ensures.already there (ap Err why)) (λ why. c.in-Err.ensures.full (ap Err why)) few);
+  kept = λ place why. c.in-Err.ensures.same honest;
+  read = λ reads. c.in-Err.ensures.same honest;
+}
 
-pub returns-clause-damaged : goal.returns-clause-damaged
-returns-clause-damaged g c honest place is cells holds =
-    let why : c.in-Err.refusal ≡ Damaged place = cc in c.in-Err.ensures.damaged honest place (ap Err why) cells holds
+pub returns-in-Put-clause-put_moments : goal.returns-in-Put-clause-put_moments
+returns-in-Put-clause-put_moments g c honest key value puts content cells rest there holds =
+    let files = g.D.Disk.files in
+    let asked = subst (λ (command : Command). PutsAt command key value) c.in-Put.is puts in
+    let same_key : cast_signed w64 (cast_unsigned w64 c.in-Put.key) ≡ key = search rules in
+    let same_value : cast_signed w64 (cast_unsigned w64 c.in-Put.value) ≡ value = search rules in
+    let was : (files c.args.disk.now A).content ≡ content = ap (λ (f : File). f.content) rest in
+    let opened : files c.open.new.disk A ≡ at_rest content = c.in-Ok.ensures.durable honest ∙ ap at_rest was in
+    let is = subst (λ (l : List ℕ). IsStoreOf c.in-Ok.store l cells) was (c.in-Ok.ensures.only honest cells (subst (λ (l : List ℕ). HoldsCells l cells) (sym was) holds)) in
+    joined g.D.Disk.moment g.D.Disk.left_since c.args.disk.now c.open.new.disk c.put.new.disk _ _ _ (c.in-Ok.ensures.any_moment honest) (c.put.ensures.any_moment honest content cells opened there is)
+    (opened_either (files c.args.disk.now) content cells key value rest holds)
+    (λ contents left. (
+      subst (λ (v : ℤ). HoldsEither cells key v (contents A)) same_value (subst (λ (k : ℤ). HoldsEither cells k (cast_signed w64 (cast_unsigned w64 c.in-Put.value)) (contents A)) same_key left.0),
+      other_before A (files c.args.disk.now) (files c.open.new.disk) (c.in-Ok.ensures.other honest) contents left.1,
+    ))
+
+pub returns-clause-put_moments : goal.returns-clause-put_moments
+returns-clause-put_moments g c honest key value puts content cells rest there holds =
+    weakened g.D.Disk.moment g.D.Disk.left_since c.args.disk.now c.open.new.disk _ _ (c.in-Err.ensures.any_moment honest)
+    (opened_either (g.D.Disk.files c.args.disk.now) content cells key value rest holds)

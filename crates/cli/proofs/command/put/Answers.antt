@@ -26,5 +26,5 @@ returns-in-Err-clause-puts g c honest cells is command puts =
     put_refused c.in-Err.refusal command (passed c.args.key) (passed c.args.value) cells _ _
     (puts_passed command c.args.key c.args.value (to_z-of_z w64 c.args.key c.ranges.key) (to_z-of_z w64 c.args.value c.ranges.value) puts) (store_holds c.args.store.now _ _ is)
     (λ there why. ((c.in-Err.ensures.already honest cells is there).0 (ap Err why), ap (λ disk. (g.D.Disk.files disk A).content) (c.in-Err.ensures.before_the_disk there (ap Err why))))
-    (λ why. ap (λ disk. (g.D.Disk.files disk A).content) (c.in-Err.ensures.full honest (ap Err why)))
+    (λ why. let limit = c.in-Err.ensures.limit honest cells is (ap Err why) in (limit.0, limit.1, ap (λ disk. (g.D.Disk.files disk A).content) (c.in-Err.ensures.full honest (ap Err why))))
     (λ place why. c.in-Err.ensures.damaged place (ap Err why))

@@ -1,4 +1,4 @@
-use Rattle.std.proofs.Common.{ℕ, List, ◌∷◌, [], ◌<◌, ◌≡◌, length, get_or, true, arith, sym, ◌∙◌}
+use Rattle.std.proofs.Common.{ℕ, ◌∷◌, [], ◌<◌, ◌≡◌, length, get_or, arith, sym}
 use Rattle.cli.proofs.Numbers.{read_number, item_spelled}
 use Rattle.cli.proofs.item.item_in.Goals as goal
 

@@ -1,4 +1,4 @@
-use Rattle.std.proofs.Common.{◌≡◌, List, ◌++◌, ◌∷◌, [], sym, subst, ◌∙◌}
+use Rattle.std.proofs.Common.{◌++◌, ◌∷◌, [], sym, subst, ◌∙◌}
 use Rattle.disk.specs.declared.side.Side.{Side}
 use Rattle.journal.specs.Journal.{IsAt}
 use Rattle.cli.proofs.PutMoments.{put_on_a}

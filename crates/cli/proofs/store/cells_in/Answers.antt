@@ -1,4 +1,3 @@
-use Rattle.std.proofs.Common.{◌≡◌}
 use Rattle.std.proofs.lemmas.Bool.Decides.{when_true, when_false}
 use Rattle.cli.proofs.CellLemmas.{none_spelled, one_more}
 use Rattle.cli.proofs.store.cells_in.Goals as goal
