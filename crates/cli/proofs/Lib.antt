@@ -1,5 +1,6 @@
 pub mod CellLemmas
 mod ClapLemmas
+mod Histories
 mod NumberLemmas
 pub mod Numbers
 pub mod OpenMoments

@@ -1,16 +1,15 @@
 -- What a crash leaves while a cell is put.
-use Rattle.std.proofs.Common.{◌≡◌, inl, inr, ⊎_elim, ℕ, ℤ, List, [], ◌∷◌, ◌++◌, ◌*◌, length, length-append, refl, sym, subst, arith}
+use Rattle.std.proofs.Common.{ap, ◌≡◌, ◌≢◌, inl, inr, ⊎_elim, ℕ, ℤ, List, [], ◌∷◌, ◌++◌, ◌*◌, length, length-append, refl, sym, subst, arith}
 use Rattle.std.specs.Prelude.{Some, None, FitsSigned}
 use Rattle.std.specs.Int.{w64}
 use Rattle.disk.specs.declared.side.Side.{Side}
 use Rattle.disk.specs.declared.side.Side.TheVariants.{A}
-use Rattle.disk.specs.File.{File, MayLeave, at_rest}
-use Rattle.disk.specs.Settled.{settled_only}
-use Rattle.disk.specs.Time.{Contents, MayLeaveNow, OtherMayBe, LeavesOnly}
+use Rattle.disk.specs.File.{File, at_rest}
+use Rattle.disk.specs.Time.{Contents, OtherMayBe, LeavesOnly}
 use Rattle.journal.specs.declared.journal.Journal.{Journal}
 use Rattle.journal.specs.Records.{record_of, records}
 use Rattle.journal.specs.Journal.{IsAt, BeforeOrAfter}
-use Rattle.cli.specs.Cells.{Cells, value_at, item_payload, payloads_of, SpellCells, HoldsCells, HoldsEither}
+use Rattle.cli.specs.Cells.{Cells, value_at, item_payload, payloads_of, SpellCells, KeepsCells, KeepsEither}
 use Rattle.cli.specs.Journal.{IsJournalOf}
 use Rattle.cli.proofs.CellLemmas.{spelled-push}
 
@@ -25,10 +24,10 @@ put_on_a {D} files moment left_since old new begun content payloads payload is r
 
 -- payloads before or after are cells before or after
 pub cells_either : (content bytes : List ℕ) (cells : Cells) (key value : ℤ) → SpellCells (payloads_of cells) cells → value_at cells key ≡ None → FitsSigned w64 key → FitsSigned w64 value
-    → BeforeOrAfter 0 content (payloads_of cells) (item_payload key value) bytes → HoldsEither cells key value bytes
+    → BeforeOrAfter 0 content (payloads_of cells) (item_payload key value) bytes → KeepsEither cells key value bytes
 cells_either content bytes cells key value spelled none fits_key fits_value either =
-    ⊎_elim (λ before. inl (inr (payloads_of cells, before, spelled)))
-    (λ after. inr (inr (payloads_of cells ++ item_payload key value ∷ [], after, spelled-push (payloads_of cells) cells key value spelled none fits_key fits_value)))
+    ⊎_elim (λ before. inl (payloads_of cells, before, spelled))
+    (λ after. inr (payloads_of cells ++ item_payload key value ∷ [], after, spelled-push (payloads_of cells) cells key value spelled none fits_key fits_value))
     either.stands
 
 -- the records of so many cells
@@ -37,13 +36,10 @@ length-cells [] = refl
 length-cells (cell ∷ cells) = omega (arith, length-cells cells, length-append (record_of (item_payload cell.0 cell.1)) (records (payloads_of cells)))
 
 -- before any call of the disk
-pub not_yet : (content bytes : List ℕ) (cells : Cells) (key value : ℤ) → HoldsCells content cells → bytes ≡ content → HoldsEither cells key value bytes
-not_yet content bytes cells key value holds is = inl (subst (λ (l : List ℕ). HoldsCells l cells) (sym is) holds)
+pub not_yet : (content bytes : List ℕ) (cells : Cells) (key value : ℤ) → KeepsCells content cells → bytes ≡ content → KeepsEither cells key value bytes
+not_yet content bytes cells key value keeps is = inl (subst (λ (l : List ℕ). KeepsCells l cells) (sym is) keeps)
 
--- what a crash may leave before the put of file A at rest, and of the other file
-pub opened_either : (files : Side → File) (content : List ℕ) (cells : Cells) (key value : ℤ) → files A ≡ at_rest content → HoldsCells content cells
-    → (contents : Contents) → MayLeaveNow files contents → HoldsEither cells key value (contents A) × OtherMayBe A files contents
-opened_either files content cells key value rest holds contents left = (
-  not_yet content (contents A) cells key value holds (settled_only content (contents A) (subst (λ (f : File). MayLeave f.durable (contents A)) rest (left A))),
-  λ other differs. left other,
-)
+-- a journal has a byte at least
+pub is_there : (content : List ℕ) (cells : Cells) → KeepsCells content cells → content ≢ []
+is_there content cells keeps none =
+    let stands = keeps.1 in omega (arith, ap length none, ap length stands.spelled, length-append (records keeps.0) (stands.gate ∷ stands.rest))

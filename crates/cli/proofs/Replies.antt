@@ -1,5 +1,5 @@
 -- What a store that is open says of the bytes of file A, and what its answers say of a command.
-use Rattle.std.proofs.Common.{◌≡◌, inl, inr, arith, ◌≤◌, ◌+◌, ◌*◌, length, ℕ, ℤ, List, [], ◌∷◌, ◌++◌, refl, sym, ap, subst, ◌∙◌}
+use Rattle.std.proofs.Common.{◌≡◌, ◌≢◌, inl, inr, arith, ◌≤◌, ◌+◌, ◌*◌, length, ℕ, ℤ, List, [], ◌∷◌, ◌++◌, refl, sym, ap, subst, ◌∙◌}
 use Rattle.std.specs.Prelude.{Option, Some, None, MatchOption}
 use Rattle.journal.specs.declared.journal.Journal.{Journal}
 use Rattle.journal.specs.declared.journal.TheConstants.{LIMIT}
@@ -10,7 +10,7 @@ use Rattle.cli.specs.declared.reply.Refusal.TheVariants as refusal
 use Rattle.cli.specs.declared.reply.Reply.{Reply}
 use Rattle.cli.specs.declared.reply.Reply.TheVariants as reply
 use Rattle.cli.specs.declared.store.Store.{Store}
-use Rattle.cli.specs.Cells.{Cells, value_at, payloads_of, SpellCells, HoldsCells}
+use Rattle.cli.specs.Cells.{Cells, value_at, payloads_of, SpellCells, HoldsCells, KeepsCells}
 use Rattle.cli.specs.Journal.{IsJournalOf}
 use Rattle.cli.specs.Store.{IsStoreOf}
 use Rattle.cli.specs.Reply.{status_of}
@@ -27,6 +27,14 @@ held_of (Some journal) content cells at spelled = inr (payloads_of cells, at.1.s
 -- an open store's cells are those that file A holds
 pub store_holds : (store : Store) (content : List ℕ) (cells : Cells) → IsStoreOf store content cells → HoldsCells content cells
 store_holds store content cells is = held_of store.journal content cells is.journal is.spelled
+
+kept_of : (journal : Option Journal) (content : List ℕ) (cells : Cells) → content ≢ [] → IsJournalOf journal content (payloads_of cells) → SpellCells (payloads_of cells) cells → KeepsCells content cells
+kept_of None content cells there empty spelled = absurd (there empty.0)
+kept_of (Some journal) content cells there at spelled = (payloads_of cells, at.1.stands, spelled)
+
+-- and its journal keeps them, where file A is not empty
+pub store_keeps : (store : Store) (content : List ℕ) (cells : Cells) → content ≢ [] → IsStoreOf store content cells → KeepsCells content cells
+store_keeps store content cells there is = kept_of store.journal content cells there is.journal is.spelled
 
 -- a put that was done
 pub put_done : (command : Command) (key value : ℤ) (cells : Cells) (old new : List ℕ) → PutsAt command key value → value_at cells key ≡ None → HoldsCells new (cells ++ (key, value) ∷ []) → Answers command cells reply.Put old new

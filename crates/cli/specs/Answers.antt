@@ -4,13 +4,14 @@ use Rattle.std.specs.Io.KnownBytes.{Appends}
 use Rattle.disk.specs.declared.side.Side.{Side}
 use Rattle.disk.specs.declared.side.Side.TheVariants.{A}
 use Rattle.disk.specs.File.{File, at_rest}
+use Rattle.disk.specs.Time.{Contents, MayLeaveNow, OtherMayBe}
 use Rattle.journal.specs.declared.journal.TheConstants.{LIMIT}
 use Rattle.cli.specs.declared.words.Command.{Command}
 use Rattle.cli.specs.declared.words.Command.TheVariants as asked
 use Rattle.cli.specs.declared.reply.Refusal.TheVariants as refusal
 use Rattle.cli.specs.declared.reply.Reply.{Reply}
 use Rattle.cli.specs.declared.reply.Reply.TheVariants as said
-use Rattle.cli.specs.Cells.{Cells, value_at, HoldsCells}
+use Rattle.cli.specs.Cells.{Cells, value_at, HoldsCells, KeepsEither}
 use Rattle.cli.specs.Reply.{reply_text, status_of, is_fault}
 
 -- the cells are as they were, and so is each byte
@@ -54,6 +55,10 @@ pub record Comes {D : Type 0} (honest : Bool) (files : D → Side → File) (fai
   -- what a reply about cells rests on is on the disk
   pub durable : IsTrue honest → status_of reply ≤ 1 → files new A ≡ at_rest (files new A).content
   pub device : reply ≡ said.Refused refusal.Device → failures old < failures new
+
+-- a crash while a cell is put leaves what it might have left before, or the cells before the put or after it
+abbrev pub PutLeaves : Cells → ℤ → ℤ → (Side → File) → Contents → Type 0
+PutLeaves cells key value files contents = MayLeaveNow files contents ⊎ (KeepsEither cells key value (contents A) × OtherMayBe A files contents)
 
 -- the line of the reply was written on one output and nothing on the other, or the status is 5
 pub record TellsOn {T O : Type 0} (reply : Reply) (contents : T → Option (List ℕ)) (old new : T) (other_old other_new : O) (status : ℕ) : Type 0 where

@@ -43,10 +43,14 @@ pub record SpellCells (payloads : List (List ℕ)) (cells : Cells) : Type 0 wher
   pub numbers : AreNumbers cells
   pub spelled : payloads ≡ payloads_of cells
 
--- the bytes of file A stand for these cells: none in an empty file, else one for each payload of its journal
-abbrev pub HoldsCells : List ℕ → Cells → Type 0
-HoldsCells content cells = ((content ≡ []) × (cells ≡ [])) ⊎ ((payloads : List (List ℕ)) × StandsFor content payloads × SpellCells payloads cells)
+-- the bytes are those of a journal whose payloads spell these cells
+abbrev pub KeepsCells : List ℕ → Cells → Type 0
+KeepsCells content cells = (payloads : List (List ℕ)) × StandsFor content payloads × SpellCells payloads cells
 
--- the bytes stand for the cells from before a put, or for those with the new one
-abbrev pub HoldsEither : Cells → ℤ → ℤ → List ℕ → Type 0
-HoldsEither cells key value content = HoldsCells content cells ⊎ HoldsCells content (cells ++ (key, value) ∷ [])
+-- the bytes of file A stand for these cells: none in an empty file, else those that its journal keeps
+abbrev pub HoldsCells : List ℕ → Cells → Type 0
+HoldsCells content cells = ((content ≡ []) × (cells ≡ [])) ⊎ KeepsCells content cells
+
+-- a journal keeps the cells from before a put, or those with the new one
+abbrev pub KeepsEither : Cells → ℤ → ℤ → List ℕ → Type 0
+KeepsEither cells key value content = KeepsCells content cells ⊎ KeepsCells content (cells ++ (key, value) ∷ [])

@@ -6,5 +6,6 @@ pub mod Journal
 pub mod Line
 pub mod Maps
 pub mod Reply
+pub mod Rounds
 pub mod Store
 pub mod Words

@@ -3,8 +3,8 @@ ghost use Rattle.std.specs.Io.KnownBytes.{Appends};
 ghost use Rattle.disk.specs.declared.side.Side.TheVariants.{A};
 ghost use Rattle.disk.specs.File.{at_rest};
 ghost use Rattle.disk.specs.Time.{OtherStays, OtherMayBe, LeavesOnly, MayLeaveNow};
-ghost use Rattle.cli.specs.Cells.{Cells, value_at, HoldsCells, HoldsEither};
-ghost use Rattle.cli.specs.Answers.{Answers, PutsAt, Reads, Settles, Comes, TellsOn, Tells};
+ghost use Rattle.cli.specs.Cells.{Cells, value_at, HoldsCells, KeepsCells, KeepsEither};
+ghost use Rattle.cli.specs.Answers.{Answers, PutsAt, PutLeaves, Reads, Settles, Comes, TellsOn, Tells};
 ghost use Rattle.cli.specs.Store.{IsStoreOf};
 ghost use Rattle.cli.specs.declared.reply.Reply.{Reply};
 ghost use Rattle.cli.specs.declared.words.Command.{Command};
@@ -34,10 +34,11 @@ pub fn cell<D: Disk, W: Write, E: Write>(
         × Tells reply W.contents E.contents out.old out.new err.old err.new result.1 }
     ensures other { IsTrue D.is_honest → OtherStays A (D.files disk) (D.files result.0) }
 
-    // Once the journal of file A was begun, a crash at any moment of a put leaves the cells before it or after it.
+    // Once the journal of file A was begun, a crash at any moment of a put leaves the cells before it or after it, where
+    // it might have left nothing else before the call.
     ensures put_moments { IsTrue D.is_honest → (key value : ℤ) → PutsAt command.now key value
-        → (content : List ℕ) (cells : Cells) → D.files disk A ≡ at_rest content → content ≢ [] → HoldsCells content cells
-        → LeavesOnly D.moment D.left_since disk result.0 (λ contents. HoldsEither cells key value (contents A) × OtherMayBe A (D.files disk) contents) }
+        → (cells : Cells) → KeepsCells (D.files disk A).content cells
+        → LeavesOnly D.moment D.left_since disk result.0 (PutLeaves cells key value (D.files disk)) }
 
     // A get adds at no moment to what a crash may leave.
     ensures get_moments { IsTrue D.is_honest → Reads command.now → LeavesOnly D.moment D.left_since disk result.0 (MayLeaveNow (D.files disk)) }
@@ -54,8 +55,8 @@ fn answer<D: Disk>(alloc: Global, command: &Command<'_>, disk: &mut D) -> Reply
     ensures device { result ≡ Refused Device → D.failures disk.old < D.failures disk.new }
     ensures other { IsTrue D.is_honest → OtherStays A (D.files disk.old) (D.files disk.new) }
     ensures put_moments { IsTrue D.is_honest → (key value : ℤ) → PutsAt command.now key value
-        → (content : List ℕ) (cells : Cells) → D.files disk.old A ≡ at_rest content → content ≢ [] → HoldsCells content cells
-        → LeavesOnly D.moment D.left_since disk.old disk.new (λ contents. HoldsEither cells key value (contents A) × OtherMayBe A (D.files disk.old) contents) }
+        → (cells : Cells) → KeepsCells (D.files disk.old A).content cells
+        → LeavesOnly D.moment D.left_since disk.old disk.new (PutLeaves cells key value (D.files disk.old)) }
     ensures get_moments { IsTrue D.is_honest → Reads command.now → LeavesOnly D.moment D.left_since disk.old disk.new (MayLeaveNow (D.files disk.old)) }
 {
     match Store::open(alloc, disk) {
@@ -75,7 +76,7 @@ fn put<D: Disk>(store: &mut Store, disk: &mut D, key: i64, value: i64) -> Reply
     ensures durable { IsTrue D.is_honest → D.files disk.old A ≡ at_rest (D.files disk.old A).content → status_of result ≤ 1 → D.files disk.new A ≡ at_rest (D.files disk.new A).content }
     ensures other { IsTrue D.is_honest → OtherStays A (D.files disk.old) (D.files disk.new) }
     ensures any_moment { IsTrue D.is_honest → (content : List ℕ) (cells : Cells) → D.files disk.old A ≡ at_rest content → content ≢ [] → IsStoreOf store.old content cells
-        → LeavesOnly D.moment D.left_since disk.old disk.new (λ contents. HoldsEither cells key value (contents A) × OtherMayBe A (D.files disk.old) contents) }
+        → LeavesOnly D.moment D.left_since disk.old disk.new (λ contents. KeepsEither cells key value (contents A) × OtherMayBe A (D.files disk.old) contents) }
     ensures damaged { (place : ℕ) → result ≡ Refused (Damaged place) → ⊥ }
     ensures device { result ≡ Refused Device → D.failures disk.old < D.failures disk.new }
     ensures failures { D.failures disk.old ≤ D.failures disk.new }

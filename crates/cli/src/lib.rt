@@ -2,11 +2,13 @@
 #![tactic(auto)]
 
 mod command;
+mod history;
 mod item;
 mod reply;
 mod store;
 mod words;
 
 pub use command::cell;
+pub use history::histories_keep;
 pub use reply::{Refusal, Reply};
 pub use words::{Command, collect_words, read_words, usage_status};

@@ -7,7 +7,7 @@ ghost use Rattle.journal.specs.Journal.{BeforeOrAfter};
 ghost use Rattle.journal.specs.declared.journal.TheConstants.{LIMIT};
 ghost use Rattle.cli.specs.Journal.{IsJournalOf};
 ghost use Rattle.cli.specs.Maps.{HasCells, AddsCell, AddsNone};
-ghost use Rattle.cli.specs.Cells.{Cells, value_at, SpellCells, HoldsCells, HoldsEither};
+ghost use Rattle.cli.specs.Cells.{Cells, value_at, SpellCells, HoldsCells, KeepsEither};
 ghost use Rattle.cli.specs.declared.reply.Refusal.TheVariants.{AlreadyPut, Full, Damaged, Device, NoMemory};
 
 use crate::item::{item_in, payload_of};
@@ -89,7 +89,7 @@ impl Store {
 
         // Once the journal of file A was begun, a crash at any moment of the call leaves the cells before it or after it.
         ensures any_moment { IsTrue D.is_honest → (content : List ℕ) (cells : Cells) → D.files disk.old A ≡ at_rest content → content ≢ [] → IsStoreOf self.old content cells
-            → LeavesOnly D.moment D.left_since disk.old disk.new (λ contents. HoldsEither cells key value (contents A) × OtherMayBe A (D.files disk.old) contents) }
+            → LeavesOnly D.moment D.left_since disk.old disk.new (λ contents. KeepsEither cells key value (contents A) × OtherMayBe A (D.files disk.old) contents) }
 
         ensures full { IsTrue D.is_honest → IsErrOf result Full → disk.new ≡ disk.old }
         ensures limit { IsTrue D.is_honest → (cells : Cells) → IsStoreOf self.old (D.files disk.old A).content cells

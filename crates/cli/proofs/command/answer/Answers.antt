@@ -1,15 +1,13 @@
-use Rattle.std.proofs.Common.{rules, ℕ, ℤ, ◌≡◌, List, ap, sym, subst, ◌∙◌, Err}
+use Rattle.std.proofs.Common.{inl, inr, rules, ℤ, ◌≡◌, ap, sym, subst, Err}
 use Rattle.std.specs.Prelude.{MatchOption}
 use Rattle.std.specs.Int.{w64, cast_signed, cast_unsigned}
 use Rattle.disk.specs.declared.side.Side.TheVariants.{A}
-use Rattle.disk.specs.File.{File, at_rest}
 use Rattle.disk.specs.Moments.{joined, weakened, other_before}
 use Rattle.cli.specs.declared.reply.Reply.TheVariants.{Absent, Value}
 use Rattle.cli.specs.declared.words.Command.{Command}
-use Rattle.cli.specs.Cells.{value_at, HoldsCells, HoldsEither}
+use Rattle.cli.specs.Cells.{value_at, KeepsEither}
 use Rattle.cli.specs.Answers.{Answers, PutsAt}
-use Rattle.cli.specs.Store.{IsStoreOf}
-use Rattle.cli.proofs.PutMoments.{opened_either}
+use Rattle.cli.proofs.PutMoments.{is_there}
 use Rattle.cli.proofs.Replies.{get_done, store_holds, open_refused, fault_is_more}
 use Rattle.cli.proofs.command.answer.Goals as goal
 
@@ -36,22 +34,20 @@ returns-clause-settles g c honest = record {
 }
 
 pub returns-in-Put-clause-put_moments : goal.returns-in-Put-clause-put_moments
-returns-in-Put-clause-put_moments g c honest key value puts content cells rest there holds =
+returns-in-Put-clause-put_moments g c honest key value puts cells keeps =
     let files = g.D.Disk.files in
+    let content = (files c.args.disk.now A).content in
     let asked = subst (λ (command : Command). PutsAt command key value) c.in-Put.is puts in
     let same_key : cast_signed w64 (cast_unsigned w64 c.in-Put.key) ≡ key = search rules in
     let same_value : cast_signed w64 (cast_unsigned w64 c.in-Put.value) ≡ value = search rules in
-    let was : (files c.args.disk.now A).content ≡ content = ap (λ (f : File). f.content) rest in
-    let opened : files c.open.new.disk A ≡ at_rest content = c.in-Ok.ensures.durable honest ∙ ap at_rest was in
-    let is = subst (λ (l : List ℕ). IsStoreOf c.in-Ok.store l cells) was (c.in-Ok.ensures.only honest cells (subst (λ (l : List ℕ). HoldsCells l cells) (sym was) holds)) in
-    joined g.D.Disk.moment g.D.Disk.left_since c.args.disk.now c.open.new.disk c.put.new.disk _ _ _ (c.in-Ok.ensures.any_moment honest) (c.put.ensures.any_moment honest content cells opened there is)
-    (opened_either (files c.args.disk.now) content cells key value rest holds)
-    (λ contents left. (
-      subst (λ (v : ℤ). HoldsEither cells key v (contents A)) same_value (subst (λ (k : ℤ). HoldsEither cells k (cast_signed w64 (cast_unsigned w64 c.in-Put.value)) (contents A)) same_key left.0),
+    joined g.D.Disk.moment g.D.Disk.left_since c.args.disk.now c.open.new.disk c.put.new.disk _ _ _ (c.in-Ok.ensures.any_moment honest)
+    (c.put.ensures.any_moment honest content cells (c.in-Ok.ensures.durable honest) (is_there content cells keeps) (c.in-Ok.ensures.only honest cells (inr keeps)))
+    (λ contents left. inl left)
+    (λ contents left. inr (
+      subst (λ (v : ℤ). KeepsEither cells key v (contents A)) same_value (subst (λ (k : ℤ). KeepsEither cells k (cast_signed w64 (cast_unsigned w64 c.in-Put.value)) (contents A)) same_key left.0),
       other_before A (files c.args.disk.now) (files c.open.new.disk) (c.in-Ok.ensures.other honest) contents left.1,
     ))
 
 pub returns-clause-put_moments : goal.returns-clause-put_moments
-returns-clause-put_moments g c honest key value puts content cells rest there holds =
-    weakened g.D.Disk.moment g.D.Disk.left_since c.args.disk.now c.open.new.disk _ _ (c.in-Err.ensures.any_moment honest)
-    (opened_either (g.D.Disk.files c.args.disk.now) content cells key value rest holds)
+returns-clause-put_moments g c honest key value puts cells keeps =
+    weakened g.D.Disk.moment g.D.Disk.left_since c.args.disk.now c.open.new.disk _ _ (c.in-Err.ensures.any_moment honest) (λ contents left. inl left)

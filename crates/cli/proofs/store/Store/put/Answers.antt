@@ -11,7 +11,7 @@ use Rattle.disk.specs.File.{File, MayLeave}
 use Rattle.disk.specs.Settled.{settled_only}
 use Rattle.disk.specs.Moments.{begun, weakened}
 use Rattle.journal.specs.Journal.{BeforeOrAfter}
-use Rattle.cli.proofs.Replies.{store_holds}
+use Rattle.cli.proofs.Replies.{store_keeps}
 use Rattle.cli.proofs.PutMoments.{not_yet, cells_either, length-cells}
 use Rattle.cli.proofs.CellLemmas.{spelled-push, payloads_of-push, has_cells-push}
 use Rattle.cli.proofs.store.Store.put.Goals as goal
@@ -37,14 +37,14 @@ returns-in-Some-clause-any_moment g c honest content cells rest there is =
     begun g.D.Disk.moment g.D.Disk.left_since c.args.disk.now _ (λ contents left.
     let now = g.met.D.Disk.only_now honest c.args.disk.now contents left in
     let here = settled_only content (contents A) (subst (λ (f : File). MayLeave f.durable (contents A)) rest (now A)) in
-    (not_yet content (contents A) cells c.args.key c.args.value (store_holds c.args.self.now content cells is) here, λ other differs. now other))
+    (not_yet content (contents A) cells c.args.key c.args.value (store_keeps c.args.self.now content cells there is) here, λ other differs. now other))
 
 pub returns-in_err-insert-clause-any_moment : goal.returns-in_err-insert-clause-any_moment
 returns-in_err-insert-clause-any_moment g c honest content cells rest there is =
     begun g.D.Disk.moment g.D.Disk.left_since c.args.disk.now _ (λ contents left.
     let now = g.met.D.Disk.only_now honest c.args.disk.now contents left in
     let here = settled_only content (contents A) (subst (λ (f : File). MayLeave f.durable (contents A)) rest (now A)) in
-    (not_yet content (contents A) cells c.args.key c.args.value (store_holds c.args.self.now content cells is) here, λ other differs. now other))
+    (not_yet content (contents A) cells c.args.key c.args.value (store_keeps c.args.self.now content cells there is) here, λ other differs. now other))
 
 pub returns-in-Ok-clause-any_moment : goal.returns-in-Ok-clause-any_moment
 returns-in-Ok-clause-any_moment g c honest content cells rest there is =
