@@ -91,6 +91,8 @@ fn a_journal_that_does_not_end(rt: HostRuntime) -> Result<(), Fail> {
         // a payload that is cut short
         &ONE_CELL[..12],
         &ONE_CELL[..24],
+        // a whole record with no gate behind it
+        &ONE_CELL[..25],
         // the greatest length
         &[1, 255, 255, 255, 255, 1, 0, 0, 1, 0],
     ];

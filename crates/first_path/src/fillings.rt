@@ -111,7 +111,7 @@ fn before_the_last_sync_the_gate_decides(rt: HostRuntime) -> Result<(), Fail> {
     for number in [WRITE_OF_THE_GATE, LAST_SYNC] {
         for bytes in &gates(rt.alloc())? {
             let disk = crashed(&rt, number, bytes)?.ok_or("a crash that is allowed")?;
-            let is_there = bytes[0] == 1;
+            let is_there = bytes.first() == Some(&1);
             there = there.saturating_add(u16::from(is_there));
             let mut disk = opens_twice(&rt, disk, is_there)?;
             let found = content(rt.alloc(), &mut disk, Side::A)?;
@@ -157,7 +157,7 @@ fn a_crash_at_each_call_leaves_the_same_cells_twice(rt: HostRuntime) -> Result<(
                 for bytes in table {
                     if let Some(disk) = crashed(&rt, number, bytes)? {
                         *count = count.saturating_add(1);
-                        opens_twice(&rt, disk, bytes[0] == 1)?;
+                        opens_twice(&rt, disk, bytes.first() == Some(&1))?;
                     }
                 }
             }
