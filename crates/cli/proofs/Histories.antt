@@ -66,12 +66,12 @@ module _ {D : Type 0} (files : D → Side → File) (moment : D → ℕ) (left_s
             let here = settled_only (files round.after A).content (contents A) (subst (λ (f : File). MayLeave f.durable (contents A)) rests (is.behind_ok put contents left A)) in
             with_new round earlier cells old.0 (contents A) old.2 (subst (λ (l : List ℕ). KeepsCells l ((cells ++ old.0) ++ (round.key, round.value) ∷ [])) (sym here) (put_keeps round.command round.key round.value (cells ++ old.0) _ _ is.puts answers))
         | inr refused ↦ elim ((is.moments (cells ++ old.0) old.1).each contents (is.crash contents left)) [
-            | inl earlier_left ↦ let was = before contents earlier_left in (was.0, was.1, inl (refused, was.2))
-            | inr either ↦ elim either.0 [
-                | inl same ↦ (old.0, same, inl (refused, old.2))
-                | inr new ↦ with_new round earlier cells old.0 (contents A) old.2 new
-              ]
+          | inl earlier_left ↦ let was = before contents earlier_left in (was.0, was.1, inl (refused, was.2))
+          | inr either ↦ elim either.0 [
+            | inl same ↦ (old.0, same, inl (refused, old.2))
+            | inr new ↦ with_new round earlier cells old.0 (contents A) old.2 new
           ]
+        ]
       ]
 
   pub histories : HistoriesKeep files moment left_since failures

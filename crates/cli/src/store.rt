@@ -5,6 +5,8 @@ ghost use Rattle.disk.specs.Time.{OtherStays, OtherMayBe, LeavesOnly, MayLeaveNo
 ghost use Rattle.journal.specs.Records.{records};
 ghost use Rattle.journal.specs.Journal.{BeforeOrAfter};
 ghost use Rattle.journal.specs.declared.journal.TheConstants.{LIMIT};
+ghost use Rattle.std.specs.BTreeMap.{get};
+ghost use Rattle.terms.specs.Key.{key_cmp};
 ghost use Rattle.cli.specs.Journal.{IsJournalOf};
 ghost use Rattle.cli.specs.Maps.{HasCells, AddsCell, AddsNone};
 ghost use Rattle.cli.specs.Cells.{Cells, value_at, SpellCells, HoldsCells, KeepsEither};
@@ -84,6 +86,7 @@ impl Store {
             → (there : ℤ) → IsErrOf result (AlreadyPut there) ↔ (value_at cells key ≡ Some there) }
         ensures before_the_disk { (there : ℤ) → IsErrOf result (AlreadyPut there) → disk.new ≡ disk.old }
         ensures unchanged { (there : ℤ) → IsErrOf result (AlreadyPut there) → self.new ≡ self.old }
+        ensures kept { (at : List ℤ) → OnErr result (get key_cmp self.new.cells at ≡ get key_cmp self.old.cells at) }
         ensures durable { IsTrue D.is_honest → OnOk result (D.files disk.new A ≡ at_rest (D.files disk.new A).content) }
         ensures other { IsTrue D.is_honest → OtherStays A (D.files disk.old) (D.files disk.new) }
 
