@@ -1,19 +1,18 @@
 -- What is left after a list of rounds.
-use Rattle.std.proofs.Common.{◌≡◌, ◌≢◌, ◌⊎◌, inl, inr, ⊎_elim, true, ℕ, ℤ, List, [], ◌∷◌, ◌++◌, length, length-append, refl, sym, ap, subst, arith}
+use Rattle.std.proofs.Common.{◌≡◌, ◌≢◌, ◌⊎◌, inl, inr, ℕ, ℤ, List, [], ◌∷◌, ◌++◌, length, length-append, refl, sym, ap, subst, arith}
 use Rattle.disk.specs.declared.side.Side.{Side}
 use Rattle.disk.specs.declared.side.Side.TheVariants.{A}
-use Rattle.disk.specs.File.{File, MayLeave, at_rest}
+use Rattle.disk.specs.File.{File, MayLeave}
 use Rattle.disk.specs.Settled.{settled_only}
 use Rattle.disk.specs.Time.{Contents, MayLeaveNow}
 use Rattle.cli.specs.declared.words.Command.{Command}
 use Rattle.cli.specs.declared.words.Command.TheVariants as asked
 use Rattle.cli.specs.declared.reply.Reply.{Reply}
 use Rattle.cli.specs.declared.reply.Reply.TheVariants as said
-use Rattle.cli.specs.declared.reply.Refusal.TheVariants as refusal
 use Rattle.cli.specs.Cells.{Cells, KeepsCells, HoldsCells}
 use Rattle.cli.specs.Answers.{Answers, PutsAt}
 use Rattle.cli.specs.Reply.{status_of}
-use Rattle.cli.specs.Rounds.{Round, IsRound, last, Follow, AreKept, HistoriesKeep}
+use Rattle.cli.specs.Rounds.{Round, IsRound, AreKept, HistoriesKeep}
 
 was_put : (reply : Reply) → (reply ≡ said.Put) ⊎ (reply ≢ said.Put)
 was_put said.Put = inl refl

@@ -1,13 +1,12 @@
 -- What a write and the sync behind it may leave.
-use Rattle.std.proofs.Common.{◌≡◌, ◌≢◌, ◌⊎◌, inl, inr, ℕ, zero, suc, ◌+◌, ◌≤◌, ◌<◌, min, Bool, true, false, ◌||◌, List, [], ◌∷◌, length, take, drop, refl, sym, ap, subst, ◌∙◌, arith, length-take, length-drop}
-use Rattle.std.specs.Prelude.{Option, Some, None, Result, Ok, Err, slice_get, nat_lt, nat_le}
+use Rattle.std.proofs.Common.{◌≡◌, ℕ, ◌+◌, ◌≤◌, ◌<◌, Bool, true, false, ◌||◌, List, length, take, refl, ap, subst, ◌∙◌, arith, length-take}
+use Rattle.std.specs.Prelude.{Result, Ok, Err}
 use Rattle.std.proofs.lemmas.Bool.Decides.{nat_tests}
 use Rattle.disk.specs.declared.side.Side.{Side}
 use Rattle.disk.specs.declared.error.DiskError.{DiskError}
 use Rattle.disk.specs.declared.error.DiskError.TheVariants.{Device, NoMemory}
-use Rattle.disk.specs.File.{Durable, File, Agrees, MayLeave, Fails, FailsWithin, Changes, Syncs, WriteLeaves, at_rest, settled, touching, write_touches, overwritten, written}
+use Rattle.disk.specs.File.{Durable, File, MayLeave, Changes, WriteLeaves, at_rest, settled, touching, write_touches}
 use Rattle.disk.specs.Time.{Contents, MayLeaveNow, OtherStays, OtherMayBe}
-use Rattle.disk.specs.Settled.{same_places, settled_only}
 use Rattle.disk.proofs.Left.{touching_left}
 use Rattle.disk.proofs.Fronts.{front_from_places, back_from_places}
 

@@ -1,6 +1,5 @@
-use Rattle.std.proofs.Common.{◌≡◌, ◌<◌, ◌+◌, ◌++◌, ◌∷◌, ◌^◌, [], ℕ, List, length, drop, refl, sym, ap, subst, ◌∙◌, arith}
-use Rattle.disk.specs.File.{File, MayLeave, WriteLeaves, at_rest, overwritten}
-use Rattle.disk.specs.Time.{Contents, OtherMayBe, LeavesOnly}
+use Rattle.std.proofs.Common.{◌≡◌, ◌<◌, ◌+◌, ◌++◌, ◌∷◌, ◌^◌, [], ℕ, List, length, drop, sym, ap, subst, ◌∙◌, arith}
+use Rattle.disk.specs.File.{File, MayLeave, at_rest, overwritten}
 use Rattle.disk.specs.Settled.{settled_only}
 use Rattle.disk.specs.Moments.{begun, weakened}
 use Rattle.journal.specs.Records.{StandsFor}

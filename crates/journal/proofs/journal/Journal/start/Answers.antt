@@ -1,5 +1,5 @@
-use Rattle.std.proofs.Common.{◌≡◌, ◌≤◌, ◌∷◌, [], ℕ, List, length, drop, ap, sym, subst, arith, rules}
-use Rattle.disk.specs.File.{File, MayLeave, overwritten}
+use Rattle.std.proofs.Common.{◌≤◌, [], ℕ, List, length, drop, ap, sym, subst, rules}
+use Rattle.disk.specs.File.{File, MayLeave}
 use Rattle.disk.specs.Settled.{settled_only}
 use Rattle.disk.specs.Moments.{begun}
 use Rattle.journal.specs.Records.{StandsFor}
