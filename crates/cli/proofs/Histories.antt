@@ -1,5 +1,6 @@
 -- What is left after a list of rounds.
 use Rattle.std.proofs.Common.{◌≡◌, ◌≢◌, ◌⊎◌, inl, inr, ℕ, ℤ, List, [], ◌∷◌, ◌++◌, length, length-append, refl, sym, ap, subst, arith}
+use Rattle.std.specs.Prelude.{Option, Some, None}
 use Rattle.disk.specs.declared.side.Side.{Side}
 use Rattle.disk.specs.declared.side.Side.TheVariants.{A}
 use Rattle.disk.specs.File.{File, MayLeave}
@@ -11,14 +12,14 @@ use Rattle.cli.specs.declared.reply.Reply.{Reply}
 use Rattle.cli.specs.declared.reply.Reply.TheVariants as said
 use Rattle.cli.specs.Cells.{Cells, KeepsCells, HoldsCells}
 use Rattle.cli.specs.Answers.{Answers, PutsAt}
-use Rattle.cli.specs.Reply.{status_of}
 use Rattle.cli.specs.Rounds.{Round, IsRound, AreKept, HistoriesKeep}
 
-was_put : (reply : Reply) → (reply ≡ said.Put) ⊎ (reply ≢ said.Put)
-was_put said.Put = inl refl
-was_put (said.Value key value) = inr (λ e. cc)
-was_put (said.Absent key) = inr (λ e. cc)
-was_put (said.Refused why) = inr (λ e. cc)
+was_put : (answered : Option Reply) → (answered ≡ Some said.Put) ⊎ (answered ≢ Some said.Put)
+was_put None = inr (λ e. cc)
+was_put (Some said.Put) = inl refl
+was_put (Some (said.Value key value)) = inr (λ e. cc)
+was_put (Some (said.Absent key)) = inr (λ e. cc)
+was_put (Some (said.Refused why)) = inr (λ e. cc)
 
 no_more : (cells : Cells) → cells ++ [] ≡ cells
 no_more [] = refl
@@ -58,11 +59,11 @@ module _ {D : Type 0} (files : D → Side → File) (moment : D → ℕ) (left_s
       → (contents : Contents) → MayLeaveNow (files round.crashed) contents → Left (round ∷ earlier) cells (contents A)
   goes_on round earlier cells is before contents left =
       let old = before (λ side. (files round.before side).content) (reads round.before) in
-      elim (was_put round.reply) [
+      elim (was_put round.answered) [
         | inl put ↦
-            let answers = subst (λ (r : Reply). Answers round.command (cells ++ old.0) r (files round.before A).content (files round.after A).content) put ((is.comes.settles refl).by_cells (cells ++ old.0) (inr old.1)) in
-            let rests = is.comes.durable refl (omega (arith, ap status_of put)) in
-            let here = settled_only (files round.after A).content (contents A) (subst (λ (f : File). MayLeave f.durable (contents A)) rests (is.behind_ok put contents left A)) in
+            let comes = is.comes said.Put put in
+            let answers = (comes.settles refl).by_cells (cells ++ old.0) (inr old.1) in
+            let here = settled_only (files round.after A).content (contents A) (subst (λ (f : File). MayLeave f.durable (contents A)) (comes.durable refl (omega arith)) (is.behind said.Put put contents left A)) in
             with_new round earlier cells old.0 (contents A) old.2 (subst (λ (l : List ℕ). KeepsCells l ((cells ++ old.0) ++ (round.key, round.value) ∷ [])) (sym here) (put_keeps round.command round.key round.value (cells ++ old.0) _ _ is.puts answers))
         | inr refused ↦ elim ((is.moments (cells ++ old.0) old.1).each contents (is.crash contents left)) [
           | inl earlier_left ↦ let was = before contents earlier_left in (was.0, was.1, inl (refused, was.2))

@@ -40,8 +40,10 @@ pub fn cell<D: Disk, W: Write, E: Write>(
         → (cells : Cells) → KeepsCells (D.files disk A).content cells
         → LeavesOnly D.moment D.left_since disk result.0 (PutLeaves cells key value (D.files disk)) }
 
-    // A get adds at no moment to what a crash may leave.
+    // A get adds at no moment to what a crash may leave, nor does a put where file A holds no cells.
     ensures get_moments { IsTrue D.is_honest → Reads command.now → LeavesOnly D.moment D.left_since disk result.0 (MayLeaveNow (D.files disk)) }
+    ensures damaged_moments { IsTrue D.is_honest → ((cells : Cells) → HoldsCells (D.files disk A).content cells → ⊥)
+        → LeavesOnly D.moment D.left_since disk result.0 (MayLeaveNow (D.files disk)) }
 {
     let reply = answer(alloc, command, &mut disk);
     let status = tell(reply, out, err);
@@ -58,6 +60,8 @@ fn answer<D: Disk>(alloc: Global, command: &Command<'_>, disk: &mut D) -> Reply
         → (cells : Cells) → KeepsCells (D.files disk.old A).content cells
         → LeavesOnly D.moment D.left_since disk.old disk.new (PutLeaves cells key value (D.files disk.old)) }
     ensures get_moments { IsTrue D.is_honest → Reads command.now → LeavesOnly D.moment D.left_since disk.old disk.new (MayLeaveNow (D.files disk.old)) }
+    ensures damaged_moments { IsTrue D.is_honest → ((cells : Cells) → HoldsCells (D.files disk.old A).content cells → ⊥)
+        → LeavesOnly D.moment D.left_since disk.old disk.new (MayLeaveNow (D.files disk.old)) }
 {
     match Store::open(alloc, disk) {
         Ok(mut store) => match *command {

@@ -51,3 +51,6 @@ returns-in-Put-clause-put_moments g c honest key value puts cells keeps =
 pub returns-clause-put_moments : goal.returns-clause-put_moments
 returns-clause-put_moments g c honest key value puts cells keeps =
     weakened g.D.Disk.moment g.D.Disk.left_since c.args.disk.now c.open.new.disk _ _ (c.in-Err.ensures.any_moment honest) (λ contents left. inl left)
+
+pub returns-in-Put-clause-damaged_moments : goal.returns-in-Put-clause-damaged_moments
+returns-in-Put-clause-damaged_moments g c honest none = let is = c.in-Ok.ensures.opened honest in absurd (none is.0 (store_holds _ _ is.0 is.1))
