@@ -1,2 +1,4 @@
+pub mod Facts
+pub mod Fault
 pub mod Key
 pub mod Name

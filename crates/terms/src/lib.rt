@@ -5,10 +5,18 @@
 //! where the collection's number comes first. The functions of `order` carry the laws of the four.
 #![tactic(auto)]
 
+mod event;
+mod fault;
 mod key;
 mod name;
 mod order;
+mod producer;
+mod put;
 
+pub use event::Event;
+pub use fault::FaultKind;
 pub use key::{Key, MAX_COMPONENTS};
 pub use name::{Addr, Inst, ItemCollection, StepCollection, Tag, TagCollection};
 pub use order::{addr_order, inst_order, key_order, orders_are_total, tag_order};
+pub use producer::Producer;
+pub use put::{Put, Puts};

@@ -1,0 +1,51 @@
+-- What a store may hold, and what the events of a run state of it.
+use Rattle.std.specs.Prelude.{ℕ, ℤ, suc, List, [], ◌∷◌}
+use Rattle.std.specs.List.{flat_map}
+use Rattle.terms.specs.declared.name.Addr.{Addr}
+use Rattle.terms.specs.declared.name.Tag.{Tag}
+use Rattle.terms.specs.declared.name.Inst.{Inst}
+use Rattle.terms.specs.declared.fault.FaultKind.{FaultKind}
+use Rattle.terms.specs.declared.producer.Producer.{Producer}
+use Rattle.terms.specs.declared.producer.Producer.TheVariants.{Env, By}
+use Rattle.terms.specs.declared.put.Put.{Put}
+use Rattle.terms.specs.declared.put.Put.TheVariants as put
+use Rattle.terms.specs.declared.event.Event.{Event}
+use Rattle.terms.specs.declared.event.Event.TheVariants.{EnvItem, EnvTag, Done, Stopped}
+
+-- a tag is there; an item, with its value and who put it; an instance is done; an instance is at fault
+pub data Fact : Type 0 where
+  tag : Tag → Fact
+  item : Addr → ℤ → Producer → Fact
+  done : Inst → Fact
+  bad : Inst → FaultKind → Fact
+
+-- what a put of an instance states, by its number in the list
+abbrev pub put_fact : Inst → ℕ → Put → Fact
+put_fact instance number (put.Item address value) = item address value (By instance number)
+put_fact instance number (put.Tag name) = tag name
+
+-- what a list of an instance's puts states, the first of them with this number
+abbrev pub put_facts : Inst → ℕ → List Put → List Fact
+put_facts instance number [] = []
+put_facts instance number (first ∷ puts) = put_fact instance number first ∷ put_facts instance (suc number) puts
+
+-- what an event states: an item or a tag of the environment, a done instance with its puts, or a fault
+abbrev pub event_facts : Event → List Fact
+event_facts (EnvItem address value) = item address value Env ∷ []
+event_facts (EnvTag name) = tag name ∷ []
+event_facts (Done instance puts) = done instance ∷ put_facts instance 0 puts
+event_facts (Stopped instance kind) = bad instance kind ∷ []
+
+-- what of that the environment put
+abbrev pub environment_facts : Event → List Fact
+environment_facts (EnvItem address value) = item address value Env ∷ []
+environment_facts (EnvTag name) = tag name ∷ []
+environment_facts (Done instance puts) = []
+environment_facts (Stopped instance kind) = []
+
+-- what the events of a list state, and what of that the environment put
+abbrev pub facts : List Event → List Fact
+facts events = flat_map event_facts events
+
+abbrev pub environment : List Event → List Fact
+environment events = flat_map environment_facts events

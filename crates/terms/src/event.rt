@@ -1,0 +1,33 @@
+ghost use Rattle.std.specs.Prelude.{◌≡◌, IfOk};
+
+use crate::{Addr, FaultKind, Inst, Puts, Tag};
+use std::alloc::{AllocError, Global};
+
+/// What is committed as one: a put of the environment, or the end of an instance.
+#[derive(Drop)]
+pub enum Event {
+    /// The environment put an item.
+    EnvItem(Addr, i64),
+    /// The environment put a tag.
+    EnvTag(Tag),
+    /// The instance is done, and these are its puts.
+    Done(Inst, Puts),
+    /// The instance is at fault, and put nothing.
+    Stopped(Inst, FaultKind),
+}
+
+impl Event {
+    /// An equal event. It is the only call of this crate that takes memory: for the puts of `Done`, and for no other.
+    pub fn try_clone(&self, alloc: Global) -> Result<Event, AllocError>
+        ensures { IfOk result (λ event. event ≡ self.now) }
+    {
+        Ok(match self {
+            Event::EnvItem(address, value) => Event::EnvItem(*address, *value),
+            Event::EnvTag(tag) => Event::EnvTag(*tag),
+            Event::Done(instance, puts) => {
+                Event::Done(*instance, Puts::new(puts.as_slice().to_vec(alloc)?))
+            }
+            Event::Stopped(instance, kind) => Event::Stopped(*instance, *kind),
+        })
+    }
+}

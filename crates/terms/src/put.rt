@@ -1,0 +1,49 @@
+ghost use Rattle.std.specs.Prelude.{◌≡◌};
+
+use crate::{Addr, Tag};
+use std::marker::Model;
+
+/// What an instance puts: an item with its value, or a tag.
+#[derive(Clone, Copy, Debug, PartialEq, Eq, PartialOrd, Ord)]
+pub enum Put {
+    Item(Addr, i64),
+    Tag(Tag),
+}
+
+/// The puts of an instance, in the order in which it made them.
+#[derive(Drop)]
+pub struct Puts {
+    puts: Vec<Put>,
+}
+
+impl Model for Puts {
+    ghost use Rattle.std.specs.Prelude.{List};
+    ghost use Rattle.terms.specs.declared.put.Put.{Put};
+
+    ghost Value = { List Put };
+
+    ghost view = { λ p. p.puts.items };
+}
+
+impl Puts {
+    /// These puts. It takes no memory.
+    pub fn new(puts: Vec<Put>) -> Self
+        ensures { result ≡ puts.items }
+    {
+        Puts { puts }
+    }
+
+    /// The puts as a vector. It takes no memory.
+    pub fn into_vec(self) -> Vec<Put>
+        ensures { result.items ≡ self }
+    {
+        self.puts
+    }
+
+    /// The puts, in order.
+    pub fn as_slice(&self) -> &[Put]
+        ensures { result.now ≡ self.now }
+    {
+        &self.puts
+    }
+}
