@@ -1,0 +1,31 @@
+-- The laws of the meaning of bodies.
+use Rattle.std.specs.Prelude.{◌≡◌, ◌≢◌, ℤ, true, Bool, List, ◌∷◌, ◌++◌, Option, Some}
+use Rattle.terms.specs.declared.name.Addr.{Addr}
+use Rattle.steptree.specs.declared.body.Body.{Body}
+use Rattle.steptree.specs.Run.{Read}
+use Rattle.steptree.specs.Bodies.{Ending, Asks, Along, Means}
+
+-- along one list of reads a body ends in one way at most
+abbrev pub OneEnding : Type 0
+OneEnding = (body : Body) (key : List ℤ) (reads : List Read) (one two : Ending) → Along body key reads one → Along body key reads two → one ≡ two
+
+-- a body asks for its reads one after another: along those before any of them it asks for that one
+abbrev pub AsksInOrder : Type 0
+AsksInOrder = (body : Body) (key : List ℤ) (before behind : List Read) (read : Read) (ending : Ending) → Along body key (before ++ read ∷ behind) ending → Along body key before (Asks read.0)
+
+-- what a body gives over some pairs, it gives over more of them; and so with its faults
+abbrev pub GrowthKeeps : Type 0
+GrowthKeeps = (body : Body) (key : List ℤ) (some more : Addr → ℤ → Bool) (ending : Ending) → ((address : Addr) (value : ℤ) → some address value ≡ true → more address value ≡ true)
+    → ((address : Addr) → ending ≢ Asks address) → Means body key (λ a v. some a v ≡ true) ending → Means body key (λ a v. more a v ≡ true) ending
+
+-- the pairs of a look-up, which has one value at most for an address
+abbrev pub Found : (Addr → Option ℤ) → Addr → ℤ → Type 0
+Found look address value = look address ≡ Some value
+
+-- over a look-up a body ends in some way
+abbrev pub LookUpEnds : Type 0
+LookUpEnds = (body : Body) (key : List ℤ) (look : Addr → Option ℤ) → (ending : Ending) × Means body key (Found look) ending
+
+-- and in no other
+abbrev pub LookUpEndsOnce : Type 0
+LookUpEndsOnce = (body : Body) (key : List ℤ) (look : Addr → Option ℤ) (one two : Ending) → Means body key (Found look) one → Means body key (Found look) two → one ≡ two

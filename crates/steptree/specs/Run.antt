@@ -1,0 +1,91 @@
+-- What a block does, from one state of its instance to the next.
+use Rattle.std.specs.Prelude.{ℕ, zero, suc, ℤ, pos, ◌+ℤ◌, Bool, List, [], ◌∷◌, ◌++◌, length, nat_lt, if◌then◌else◌, slice_set, Result, Ok, Err}
+use Rattle.std.specs.Int.{int_gap}
+use Rattle.std.specs.Ordering.{int_eq, is_eq}
+use Rattle.terms.specs.declared.name.Addr.{Addr}
+use Rattle.terms.specs.declared.put.Put.{Put}
+use Rattle.terms.specs.declared.put.Put.TheVariants as put
+use Rattle.terms.specs.declared.fault.FaultKind.{FaultKind}
+use Rattle.terms.specs.declared.fault.FaultKind.TheVariants.{Budget, TooManyPuts}
+use Rattle.terms.specs.Name.{addr_cmp}
+use Rattle.steptree.specs.declared.expression.Expression.{Expression}
+use Rattle.steptree.specs.declared.block.Block.{Block}
+use Rattle.steptree.specs.declared.block.Block.TheVariants.{End, Assign', If', For', Get', PutItem', PutTag'}
+use Rattle.steptree.specs.declared.body.TheConstants.{BUDGET, MOST_PUTS}
+use Rattle.steptree.specs.Values.{value_of, values_of}
+
+-- an item that a step read: its address and its value
+abbrev pub Read : Type 0
+Read = Addr × ℤ
+
+-- an instance while its body runs: the values of its variables, how many statements and turns were counted, the reads that
+-- are still to come, and the puts so far
+pub record State : Type 0 where
+  pub variables : List ℤ
+  pub counted : ℕ
+  pub reads : List Read
+  pub puts : List Put
+
+-- a block came to its end; it is at fault, with these reads left; it asks for an item where no read is left; or the next
+-- read is of another item than the one it asks for
+pub data Outcome : Type 0 where
+  ends : State → Outcome
+  faults : FaultKind → List Read → Outcome
+  asks : Addr → Outcome
+  strays : Outcome
+
+-- one block behind another: from where the first ended, if it did
+abbrev pub followed : Outcome → (State → Outcome) → Outcome
+followed (ends state) next = next state
+followed (faults kind reads) next = faults kind reads
+followed (asks address) next = asks address
+followed strays next = strays
+
+-- a statement, or a turn of a loop, is counted before anything else
+abbrev pub counting : State → (State → Outcome) → Outcome
+counting state next = if nat_lt state.counted BUDGET then next (record state { counted = suc state.counted }) else faults Budget state.reads
+
+-- with what an expression gave, or at fault
+abbrev pub given : {X : Type 0} → Result X FaultKind → State → (X → Outcome) → Outcome
+given (Ok value) state next = next value
+given (Err kind) state next = faults kind state.reads
+
+abbrev pub assigned : ℕ → ℤ → State → State
+assigned slot value state = record state { variables = slice_set state.variables slot value }
+
+abbrev pub is_same : Addr → Addr → Bool
+is_same a b = is_eq (addr_cmp a b)
+
+-- the next read is of this item
+abbrev pub answered : Addr → List Read → (ℤ → List Read → Outcome) → Outcome
+answered address [] next = asks address
+answered address (read ∷ reads) next = if is_same read.0 address then next read.1 reads else strays
+
+-- one more put, if there may be one
+abbrev pub putting : Put → State → (State → Outcome) → Outcome
+putting one state next = if nat_lt (length state.puts) MOST_PUTS then next (record state { puts = state.puts ++ one ∷ [] }) else faults TooManyPuts state.reads
+
+-- a block, turn after turn: so many turns are left, and the variable begins this one with this value
+abbrev pub turns : (State → Outcome) → ℕ → ℤ → ℕ → State → Outcome
+turns block slot value zero state = ends state
+turns block slot value (suc left) state =
+    counting state (λ now. followed (block (assigned slot value now)) (turns block slot (value +ℤ pos 1) left))
+
+abbrev pub run : Block → State → Outcome
+run End state = ends state
+run (Assign' slot value _ rest) state =
+    counting state (λ now. given (value_of value now.variables) now (λ v. run rest (assigned slot v now)))
+run (If' condition _ first _ second _ rest) state =
+    counting state (λ now. given (value_of condition now.variables) now (λ v. followed (if int_eq v (pos 0) then run second now else run first now) (run rest)))
+run (For' slot from to _ block _ rest) state =
+    counting state (λ now. given (value_of from now.variables) now (λ a. given (value_of to now.variables) now (λ b.
+        followed (turns (run block) slot a (int_gap a b) now) (run rest))))
+run (Get' slot collection components _ rest) state =
+    counting state (λ now. given (values_of components now.variables) now (λ key.
+        answered (record { collection = collection; key = key }) now.reads (λ v reads. run rest (assigned slot v (record now { reads = reads })))))
+run (PutItem' collection components value _ rest) state =
+    counting state (λ now. given (values_of components now.variables) now (λ key. given (value_of value now.variables) now (λ v.
+        putting (put.Item (record { collection = collection; key = key }) v) now (run rest))))
+run (PutTag' collection components _ rest) state =
+    counting state (λ now. given (values_of components now.variables) now (λ key.
+        putting (put.Tag (record { collection = collection; key = key })) now (run rest)))

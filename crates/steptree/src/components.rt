@@ -1,0 +1,46 @@
+ghost use Rattle.std.specs.Prelude.{◌≡◌, ◌≤◌, length};
+ghost use Rattle.terms.specs.declared.key.TheConstants.{MAX_COMPONENTS};
+
+use crate::Expression;
+use std::marker::Model;
+use terms::MAX_COMPONENTS;
+
+/// The expressions of a key's components, 0 to `MAX_COMPONENTS` of them.
+#[derive(Drop)]
+pub struct Components {
+    expressions: Vec<Expression>,
+}
+
+impl Model for Components {
+    ghost use Rattle.std.specs.Prelude.{List, ◌≤◌, length};
+    ghost use Rattle.std.specs.Coded.{codes};
+    ghost use Rattle.terms.specs.declared.key.TheConstants.{MAX_COMPONENTS};
+    ghost use Rattle.steptree.specs.contracts.expression.Expression as expression;
+    ghost use Rattle.steptree.specs.declared.expression.Expression.{Expression};
+
+    ghost Value = { List Expression };
+
+    ghost coded = { Prim.hlevel (codes, expression.the_row.coded) };
+
+    ghost view = { λ c. c.expressions.items };
+
+    ghost invariant = { λ c. length c.expressions.items ≤ MAX_COMPONENTS };
+}
+
+impl Components {
+    /// These expressions, in order.
+    pub fn new(expressions: Vec<Expression>) -> Self
+        requires { length expressions.items ≤ MAX_COMPONENTS }
+        ensures { result ≡ expressions.items }
+    {
+        Components { expressions }
+    }
+
+    /// The expressions, in order.
+    pub fn as_slice(&self) -> &[Expression]
+        ensures expressions { result.now ≡ self.now }
+        ensures few { length result.now ≤ MAX_COMPONENTS }
+    {
+        &self.expressions
+    }
+}

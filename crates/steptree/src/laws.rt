@@ -1,0 +1,19 @@
+//! The laws of what bodies mean. Each is a contract, with nothing to run.
+ghost use Rattle.steptree.specs.Laws.{OneEnding, AsksInOrder, GrowthKeeps, LookUpEnds, LookUpEndsOnce};
+
+/// Along one list of reads a body ends in one way at most, and it asks for them one after another.
+pub fn along_one_list()
+    ensures one { OneEnding }
+    ensures in_order { AsksInOrder }
+{}
+
+/// What a body gives, and its faults, stay where the items grow.
+pub fn growth_keeps()
+    ensures { GrowthKeeps }
+{}
+
+/// Over items of which each address has one value at most, a body ends in exactly one way.
+pub fn ends_once()
+    ensures some { LookUpEnds }
+    ensures one { LookUpEndsOnce }
+{}

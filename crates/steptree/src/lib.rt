@@ -1,0 +1,19 @@
+//! The bodies of steps: their tree, and what it means.
+//!
+//! A `Body` has its variables as slots and its collections as numbers. What it means is `Along`: along which reads it ends
+//! as what. The layers above stand on that definition and on the laws of `laws`.
+#![tactic(auto)]
+
+mod block;
+mod body;
+mod components;
+mod expression;
+mod laws;
+mod slot;
+
+pub use block::Block;
+pub use body::{BUDGET, Body, MOST_PUTS};
+pub use components::Components;
+pub use expression::{Expression, Operator};
+pub use laws::{along_one_list, ends_once, growth_keeps};
+pub use slot::{MOST_NAMES, Slot};
