@@ -1,0 +1,8 @@
+-- Where an expression gave a value, the value goes on.
+use Rattle.std.proofs.Common.{◌≡◌, ap}
+use Rattle.std.specs.Prelude.{Result, Ok}
+use Rattle.terms.specs.declared.fault.FaultKind.{FaultKind}
+use Rattle.steptree.specs.Run.{State, Outcome, given}
+
+pub given_ok : {X : Type 0} (result : Result X FaultKind) (value : X) (state : State) (next : X → Outcome) → result ≡ Ok value → given result state next ≡ next value
+given_ok result value state next is = ap (λ r. given r state next) is

@@ -1,0 +1,36 @@
+-- An instance while its body runs, as what is still to come of it.
+use Rattle.std.specs.Prelude.{◌≡◌, ℤ, List, [], ◌∷◌, slice_set}
+use Rattle.std.specs.Int.{int_gap}
+use Rattle.terms.specs.declared.name.Addr.{Addr}
+use Rattle.steptree.specs.Run.{Read, State, Outcome, ends, faults, asks, assigned, followed, turns, run}
+use Rattle.steplang.specs.declared.machine.Frame.{Frame}
+use Rattle.steplang.specs.declared.machine.Frame.TheVariants.{Rest, Turns}
+use Rattle.steplang.specs.declared.machine.Step.{Step}
+use Rattle.steplang.specs.declared.machine.Step.TheVariants.{On, Asked, Failed, Ended}
+use Rattle.steplang.specs.declared.machine.Machine.{Machine}
+
+-- what stands behind a block that came to this
+abbrev pub behind : Frame → Outcome → Outcome
+behind (Rest block) outcome = followed outcome (run block.now)
+behind (Turns variable next to block) outcome = followed outcome (turns (run block.now) variable next (int_gap next to))
+
+-- what stands behind all of the blocks that are open, the innermost the last
+abbrev pub unwound : List Frame → Outcome → Outcome
+unwound [] outcome = outcome
+unwound (frame ∷ frames) outcome = behind frame (unwound frames outcome)
+
+-- the instance, where these reads are still to come
+abbrev pub state_of : Machine → List Read → State
+state_of machine reads = record { variables = machine.variables; counted = machine.counted; reads = reads; puts = machine.puts.items }
+
+-- what comes of it
+abbrev pub outcome_from : Machine → List Read → Outcome
+outcome_from machine reads = unwound machine.frames.items (run machine.block.now (state_of machine reads))
+
+-- what was to come of it, whatever the reads, comes of it now that a statement was made
+abbrev pub LeadsFrom : (List Read → Outcome) → Step → Machine → Type 0
+LeadsFrom from On new = (reads : List Read) → from reads ≡ outcome_from new reads
+LeadsFrom from (Asked address variable) new = (from [] ≡ asks address)
+    × ((value : ℤ) (reads : List Read) → from ((address, value) ∷ reads) ≡ unwound new.frames.items (run new.block.now (assigned variable value (state_of new reads))))
+LeadsFrom from (Failed kind) new = (reads : List Read) → from reads ≡ faults kind reads
+LeadsFrom from Ended new = (reads : List Read) → from reads ≡ ends (state_of new reads)

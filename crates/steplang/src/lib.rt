@@ -1,0 +1,5 @@
+//! The evaluator of steps' bodies: it stops at each item that a step gets, and goes on with its value.
+#![tactic(auto)]
+
+mod machine;
+mod value;

@@ -1,0 +1,326 @@
+ghost use Rattle.std.specs.Prelude.{◌≡◌, ◌<ℤ◌, List, ℤ, pos, suc, nat_lt, if◌then◌else◌, IfOk, OnOk};
+ghost use Rattle.std.specs.Ordering.{int_eq};
+ghost use Rattle.std.specs.Int.{int_gap};
+ghost use Rattle.steptree.specs.declared.body.TheConstants.{BUDGET};
+ghost use Rattle.terms.specs.declared.put.Put.TheVariants as put;
+ghost use Rattle.steptree.specs.Run.{Read, ends, assigned, counting, given, followed, answered, putting, turns, run};
+ghost use Rattle.steptree.specs.Values.{value_of, values_of};
+ghost use Rattle.steplang.specs.Machine.{state_of, unwound, outcome_from, LeadsFrom};
+
+use crate::value::{Variables, evaluate, evaluate_key};
+use std::alloc::AllocError;
+use steptree::{BUDGET, Block, Components, Expression, MOST_PUTS, Slot};
+use terms::{Addr, FaultKind, ItemCollection, Put, Tag, TagCollection};
+
+/// What is still to be done behind a block.
+#[derive(Clone, Copy)]
+pub(crate) enum Frame<'a> {
+    /// The statements behind it.
+    Rest(&'a Block),
+    /// The turns of a loop that are left, from the next value to below the last.
+    Turns {
+        variable: Slot,
+        next: i64,
+        to: i64,
+        block: &'a Block,
+    },
+}
+
+/// What a statement came to.
+pub(crate) enum Step {
+    /// The next statement is at hand.
+    On,
+    /// An item is asked for, and its value is for this variable.
+    Asked(Addr, Slot),
+    /// The instance is at fault.
+    Failed(FaultKind),
+    /// Nothing is left to be done.
+    Ended,
+}
+
+/// An instance while its body runs.
+#[derive(Drop)]
+pub(crate) struct Machine<'a> {
+    pub(crate) variables: Variables,
+    pub(crate) counted: u32,
+    pub(crate) puts: Vec<Put>,
+    pub(crate) frames: Vec<Frame<'a>>,
+    pub(crate) block: &'a Block,
+}
+
+impl<'a> Machine<'a> {
+    // Counts one statement or turn more, or answers no where the budget is used up.
+    fn count(&mut self) -> bool
+        ensures counted { result ≡ nat_lt self.old.counted BUDGET }
+        ensures one { self.new ≡ record self.old { counted = if result then suc self.old.counted else self.old.counted } }
+    {
+        if self.counted >= BUDGET {
+            return false;
+        }
+        self.counted += 1;
+        true
+    }
+
+    // A variable gets the value of an expression.
+    #[tactic(auto, using(crate::proofs::Unwound::unwound_faults))]
+    fn assign(&mut self, variable: Slot, value: &Expression, rest: &'a Block) -> Step
+        ensures { LeadsFrom (λ reads. unwound self.old.frames.items (given (value_of value.now self.old.variables) (state_of self.old reads) (λ v. run rest.now (assigned variable v (state_of self.old reads))))) result self.new }
+    {
+        match evaluate(value, &self.variables) {
+            Ok(value) => {
+                self.variables[variable.place()] = value;
+                self.block = rest;
+                Step::On
+            }
+            Err(kind) => Step::Failed(kind),
+        }
+    }
+
+    // Takes one of two blocks, by a condition.
+    #[tactic(auto, using(crate::proofs::Unwound::unwound_faults, crate::proofs::Unwound::unwound_last))]
+    fn choose(
+        &mut self,
+        condition: &Expression,
+        first: &'a Block,
+        second: &'a Block,
+        rest: &'a Block,
+    ) -> Result<Step, AllocError>
+        ensures { IfOk result (λ step. LeadsFrom (λ reads. unwound self.old.frames.items (given (value_of condition.now self.old.variables) (state_of self.old reads) (λ v.
+            followed (if int_eq v (pos 0) then run second.now (state_of self.old reads) else run first.now (state_of self.old reads)) (run rest.now)))) step self.new) }
+    {
+        match evaluate(condition, &self.variables) {
+            Ok(value) => {
+                self.frames.reserve(1)?;
+                self.frames.push_reserved(Frame::Rest(rest));
+                self.block = if value == 0 { second } else { first };
+                Ok(Step::On)
+            }
+            Err(kind) => Ok(Step::Failed(kind)),
+        }
+    }
+
+    // Makes a turn of a loop with this value, which lies below the last.
+    #[tactic(auto, using(crate::proofs::Unwound::unwound_faults, crate::proofs::Unwound::unwound_last))]
+    fn turn(
+        &mut self,
+        variable: Slot,
+        value: i64,
+        to: i64,
+        block: &'a Block,
+    ) -> Result<Step, AllocError>
+        requires { value <ℤ to }
+        ensures { IfOk result (λ step. LeadsFrom (λ reads. unwound self.old.frames.items (turns (run block.now) variable value (int_gap value to) (state_of self.old reads))) step self.new) }
+    {
+        if !self.count() {
+            return Ok(Step::Failed(FaultKind::Budget));
+        }
+        self.variables[variable.place()] = value;
+        let next = value + 1;
+        self.frames.reserve(1)?;
+        self.frames.push_reserved(Frame::Turns {
+            variable,
+            next,
+            to,
+            block,
+        });
+        self.block = block;
+        Ok(Step::On)
+    }
+
+    // Begins a loop: both ends are evaluated once.
+    #[tactic(auto, using(crate::proofs::Unwound::unwound_faults, crate::proofs::Unwound::unwound_last))]
+    fn repeat(
+        &mut self,
+        variable: Slot,
+        from: &Expression,
+        to: &Expression,
+        block: &'a Block,
+        rest: &'a Block,
+    ) -> Result<Step, AllocError>
+        ensures { IfOk result (λ step. LeadsFrom (λ reads. unwound self.old.frames.items (given (value_of from.now self.old.variables) (state_of self.old reads) (λ a. given (value_of to.now self.old.variables) (state_of self.old reads) (λ b.
+            followed (turns (run block.now) variable a (int_gap a b) (state_of self.old reads)) (run rest.now))))) step self.new) }
+    {
+        let from = match evaluate(from, &self.variables) {
+            Ok(from) => from,
+            Err(kind) => return Ok(Step::Failed(kind)),
+        };
+        let to = match evaluate(to, &self.variables) {
+            Ok(to) => to,
+            Err(kind) => return Ok(Step::Failed(kind)),
+        };
+        self.open(variable, from, to, block, rest)
+    }
+
+    // Makes the first turn of a loop, if there is one.
+    #[tactic(auto, using(crate::proofs::Unwound::unwound_last))]
+    fn open(
+        &mut self,
+        variable: Slot,
+        from: i64,
+        to: i64,
+        block: &'a Block,
+        rest: &'a Block,
+    ) -> Result<Step, AllocError>
+        ensures { IfOk result (λ step. LeadsFrom (λ reads. unwound self.old.frames.items (followed (turns (run block.now) variable from (int_gap from to) (state_of self.old reads)) (run rest.now))) step self.new) }
+    {
+        if from >= to {
+            self.block = rest;
+            return Ok(Step::On);
+        }
+        self.frames.reserve(1)?;
+        self.frames.push_reserved(Frame::Rest(rest));
+        self.turn(variable, from, to, block)
+    }
+
+    // Leaves a block that came to its end, and goes on with what stands behind it.
+    #[tactic(auto, using(crate::proofs::Unwound::unwound_last))]
+    fn leave(&mut self) -> Result<Step, AllocError>
+        ensures { IfOk result (λ step. LeadsFrom (λ reads. unwound self.old.frames.items (ends (state_of self.old reads))) step self.new) }
+    {
+        while let Some(frame) = self.frames.pop() {
+            match frame {
+                Frame::Rest(block) => {
+                    self.block = block;
+                    return Ok(Step::On);
+                }
+                Frame::Turns {
+                    variable,
+                    next,
+                    to,
+                    block,
+                } => {
+                    if next < to {
+                        return self.turn(variable, next, to, block);
+                    }
+                }
+            }
+        }
+        Ok(Step::Ended)
+    }
+
+    // Asks for an item, whose value a variable is to get.
+    #[tactic(auto, using(crate::proofs::Unwound::unwound_faults, crate::proofs::Unwound::unwound_asks, crate::proofs::Addresses::same_itself))]
+    fn get(
+        &mut self,
+        variable: Slot,
+        collection: ItemCollection,
+        components: &Components,
+        rest: &'a Block,
+    ) -> Step
+        ensures { LeadsFrom (λ reads. unwound self.old.frames.items (given (values_of components.now self.old.variables) (state_of self.old reads) (λ key.
+            answered (record { collection = collection; key = key }) reads (λ v left. run rest.now (assigned variable v (state_of self.old left)))))) result self.new }
+    {
+        match evaluate_key(components, &self.variables) {
+            Ok(key) => {
+                self.block = rest;
+                Step::Asked(Addr { collection, key }, variable)
+            }
+            Err(kind) => Step::Failed(kind),
+        }
+    }
+
+    // Puts an item.
+    #[tactic(auto, using(crate::proofs::Unwound::unwound_faults))]
+    fn put_item(
+        &mut self,
+        collection: ItemCollection,
+        components: &Components,
+        value: &Expression,
+        rest: &'a Block,
+    ) -> Result<Step, AllocError>
+        ensures { IfOk result (λ step. LeadsFrom (λ reads. unwound self.old.frames.items (given (values_of components.now self.old.variables) (state_of self.old reads) (λ key. given (value_of value.now self.old.variables) (state_of self.old reads) (λ v.
+            putting (put.Item (record { collection = collection; key = key }) v) (state_of self.old reads) (run rest.now))))) step self.new) }
+    {
+        let key = match evaluate_key(components, &self.variables) {
+            Ok(key) => key,
+            Err(kind) => return Ok(Step::Failed(kind)),
+        };
+        let value = match evaluate(value, &self.variables) {
+            Ok(value) => value,
+            Err(kind) => return Ok(Step::Failed(kind)),
+        };
+        self.put(Put::Item(Addr { collection, key }, value), rest)
+    }
+
+    // Puts a tag.
+    #[tactic(auto, using(crate::proofs::Unwound::unwound_faults))]
+    fn put_tag(
+        &mut self,
+        collection: TagCollection,
+        components: &Components,
+        rest: &'a Block,
+    ) -> Result<Step, AllocError>
+        ensures { IfOk result (λ step. LeadsFrom (λ reads. unwound self.old.frames.items (given (values_of components.now self.old.variables) (state_of self.old reads) (λ key.
+            putting (put.Tag (record { collection = collection; key = key })) (state_of self.old reads) (run rest.now)))) step self.new) }
+    {
+        match evaluate_key(components, &self.variables) {
+            Ok(key) => self.put(Put::Tag(Tag { collection, key }), rest),
+            Err(kind) => Ok(Step::Failed(kind)),
+        }
+    }
+
+    // One put more, if there may be one.
+    #[tactic(auto, using(crate::proofs::Unwound::unwound_faults))]
+    fn put(&mut self, put: Put, rest: &'a Block) -> Result<Step, AllocError>
+        ensures { IfOk result (λ step. LeadsFrom (λ reads. unwound self.old.frames.items (putting put (state_of self.old reads) (run rest.now))) step self.new) }
+    {
+        if self.puts.len() >= MOST_PUTS {
+            return Ok(Step::Failed(FaultKind::TooManyPuts));
+        }
+        self.puts.push(put)?;
+        self.block = rest;
+        Ok(Step::On)
+    }
+
+
+    /// Makes the next statement, or goes on behind a block that came to its end.
+    pub(crate) fn step(&mut self) -> Result<Step, AllocError>
+        ensures { IfOk result (λ step. LeadsFrom (outcome_from self.old) step self.new) }
+    {
+        let block = self.block;
+        if let Block::End = block {
+            return self.leave();
+        }
+        if !self.count() {
+            return Ok(Step::Failed(FaultKind::Budget));
+        }
+        match block {
+            Block::End => self.leave(),
+            Block::Assign {
+                variable,
+                value,
+                rest,
+            } => Ok(self.assign(*variable, value, rest)),
+            Block::If {
+                condition,
+                first,
+                second,
+                rest,
+            } => self.choose(condition, first, second, rest),
+            Block::For {
+                variable,
+                from,
+                to,
+                block,
+                rest,
+            } => self.repeat(*variable, from, to, block, rest),
+            Block::Get {
+                variable,
+                collection,
+                components,
+                rest,
+            } => Ok(self.get(*variable, *collection, components, rest)),
+            Block::PutItem {
+                collection,
+                components,
+                value,
+                rest,
+            } => self.put_item(*collection, components, value, rest),
+            Block::PutTag {
+                collection,
+                components,
+                rest,
+            } => self.put_tag(*collection, components, rest),
+        }
+    }
+}

@@ -1,0 +1,80 @@
+ghost use Rattle.std.specs.Prelude.{◌≡◌, Ok, Err, List, ℤ, length, IfOk, OnOk};
+ghost use Rattle.steptree.specs.declared.expression.Operator.TheVariants.{Divide, Remainder};
+ghost use Rattle.steptree.specs.Values.{held, operated, value_of, values_of};
+ghost use Rattle.steptree.specs.declared.slot.TheConstants.{MOST_NAMES};
+
+use steptree::{Components, Expression, MOST_NAMES, Operator};
+use terms::{FaultKind, Key, MAX_COMPONENTS};
+
+/// The values of an instance's variables, by their slots.
+pub(crate) type Variables = [i64; MOST_NAMES];
+
+/// What an expression gives, its operands from the left.
+pub(crate) fn evaluate(expression: &Expression, variables: &Variables) -> Result<i64, FaultKind>
+    ensures { result ≡ value_of expression.now variables.now }
+{
+    match expression {
+        Expression::Number(number) => Ok(*number),
+        Expression::Variable(slot) => Ok(variables[slot.place()]),
+        Expression::Negation(operand) => {
+            let value = evaluate(operand, variables)?;
+            value.checked_neg().ok_or(FaultKind::Overflow)
+        }
+        Expression::Operation(operator, left, right) => {
+            let left = evaluate(left, variables)?;
+            let right = evaluate(right, variables)?;
+            operate(*operator, left, right)
+        }
+    }
+}
+
+/// The key whose components these expressions give, from the left.
+pub(crate) fn evaluate_key(components: &Components, variables: &Variables) -> Result<Key, FaultKind>
+    ensures { result ≡ values_of components.now variables.now }
+{
+    let expressions = components.as_slice();
+    let mut values = [0; MAX_COMPONENTS];
+    for (index, expression) in expressions.iter().enumerate() {
+        values[index] = evaluate(expression, variables)?;
+    }
+    Ok(Key::new(&values[..expressions.len()]))
+}
+
+// What an operator gives of two values.
+fn operate(operator: Operator, left: i64, right: i64) -> Result<i64, FaultKind>
+    ensures { result ≡ operated operator left right }
+{
+    match operator {
+        Operator::Add => left.checked_add(right).ok_or(FaultKind::Overflow),
+        Operator::Subtract => left.checked_sub(right).ok_or(FaultKind::Overflow),
+        Operator::Multiply => left.checked_mul(right).ok_or(FaultKind::Overflow),
+        Operator::Divide => divide(left, right),
+        Operator::Remainder => remainder(left, right),
+        Operator::Equal => Ok(i64::from(left == right)),
+        Operator::NotEqual => Ok(i64::from(left != right)),
+        Operator::Less => Ok(i64::from(left < right)),
+        Operator::LessOrEqual => Ok(i64::from(left <= right)),
+        Operator::Greater => Ok(i64::from(left > right)),
+        Operator::GreaterOrEqual => Ok(i64::from(left >= right)),
+    }
+}
+
+// The quotient, rounded toward zero.
+fn divide(left: i64, right: i64) -> Result<i64, FaultKind>
+    ensures { result ≡ operated Divide left right }
+{
+    if right == 0 {
+        return Err(FaultKind::DivisionByZero);
+    }
+    left.checked_div(right).ok_or(FaultKind::Overflow)
+}
+
+// The remainder, with the sign of what is divided.
+fn remainder(left: i64, right: i64) -> Result<i64, FaultKind>
+    ensures { result ≡ operated Remainder left right }
+{
+    if right == 0 {
+        return Err(FaultKind::DivisionByZero);
+    }
+    Ok(left.wrapping_rem(right))
+}
