@@ -54,13 +54,13 @@ module _ (look : Addr → Option ℤ) where
   abbrev IsLacking : Ending → Type 0
   IsLacking ending = (address : Addr) → ending ≡ Asks address → (value : ℤ) → Found look address value → ⊥
 
-  abbrev Ending_of : Tree → Type 0
-  Ending_of tree = (ending : Ending) × (reads : List Read) × AllFound reads × EndsAlong tree reads ending × IsLacking ending
+  abbrev SomeEnding : Tree → Type 0
+  SomeEnding tree = (ending : Ending) × (reads : List Read) × AllFound reads × EndsAlong tree reads ending × IsLacking ending
 
-  pub ends_somehow : (tree : Tree) → Ending_of tree
+  pub ends_somehow : (tree : Tree) → SomeEnding tree
   ends_somehow (Ends state) = (Gives state.puts, [], tt, refl, λ address is value found. cc)
   ends_somehow (Fails kind) = (Faults kind, [], tt, refl, λ address is value found. cc)
-  ends_somehow (Needs address next) = elim (look address) as (λ (found : Option ℤ). look address ≡ found → Ending_of (Needs address next)) [
+  ends_somehow (Needs address next) = elim (look address) as (λ (found : Option ℤ). look address ≡ found → SomeEnding (Needs address next)) [
     | None ↦ λ none. (Asks address, [], tt, refl, λ other is value found. cc)
     | Some value ↦ λ some.
         let more = ends_somehow (next value) in
@@ -93,7 +93,7 @@ module _ (look : Addr → Option ℤ) where
       let here' = of_its_item address next read' reads' two is' in
       let values : read'.1 ≡ read.1 = value_same (ap look here) (ap look here') found.0 found'.0 in
       ends_once (next read.1) reads reads' one two found.1 found'.1 (went_on address next read reads one is).1
-          (subst (λ (v : ℤ). EndsAlong (next v) reads' two) values (went_on address next read' reads' two is').1) lacking lacking'
+      (subst (λ (v : ℤ). EndsAlong (next v) reads' two) values (went_on address next read' reads' two is').1) lacking lacking'
     where
       value_same : {a b c : Option ℤ} {x y : ℤ} → a ≡ c → b ≡ c → a ≡ Some x → b ≡ Some y → y ≡ x
       value_same p q r s = cc

@@ -13,7 +13,7 @@ use Rattle.steptree.specs.declared.block.Block.TheVariants.{End, Assign', If', F
 use Rattle.steptree.specs.declared.body.Body.{Body}
 use Rattle.steptree.specs.declared.body.TheConstants.{BUDGET, MOST_PUTS}
 use Rattle.steptree.specs.Values.{value_of, values_of}
-use Rattle.steptree.specs.Run.{Read, State, Outcome, ends, faults, asks, strays, followed, counting, given, assigned, is_same, answered, putting, turns, run}
+use Rattle.steptree.specs.Run.{Read, State, Outcome, ends, faults, strays, followed, given, assigned, is_same, answered, putting, turns, run}
 use Rattle.steptree.specs.Bodies.{begun, outcome_of}
 
 -- it ends, is at fault, or asks for an item and goes on by its value
@@ -106,19 +106,19 @@ blocks (Assign' slot value p rest) state =
     counted state (λ now. with_result (value_of value now.variables) now (λ v. blocks rest (assigned slot v now)))
 blocks (If' condition p first q second r rest) state =
     counted state (λ now. with_result (value_of condition now.variables) now (λ v.
-        behind (run rest) (either (int_eq v (pos 0)) (blocks second now) (blocks first now)) (blocks rest)))
+    behind (run rest) (either (int_eq v (pos 0)) (blocks second now) (blocks first now)) (blocks rest)))
 blocks (For' slot from to p block q rest) state =
     counted state (λ now. with_result (value_of from now.variables) now (λ a. with_result (value_of to now.variables) now (λ b.
-        behind (run rest) (all_turns (run block) (blocks block) slot (int_gap a b) a now) (blocks rest))))
+    behind (run rest) (all_turns (run block) (blocks block) slot (int_gap a b) a now) (blocks rest))))
 blocks (Get' slot collection components p rest) state =
     counted state (λ now. with_result (values_of components now.variables) now (λ key.
-        with_answer (record { collection = collection; key = key }) (λ v. blocks rest (assigned slot v now))))
+    with_answer (record { collection = collection; key = key }) (λ v. blocks rest (assigned slot v now))))
 blocks (PutItem' collection components value p rest) state =
     counted state (λ now. with_result (values_of components now.variables) now (λ key. with_result (value_of value now.variables) now (λ v.
-        put_one (put.Item (record { collection = collection; key = key }) v) (run rest) (blocks rest) now)))
+    put_one (put.Item (record { collection = collection; key = key }) v) (run rest) (blocks rest) now)))
 blocks (PutTag' collection components p rest) state =
     counted state (λ now. with_result (values_of components now.variables) now (λ key.
-        put_one (put.Tag (record { collection = collection; key = key })) (run rest) (blocks rest) now))
+    put_one (put.Tag (record { collection = collection; key = key })) (run rest) (blocks rest) now))
 
 pub bodies : (body : Body) (key : List ℤ) → IsTree (outcome_of body key)
 bodies body key = behind (run body.write) (blocks body.read (begun key [])) (blocks body.write)

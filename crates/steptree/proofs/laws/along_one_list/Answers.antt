@@ -1,5 +1,5 @@
 use Rattle.std.proofs.Common.{◌∷◌, ◌++◌, ap, sym, ◌∙◌}
-use Rattle.steptree.specs.Bodies.{ending_of, Asks}
+use Rattle.steptree.specs.Bodies.{ending_of}
 use Rattle.steptree.proofs.Trees.{bodies}
 use Rattle.steptree.proofs.TreeLaws.{asks_in_order}
 use Rattle.steptree.proofs.laws.along_one_list.Goals as goal

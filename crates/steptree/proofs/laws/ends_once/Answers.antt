@@ -14,4 +14,4 @@ pub returns-clause-one : goal.returns-clause-one
 returns-clause-one c body key look one two is is' =
     let tree = bodies body key in
     ends_once look tree.0 is.reads is'.reads one two is.among is'.among
-        (sym (ap ending_of (tree.1 is.reads)) ∙ is.along) (sym (ap ending_of (tree.1 is'.reads)) ∙ is'.along) is.needs is'.needs
+    (sym (ap ending_of (tree.1 is.reads)) ∙ is.along) (sym (ap ending_of (tree.1 is'.reads)) ∙ is'.along) is.needs is'.needs
