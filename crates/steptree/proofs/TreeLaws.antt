@@ -72,7 +72,7 @@ module _ (look : Addr → Option ℤ) where
   same_end [] (read ∷ reads') end one two is is' = absurd (cc)
   same_end (read ∷ reads) reads' end one two is is' = absurd (cc)
 
-  -- a tree that has an answer goes on
+  -- a tree does not end in asking for what another list of found reads answers
   asks_no_more : (address : Addr) (next : ℤ → Tree) (read : Read) (reads : List Read) (one two : Ending) → Some (Asks address) ≡ Some one → IsLacking one
       → Found look read.0 read.1 → EndsAlong (Needs address next) (read ∷ reads) two → ⊥
   asks_no_more address next read reads one two is lacking found goes =
@@ -92,8 +92,8 @@ module _ (look : Addr → Option ℤ) where
       let here = of_its_item address next read reads one is in
       let here' = of_its_item address next read' reads' two is' in
       let values : read'.1 ≡ read.1 = value_same (ap look here) (ap look here') found.0 found'.0 in
-      ends_once (next read.1) reads reads' one two found.1 found'.1 (went_on address next read reads one is).1
-      (subst (λ (v : ℤ). EndsAlong (next v) reads' two) values (went_on address next read' reads' two is').1) lacking lacking'
+      let there = subst (λ (v : ℤ). EndsAlong (next v) reads' two) values (went_on address next read' reads' two is').1 in
+      ends_once (next read.1) reads reads' one two found.1 found'.1 (went_on address next read reads one is).1 there lacking lacking'
     where
       value_same : {a b c : Option ℤ} {x y : ℤ} → a ≡ c → b ≡ c → a ≡ Some x → b ≡ Some y → y ≡ x
       value_same p q r s = cc

@@ -1,4 +1,4 @@
--- What blocks ask for, as trees.
+-- Each block, from a state, is a tree of what it asks for.
 use Rattle.std.proofs.Common.{◌≡◌, ℕ, zero, suc, ℤ, pos, ◌+ℤ◌, Bool, true, false, List, [], ◌∷◌, ◌++◌, length, nat_lt, if◌then◌else◌, refl, ap, ◌∙◌}
 use Rattle.std.specs.Prelude.{Result, Ok, Err}
 use Rattle.std.specs.Int.{int_gap}
@@ -68,7 +68,7 @@ with_answer address next = (Needs address (λ value. (next value).0), λ reads i
 
 -- ---- one block behind another
 
--- with these trees in place of the ends
+-- a tree, with others in place of its ends
 abbrev grown : Tree → (State → Tree) → Tree
 grown (Ends state) next = next state
 grown (Fails kind) next = Fails kind
@@ -105,20 +105,15 @@ blocks End state = ended state
 blocks (Assign' slot value p rest) state =
     counted state (λ now. with_result (value_of value now.variables) now (λ v. blocks rest (assigned slot v now)))
 blocks (If' condition p first q second r rest) state =
-    counted state (λ now. with_result (value_of condition now.variables) now (λ v.
-    behind (run rest) (either (int_eq v (pos 0)) (blocks second now) (blocks first now)) (blocks rest)))
+    counted state (λ now. with_result (value_of condition now.variables) now (λ v. behind (run rest) (either (int_eq v (pos 0)) (blocks second now) (blocks first now)) (blocks rest)))
 blocks (For' slot from to p block q rest) state =
-    counted state (λ now. with_result (value_of from now.variables) now (λ a. with_result (value_of to now.variables) now (λ b.
-    behind (run rest) (all_turns (run block) (blocks block) slot (int_gap a b) a now) (blocks rest))))
+    counted state (λ now. with_result (value_of from now.variables) now (λ a. with_result (value_of to now.variables) now (λ b. behind (run rest) (all_turns (run block) (blocks block) slot (int_gap a b) a now) (blocks rest))))
 blocks (Get' slot collection components p rest) state =
-    counted state (λ now. with_result (values_of components now.variables) now (λ key.
-    with_answer (record { collection = collection; key = key }) (λ v. blocks rest (assigned slot v now))))
+    counted state (λ now. with_result (values_of components now.variables) now (λ key. with_answer (record { collection = collection; key = key }) (λ v. blocks rest (assigned slot v now))))
 blocks (PutItem' collection components value p rest) state =
-    counted state (λ now. with_result (values_of components now.variables) now (λ key. with_result (value_of value now.variables) now (λ v.
-    put_one (put.Item (record { collection = collection; key = key }) v) (run rest) (blocks rest) now)))
+    counted state (λ now. with_result (values_of components now.variables) now (λ key. with_result (value_of value now.variables) now (λ v. put_one (put.Item (record { collection = collection; key = key }) v) (run rest) (blocks rest) now)))
 blocks (PutTag' collection components p rest) state =
-    counted state (λ now. with_result (values_of components now.variables) now (λ key.
-    put_one (put.Tag (record { collection = collection; key = key })) (run rest) (blocks rest) now))
+    counted state (λ now. with_result (values_of components now.variables) now (λ key. put_one (put.Tag (record { collection = collection; key = key })) (run rest) (blocks rest) now))
 
 pub bodies : (body : Body) (key : List ℤ) → IsTree (outcome_of body key)
 bodies body key = behind (run body.write) (blocks body.read (begun key [])) (blocks body.write)
