@@ -1,0 +1,3 @@
+mod Addresses
+mod Trees
+mod TreeLaws
