@@ -6,6 +6,7 @@
 #![tactic(auto)]
 
 mod event;
+mod facts;
 mod fault;
 mod key;
 mod name;
@@ -14,9 +15,12 @@ mod producer;
 mod put;
 
 pub use event::Event;
+pub use facts::{environment_is_stated, example_of_facts, facts_go_on};
 pub use fault::FaultKind;
 pub use key::{Key, MAX_COMPONENTS};
 pub use name::{Addr, Inst, ItemCollection, StepCollection, Tag, TagCollection};
-pub use order::{addr_order, inst_order, key_order, orders_are_total, tag_order};
+pub use order::{
+    addr_order, inst_order, key_order, orders_are_total, producer_order, put_order, tag_order,
+};
 pub use producer::Producer;
 pub use put::{Put, Puts};
