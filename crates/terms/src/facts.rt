@@ -15,3 +15,15 @@ pub fn environment_is_stated()
 pub fn example_of_facts()
     ensures { FactsOfAnExample }
 {}
+
+#[cfg(test)]
+mod tests {
+    use super::*;
+
+    #[test]
+    fn laws_are_there() {
+        facts_go_on();
+        environment_is_stated();
+        example_of_facts();
+    }
+}
