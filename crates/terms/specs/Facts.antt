@@ -63,8 +63,20 @@ abbrev pub EnvironmentIsStated : Type 0
 EnvironmentIsStated = (events : List Event) (fact : Fact) → Contains (environment events) fact → Contains (facts events) fact
 
 -- the environment puts the item a with 0, and the instance i is done and put the item b with 1 and the tag t
-abbrev pub FactsOfAnExample : Type 0
-FactsOfAnExample =
+abbrev pub example : Addr → Addr → Inst → Tag → List Event
+example a b i t = EnvItem a (pos 0) ∷ Done i (put.Item b (pos 1) ∷ put.Tag t ∷ []) ∷ []
+
+-- what that states, in order
+abbrev pub FactsOfExample : Type 0
+FactsOfExample = (a b : Addr) (i : Inst) (t : Tag) → facts (example a b i t) ≡ item a (pos 0) Env ∷ done i ∷ item b (pos 1) (By i 0) ∷ tag t ∷ []
+
+-- of these the environment put the item a alone
+abbrev pub EnvironmentOfExample : Type 0
+EnvironmentOfExample = (a b : Addr) (i : Inst) (t : Tag) → environment (example a b i t) ≡ item a (pos 0) Env ∷ []
+
+-- each put has a number, a tag's too: an item behind an item and a tag has 2
+abbrev pub NumbersOfPuts : Type 0
+NumbersOfPuts =
     (a b : Addr) (i : Inst) (t : Tag) →
-    facts (EnvItem a (pos 0) ∷ Done i (put.Item b (pos 1) ∷ put.Tag t ∷ []) ∷ []) ≡
-    item a (pos 0) Env ∷ done i ∷ item b (pos 1) (By i 0) ∷ tag t ∷ []
+    event_facts (Done i (put.Item a (pos 0) ∷ put.Tag t ∷ put.Item b (pos 1) ∷ [])) ≡
+    done i ∷ item a (pos 0) (By i 0) ∷ tag t ∷ item b (pos 1) (By i 2) ∷ []

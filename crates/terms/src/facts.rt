@@ -1,4 +1,4 @@
-ghost use Rattle.terms.specs.Facts.{FactsGoOn, EnvironmentGoesOn, EnvironmentIsStated, FactsOfAnExample};
+ghost use Rattle.terms.specs.Facts.{FactsGoOn, EnvironmentGoesOn, EnvironmentIsStated, FactsOfExample, EnvironmentOfExample, NumbersOfPuts};
 
 /// A law, with nothing to run: what is stated by events, and by others behind them.
 pub fn facts_go_on()
@@ -11,9 +11,12 @@ pub fn environment_is_stated()
     ensures { EnvironmentIsStated }
 {}
 
-/// A worked example, with nothing to run: an item of the environment, and an instance that is done with two puts.
-pub fn example_of_facts()
-    ensures { FactsOfAnExample }
+/// Worked examples, with nothing to run: an item of the environment, and an instance that is done with two puts; and
+/// how the puts of an instance are numbered.
+pub fn examples_of_facts()
+    ensures all { FactsOfExample }
+    ensures environment { EnvironmentOfExample }
+    ensures numbers { NumbersOfPuts }
 {}
 
 #[cfg(test)]
@@ -24,6 +27,6 @@ mod tests {
     fn laws_are_there() {
         facts_go_on();
         environment_is_stated();
-        example_of_facts();
+        examples_of_facts();
     }
 }
