@@ -1,5 +1,5 @@
 -- What the environment put is part of what the events state.
-use Rattle.std.proofs.Common.{List, [], ◌∷◌, arith, inl, inr}
+use Rattle.std.proofs.Common.{[], ◌∷◌, arith, inl, inr}
 use Rattle.std.specs.List.{Contains}
 use Rattle.std.proofs.lemmas.List.Elements.{Contains-append_left, Contains-append_right, Contains-append_cases}
 use Rattle.terms.specs.declared.event.Event.{Event}
