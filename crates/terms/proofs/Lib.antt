@@ -1,3 +1,5 @@
 pub mod Components
 pub mod Numbered
 pub mod Places
+pub mod Stated
+pub mod TwoKinds

@@ -1,6 +1,6 @@
 -- What a store may hold, and what the events of a run state of it.
-use Rattle.std.specs.Prelude.{ℕ, ℤ, suc, List, [], ◌∷◌}
-use Rattle.std.specs.List.{flat_map}
+use Rattle.std.specs.Prelude.{◌≡◌, ℕ, ℤ, pos, suc, List, [], ◌∷◌, ◌++◌}
+use Rattle.std.specs.List.{flat_map, Contains}
 use Rattle.terms.specs.declared.name.Addr.{Addr}
 use Rattle.terms.specs.declared.name.Tag.{Tag}
 use Rattle.terms.specs.declared.name.Inst.{Inst}
@@ -49,3 +49,34 @@ facts events = flat_map event_facts events
 
 abbrev pub environment : List Event → List Fact
 environment events = flat_map environment_facts events
+
+-- events behind others state what those state, and then their own
+abbrev pub FactsGoOn : Type 0
+FactsGoOn = (first second : List Event) → facts (first ++ second) ≡ facts first ++ facts second
+
+-- and the environment put what it put in those, and then what it put in these
+abbrev pub EnvironmentGoesOn : Type 0
+EnvironmentGoesOn = (first second : List Event) → environment (first ++ second) ≡ environment first ++ environment second
+
+-- each fact that the environment put is one that the events state
+abbrev pub EnvironmentIsStated : Type 0
+EnvironmentIsStated = (events : List Event) (fact : Fact) → Contains (environment events) fact → Contains (facts events) fact
+
+-- the environment puts the item a with 0, and the instance i is done and put the item b with 1 and the tag t
+abbrev pub example : Addr → Addr → Inst → Tag → List Event
+example a b i t = EnvItem a (pos 0) ∷ Done i (put.Item b (pos 1) ∷ put.Tag t ∷ []) ∷ []
+
+-- what that states, in order
+abbrev pub FactsOfExample : Type 0
+FactsOfExample = (a b : Addr) (i : Inst) (t : Tag) → facts (example a b i t) ≡ item a (pos 0) Env ∷ done i ∷ item b (pos 1) (By i 0) ∷ tag t ∷ []
+
+-- of these the environment put the item a alone
+abbrev pub EnvironmentOfExample : Type 0
+EnvironmentOfExample = (a b : Addr) (i : Inst) (t : Tag) → environment (example a b i t) ≡ item a (pos 0) Env ∷ []
+
+-- each put has a number, a tag's too: an item behind an item and a tag has 2
+abbrev pub NumbersOfPuts : Type 0
+NumbersOfPuts =
+    (a b : Addr) (i : Inst) (t : Tag) →
+    event_facts (Done i (put.Item a (pos 0) ∷ put.Tag t ∷ put.Item b (pos 1) ∷ [])) ≡
+    done i ∷ item a (pos 0) (By i 0) ∷ tag t ∷ item b (pos 1) (By i 2) ∷ []

@@ -2,3 +2,4 @@ pub mod Facts
 pub mod Fault
 pub mod Key
 pub mod Name
+pub mod Put

@@ -31,3 +31,54 @@ impl Event {
         })
     }
 }
+
+#[cfg(test)]
+mod tests {
+    use super::*;
+    use crate::{ItemCollection, Key, Put, StepCollection, TagCollection};
+    use std::process::Abort;
+    use std::test::Fail;
+
+    // The clone holds what the event holds.
+    fn clone_is_equal<R: Abort + AllocGlobal>(rt: &R, event: &Event) -> Result<(), Fail> {
+        let clone = event.try_clone(rt.alloc())?;
+        match (event, &clone) {
+            (Event::EnvItem(address, value), Event::EnvItem(same, equal)) => {
+                assert_eq!(rt; (same, equal), (address, value));
+            }
+            (Event::EnvTag(tag), Event::EnvTag(same)) => assert_eq!(rt; same, tag),
+            (Event::Done(instance, puts), Event::Done(same, equal)) => {
+                assert_eq!(rt; same, instance);
+                assert_eq!(rt; equal.as_slice(), puts.as_slice());
+            }
+            (Event::Stopped(instance, kind), Event::Stopped(same, equal)) => {
+                assert_eq!(rt; (same, equal), (instance, kind));
+            }
+            _ => panic!(rt; "another kind of event"),
+        }
+        Ok(())
+    }
+
+    #[test]
+    fn clones_are_equal(rt: HostRuntime) -> Result<(), Fail> {
+        let key = Key::new(&[2]);
+        let address = Addr {
+            collection: ItemCollection(0),
+            key,
+        };
+        let tag = Tag {
+            collection: TagCollection(0),
+            key,
+        };
+        let instance = Inst {
+            collection: StepCollection(0),
+            key,
+        };
+        let puts = Puts::new([Put::Item(address, 1)].to_vec(rt.alloc())?);
+        clone_is_equal(&rt, &Event::Done(instance, puts))?;
+        clone_is_equal(&rt, &Event::EnvItem(address, 1))?;
+        clone_is_equal(&rt, &Event::EnvTag(tag))?;
+        clone_is_equal(&rt, &Event::Stopped(instance, FaultKind::Overflow))?;
+        Ok(())
+    }
+}

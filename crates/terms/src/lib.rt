@@ -1,11 +1,16 @@
-//! The names of Concurrent Collections: keys, addresses of items, tags and instances of steps, with their orders.
+//! The names of Concurrent Collections: keys, addresses of items, tags and instances of steps, with their orders. And
+//! what is committed under these names: events, with the puts of an instance or its fault.
 //!
-//! A `Key` is seen as the list of its components. Addresses, tags and instances are a collection's number and a key.
+//! A `Key` is seen as the list of its components, and `Puts` as the list of an instance's puts. Addresses, tags and
+//! instances are a collection's number and a key.
+//!
 //! The layer above stands on `cmp`: of keys it is `key_cmp`, and of the others `addr_cmp`, `tag_cmp` and `inst_cmp`,
-//! where the collection's number comes first. The functions of `order` carry the laws of the four.
+//! where the collection's number comes first, `put_cmp` and `producer_cmp`. The functions of `order` carry the laws of
+//! the six. What events state is `facts` of `specs/Facts.antt`, and the functions of `facts` carry its laws.
 #![tactic(auto)]
 
 mod event;
+mod facts;
 mod fault;
 mod key;
 mod name;
@@ -14,9 +19,12 @@ mod producer;
 mod put;
 
 pub use event::Event;
+pub use facts::{environment_is_stated, examples_of_facts, facts_go_on};
 pub use fault::FaultKind;
 pub use key::{Key, MAX_COMPONENTS};
 pub use name::{Addr, Inst, ItemCollection, StepCollection, Tag, TagCollection};
-pub use order::{addr_order, inst_order, key_order, orders_are_total, tag_order};
+pub use order::{
+    addr_order, inst_order, key_order, orders_are_total, producer_order, put_order, tag_order,
+};
 pub use producer::Producer;
 pub use put::{Put, Puts};

@@ -47,3 +47,45 @@ impl Puts {
         &self.puts
     }
 }
+
+#[cfg(test)]
+mod tests {
+    use super::*;
+    use crate::{ItemCollection, Key, TagCollection, put_order};
+    use std::test::Fail;
+
+    #[test]
+    fn puts_rise_and_come_back(rt: HostRuntime) -> Result<(), Fail> {
+        let item = |number, key| Addr {
+            collection: ItemCollection(number),
+            key,
+        };
+        let tag = |number, key| Tag {
+            collection: TagCollection(number),
+            key,
+        };
+        let (small, great) = (Key::new(&[0]), Key::new(&[i64::MAX]));
+        let rising = [
+            Put::Item(item(0, small), -1),
+            Put::Item(item(0, small), 0),
+            Put::Item(item(0, great), i64::MIN),
+            Put::Item(item(1, small), i64::MIN),
+            Put::Tag(tag(0, small)),
+            Put::Tag(tag(0, great)),
+            Put::Tag(tag(1, small)),
+        ];
+        for (i, a) in rising.iter().enumerate() {
+            for (j, b) in rising.iter().enumerate() {
+                assert_eq!(rt; put_order(a, b), i.cmp(&j), "at {i} and {j}");
+                assert_eq!(rt; a == b, i == j, "at {i} and {j}");
+            }
+        }
+
+        let puts = Puts::new(rising.to_vec(rt.alloc())?);
+        assert_eq!(rt; puts.as_slice(), rising.as_slice());
+        assert_eq!(rt; puts.into_vec().as_slice(), rising.as_slice());
+        let none = Puts::new(Vec::new(rt.alloc()));
+        assert_eq!(rt; none.as_slice().len(), 0);
+        Ok(())
+    }
+}

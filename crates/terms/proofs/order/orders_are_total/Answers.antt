@@ -1,7 +1,5 @@
-use Rattle.terms.specs.declared.name.Addr.{Addr}
-use Rattle.terms.specs.declared.name.Tag.{Tag}
-use Rattle.terms.specs.declared.name.Inst.{Inst}
-use Rattle.terms.proofs.Numbered.{keys_total, keys_tie, numbered_total, numbered_tie}
+use Rattle.terms.proofs.Numbered.{keys_total, keys_tie, addresses_total, addresses_tie, tags_total, tags_tie, instances_total, instances_tie}
+use Rattle.terms.proofs.TwoKinds.{puts_total, puts_tie, producers_total, producers_tie}
 use Rattle.terms.proofs.order.orders_are_total.Goals as goal
 
 pub returns-clause-keys : goal.returns-clause-keys
@@ -11,22 +9,31 @@ pub returns-clause-keys_tie : goal.returns-clause-keys_tie
 returns-clause-keys_tie c = keys_tie
 
 pub returns-clause-addresses : goal.returns-clause-addresses
-returns-clause-addresses c = numbered_total (λ (a : Addr). a.collection.0) (λ a. a.key)
+returns-clause-addresses c = addresses_total
 
 pub returns-clause-addresses_tie : goal.returns-clause-addresses_tie
-returns-clause-addresses_tie c =
-    numbered_tie (λ (a : Addr). a.collection.0) (λ a. a.key) (λ a b number key. λ i. record { collection = record { 0 = number i }; key = key i })
+returns-clause-addresses_tie c = addresses_tie
 
 pub returns-clause-tags : goal.returns-clause-tags
-returns-clause-tags c = numbered_total (λ (a : Tag). a.collection.0) (λ a. a.key)
+returns-clause-tags c = tags_total
 
 pub returns-clause-tags_tie : goal.returns-clause-tags_tie
-returns-clause-tags_tie c =
-    numbered_tie (λ (a : Tag). a.collection.0) (λ a. a.key) (λ a b number key. λ i. record { collection = record { 0 = number i }; key = key i })
+returns-clause-tags_tie c = tags_tie
 
 pub returns-clause-instances : goal.returns-clause-instances
-returns-clause-instances c = numbered_total (λ (a : Inst). a.collection.0) (λ a. a.key)
+returns-clause-instances c = instances_total
 
 pub returns-clause-instances_tie : goal.returns-clause-instances_tie
-returns-clause-instances_tie c =
-    numbered_tie (λ (a : Inst). a.collection.0) (λ a. a.key) (λ a b number key. λ i. record { collection = record { 0 = number i }; key = key i })
+returns-clause-instances_tie c = instances_tie
+
+pub returns-clause-puts : goal.returns-clause-puts
+returns-clause-puts c = puts_total
+
+pub returns-clause-puts_tie : goal.returns-clause-puts_tie
+returns-clause-puts_tie c = puts_tie
+
+pub returns-clause-producers : goal.returns-clause-producers
+returns-clause-producers c = producers_total
+
+pub returns-clause-producers_tie : goal.returns-clause-producers_tie
+returns-clause-producers_tie c = producers_tie

@@ -1,0 +1,32 @@
+ghost use Rattle.terms.specs.Facts.{FactsGoOn, EnvironmentGoesOn, EnvironmentIsStated, FactsOfExample, EnvironmentOfExample, NumbersOfPuts};
+
+/// A law, with nothing to run: what is stated by events, and by others behind them.
+pub fn facts_go_on()
+    ensures all { FactsGoOn }
+    ensures environment { EnvironmentGoesOn }
+{}
+
+/// A law, with nothing to run: what the environment put is part of what the events state.
+pub fn environment_is_stated()
+    ensures { EnvironmentIsStated }
+{}
+
+/// Worked examples, with nothing to run: an item of the environment, and an instance that is done with two puts; and
+/// how the puts of an instance are numbered.
+pub fn examples_of_facts()
+    ensures all { FactsOfExample }
+    ensures environment { EnvironmentOfExample }
+    ensures numbers { NumbersOfPuts }
+{}
+
+#[cfg(test)]
+mod tests {
+    use super::*;
+
+    #[test]
+    fn laws_are_there() {
+        facts_go_on();
+        environment_is_stated();
+        examples_of_facts();
+    }
+}
