@@ -1,4 +1,4 @@
-pub mod Addresses
+pub mod Answered
 pub mod Given
 pub mod Leads
 pub mod Unwound

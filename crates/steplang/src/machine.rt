@@ -199,7 +199,7 @@ impl<'a> Machine<'a> {
     }
 
     // Asks for an item, whose value a variable is to get.
-    #[tactic(auto, using(crate::proofs::Unwound::unwound_faults, crate::proofs::Unwound::unwound_asks, crate::proofs::Addresses::same_itself))]
+    #[tactic(auto, using(crate::proofs::Unwound::unwound_faults, crate::proofs::Unwound::unwound_asks, crate::proofs::Answered::answers))]
     fn get(
         &mut self,
         variable: Slot,

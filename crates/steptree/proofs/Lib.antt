@@ -1,3 +1,2 @@
-mod Addresses
 mod Trees
 mod TreeLaws

@@ -2,10 +2,10 @@
 use Rattle.std.proofs.Common.{◌≡◌, ℤ, Bool, true, false, List, [], ◌∷◌, ◌++◌, if◌then◌else◌, Option, Some, None, refl, sym, ap, subst, ◌∙◌}
 use Rattle.std.specs.List.{AllByRecursion}
 use Rattle.terms.specs.declared.name.Addr.{Addr}
-use Rattle.steptree.specs.Run.{Read, Outcome, strays, is_same}
+use Rattle.steptree.specs.Run.{Read, Outcome, strays}
 use Rattle.steptree.specs.Bodies.{Ending, Gives, Faults, Asks, used_up, ending_of}
 use Rattle.steptree.specs.Laws.{Found}
-use Rattle.steptree.proofs.Addresses.{same_itself, same_address}
+use Rattle.terms.specs.Same.{is_same, same_itself, same_address}
 use Rattle.steptree.proofs.Trees.{Tree, Ends, Fails, Needs, led}
 
 abbrev pub EndsAlong : Tree → List Read → Ending → Type 0

@@ -12,8 +12,9 @@ use Rattle.steptree.specs.declared.block.Block.{Block}
 use Rattle.steptree.specs.declared.block.Block.TheVariants.{End, Assign', If', For', Get', PutItem', PutTag'}
 use Rattle.steptree.specs.declared.body.Body.{Body}
 use Rattle.steptree.specs.declared.body.TheConstants.{BUDGET, MOST_PUTS}
+use Rattle.terms.specs.Same.{is_same}
 use Rattle.steptree.specs.Values.{value_of, values_of}
-use Rattle.steptree.specs.Run.{Read, State, Outcome, ends, faults, strays, followed, given, assigned, is_same, answered, putting, turns, run}
+use Rattle.steptree.specs.Run.{Read, State, Outcome, ends, faults, strays, followed, given, assigned, answered, putting, turns, run}
 use Rattle.steptree.specs.Bodies.{begun, outcome_of}
 
 -- it ends, is at fault, or asks for an item and goes on by its value

@@ -22,6 +22,11 @@ GrowthKeeps = (body : Body) (key : List ℤ) (some more : Addr → ℤ → Bool)
 abbrev pub Found : (Addr → Option ℤ) → Addr → ℤ → Type 0
 Found look address value = look address ≡ Some value
 
+-- what a body gives over a look-up, it gives over one that has found all of that and more; and so with its faults
+abbrev pub LookUpGrowthKeeps : Type 0
+LookUpGrowthKeeps = (body : Body) (key : List ℤ) (some more : Addr → Option ℤ) (ending : Ending) → ((address : Addr) (value : ℤ) → Found some address value → Found more address value)
+    → ((address : Addr) → ending ≢ Asks address) → Means body key (Found some) ending → Means body key (Found more) ending
+
 -- over a look-up a body ends in some way
 abbrev pub LookUpEnds : Type 0
 LookUpEnds = (body : Body) (key : List ℤ) (look : Addr → Option ℤ) → (ending : Ending) × Means body key (Found look) ending

@@ -1,14 +1,13 @@
 -- What a block does, from one state of its instance to the next.
-use Rattle.std.specs.Prelude.{ℕ, zero, suc, ℤ, pos, ◌+ℤ◌, Bool, List, [], ◌∷◌, ◌++◌, length, nat_lt, if◌then◌else◌, slice_set, Result, Ok, Err}
+use Rattle.std.specs.Prelude.{ℕ, zero, suc, ℤ, pos, ◌+ℤ◌, List, [], ◌∷◌, ◌++◌, length, nat_lt, if◌then◌else◌, slice_set, Result, Ok, Err}
 use Rattle.std.specs.Int.{int_gap}
-use Rattle.std.specs.Ordering.{int_eq, is_eq}
+use Rattle.std.specs.Ordering.{int_eq}
 use Rattle.terms.specs.declared.name.Addr.{Addr}
 use Rattle.terms.specs.declared.put.Put.{Put}
 use Rattle.terms.specs.declared.put.Put.TheVariants as put
 use Rattle.terms.specs.declared.fault.FaultKind.{FaultKind}
 use Rattle.terms.specs.declared.fault.FaultKind.TheVariants.{Budget, TooManyPuts}
-use Rattle.terms.specs.Name.{addr_cmp}
-use Rattle.steptree.specs.declared.expression.Expression.{Expression}
+use Rattle.terms.specs.Same.{is_same}
 use Rattle.steptree.specs.declared.block.Block.{Block}
 use Rattle.steptree.specs.declared.block.Block.TheVariants.{End, Assign', If', For', Get', PutItem', PutTag'}
 use Rattle.steptree.specs.declared.body.TheConstants.{BUDGET, MOST_PUTS}
@@ -52,9 +51,6 @@ given (Err kind) state next = faults kind state.reads
 
 abbrev pub assigned : ℕ → ℤ → State → State
 assigned slot value state = record state { variables = slice_set state.variables slot value }
-
-abbrev pub is_same : Addr → Addr → Bool
-is_same a b = is_eq (addr_cmp a b)
 
 -- the next read is of this item
 abbrev pub answered : Addr → List Read → (ℤ → List Read → Outcome) → Outcome

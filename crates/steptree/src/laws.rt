@@ -1,5 +1,5 @@
 //! The laws of what bodies mean. Each is a contract, with nothing to run.
-ghost use Rattle.steptree.specs.Laws.{OneEnding, AsksInOrder, GrowthKeeps, LookUpEnds, LookUpEndsOnce};
+ghost use Rattle.steptree.specs.Laws.{OneEnding, AsksInOrder, GrowthKeeps, LookUpGrowthKeeps, LookUpEnds, LookUpEndsOnce};
 
 /// Along one list of reads a body ends in one way at most, and it asks for them one after another.
 pub fn along_one_list()
@@ -9,7 +9,8 @@ pub fn along_one_list()
 
 /// What a body gives, and its faults, stay where the items grow.
 pub fn growth_keeps()
-    ensures { GrowthKeeps }
+    ensures pairs { GrowthKeeps }
+    ensures look_up { LookUpGrowthKeeps }
 {}
 
 /// Over items of which each address has one value at most, a body ends in exactly one way.

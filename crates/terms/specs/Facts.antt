@@ -36,6 +36,13 @@ event_facts (EnvTag name) = tag name ∷ []
 event_facts (Done instance puts) = done instance ∷ put_facts instance 0 puts
 event_facts (Stopped instance kind) = bad instance kind ∷ []
 
+-- an instance that is done
+abbrev pub IsDone : Event → Type 0
+IsDone (EnvItem address value) = ⊥
+IsDone (EnvTag name) = ⊥
+IsDone (Done instance puts) = Unit {0}
+IsDone (Stopped instance kind) = ⊥
+
 -- what of that the environment put
 abbrev pub environment_facts : Event → List Fact
 environment_facts (EnvItem address value) = item address value Env ∷ []

@@ -3,3 +3,4 @@ pub mod Fault
 pub mod Key
 pub mod Name
 pub mod Put
+pub mod Same

@@ -1,4 +1,5 @@
-ghost use Rattle.std.specs.Prelude.{◌≡◌, IfOk};
+ghost use Rattle.std.specs.Prelude.{◌≡◌, IfOk, OnErr};
+ghost use Rattle.terms.specs.Facts.{IsDone};
 
 use crate::{Addr, FaultKind, Inst, Puts, Tag};
 use std::alloc::{AllocError, Global};
@@ -19,7 +20,8 @@ pub enum Event {
 impl Event {
     /// An equal event. It is the only call of this crate that takes memory: for the puts of `Done`, and for no other.
     pub fn try_clone(&self, alloc: Global) -> Result<Event, AllocError>
-        ensures { IfOk result (λ event. event ≡ self.now) }
+        ensures ok { IfOk result (λ event. event ≡ self.now) }
+        ensures refused { OnErr result (IsDone self.now) }
     {
         Ok(match self {
             Event::EnvItem(address, value) => Event::EnvItem(*address, *value),
