@@ -1,5 +1,5 @@
 pub mod Answered
-pub mod Given
+pub mod Valued
 pub mod Leads
 pub mod Unwound
 pub mod Values

@@ -2,4 +2,9 @@
 #![tactic(auto)]
 
 mod machine;
+mod outcome;
+mod run;
 mod value;
+
+pub use outcome::{Bad, Given, Parked, Reads, Turn};
+pub use run::Run;

@@ -1,16 +1,18 @@
-ghost use Rattle.std.specs.Prelude.{◌≡◌, ◌<ℤ◌, List, ℤ, pos, suc, nat_lt, if◌then◌else◌, IfOk, OnOk};
+ghost use Rattle.std.specs.Prelude.{◌≡◌, ◌≢◌, ◌<ℤ◌, List, ℤ, pos, suc, nat_lt, if◌then◌else◌, IfOk, OnOk};
 ghost use Rattle.std.specs.Ordering.{int_eq};
 ghost use Rattle.std.specs.Int.{int_gap};
 ghost use Rattle.steptree.specs.declared.body.TheConstants.{BUDGET};
 ghost use Rattle.terms.specs.declared.put.Put.TheVariants as put;
 ghost use Rattle.steptree.specs.Run.{Read, ends, assigned, counting, given, followed, answered, putting, turns, run};
 ghost use Rattle.steptree.specs.Values.{value_of, values_of};
+ghost use Rattle.steptree.specs.Bodies.{outcome_of};
+ghost use Rattle.steplang.specs.declared.machine.Step.TheVariants.{On};
 ghost use Rattle.steplang.specs.Machine.{state_of, unwound, outcome_from, LeadsFrom};
 
 use crate::value::{Variables, evaluate, evaluate_key};
-use std::alloc::AllocError;
-use steptree::{BUDGET, Block, Components, Expression, MOST_PUTS, Slot};
-use terms::{Addr, FaultKind, ItemCollection, Put, Tag, TagCollection};
+use std::alloc::{AllocError, Global};
+use steptree::{BUDGET, Block, Body, Components, Expression, MOST_NAMES, MOST_PUTS, Slot};
+use terms::{Addr, FaultKind, ItemCollection, Key, Put, Tag, TagCollection};
 
 /// What is still to be done behind a block.
 #[derive(Clone, Copy)]
@@ -49,6 +51,45 @@ pub(crate) struct Machine<'a> {
 }
 
 impl<'a> Machine<'a> {
+    /// An instance with this key before the first statement of its body.
+    pub(crate) fn start(alloc: Global, body: &'a Body, key: Key) -> Result<Self, AllocError>
+        ensures { IfOk result (λ machine. (reads : List Read) → outcome_of body.now key reads ≡ outcome_from machine reads) }
+    {
+        let mut variables = [0; MOST_NAMES];
+        let components = key.components();
+        variables[..components.len()].copy_from_slice(components);
+        let mut frames = Vec::new(alloc);
+        frames.reserve(1)?;
+        frames.push_reserved(Frame::Rest(&body.write));
+        Ok(Machine {
+            variables,
+            counted: 0,
+            puts: Vec::new(alloc),
+            frames,
+            block: &body.read,
+        })
+    }
+
+    /// Gives the variable that waits for an item its value.
+    pub(crate) fn answer(&mut self, variable: Slot, value: i64)
+        ensures { (reads : List Read) → outcome_from self.new reads ≡ unwound self.old.frames.items (run self.old.block.now (assigned variable value (state_of self.old reads))) }
+    {
+        self.variables[variable.place()] = value;
+    }
+
+    /// Goes on until an item is asked for, or to the end.
+    pub(crate) fn go(&mut self) -> Result<Step, AllocError>
+        ensures leads { IfOk result (λ step. LeadsFrom (outcome_from self.old) step self.new) }
+        ensures stops { IfOk result (λ step. step ≢ On) }
+    {
+        loop {
+            match self.step()? {
+                Step::On => {}
+                stopped => return Ok(stopped),
+            }
+        }
+    }
+
     // Counts one statement or turn more, or answers no where the budget is used up.
     fn count(&mut self) -> bool
         ensures counted { result ≡ nat_lt self.old.counted BUDGET }

@@ -6,6 +6,7 @@
 
 mod block;
 mod body;
+mod checked;
 mod components;
 mod expression;
 mod laws;
@@ -13,6 +14,7 @@ mod slot;
 
 pub use block::Block;
 pub use body::{BUDGET, Body, MOST_PUTS};
+pub use checked::Checked;
 pub use components::Components;
 pub use expression::{Expression, Operator};
 pub use laws::{along_one_list, ends_once, growth_keeps};

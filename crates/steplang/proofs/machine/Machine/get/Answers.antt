@@ -6,7 +6,7 @@ use Rattle.steptree.specs.Values.{values_of}
 use Rattle.steplang.specs.Machine.{state_of, unwound}
 use Rattle.steplang.proofs.Unwound.{unwound_asks}
 use Rattle.steplang.proofs.Answered.{answers}
-use Rattle.steplang.proofs.Given.{given_ok}
+use Rattle.steplang.proofs.Valued.{given_ok}
 use Rattle.steplang.proofs.machine.Machine.get.Goals as goal
 
 pub returns-in-Ok : goal.returns-in-Ok

@@ -1,0 +1,78 @@
+ghost use Rattle.std.specs.Prelude.{◌≡◌};
+ghost use Rattle.steptree.specs.Bodies.{Along, Gives, Faults, Asks};
+
+use std::marker::Model;
+use steptree::Checked;
+use terms::{Addr, FaultKind, Inst, Puts};
+
+/// The items that an instance read, in order, each an address and its value.
+#[derive(Drop)]
+pub struct Reads {
+    reads: Vec<(Addr, i64)>,
+}
+
+impl Model for Reads {
+    ghost use Rattle.std.specs.Prelude.{List};
+    ghost use Rattle.steptree.specs.Run.{Read};
+
+    ghost Value = { List Read };
+
+    ghost view = { λ r. r.reads.items };
+}
+
+impl Reads {
+    /// These reads. It takes no memory.
+    pub(crate) fn new(reads: Vec<(Addr, i64)>) -> Self
+        ensures { result ≡ reads.items }
+    {
+        Reads { reads }
+    }
+
+    /// The reads, in order.
+    pub fn as_slice(&self) -> &[(Addr, i64)]
+        ensures { result.now ≡ self.now }
+    {
+        &self.reads
+    }
+}
+
+/// An instance whose body gave puts. Along its reads that is what its body means.
+#[derive(Drop)]
+pub struct Given<'a> {
+    pub(crate) checked: &'a Checked,
+    pub(crate) instance: Inst,
+    pub(crate) reads: Reads,
+    pub(crate) puts: Puts,
+    ghost along: { Along checked.now.body instance.key reads (Gives puts) },
+}
+
+/// An instance whose body is at fault. Along its reads that is what its body means.
+#[derive(Drop)]
+pub struct Bad<'a> {
+    pub(crate) checked: &'a Checked,
+    pub(crate) instance: Inst,
+    pub(crate) reads: Reads,
+    pub(crate) kind: FaultKind,
+    ghost along: { Along checked.now.body instance.key reads (Faults kind) },
+}
+
+/// An instance whose body asks for an item. Along its reads that is what its body means.
+#[derive(Drop)]
+pub struct Parked<'a> {
+    pub(crate) checked: &'a Checked,
+    pub(crate) instance: Inst,
+    pub(crate) reads: Reads,
+    pub(crate) address: Addr,
+    ghost along: { Along checked.now.body instance.key reads (Asks address) },
+}
+
+/// What a run came to.
+#[derive(Drop)]
+pub enum Turn<'a> {
+    /// It asks for an item.
+    Need(Addr),
+    /// It gave puts.
+    Gave(Given<'a>),
+    /// It is at fault.
+    Fault(Bad<'a>),
+}

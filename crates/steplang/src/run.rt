@@ -1,0 +1,80 @@
+ghost use Rattle.steplang.specs.Stages.{IsReady, IsWaiting};
+
+use crate::machine::{Machine, Step};
+use crate::outcome::{Bad, Given, Parked, Reads, Turn};
+use std::alloc::{AllocError, Global};
+use std::mem;
+use steptree::{Checked, Slot};
+use terms::{Addr, Inst, Puts};
+
+/// How far a run is.
+#[derive(Clone, Copy)]
+pub(crate) enum Stage {
+    /// Nothing was done yet.
+    Ready,
+    /// An item is asked for, whose value is for this variable.
+    Waits(Addr, Slot),
+    /// It came to its end.
+    Over,
+    /// Memory was refused.
+    Refused,
+}
+
+/// The body of an instance while it runs. It stops at each item that the body gets, and goes on with its value.
+#[derive(Drop)]
+pub struct Run<'a> {
+    alloc: Global,
+    checked: &'a Checked,
+    instance: Inst,
+    machine: Machine<'a>,
+    reads: Vec<(Addr, i64)>,
+    stage: Stage,
+    ghost ready: { IsReady stage checked.now.body instance.key reads.items machine },
+    ghost waiting: { IsWaiting stage checked.now.body instance.key reads.items machine },
+}
+
+impl<'a> Run<'a> {
+    ghost use Rattle.std.specs.Prelude.{◌≡◌, [], IfOk, OnOk, OnErr, IsErr, IsSome, Some};
+    ghost use Rattle.steplang.specs.Stages.{IsDue, pending_of, reads_with};
+    ghost use Rattle.steplang.specs.Turns.{Tells};
+    ghost use Rattle.steplang.specs.declared.run.Stage.TheVariants.{Ready, Waits, Refused};
+
+    /// A run of this step for an instance, whose key has as many components as the step has parameters.
+    pub fn start(alloc: Global, checked: &'a Checked, instance: Inst) -> Result<Run<'a>, AllocError>
+        ensures checked { IfOk result (λ run. run.checked ≡ checked) }
+        ensures instance { IfOk result (λ run. run.instance ≡ instance) }
+        ensures fresh { IfOk result (λ run. (run.stage ≡ Ready) × (run.reads.items ≡ [])) }
+    {
+        Ok(Run {
+            alloc,
+            checked,
+            instance,
+            machine: Machine::start(alloc, &checked.body, instance.key)?,
+            reads: Vec::new(alloc),
+            stage: Stage::Ready,
+        })
+    }
+
+    /// Goes on: at first with `None`, and while an item is asked for with its value. It may not be called behind an end.
+    ///
+    /// After a refusal of memory each further call is refused too.
+    pub fn advance(&mut self, answer: Option<i64>) -> Result<Turn<'a>, AllocError>
+        requires { IsDue self.old.stage answer }
+        ensures turn { IfOk result (λ turn. Tells turn self.old.checked self.old.instance (reads_with self.old.reads.items self.old.stage answer) self.new) }
+        ensures same { (self.new.checked ≡ self.old.checked) × (self.new.instance ≡ self.old.instance) }
+        ensures refused { OnErr result (self.new.stage ≡ Refused) }
+        ensures stays { self.old.stage ≡ Refused → IsErr result }
+    {
+        Err(AllocError)
+    }
+
+    /// The item that is asked for.
+    pub fn pending(&self) -> Option<Addr>
+        ensures { result ≡ pending_of self.now.stage }
+    {
+        match self.stage {
+            Stage::Waits(address, _) => Some(address),
+            _ => None,
+        }
+    }
+}
