@@ -1,4 +1,9 @@
 pub mod Bodies
+pub mod CheckFaults
 pub mod Laws
+pub mod Limits
+pub mod Names
+pub mod Resolved
 pub mod Run
+pub mod Sheet
 pub mod Values

@@ -75,13 +75,13 @@ run (If' condition _ first _ second _ rest) state =
     counting state (λ now. given (value_of condition now.variables) now (λ v. followed (if int_eq v (pos 0) then run second now else run first now) (run rest)))
 run (For' slot from to _ block _ rest) state =
     counting state (λ now. given (value_of from now.variables) now (λ a. given (value_of to now.variables) now (λ b.
-        followed (turns (run block) slot a (int_gap a b) now) (run rest))))
+    followed (turns (run block) slot a (int_gap a b) now) (run rest))))
 run (Get' slot collection components _ rest) state =
     counting state (λ now. given (values_of components now.variables) now (λ key.
-        answered (record { collection = collection; key = key }) now.reads (λ v reads. run rest (assigned slot v (record now { reads = reads })))))
+    answered (record { collection = collection; key = key }) now.reads (λ v reads. run rest (assigned slot v (record now { reads = reads })))))
 run (PutItem' collection components value _ rest) state =
     counting state (λ now. given (values_of components now.variables) now (λ key. given (value_of value now.variables) now (λ v.
-        putting (put.Item (record { collection = collection; key = key }) v) now (run rest))))
+    putting (put.Item (record { collection = collection; key = key }) v) now (run rest))))
 run (PutTag' collection components _ rest) state =
     counting state (λ now. given (values_of components now.variables) now (λ key.
-        putting (put.Tag (record { collection = collection; key = key })) now (run rest)))
+    putting (put.Tag (record { collection = collection; key = key })) now (run rest)))

@@ -2,7 +2,6 @@ use crate::{Components, Expression, Slot};
 use terms::{ItemCollection, TagCollection};
 
 /// The statements of a block: the first, and in its `rest` those behind it.
-#[derive(Drop)]
 pub enum Block {
     /// No statement.
     End,
@@ -47,4 +46,50 @@ pub enum Block {
         components: Components,
         rest: Box<Block>,
     },
+}
+
+impl Drop for Block {
+    // A long block is let go statement by statement.
+    fn drop(mut self) {
+        loop {
+            match self {
+                Block::End => return,
+                Block::Assign {
+                    variable: _,
+                    value: _,
+                    rest,
+                } => self = Box::into_inner(rest),
+                Block::If {
+                    condition: _,
+                    first: _,
+                    second: _,
+                    rest,
+                } => self = Box::into_inner(rest),
+                Block::For {
+                    variable: _,
+                    from: _,
+                    to: _,
+                    block: _,
+                    rest,
+                } => self = Box::into_inner(rest),
+                Block::Get {
+                    variable: _,
+                    collection: _,
+                    components: _,
+                    rest,
+                } => self = Box::into_inner(rest),
+                Block::PutItem {
+                    collection: _,
+                    components: _,
+                    value: _,
+                    rest,
+                } => self = Box::into_inner(rest),
+                Block::PutTag {
+                    collection: _,
+                    components: _,
+                    rest,
+                } => self = Box::into_inner(rest),
+            }
+        }
+    }
 }

