@@ -53,6 +53,7 @@ impl MemDisk {
     pub fn fail_call(&mut self, number: u64)
         ensures files { (side : Side) → files_of self.new side ≡ files_of self.old side }
         ensures calls { self.new.history.calls.items ≡ self.old.history.calls.items }
+        ensures number { self.new.history.until_failure ≡ number }
     {
         self.history.fail(number);
     }
