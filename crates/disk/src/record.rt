@@ -1,4 +1,5 @@
 ghost use Rattle.std.specs.Prelude.{◌≡◌, ◌⊎◌, ◌<◌, ◌-◌, ◌++◌, ◌∷◌, [], true, false, vec_len, vec_capacity, IfOk, IfErr, IsErrOf};
+ghost use Rattle.disk.specs.declared.error.DiskError.TheVariants.{Device, NoMemory};
 
 use crate::{DiskError, Side};
 use std::alloc::Global;
