@@ -1,5 +1,6 @@
 pub mod CellLemmas
 mod ClapLemmas
+pub mod FirstMoments
 mod Histories
 mod NumberLemmas
 pub mod Numbers
