@@ -28,7 +28,7 @@ is_few status few = grind (arith, nat_tests)
 -- ---- what a reply says of file A
 
 -- file A is not empty where it holds a cell
-keeps_one : (content : List ℕ) (cells : Cells) (cell : ℤ × ℤ) → HoldsCells content (cells ++ cell ∷ []) → KeepsCells content (cells ++ cell ∷ [])
+pub keeps_one : (content : List ℕ) (cells : Cells) (cell : ℤ × ℤ) → HoldsCells content (cells ++ cell ∷ []) → KeepsCells content (cells ++ cell ∷ [])
 keeps_one content cells cell holds = elim holds [
   | inl none ↦ absurd (omega (arith, ap length none.1, length-append cells (cell ∷ [])))
   | inr keeps ↦ keeps
@@ -116,6 +116,13 @@ module _ {D : Type 0} (files : D → Side → File) where
 
     -- ---- one round
 
+    -- a crash behind a reply about cells leaves what reads gave then
+    pub told_left : (round : Round D) → IsRound files moment left_since failures round → round.told ≡ true → status_of round.reply ≤ 1 → (contents : Contents) → MayLeaveNow (files round.crashed) contents
+        → contents A ≡ (files round.after A).content
+    told_left round is told few contents left =
+        let now = subst (λ (b : Bool). MatchBool b (MayLeaveNow (files round.after) contents) (left_since round.after (moment round.before) contents)) told (is.crash contents left) in
+        settled_only (files round.after A).content (contents A) (subst (λ (f : File). MayLeave f.durable (contents A)) (is.comes.durable refl few) (now A))
+
     module _ (reads : (disk : D) (side : Side) → MayLeave (files disk side).durable (files disk side).content)
         (counts : (disk : D) (t : ℕ) (contents : Contents) → t ≤ moment disk → MayLeaveNow (files disk) contents → left_since disk t contents) where
       -- what a crash in a command leaves of file A: what one might have left before, or what was read with what is put
@@ -150,9 +157,7 @@ module _ {D : Type 0} (files : D → Side → File) where
       answered_left round earlier first is answered old read held contents left =
           let parts = and_parts round.told (nat_le (status_of round.reply) 1) answered in
           let few = is_few (status_of round.reply) parts.1 in
-          let now : MayLeaveNow (files round.after) contents =
-              subst (λ (b : Bool). MatchBool b (MayLeaveNow (files round.after) contents) (left_since round.after (moment round.before) contents)) parts.0 (is.crash contents left) in
-          let here = settled_only (files round.after A).content (contents A) (subst (λ (f : File). MayLeave f.durable (contents A)) (is.comes.durable refl few) (now A)) in
+          let here = told_left round is parts.0 few contents left in
           let kept = answer_keeps round.command round.reply old _ _ few read ((is.comes.settles refl).by_cells old (inr read)) in (
             kept.0,
             subst (λ (l : List ℕ). KeepsCells l kept.0) (sym here) kept.1,

@@ -1,7 +1,7 @@
 pub mod CellLemmas
 mod ClapLemmas
 pub mod FirstMoments
-mod Histories
+pub mod Histories
 mod NumberLemmas
 pub mod Numbers
 pub mod OpenMoments
@@ -12,3 +12,4 @@ pub mod PutMoments
 mod ReadLemmas
 pub mod Replies
 mod RowLemmas
+pub mod ToldRounds

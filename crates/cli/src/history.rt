@@ -11,3 +11,6 @@ pub fn histories_keep<D: Disk>()
     ensures begins { IsTrue D.is_honest → FirstPutBegins D.files D.moment D.left_since D.failures }
     ensures stays { AnswersStay D.files }
 {}
+
+#[cfg(test)]
+mod tests;
