@@ -1,5 +1,5 @@
 -- What is left after a list of rounds.
-use Rattle.std.proofs.Common.{◌≡◌, ◌≢◌, ◌⊎◌, inl, inr, ⊎_elim, ℕ, ℤ, ◌≤◌, Bool, true, false, List, [], ◌∷◌, ◌++◌, length, length-append, append_assoc, refl, sym, ap, subst, ◌∙◌, arith}
+use Rattle.std.proofs.Common.{◌≡◌, ◌⊎◌, inl, inr, ⊎_elim, ℕ, ℤ, ◌≤◌, Bool, true, false, List, [], ◌∷◌, ◌++◌, length, length-append, append_assoc, refl, sym, ap, subst, ◌∙◌, arith}
 use Rattle.std.specs.Prelude.{MatchBool, nat_le}
 use Rattle.std.proofs.lemmas.Bool.{cases_Bool, and_parts}
 use Rattle.std.proofs.lemmas.Bool.Decides.{nat_tests}
@@ -16,7 +16,7 @@ use Rattle.cli.specs.declared.reply.Reply.TheVariants as said
 use Rattle.cli.specs.Reply.{status_of}
 use Rattle.cli.specs.Cells.{Cells, KeepsCells, HoldsCells}
 use Rattle.cli.specs.Answers.{Answers, CommandLeaves}
-use Rattle.cli.specs.Rounds.{Round, IsRound, IsBegun, Adds, Leaves, has_answered, ReadIn, MayHold, HistoriesKeep, FirstPutBegins, AnswersStay}
+use Rattle.cli.specs.Rounds.{Round, IsRound, Adds, Leaves, has_answered, ReadIn, MayHold, HistoriesKeep, FirstPutBegins, AnswersStay}
 
 no_more : (cells : Cells) → cells ++ [] ≡ cells
 no_more [] = refl
