@@ -1,6 +1,8 @@
 -- What is left after a list of rounds.
-use Rattle.std.proofs.Common.{◌≡◌, ◌≢◌, ◌⊎◌, inl, inr, ℕ, ℤ, List, [], ◌∷◌, ◌++◌, length, length-append, refl, sym, ap, subst, arith}
-use Rattle.std.specs.Prelude.{Option, Some, None}
+use Rattle.std.proofs.Common.{◌≡◌, ◌⊎◌, inl, inr, ⊎_elim, ℕ, ℤ, ◌≤◌, Bool, true, false, List, [], ◌∷◌, ◌++◌, length, length-append, append_assoc, refl, sym, ap, subst, ◌∙◌, arith}
+use Rattle.std.specs.Prelude.{MatchBool, nat_le}
+use Rattle.std.proofs.lemmas.Bool.{cases_Bool, and_parts}
+use Rattle.std.proofs.lemmas.Bool.Decides.{nat_tests}
 use Rattle.disk.specs.declared.side.Side.{Side}
 use Rattle.disk.specs.declared.side.Side.TheVariants.{A}
 use Rattle.disk.specs.File.{File, MayLeave}
@@ -8,73 +10,179 @@ use Rattle.disk.specs.Settled.{settled_only}
 use Rattle.disk.specs.Time.{Contents, MayLeaveNow}
 use Rattle.cli.specs.declared.words.Command.{Command}
 use Rattle.cli.specs.declared.words.Command.TheVariants as asked
+use Rattle.cli.specs.declared.reply.Refusal.TheVariants as refusal
 use Rattle.cli.specs.declared.reply.Reply.{Reply}
 use Rattle.cli.specs.declared.reply.Reply.TheVariants as said
+use Rattle.cli.specs.Reply.{status_of}
 use Rattle.cli.specs.Cells.{Cells, KeepsCells, HoldsCells}
-use Rattle.cli.specs.Answers.{Answers, PutsAt}
-use Rattle.cli.specs.Rounds.{Round, IsRound, AreKept, HistoriesKeep}
-
-was_put : (answered : Option Reply) → (answered ≡ Some said.Put) ⊎ (answered ≢ Some said.Put)
-was_put None = inr (λ e. cc)
-was_put (Some said.Put) = inl refl
-was_put (Some (said.Value key value)) = inr (λ e. cc)
-was_put (Some (said.Absent key)) = inr (λ e. cc)
-was_put (Some (said.Refused why)) = inr (λ e. cc)
+use Rattle.cli.specs.Answers.{Answers, CommandLeaves}
+use Rattle.cli.specs.Rounds.{Round, IsRound, Adds, Leaves, has_answered, ReadIn, MayHold, HistoriesKeep, FirstPutBegins, AnswersStay}
 
 no_more : (cells : Cells) → cells ++ [] ≡ cells
 no_more [] = refl
 no_more (cell ∷ cells) = ap (λ (l : Cells). cell ∷ l) (no_more cells)
 
-one_more : (cells others : Cells) (cell : ℤ × ℤ) → (cells ++ others) ++ cell ∷ [] ≡ cells ++ (others ++ cell ∷ [])
-one_more [] others cell = refl
-one_more (first ∷ cells) others cell = ap (λ (l : Cells). first ∷ l) (one_more cells others cell)
+is_few : (status : ℕ) → nat_le status 1 ≡ true → status ≤ 1
+is_few status few = grind (arith, nat_tests)
+
+-- ---- what a reply says of file A
 
 -- file A is not empty where it holds a cell
-keeps_one : (content : List ℕ) (cells : Cells) (cell : ℤ × ℤ) → HoldsCells content (cells ++ cell ∷ []) → KeepsCells content (cells ++ cell ∷ [])
+pub keeps_one : (content : List ℕ) (cells : Cells) (cell : ℤ × ℤ) → HoldsCells content (cells ++ cell ∷ []) → KeepsCells content (cells ++ cell ∷ [])
 keeps_one content cells cell holds = elim holds [
   | inl none ↦ absurd (omega (arith, ap length none.1, length-append cells (cell ∷ [])))
   | inr keeps ↦ keeps
 ]
 
--- a put that was answered `ok`
-put_keeps : (command : Command) (key value : ℤ) (cells : Cells) (old new : List ℕ) → PutsAt command key value → Answers command cells said.Put old new → KeepsCells new (cells ++ (key, value) ∷ [])
-put_keeps (asked.Put directory at what) key value cells old new puts answers =
-    subst (λ (v : ℤ). KeepsCells new (cells ++ (key, v) ∷ [])) puts.1 (subst (λ (k : ℤ). KeepsCells new (cells ++ (k, what) ∷ [])) puts.0 (keeps_one new cells (at, what) answers.1))
-put_keeps (asked.Get directory at) key value cells old new puts answers = absurd puts
+-- file A keeps what a reply leaves of these cells
+abbrev Kept : Command → Reply → Cells → List ℕ → Type 0
+Kept command reply cells new = (left : Cells) × KeepsCells new left × Leaves command reply cells left
 
-module _ {D : Type 0} (files : D → Side → File) (moment : D → ℕ) (left_since : D → ℕ → Contents → Type 0) (failures : D → ℕ)
-    (reads : (disk : D) (side : Side) → MayLeave (files disk side).durable (files disk side).content) where
-  -- what is left of file A after these rounds
-  abbrev Left : List (Round D) → Cells → List ℕ → Type 0
-  Left rounds cells content = (added : Cells) × KeepsCells content (cells ++ added) × AreKept rounds added
+unchanged : (cells : Cells) (old new : List ℕ) → KeepsCells old cells → new ≡ old → KeepsCells new cells
+unchanged cells old new keeps same = subst (λ (l : List ℕ). KeepsCells l cells) (sym same) keeps
 
-  -- the new cell behind those that were left before
-  with_new : (round : Round D) (earlier : List (Round D)) (cells others : Cells) (content : List ℕ) → AreKept earlier others
-      → KeepsCells content ((cells ++ others) ++ (round.key, round.value) ∷ []) → Left (round ∷ earlier) cells content
-  with_new round earlier cells others content kept keeps =
-      (others ++ (round.key, round.value) ∷ [], subst (KeepsCells content) (one_more cells others (round.key, round.value)) keeps, inr (others, refl, kept))
+answer_keeps : (command : Command) (reply : Reply) (cells : Cells) (old new : List ℕ) → status_of reply ≤ 1 → KeepsCells old cells → Answers command cells reply old new → Kept command reply cells new
+answer_keeps (asked.Put directory key value) said.Put cells old new few keeps answers = (cells ++ (key, value) ∷ [], keeps_one new cells (key, value) answers.1, refl)
+answer_keeps (asked.Put directory key value) (said.Refused (refusal.AlreadyPut there)) cells old new few keeps answers = (cells, unchanged cells old new keeps answers.1.1, refl)
+answer_keeps (asked.Put directory key value) (said.Refused refusal.Full) cells old new few keeps answers = (cells, unchanged cells old new keeps answers.2.1, refl)
+answer_keeps (asked.Put directory key value) (said.Value at what) cells old new few keeps answers = absurd answers
+answer_keeps (asked.Put directory key value) (said.Absent at) cells old new few keeps answers = absurd answers
+answer_keeps (asked.Get directory key) (said.Value at value) cells old new few keeps answers = (cells, unchanged cells old new keeps answers.2.1, refl)
+answer_keeps (asked.Get directory key) (said.Absent at) cells old new few keeps answers = (cells, unchanged cells old new keeps answers.2.1, refl)
+answer_keeps (asked.Get directory key) said.Put cells old new few keeps answers = absurd answers
+answer_keeps (asked.Get directory key) (said.Refused (refusal.AlreadyPut there)) cells old new few keeps answers = absurd answers
+answer_keeps (asked.Get directory key) (said.Refused refusal.Full) cells old new few keeps answers = absurd answers
+answer_keeps command (said.Refused (refusal.Damaged place)) cells old new few keeps answers = absurd (omega arith)
+answer_keeps command (said.Refused refusal.Device) cells old new few keeps answers = absurd (omega arith)
+answer_keeps command (said.Refused refusal.NoMemory) cells old new few keeps answers = absurd (omega arith)
 
-  goes_on : (round : Round D) (earlier : List (Round D)) (cells : Cells) → IsRound files moment left_since failures round
-      → ((contents : Contents) → MayLeaveNow (files round.before) contents → Left earlier cells (contents A))
-      → (contents : Contents) → MayLeaveNow (files round.crashed) contents → Left (round ∷ earlier) cells (contents A)
-  goes_on round earlier cells is before contents left =
-      let old = before (λ side. (files round.before side).content) (reads round.before) in
-      elim (was_put round.answered) [
-        | inl put ↦
-            let comes = is.comes said.Put put in
-            let answers = (comes.settles refl).by_cells (cells ++ old.0) (inr old.1) in
-            let here = settled_only (files round.after A).content (contents A) (subst (λ (f : File). MayLeave f.durable (contents A)) (comes.durable refl (omega arith)) (is.behind said.Put put contents left A)) in
-            with_new round earlier cells old.0 (contents A) old.2 (subst (λ (l : List ℕ). KeepsCells l ((cells ++ old.0) ++ (round.key, round.value) ∷ [])) (sym here) (put_keeps round.command round.key round.value (cells ++ old.0) _ _ is.puts answers))
-        | inr refused ↦ elim ((is.moments (cells ++ old.0) old.1).each contents (is.crash contents left)) [
-          | inl earlier_left ↦ let was = before contents earlier_left in (was.0, was.1, inl (refused, was.2))
-          | inr either ↦ elim either.0 [
-            | inl same ↦ (old.0, same, inl (refused, old.2))
-            | inr new ↦ with_new round earlier cells old.0 (contents A) old.2 new
+-- cells with others behind them
+abbrev More : Cells → Cells → Type 0
+More old new = (others : Cells) × (new ≡ old ++ others)
+
+adds_more : (command : Command) (old new : Cells) → Adds command old new → More old new
+adds_more (asked.Put directory key value) old new adds = ((key, value) ∷ [], adds)
+adds_more (asked.Get directory key) old new adds = absurd adds
+
+same_more : (old new : Cells) → new ≡ old → More old new
+same_more old new same = ([], same ∙ sym (no_more old))
+
+leaves_more : (command : Command) (reply : Reply) (old new : Cells) → Leaves command reply old new → More old new
+leaves_more command said.Put old new leaves = adds_more command old new leaves
+leaves_more command (said.Value at value) old new leaves = same_more old new leaves
+leaves_more command (said.Absent at) old new leaves = same_more old new leaves
+leaves_more command (said.Refused why) old new leaves = same_more old new leaves
+
+module _ {D : Type 0} (files : D → Side → File) where
+  -- ---- what was answered from stays
+
+  -- the cells of a round that answered are there, in front of others
+  abbrev Stays : Round D → Cells → Type 0
+  Stays round cells = (old left added : Cells) × ReadIn files round old × Leaves round.command round.reply old left × (cells ≡ left ++ added)
+
+  stays_more : (round : Round D) (old new : Cells) → More old new → Stays round old → Stays round new
+  stays_more round old new more stays =
+      (stays.0, stays.1, stays.2 ++ more.0, stays.3, stays.4, more.1 ∙ ap (λ (l : Cells). l ++ more.0) stays.5 ∙ append_assoc stays.1 stays.2 more.0)
+
+  -- a round that did not answer
+  abbrev Unanswered : Round D → D → List (Round D) → Cells → Type 0
+  Unanswered round first earlier cells = MayHold files first earlier cells ⊎ ((old : Cells) × ReadIn files round old × MayHold files first earlier old × Adds round.command old cells)
+
+  -- a round that answered
+  abbrev Answered : Round D → D → List (Round D) → Cells → Type 0
+  Answered round first earlier cells = (old : Cells) × ReadIn files round old × MayHold files first earlier old × Leaves round.command round.reply old cells
+
+  one_later : (next round : Round D) (first : D) (before : List (Round D)) (cells : Cells) → ((held : Cells) → MayHold files first before held → Stays round held)
+      → (b : Bool) → MatchBool b (Answered next first before cells) (Unanswered next first before cells) → Stays round cells
+  one_later next round first before cells so_far true held = stays_more round held.0 cells (leaves_more next.command next.reply held.0 cells held.3) (so_far held.0 held.2)
+  one_later next round first before cells so_far false (inl held) = so_far cells held
+  one_later next round first before cells so_far false (inr held) = stays_more round held.0 cells (adds_more next.command held.0 cells held.3) (so_far held.0 held.2)
+
+  pub answers_stay : AnswersStay files
+  answers_stay [] earlier round first cells answered holds =
+      let here : Answered round first earlier cells = subst (λ (b : Bool). MatchBool b (Answered round first earlier cells) (Unanswered round first earlier cells)) answered holds in
+      (here.0, cells, [], here.1, here.3, sym (no_more cells))
+  answers_stay (next ∷ later) earlier round first cells answered holds =
+      one_later next round first (later ++ round ∷ earlier) cells (λ held holds_before. answers_stay later earlier round first held answered holds_before) (has_answered next) holds
+
+  module _ (moment : D → ℕ) (left_since : D → ℕ → Contents → Type 0) (failures : D → ℕ) where
+    -- ---- the put that begins a journal
+
+    pub first_put_begins : FirstPutBegins files moment left_since failures
+    first_put_begins round key value since is puts empty le crash none contents left = elim (is.leaves.first_put key value puts empty since le) [
+      | inl still ↦ absurd (none still.0 still.1 still.2)
+      | inr only ↦ (only contents (crash contents left)).0
+    ]
+
+    -- ---- one round
+
+    -- a crash behind a reply about cells leaves what reads gave then
+    pub told_left : (round : Round D) → IsRound files moment left_since failures round → round.told ≡ true → status_of round.reply ≤ 1 → (contents : Contents) → MayLeaveNow (files round.crashed) contents
+        → contents A ≡ (files round.after A).content
+    told_left round is told few contents left =
+        let now = subst (λ (b : Bool). MatchBool b (MayLeaveNow (files round.after) contents) (left_since round.after (moment round.before) contents)) told (is.crash contents left) in
+        settled_only (files round.after A).content (contents A) (subst (λ (f : File). MayLeave f.durable (contents A)) (is.comes.durable refl few) (now A))
+
+    module _ (reads : (disk : D) (side : Side) → MayLeave (files disk side).durable (files disk side).content)
+        (counts : (disk : D) (t : ℕ) (contents : Contents) → t ≤ moment disk → MayLeaveNow (files disk) contents → left_since disk t contents) where
+      -- what a crash in a command leaves of file A: what one might have left before, or what was read with what is put
+      abbrev Struck : Command → D → Cells → Contents → Type 0
+      Struck command before old contents = MayLeaveNow (files before) contents ⊎ ((cells : Cells) × KeepsCells (contents A) cells × ((cells ≡ old) ⊎ Adds command old cells))
+
+      -- whether the crash struck behind the reply or not
+      struck_at : (told : Bool) (before after : D) → moment before ≤ moment after → (contents : Contents) → MatchBool told (MayLeaveNow (files after) contents) (left_since after (moment before) contents) → left_since after (moment before) contents
+      struck_at true before after later contents left = counts after (moment before) contents later left
+      struck_at false before after later contents left = left
+
+      struck : (command : Command) (told : Bool) (before after : D) (old : Cells) → CommandLeaves files moment left_since command before after → KeepsCells (files before A).content old
+          → (contents : Contents) → MatchBool told (MayLeaveNow (files after) contents) (left_since after (moment before) contents) → Struck command before old contents
+      struck (asked.Put directory key value) told before after old leaves keeps contents left =
+          let only = leaves.puts key value (refl, refl) old keeps in
+          elim (only.each contents (struck_at told before after only.later contents left)) [
+            | inl was ↦ inl was
+            | inr either ↦ elim either.0 [
+              | inl same ↦ inr (old, same, inl refl)
+              | inr new ↦ inr (old ++ (key, value) ∷ [], new, inr refl)
+            ]
           ]
-        ]
-      ]
+      struck (asked.Get directory key) told before after old leaves keeps contents left =
+          let only = leaves.gets tt in inl (only.each contents (struck_at told before after only.later contents left))
 
-  pub histories : HistoriesKeep files moment left_since failures
-  histories [] first cells start follow contents left = ([], subst (KeepsCells (contents A)) (sym (no_more cells)) (start contents left), refl)
-  histories (round ∷ earlier) first cells start follow contents left =
-      goes_on round earlier cells follow.0 (λ c l. histories earlier first cells start follow.2 c (subst (λ (d : D). MayLeaveNow (files d) c) follow.1 l)) contents left
+      -- what is left of file A after these rounds
+      abbrev Left : D → List (Round D) → Contents → Type 0
+      Left first rounds contents = (cells : Cells) × KeepsCells (contents A) cells × MayHold files first rounds cells
+
+      answered_left : (round : Round D) (earlier : List (Round D)) (first : D) → IsRound files moment left_since failures round → has_answered round ≡ true → (old : Cells) → ReadIn files round old → MayHold files first earlier old
+          → (contents : Contents) → MayLeaveNow (files round.crashed) contents → Left first (round ∷ earlier) contents
+      answered_left round earlier first is answered old read held contents left =
+          let parts = and_parts round.told (nat_le (status_of round.reply) 1) answered in
+          let few = is_few (status_of round.reply) parts.1 in
+          let here = told_left round is parts.0 few contents left in
+          let kept = answer_keeps round.command round.reply old _ _ few read ((is.comes.settles refl).by_cells old (inr read)) in (
+            kept.0,
+            subst (λ (l : List ℕ). KeepsCells l kept.0) (sym here) kept.1,
+            subst (λ (b : Bool). MatchBool b (Answered round first earlier kept.0) (Unanswered round first earlier kept.0)) (sym answered) (old, read, held, kept.2),
+          )
+
+      unanswered_left : (round : Round D) (earlier : List (Round D)) (first : D) → has_answered round ≡ false → (contents : Contents) (cells : Cells) → KeepsCells (contents A) cells → Unanswered round first earlier cells
+          → Left first (round ∷ earlier) contents
+      unanswered_left round earlier first answered contents cells keeps held =
+          (cells, keeps, subst (λ (b : Bool). MatchBool b (Answered round first earlier cells) (Unanswered round first earlier cells)) (sym answered) held)
+
+      goes_on : (round : Round D) (earlier : List (Round D)) (first : D) → IsRound files moment left_since failures round → ((contents : Contents) → MayLeaveNow (files round.before) contents → Left first earlier contents)
+          → (contents : Contents) → MayLeaveNow (files round.crashed) contents → Left first (round ∷ earlier) contents
+      goes_on round earlier first is before contents left =
+          let old = before (λ side. (files round.before side).content) (reads round.before) in
+          elim (cases_Bool (has_answered round)) [
+            | inl answered ↦ answered_left round earlier first is answered old.0 old.1 old.2 contents left
+            | inr none ↦ elim (struck round.command round.told round.before round.after old.0 is.leaves old.1 contents (is.crash contents left)) [
+              | inl was ↦ let kept = before contents was in unanswered_left round earlier first none contents kept.0 kept.1 (inl kept.2)
+              | inr new ↦ unanswered_left round earlier first none contents new.0 new.1
+                  (⊎_elim (λ same. inl (subst (MayHold files first earlier) (sym same) old.2)) (λ adds. inr (old.0, old.1, old.2, adds)) new.2)
+            ]
+          ]
+
+      pub histories : HistoriesKeep files moment left_since failures
+      histories [] first start follow contents left = let begun = start contents left in (begun.0, begun.1, (contents, left, begun.1))
+      histories (round ∷ earlier) first start follow contents left =
+          goes_on round earlier first follow.0 (λ c l. histories earlier first start follow.2 c (subst (λ (d : D). MayLeaveNow (files d) c) follow.1 l)) contents left

@@ -1,6 +1,7 @@
 pub mod CellLemmas
 mod ClapLemmas
-mod Histories
+pub mod FirstMoments
+pub mod Histories
 mod NumberLemmas
 pub mod Numbers
 pub mod OpenMoments
@@ -11,3 +12,4 @@ pub mod PutMoments
 mod ReadLemmas
 pub mod Replies
 mod RowLemmas
+pub mod ToldRounds

@@ -4,14 +4,14 @@ use Rattle.std.specs.Io.KnownBytes.{Appends}
 use Rattle.disk.specs.declared.side.Side.{Side}
 use Rattle.disk.specs.declared.side.Side.TheVariants.{A}
 use Rattle.disk.specs.File.{File, at_rest}
-use Rattle.disk.specs.Time.{Contents, MayLeaveNow, OtherMayBe}
+use Rattle.disk.specs.Time.{Contents, MayLeaveNow, OtherMayBe, LeavesOnly}
 use Rattle.journal.specs.declared.journal.TheConstants.{LIMIT}
 use Rattle.cli.specs.declared.words.Command.{Command}
 use Rattle.cli.specs.declared.words.Command.TheVariants as asked
 use Rattle.cli.specs.declared.reply.Refusal.TheVariants as refusal
 use Rattle.cli.specs.declared.reply.Reply.{Reply}
 use Rattle.cli.specs.declared.reply.Reply.TheVariants as said
-use Rattle.cli.specs.Cells.{Cells, value_at, HoldsCells, KeepsEither}
+use Rattle.cli.specs.Cells.{Cells, value_at, HoldsCells, KeepsCells, KeepsEither}
 use Rattle.cli.specs.Reply.{reply_text, status_of, is_fault}
 
 -- the cells are as they were, and so is each byte
@@ -59,6 +59,22 @@ pub record Comes {D : Type 0} (honest : Bool) (files : D → Side → File) (fai
 -- a crash while a cell is put leaves what it might have left before, or the cells before the put or after it
 abbrev pub PutLeaves : Cells → ℤ → ℤ → (Side → File) → Contents → Type 0
 PutLeaves cells key value files contents = MayLeaveNow files contents ⊎ (KeepsEither cells key value (contents A) × OtherMayBe A files contents)
+
+-- At each moment of a put on an empty file A: a crash since then may leave it empty, or leaves no cell or the new one, and of file B what it might have left before.
+abbrev pub FirstPutLeaves : {D : Type 0} → (D → Side → File) → (D → ℕ) → (D → ℕ → Contents → Type 0) → ℤ → ℤ → D → D → Type 0
+FirstPutLeaves files moment left_since key value old new = (t : ℕ) → t ≤ moment new
+    → ((contents : Contents) × left_since new t contents × (contents A ≡ []))
+    ⊎ ((contents : Contents) → left_since new t contents → KeepsEither [] key value (contents A) × OtherMayBe A (files old) contents)
+
+-- what a crash at any moment of a command leaves
+pub record CommandLeaves {D : Type 0} (files : D → Side → File) (moment : D → ℕ) (left_since : D → ℕ → Contents → Type 0) (command : Command) (old new : D) : Type 0 where
+  -- of a put on a journal that was begun
+  pub puts : (key value : ℤ) → PutsAt command key value → (cells : Cells) → KeepsCells (files old A).content cells → LeavesOnly moment left_since old new (PutLeaves cells key value (files old))
+  -- of the put that begins the journal
+  pub first_put : (key value : ℤ) → PutsAt command key value → (files old A).content ≡ [] → FirstPutLeaves files moment left_since key value old new
+  -- a get adds nothing, and no command does where file A holds no cells
+  pub gets : Reads command → LeavesOnly moment left_since old new (MayLeaveNow (files old))
+  pub damaged : ((cells : Cells) → HoldsCells (files old A).content cells → ⊥) → LeavesOnly moment left_since old new (MayLeaveNow (files old))
 
 -- the line of the reply was written on one output and nothing on the other, or the status is 5
 pub record TellsOn {T O : Type 0} (reply : Reply) (contents : T → Option (List ℕ)) (old new : T) (other_old other_new : O) (status : ℕ) : Type 0 where

@@ -1,8 +1,17 @@
 -- The journal of file A, where it has one.
-use Rattle.std.specs.Prelude.{◌≡◌, ℕ, List, [], Option, MatchOption}
+use Rattle.std.specs.Prelude.{◌≡◌, ◌⊎◌, ◌≤◌, ℕ, List, [], Option, MatchOption}
+use Rattle.disk.specs.declared.side.Side.{Side}
 use Rattle.disk.specs.declared.side.Side.TheVariants.{A}
+use Rattle.disk.specs.File.{File}
+use Rattle.disk.specs.Time.{Contents, OtherMayBe}
 use Rattle.journal.specs.declared.journal.Journal.{Journal}
-use Rattle.journal.specs.Journal.{IsAt}
+use Rattle.journal.specs.Journal.{IsAt, BeforeOrAfter}
+
+-- At each moment of the first append: a crash since then may leave file A empty, or leaves no payload or this one.
+abbrev pub FirstAppendLeaves : {D : Type 0} → (D → Side → File) → (D → ℕ) → (D → ℕ → Contents → Type 0) → List ℕ → D → D → Type 0
+FirstAppendLeaves files moment left_since payload old new = (t : ℕ) → t ≤ moment new
+    → ((contents : Contents) × left_since new t contents × (contents A ≡ []))
+    ⊎ ((contents : Contents) → left_since new t contents → BeforeOrAfter 0 [] [] payload (contents A) × OtherMayBe A (files old) contents)
 
 -- file A is empty and there is none, or its bytes stand for these payloads from the first byte on
 abbrev pub IsJournalOf : Option Journal → List ℕ → List (List ℕ) → Type 0

@@ -1,34 +1,34 @@
--- A history of a store: puts one after another, each ended by a crash, and each begun on what the crash before it left.
-use Rattle.std.specs.Prelude.{◌≡◌, ◌≢◌, ◌⊎◌, ⊤, ℕ, ℤ, true, List, [], ◌∷◌, ◌++◌, Option, Some}
+-- A history of a store: commands one after another, each ended by a crash, and each begun on what the crash before it left.
+use Rattle.std.specs.Prelude.{◌≡◌, ◌≢◌, ◌⊎◌, ◌≤◌, ⊤, ◌&&◌, ℕ, ℤ, Bool, true, List, [], ◌∷◌, ◌++◌, nat_le, MatchBool}
 use Rattle.disk.specs.declared.side.Side.{Side}
 use Rattle.disk.specs.declared.side.Side.TheVariants.{A}
 use Rattle.disk.specs.File.{File}
-use Rattle.disk.specs.Time.{Contents, MayLeaveNow, LeavesOnly}
+use Rattle.disk.specs.Time.{Contents, MayLeaveNow}
 use Rattle.cli.specs.declared.words.Command.{Command}
+use Rattle.cli.specs.declared.words.Command.TheVariants as asked
 use Rattle.cli.specs.declared.reply.Reply.{Reply}
-use Rattle.cli.specs.declared.reply.Reply.TheVariants.{Put}
-use Rattle.cli.specs.Cells.{Cells, KeepsCells}
-use Rattle.cli.specs.Answers.{PutsAt, PutLeaves, Comes}
+use Rattle.cli.specs.declared.reply.Reply.TheVariants as said
+use Rattle.cli.specs.Cells.{Cells, KeepsCells, KeepsEither}
+use Rattle.cli.specs.Reply.{status_of}
+use Rattle.cli.specs.Answers.{PutsAt, Comes, CommandLeaves}
 
--- a put that ends in a crash: the disk before it, the disk behind its last call, its reply where it came to one, and the
--- disk that the crash left
+-- a command that ends in a crash: the disk before it and behind it, its reply, whether the crash struck behind the reply,
+-- and the disk that the crash left. Of a command that was cut off, the disk behind it and the reply are those that it
+-- would have come to: a crash within it is one at some moment since it began.
 pub record Round (D : Type 0) : Type 0 where
   pub command : Command
-  pub key : ℤ
-  pub value : ℤ
-  pub answered : Option Reply
+  pub reply : Reply
+  pub told : Bool
   pub before : D
   pub after : D
   pub crashed : D
 
--- the put is as `cell` promises; the crash struck at some moment of it, and behind its reply where it came to one
+-- the command is as `cell` promises, and the crash struck behind its reply, or at some moment of it
 pub record IsRound {D : Type 0} (files : D → Side → File) (moment : D → ℕ) (left_since : D → ℕ → Contents → Type 0) (failures : D → ℕ) (round : Round D) : Type 0 where
-  pub puts : PutsAt round.command round.key round.value
-  pub comes : (reply : Reply) → round.answered ≡ Some reply → Comes true files failures round.command reply round.before round.after
-  pub moments : (cells : Cells) → KeepsCells (files round.before A).content cells
-      → LeavesOnly moment left_since round.before round.after (PutLeaves cells round.key round.value (files round.before))
-  pub crash : (contents : Contents) → MayLeaveNow (files round.crashed) contents → left_since round.after (moment round.before) contents
-  pub behind : (reply : Reply) → round.answered ≡ Some reply → (contents : Contents) → MayLeaveNow (files round.crashed) contents → MayLeaveNow (files round.after) contents
+  pub comes : Comes true files failures round.command round.reply round.before round.after
+  pub leaves : CommandLeaves files moment left_since round.command round.before round.after
+  pub crash : (contents : Contents) → MayLeaveNow (files round.crashed) contents
+      → MatchBool round.told (MayLeaveNow (files round.after) contents) (left_since round.after (moment round.before) contents)
 
 -- the disk after these rounds, the newest first
 abbrev pub last : {D : Type 0} → D → List (Round D) → D
@@ -41,14 +41,50 @@ Follow files moment left_since failures first [] = ⊤
 Follow files moment left_since failures first (round ∷ earlier) =
     IsRound files moment left_since failures round × (round.before ≡ last first earlier) × Follow files moment left_since failures first earlier
 
--- of the puts of these rounds, in their order: each that was answered `ok`, and any of the others
-abbrev pub AreKept : {D : Type 0} → List (Round D) → Cells → Type 0
-AreKept [] added = added ≡ []
-AreKept (round ∷ earlier) added =
-    ((round.answered ≢ Some Put) × AreKept earlier added) ⊎ ((others : Cells) × (added ≡ others ++ (round.key, round.value) ∷ []) × AreKept earlier others)
+-- each crash now leaves a journal that keeps some cells
+abbrev pub IsBegun : {D : Type 0} → (D → Side → File) → D → Type 0
+IsBegun files disk = (contents : Contents) → MayLeaveNow (files disk) contents → (cells : Cells) × KeepsCells (contents A) cells
 
--- After every history file A keeps the cells from before it, and behind them those of its puts that are kept.
+-- the command puts a cell, and these are the cells with it
+abbrev pub Adds : Command → Cells → Cells → Type 0
+Adds (asked.Put directory key value) old new = new ≡ old ++ (key, value) ∷ []
+Adds (asked.Get directory key) old new = ⊥
+
+-- what a command that read these cells leaves by its reply: the new one with them behind `ok`, else the same
+abbrev pub Leaves : Command → Reply → Cells → Cells → Type 0
+Leaves command said.Put old new = Adds command old new
+Leaves command reply old new = new ≡ old
+
+-- the round had a reply of status 0 or 1 before the crash
+abbrev pub has_answered : {D : Type 0} → Round D → Bool
+has_answered round = round.told && nat_le (status_of round.reply) 1
+
+-- the round read these cells
+abbrev pub ReadIn : {D : Type 0} → (D → Side → File) → Round D → Cells → Type 0
+ReadIn files round cells = KeepsCells (files round.before A).content cells
+
+-- The cells that file A may hold after these rounds: behind an answer what was read, with what was put; else what it might
+-- have held before, or what was read with what was to be put.
+abbrev pub MayHold : {D : Type 0} → (D → Side → File) → D → List (Round D) → Cells → Type 0
+MayHold files first [] cells = (contents : Contents) × MayLeaveNow (files first) contents × KeepsCells (contents A) cells
+MayHold files first (round ∷ earlier) cells = MatchBool (has_answered round)
+    ((old : Cells) × ReadIn files round old × MayHold files first earlier old × Leaves round.command round.reply old cells)
+    (MayHold files first earlier cells ⊎ ((old : Cells) × ReadIn files round old × MayHold files first earlier old × Adds round.command old cells))
+
+-- After every history on a journal that was begun, each crash leaves cells that file A may hold.
 abbrev pub HistoriesKeep : {D : Type 0} → (D → Side → File) → (D → ℕ) → (D → ℕ → Contents → Type 0) → (D → ℕ) → Type 0
-HistoriesKeep {D} files moment left_since failures = (rounds : List (Round D)) (first : D) (cells : Cells)
-    → ((contents : Contents) → MayLeaveNow (files first) contents → KeepsCells (contents A) cells) → Follow files moment left_since failures first rounds
-    → (contents : Contents) → MayLeaveNow (files (last first rounds)) contents → (added : Cells) × KeepsCells (contents A) (cells ++ added) × AreKept rounds added
+HistoriesKeep {D} files moment left_since failures = (rounds : List (Round D)) (first : D) → IsBegun files first → Follow files moment left_since failures first rounds
+    → (contents : Contents) → MayLeaveNow (files (last first rounds)) contents → (cells : Cells) × KeepsCells (contents A) cells × MayHold files first rounds cells
+
+-- A put on an empty file A begins a journal: where its crash struck at a moment since which none leaves file A empty, each leaves no cell or the new one.
+abbrev pub FirstPutBegins : {D : Type 0} → (D → Side → File) → (D → ℕ) → (D → ℕ → Contents → Type 0) → (D → ℕ) → Type 0
+FirstPutBegins {D} files moment left_since failures = (round : Round D) (key value : ℤ) (since : ℕ) → IsRound files moment left_since failures round
+    → PutsAt round.command key value → (files round.before A).content ≡ [] → since ≤ moment round.after
+    → ((contents : Contents) → MayLeaveNow (files round.crashed) contents → left_since round.after since contents)
+    → ((contents : Contents) → left_since round.after since contents → contents A ≢ [])
+    → (contents : Contents) → MayLeaveNow (files round.crashed) contents → KeepsEither [] key value (contents A)
+
+-- What a round answered from is there after each later one, in front of what was put since.
+abbrev pub AnswersStay : {D : Type 0} → (D → Side → File) → Type 0
+AnswersStay {D} files = (later earlier : List (Round D)) (round : Round D) (first : D) (cells : Cells) → has_answered round ≡ true → MayHold files first (later ++ round ∷ earlier) cells
+    → (old left added : Cells) × ReadIn files round old × Leaves round.command round.reply old left × (cells ≡ left ++ added)

@@ -4,7 +4,7 @@ ghost use Rattle.disk.specs.declared.side.Side.TheVariants.{A};
 ghost use Rattle.disk.specs.File.{at_rest};
 ghost use Rattle.disk.specs.Time.{OtherStays, OtherMayBe, LeavesOnly, MayLeaveNow};
 ghost use Rattle.cli.specs.Cells.{Cells, value_at, HoldsCells, KeepsCells, KeepsEither};
-ghost use Rattle.cli.specs.Answers.{Answers, PutsAt, PutLeaves, Reads, Settles, Comes, TellsOn, Tells};
+ghost use Rattle.cli.specs.Answers.{Answers, PutsAt, FirstPutLeaves, CommandLeaves, Settles, Comes, TellsOn, Tells};
 ghost use Rattle.cli.specs.Store.{IsStoreOf};
 ghost use Rattle.cli.specs.declared.reply.Reply.{Reply};
 ghost use Rattle.cli.specs.declared.words.Command.{Command};
@@ -34,16 +34,9 @@ pub fn cell<D: Disk, W: Write, E: Write>(
         × Tells reply W.contents E.contents out.old out.new err.old err.new result.1 }
     ensures other { IsTrue D.is_honest → OtherStays A (D.files disk) (D.files result.0) }
 
-    // Once the journal of file A was begun, a crash at any moment of a put leaves the cells before it or after it, where
-    // it might have left nothing else before the call.
-    ensures put_moments { IsTrue D.is_honest → (key value : ℤ) → PutsAt command.now key value
-        → (cells : Cells) → KeepsCells (D.files disk A).content cells
-        → LeavesOnly D.moment D.left_since disk result.0 (PutLeaves cells key value (D.files disk)) }
-
-    // A get adds at no moment to what a crash may leave, nor does a put where file A holds no cells.
-    ensures get_moments { IsTrue D.is_honest → Reads command.now → LeavesOnly D.moment D.left_since disk result.0 (MayLeaveNow (D.files disk)) }
-    ensures damaged_moments { IsTrue D.is_honest → ((cells : Cells) → HoldsCells (D.files disk A).content cells → ⊥)
-        → LeavesOnly D.moment D.left_since disk result.0 (MayLeaveNow (D.files disk)) }
+    // A crash at any moment of a put leaves the cells before it or after it, from the moment on at which the journal of
+    // file A was begun. A get adds at no moment to what a crash may leave, nor does a put where file A holds no cells.
+    ensures moments { IsTrue D.is_honest → CommandLeaves D.files D.moment D.left_since command.now disk result.0 }
 {
     let reply = answer(alloc, command, &mut disk);
     let status = tell(reply, out, err);
@@ -56,12 +49,7 @@ fn answer<D: Disk>(alloc: Global, command: &Command<'_>, disk: &mut D) -> Reply
     ensures durable { IsTrue D.is_honest → status_of result ≤ 1 → D.files disk.new A ≡ at_rest (D.files disk.new A).content }
     ensures device { result ≡ Refused Device → D.failures disk.old < D.failures disk.new }
     ensures other { IsTrue D.is_honest → OtherStays A (D.files disk.old) (D.files disk.new) }
-    ensures put_moments { IsTrue D.is_honest → (key value : ℤ) → PutsAt command.now key value
-        → (cells : Cells) → KeepsCells (D.files disk.old A).content cells
-        → LeavesOnly D.moment D.left_since disk.old disk.new (PutLeaves cells key value (D.files disk.old)) }
-    ensures get_moments { IsTrue D.is_honest → Reads command.now → LeavesOnly D.moment D.left_since disk.old disk.new (MayLeaveNow (D.files disk.old)) }
-    ensures damaged_moments { IsTrue D.is_honest → ((cells : Cells) → HoldsCells (D.files disk.old A).content cells → ⊥)
-        → LeavesOnly D.moment D.left_since disk.old disk.new (MayLeaveNow (D.files disk.old)) }
+    ensures moments { IsTrue D.is_honest → CommandLeaves D.files D.moment D.left_since command.now disk.old disk.new }
 {
     match Store::open(alloc, disk) {
         Ok(mut store) => match *command {
@@ -81,6 +69,7 @@ fn put<D: Disk>(store: &mut Store, disk: &mut D, key: i64, value: i64) -> Reply
     ensures other { IsTrue D.is_honest → OtherStays A (D.files disk.old) (D.files disk.new) }
     ensures any_moment { IsTrue D.is_honest → (content : List ℕ) (cells : Cells) → D.files disk.old A ≡ at_rest content → content ≢ [] → IsStoreOf store.old content cells
         → LeavesOnly D.moment D.left_since disk.old disk.new (λ contents. KeepsEither cells key value (contents A) × OtherMayBe A (D.files disk.old) contents) }
+    ensures first_moments { IsTrue D.is_honest → D.files disk.old A ≡ at_rest [] → IsStoreOf store.old [] [] → FirstPutLeaves D.files D.moment D.left_since key value disk.old disk.new }
     ensures damaged { (place : ℕ) → result ≡ Refused (Damaged place) → ⊥ }
     ensures device { result ≡ Refused Device → D.failures disk.old < D.failures disk.new }
     ensures failures { D.failures disk.old ≤ D.failures disk.new }

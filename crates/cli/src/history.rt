@@ -1,10 +1,16 @@
 ghost use Rattle.std.specs.Prelude.{IsTrue};
-ghost use Rattle.cli.specs.Rounds.{HistoriesKeep};
+ghost use Rattle.cli.specs.Rounds.{HistoriesKeep, FirstPutBegins, AnswersStay};
 
 use disk::Disk;
 
-/// After any list of puts, each ended by a crash and begun on what the crash before it left, file A keeps the cells
-/// from before them, each cell that was answered `ok`, and none that was not put.
+/// After any list of commands on a journal that was begun, each ended by a crash and begun on what the crash before it
+/// left, file A keeps what each of them that answered read, with what it put, and of the others' puts any, and no other
+/// cell.
 pub fn histories_keep<D: Disk>()
-    ensures { IsTrue D.is_honest → HistoriesKeep D.files D.moment D.left_since D.failures }
+    ensures kept { IsTrue D.is_honest → HistoriesKeep D.files D.moment D.left_since D.failures }
+    ensures begins { IsTrue D.is_honest → FirstPutBegins D.files D.moment D.left_since D.failures }
+    ensures stays { AnswersStay D.files }
 {}
+
+#[cfg(test)]
+mod tests;

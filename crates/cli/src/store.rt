@@ -7,7 +7,8 @@ ghost use Rattle.journal.specs.Journal.{BeforeOrAfter};
 ghost use Rattle.journal.specs.declared.journal.TheConstants.{LIMIT};
 ghost use Rattle.std.specs.BTreeMap.{get};
 ghost use Rattle.terms.specs.Key.{key_cmp};
-ghost use Rattle.cli.specs.Journal.{IsJournalOf};
+ghost use Rattle.cli.specs.Journal.{IsJournalOf, FirstAppendLeaves};
+ghost use Rattle.cli.specs.Answers.{FirstPutLeaves};
 ghost use Rattle.cli.specs.Maps.{HasCells, AddsCell, AddsNone};
 ghost use Rattle.cli.specs.Cells.{Cells, value_at, SpellCells, HoldsCells, KeepsEither};
 ghost use Rattle.cli.specs.declared.reply.Refusal.TheVariants.{AlreadyPut, Full, Damaged, Device, NoMemory};
@@ -94,6 +95,9 @@ impl Store {
         ensures any_moment { IsTrue D.is_honest → (content : List ℕ) (cells : Cells) → D.files disk.old A ≡ at_rest content → content ≢ [] → IsStoreOf self.old content cells
             → LeavesOnly D.moment D.left_since disk.old disk.new (λ contents. KeepsEither cells key value (contents A) × OtherMayBe A (D.files disk.old) contents) }
 
+        // On an empty file A a crash leaves no cell or the new one, from the moment on at which its journal was begun.
+        ensures first_moments { IsTrue D.is_honest → D.files disk.old A ≡ at_rest [] → IsStoreOf self.old [] [] → FirstPutLeaves D.files D.moment D.left_since key value disk.old disk.new }
+
         ensures full { IsTrue D.is_honest → IsErrOf result Full → disk.new ≡ disk.old }
         ensures limit { IsTrue D.is_honest → (cells : Cells) → IsStoreOf self.old (D.files disk.old A).content cells
             → IsErrOf result Full → (value_at cells key ≡ None) × (LIMIT ≤ 25 * (length cells + 1)) }
@@ -131,6 +135,8 @@ fn append<D: Disk>(
     ensures other { IsTrue D.is_honest → OtherStays A (D.files disk.old) (D.files disk.new) }
     ensures any_moment { IsTrue D.is_honest → (content : List ℕ) (payloads : List (List ℕ)) → D.files disk.old A ≡ at_rest content → content ≢ [] → IsJournalOf journal.old content payloads
         → LeavesOnly D.moment D.left_since disk.old disk.new (λ contents. BeforeOrAfter 0 content payloads payload.now (contents A) × OtherMayBe A (D.files disk.old) contents) }
+    ensures first_moments { IsTrue D.is_honest → D.files disk.old A ≡ at_rest [] → IsJournalOf journal.old [] []
+        → FirstAppendLeaves D.files D.moment D.left_since payload.now disk.old disk.new }
     ensures already { (there : ℤ) → IsErrOf result (AlreadyPut there) → ⊥ }
     ensures full { IsErrOf result Full → disk.new ≡ disk.old }
     ensures limit { IsTrue D.is_honest → (payloads : List (List ℕ)) → IsJournalOf journal.old (D.files disk.old A).content payloads

@@ -37,6 +37,7 @@ elapses_push calls call = record {
     | inr now ↦ inr (λ side. subst (λ (l : List Call). MayLeave (durable_of l side) (contents side)) (take_all left.0 (calls ++ call ∷ []) now) (left.3 side))
   ];
   keeps = λ t contents le left. (left.0, left.1, omega (arith, length_push calls call, left.2), λ side. subst (λ (l : List Call). MayLeave (durable_of l side) (contents side)) (sym (take_front calls call left.0 left.2)) (left.3 side));
+  behind = λ t contents lt left side. subst (λ (l : List Call). MayLeave (durable_of l side) (contents side)) (take_all left.0 (calls ++ call ∷ []) (omega (arith, length_push calls call, left.1))) (left.3 side);
 }
   where
     split : (k : ℕ) → k ≤ length (calls ++ call ∷ []) → (k ≤ length calls) ⊎ (length (calls ++ call ∷ []) ≤ k)
@@ -82,7 +83,7 @@ elapses_kept Device call calls after is =
     subst (λ (l : List Call). Elapses (length calls) (length l) (LeftSince calls) (LeftSince l) (λ (contents : Contents). (side : Side) → MayLeave (durable_of l side) (contents side))) (sym is) (elapses_push calls call)
 elapses_kept NoMemory call calls after is =
     subst (λ (l : List Call). Elapses (length calls) (length l) (LeftSince calls) (LeftSince l) (λ (contents : Contents). (side : Side) → MayLeave (durable_of l side) (contents side))) (sym is)
-    (record { later = omega arith; nothing_else = λ t contents le left. inl left; keeps = λ t contents le left. left })
+    (record { later = omega arith; nothing_else = λ t contents le left. inl left; keeps = λ t contents le left. left; behind = λ t contents lt left. absurd (omega (arith, left.1, left.2)) })
 
 module _ (call : Call) (calls after : List Call) where
   push_same : after ≡ calls ++ call ∷ [] → durable_of after call.side ≡ changed call.change (durable_of calls call.side)

@@ -53,3 +53,7 @@ counts_now calls t contents le now =
 -- since this moment there is no other
 pub only_now : (calls : List Call) (contents : Contents) → LeftSince calls (length calls) contents → (side : Side) → MayLeave (durable_of calls side) (contents side)
 only_now calls contents left side = subst (λ (l : List Call). MayLeave (durable_of l side) (contents side)) (take_all left.0 calls left.1) (left.3 side)
+
+-- what a crash since a moment may have left, one since an earlier moment may have left too
+pub widens : (calls : List Call) (t u : ℕ) (contents : Contents) → t ≤ u → LeftSince calls u contents → LeftSince calls t contents
+widens calls t u contents le left = (left.0, omega (arith, left.1), left.2, left.3)

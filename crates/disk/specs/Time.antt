@@ -26,6 +26,13 @@ pub record Elapses (before now : ℕ) (past since : ℕ → Contents → Type 0)
   pub later : before ≤ now
   pub nothing_else : (t : ℕ) (contents : Contents) → t ≤ before → since t contents → past t contents ⊎ may_leave contents
   pub keeps : (t : ℕ) (contents : Contents) → t ≤ before → past t contents → since t contents
+  -- behind the moment at which the call began there is nothing but what a crash may leave now
+  pub behind : (t : ℕ) (contents : Contents) → before < t → since t contents → may_leave contents
+
+-- At each moment so far: a crash since then may leave all that one might have left before, or only what one may leave now.
+abbrev pub AtOnce : {D : Type 0} → (D → Side → File) → (D → ℕ) → (D → ℕ → Contents → Type 0) → D → D → Type 0
+AtOnce files moment left_since old new = (t : ℕ) → t ≤ moment new
+    → ((contents : Contents) → MayLeaveNow (files old) contents → left_since new t contents) ⊎ ((contents : Contents) → left_since new t contents → MayLeaveNow (files new) contents)
 
 -- Each crash since old left what has P.
 pub record LeavesOnly {D : Type 0} (moment : D → ℕ) (left_since : D → ℕ → Contents → Type 0) (old new : D) (P : Contents → Type 0) : Type 0 where

@@ -136,6 +136,8 @@ impl Disk for FileDisk {
 
     ghost counts_now = { λ honest. absurd (false≢true honest) };
 
+    ghost widens = { λ honest. absurd (false≢true honest) };
+
     ghost only_now = { λ honest. absurd (false≢true honest) };
 
     ghost reads_left = { λ honest. absurd (false≢true honest) };

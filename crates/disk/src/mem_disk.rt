@@ -53,6 +53,7 @@ impl MemDisk {
     pub fn fail_call(&mut self, number: u64)
         ensures files { (side : Side) → files_of self.new side ≡ files_of self.old side }
         ensures calls { self.new.history.calls.items ≡ self.old.history.calls.items }
+        ensures number { self.new.history.until_failure ≡ number }
     {
         self.history.fail(number);
     }
@@ -91,7 +92,7 @@ impl MemDisk {
 
 impl Disk for MemDisk {
     ghost use Rattle.std.specs.Prelude.{true, length};
-    ghost use Rattle.disk.specs.Calls.{LeftSince, failures_of, counts_now, only_now};
+    ghost use Rattle.disk.specs.Calls.{LeftSince, failures_of, counts_now, only_now, widens};
     ghost use Rattle.disk.specs.MemDisk.{files_of, reads_left};
 
     ghost is_honest = { true };
@@ -105,6 +106,8 @@ impl Disk for MemDisk {
     ghost failures = { λ disk. failures_of disk.history.calls.items };
 
     ghost counts_now = { λ _ disk. counts_now disk.history.calls.items };
+
+    ghost widens = { λ _ disk. widens disk.history.calls.items };
 
     ghost only_now = { λ _ disk. only_now disk.history.calls.items };
 

@@ -1,4 +1,5 @@
-ghost use Rattle.std.specs.Prelude.{◌≡◌, ◌<◌, ◌++◌, ◌∷◌, [], true, false, vec_len, vec_capacity, IfOk, IfErr};
+ghost use Rattle.std.specs.Prelude.{◌≡◌, ◌⊎◌, ◌<◌, ◌-◌, ◌++◌, ◌∷◌, [], true, false, vec_len, vec_capacity, IfOk, IfErr, IsErrOf};
+ghost use Rattle.disk.specs.declared.error.DiskError.TheVariants.{Device, NoMemory};
 
 use crate::{DiskError, Side};
 use std::alloc::Global;
@@ -24,7 +25,8 @@ pub(crate) struct Call {
 #[derive(Drop)]
 pub(crate) struct Record {
     pub(crate) calls: Vec<Call>,
-    until_failure: u64,
+    // Counts down to 1, the call that is to fail; 0 where none is.
+    pub(crate) until_failure: u64,
 }
 
 impl Record {
@@ -42,13 +44,17 @@ impl Record {
 
     /// The call with this number from now on, from 1, is to fail.
     pub(crate) fn fail(&mut self, number: u64)
-        ensures { self.new.calls.items ≡ self.old.calls.items }
+        ensures calls { self.new.calls.items ≡ self.old.calls.items }
+        ensures number { self.new.until_failure ≡ number }
     {
         self.until_failure = number;
     }
 
     /// Begins a call: makes room for it, and keeps it as one that failed if it is the one that is to fail.
     pub(crate) fn begin(&mut self, side: Side, change: Change) -> Result<Change, DiskError>
+        ensures fails { self.old.until_failure ≡ 1 → IfOk result (λ _. ⊥) }
+        ensures device { IsErrOf result Device → self.old.until_failure ≡ 1 }
+        ensures counts { IsErrOf result NoMemory ⊎ (self.new.until_failure ≡ self.old.until_failure - 1) }
         ensures change { IfOk result (λ kept. kept ≡ change) }
         ensures room { IfOk result (λ _. vec_len self.new.calls < vec_capacity self.new.calls) }
         ensures ok { IfOk result (λ _. self.new.calls.items ≡ self.old.calls.items) }

@@ -65,6 +65,9 @@ pub trait Disk {
     /// This moment is one of those since an earlier one.
     ghost counts_now: { IsTrue is_honest → (disk : Self) (t : ℕ) (contents : Contents) → t ≤ moment disk → MayLeaveNow (files disk) contents → left_since disk t contents };
 
+    /// What a crash since a moment may have left, one since an earlier moment may have left too.
+    ghost widens: { IsTrue is_honest → (disk : Self) (t u : ℕ) (contents : Contents) → t ≤ u → left_since disk u contents → left_since disk t contents };
+
     /// Since this moment there is no other.
     ghost only_now: { IsTrue is_honest → (disk : Self) (contents : Contents) → left_since disk (moment disk) contents → MayLeaveNow (files disk) contents };
 

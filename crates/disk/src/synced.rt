@@ -1,6 +1,6 @@
-ghost use Rattle.std.specs.Prelude.{◌≡◌, ◌≤◌, IsTrue, List, ℕ, length, OnOk};
+ghost use Rattle.std.specs.Prelude.{◌≡◌, ◌≤◌, IsTrue, List, ℕ, length, OnOk, OnErr};
 ghost use Rattle.disk.specs.File.{MayLeave, WriteLeaves, at_rest, overwritten, touching, write_touches};
-ghost use Rattle.disk.specs.Time.{OtherStays, OtherMayBe, LeavesOnly, HasCause};
+ghost use Rattle.disk.specs.Time.{Contents, MayLeaveNow, OtherStays, OtherMayBe, LeavesOnly, AtOnce, HasCause};
 
 use crate::{Disk, DiskError, Side};
 
@@ -22,6 +22,11 @@ pub fn write_synced<D: Disk>(
     // Of a synced file that is:
     ensures any_moment { IsTrue D.is_honest → (synced : List ℕ) → D.files disk.old side ≡ at_rest synced → LeavesOnly D.moment D.left_since disk.old disk.new
         (λ contents. WriteLeaves synced at (length bytes.now) (contents side) × OtherMayBe side (D.files disk.old) contents) }
+    // Nothing of the call is settled until all of it is.
+    ensures at_once { IsTrue D.is_honest → AtOnce D.files D.moment D.left_since disk.old disk.new }
+
+    // After an error a crash may leave all that one might have left before.
+    ensures err { IsTrue D.is_honest → OnErr result ((contents : Contents) → MayLeaveNow (D.files disk.old) contents → MayLeaveNow (D.files disk.new) contents) }
     ensures cause { HasCause (D.failures disk.old) (D.failures disk.new) result }
 {
     disk.write_at(side, at, bytes)?;

@@ -35,6 +35,8 @@ impl Disk for Liar {
 
     ghost counts_now = { λ honest. absurd (false≢true honest) };
 
+    ghost widens = { λ honest. absurd (false≢true honest) };
+
     ghost only_now = { λ honest. absurd (false≢true honest) };
 
     ghost reads_left = { λ honest. absurd (false≢true honest) };

@@ -1,12 +1,15 @@
-use Rattle.std.proofs.Common.{inl, inr, rules, ℤ, ◌≡◌, ap, sym, subst, Err}
+use Rattle.std.proofs.Common.{inl, inr, rules, ℕ, ℤ, List, [], refl, ◌≡◌, ◌∙◌, ap, sym, subst, Err}
 use Rattle.std.specs.Prelude.{MatchOption}
 use Rattle.std.specs.Int.{w64, cast_signed, cast_unsigned}
 use Rattle.disk.specs.declared.side.Side.TheVariants.{A}
+use Rattle.disk.specs.File.{at_rest}
 use Rattle.disk.specs.Moments.{joined, weakened, other_before}
 use Rattle.cli.specs.declared.reply.Reply.TheVariants.{Absent, Value}
 use Rattle.cli.specs.declared.words.Command.{Command}
 use Rattle.cli.specs.Cells.{value_at, KeepsEither}
-use Rattle.cli.specs.Answers.{Answers, PutsAt}
+use Rattle.cli.specs.Answers.{Answers, PutsAt, Reads, FirstPutLeaves}
+use Rattle.cli.specs.Store.{IsStoreOf}
+use Rattle.cli.proofs.FirstMoments.{still_empty, first_opened}
 use Rattle.cli.proofs.PutMoments.{is_there}
 use Rattle.cli.proofs.Replies.{get_done, store_holds, open_refused, fault_is_more}
 use Rattle.cli.proofs.command.answer.Goals as goal
@@ -33,24 +36,46 @@ returns-clause-settles g c honest = record {
   read = λ reads. c.in-Err.ensures.same honest;
 }
 
-pub returns-in-Put-clause-put_moments : goal.returns-in-Put-clause-put_moments
-returns-in-Put-clause-put_moments g c honest key value puts cells keeps =
-    let files = g.D.Disk.files in
-    let content = (files c.args.disk.now A).content in
-    let asked = subst (λ (command : Command). PutsAt command key value) c.in-Put.is puts in
-    let same_key : cast_signed w64 (cast_unsigned w64 c.in-Put.key) ≡ key = search rules in
-    let same_value : cast_signed w64 (cast_unsigned w64 c.in-Put.value) ≡ value = search rules in
-    joined g.D.Disk.moment g.D.Disk.left_since c.args.disk.now c.open.new.disk c.put.new.disk _ _ _ (c.in-Ok.ensures.any_moment honest)
-    (c.put.ensures.any_moment honest content cells (c.in-Ok.ensures.durable honest) (is_there content cells keeps) (c.in-Ok.ensures.only honest cells (inr keeps)))
-    (λ contents left. inl left)
-    (λ contents left. inr (
-      subst (λ (v : ℤ). KeepsEither cells key v (contents A)) same_value (subst (λ (k : ℤ). KeepsEither cells k (cast_signed w64 (cast_unsigned w64 c.in-Put.value)) (contents A)) same_key left.0),
-      other_before A (files c.args.disk.now) (files c.open.new.disk) (c.in-Ok.ensures.other honest) contents left.1,
-    ))
+pub returns-in-Ok-clause-moments : goal.returns-in-Ok-clause-moments
+returns-in-Ok-clause-moments g c honest = record {
+  puts = λ key value puts cells keeps. absurd (subst (λ (command : Command). PutsAt command key value) c.in-Get.is puts);
+  first_put = λ key value puts empty. absurd (subst (λ (command : Command). PutsAt command key value) c.in-Get.is puts);
+  gets = λ reads. c.in-Ok.ensures.any_moment honest;
+  damaged = λ none. c.in-Ok.ensures.any_moment honest;
+}
 
-pub returns-clause-put_moments : goal.returns-clause-put_moments
-returns-clause-put_moments g c honest key value puts cells keeps =
-    weakened g.D.Disk.moment g.D.Disk.left_since c.args.disk.now c.open.new.disk _ _ (c.in-Err.ensures.any_moment honest) (λ contents left. inl left)
+pub returns-in-Put-clause-moments : goal.returns-in-Put-clause-moments
+returns-in-Put-clause-moments g c honest = record {
+  puts = λ key value puts cells keeps.
+      let asked = subst (λ (command : Command). PutsAt command key value) c.in-Put.is puts in
+      let same_key : cast_signed w64 (cast_unsigned w64 c.in-Put.key) ≡ key = search rules in
+      let same_value : cast_signed w64 (cast_unsigned w64 c.in-Put.value) ≡ value = search rules in
+      joined g.D.Disk.moment g.D.Disk.left_since c.args.disk.now c.open.new.disk c.put.new.disk _ _ _ (c.in-Ok.ensures.any_moment honest)
+      (c.put.ensures.any_moment honest (g.D.Disk.files c.args.disk.now A).content cells (c.in-Ok.ensures.durable honest) (is_there (g.D.Disk.files c.args.disk.now A).content cells keeps) (c.in-Ok.ensures.only honest cells (inr keeps)))
+      (λ contents left. inl left)
+      (λ contents left. inr (
+        subst (λ (v : ℤ). KeepsEither cells key v (contents A)) same_value (subst (λ (k : ℤ). KeepsEither cells k (cast_signed w64 (cast_unsigned w64 c.in-Put.value)) (contents A)) same_key left.0),
+        other_before A (g.D.Disk.files c.args.disk.now) (g.D.Disk.files c.open.new.disk) (c.in-Ok.ensures.other honest) contents left.1,
+      ));
+  first_put = λ key value puts empty.
+      let asked = subst (λ (command : Command). PutsAt command key value) c.in-Put.is puts in
+      let same_key : cast_signed w64 (cast_unsigned w64 c.in-Put.key) ≡ key = search rules in
+      let same_value : cast_signed w64 (cast_unsigned w64 c.in-Put.value) ≡ value = search rules in
+      let store = subst (λ (content : List ℕ). IsStoreOf c.in-Ok.store content []) empty (c.in-Ok.ensures.only honest [] (inl (empty, refl))) in
+      let rest = c.in-Ok.ensures.durable honest ∙ ap at_rest empty in
+      let put = c.put.ensures.first_moments honest rest store in
+      first_opened g.D.Disk.files g.D.Disk.moment g.D.Disk.left_since c.args.disk.now c.open.new.disk c.put.new.disk key value (c.in-Ok.ensures.other honest)
+      (subst (λ (v : ℤ). FirstPutLeaves g.D.Disk.files g.D.Disk.moment g.D.Disk.left_since key v c.open.new.disk c.put.new.disk) same_value
+      (subst (λ (k : ℤ). FirstPutLeaves g.D.Disk.files g.D.Disk.moment g.D.Disk.left_since k (cast_signed w64 (cast_unsigned w64 c.in-Put.value)) c.open.new.disk c.put.new.disk) same_key put));
+  gets = λ reads. absurd (subst Reads c.in-Put.is reads);
+  damaged = λ none. let is = c.in-Ok.ensures.opened honest in absurd (none is.0 (store_holds _ _ is.0 is.1));
+}
 
-pub returns-in-Put-clause-damaged_moments : goal.returns-in-Put-clause-damaged_moments
-returns-in-Put-clause-damaged_moments g c honest none = let is = c.in-Ok.ensures.opened honest in absurd (none is.0 (store_holds _ _ is.0 is.1))
+pub returns-clause-moments : goal.returns-clause-moments
+returns-clause-moments g c honest = record {
+  puts = λ key value puts cells keeps. weakened g.D.Disk.moment g.D.Disk.left_since c.args.disk.now c.open.new.disk _ _ (c.in-Err.ensures.any_moment honest) (λ contents left. inl left);
+  first_put = λ key value puts empty t le.
+      inl (still_empty g.D.Disk.files g.D.Disk.moment g.D.Disk.left_since c.open.new.disk c.open.new.disk (c.in-Err.ensures.same honest ∙ empty) (g.met.D.Disk.reads_left honest c.open.new.disk) (λ contents left. left) (g.met.D.Disk.counts_now honest c.open.new.disk) t le);
+  gets = λ reads. c.in-Err.ensures.any_moment honest;
+  damaged = λ none. c.in-Err.ensures.any_moment honest;
+}

@@ -2,7 +2,7 @@ use Rattle.std.proofs.Common.{◌≡◌, ℤ, ap, sym, subst, Err}
 use Rattle.std.specs.Int.{w64, cast_signed, cast_unsigned}
 use Rattle.std.proofs.lemmas.Int.{to_z-of_z}
 use Rattle.disk.specs.declared.side.Side.TheVariants.{A}
-use Rattle.cli.specs.Answers.{PutsAt}
+use Rattle.cli.specs.Answers.{PutsAt, FirstPutLeaves}
 use Rattle.cli.specs.declared.words.Command.{Command}
 use Rattle.cli.proofs.Replies.{store_holds, put_done, put_refused}
 use Rattle.cli.proofs.command.put.Goals as goal
@@ -28,3 +28,15 @@ returns-in-Err-clause-puts g c honest cells is command puts =
     (λ there why. ((c.in-Err.ensures.already honest cells is there).0 (ap Err why), ap (λ disk. (g.D.Disk.files disk A).content) (c.in-Err.ensures.before_the_disk there (ap Err why))))
     (λ why. let limit = c.in-Err.ensures.limit honest cells is (ap Err why) in (limit.0, limit.1, ap (λ disk. (g.D.Disk.files disk A).content) (c.in-Err.ensures.full honest (ap Err why))))
     (λ place why. c.in-Err.ensures.damaged place (ap Err why))
+
+pub returns-in-Ok-clause-first_moments : goal.returns-in-Ok-clause-first_moments
+returns-in-Ok-clause-first_moments g c honest rest is =
+    subst (λ (v : ℤ). FirstPutLeaves g.D.Disk.files g.D.Disk.moment g.D.Disk.left_since c.args.key v c.args.disk.now c.put.new.disk) (to_z-of_z w64 c.args.value c.ranges.value)
+    (subst (λ (k : ℤ). FirstPutLeaves g.D.Disk.files g.D.Disk.moment g.D.Disk.left_since k (passed c.args.value) c.args.disk.now c.put.new.disk) (to_z-of_z w64 c.args.key c.ranges.key)
+    (c.in-Ok.ensures.first_moments honest rest is))
+
+pub returns-in-Err-clause-first_moments : goal.returns-in-Err-clause-first_moments
+returns-in-Err-clause-first_moments g c honest rest is =
+    subst (λ (v : ℤ). FirstPutLeaves g.D.Disk.files g.D.Disk.moment g.D.Disk.left_since c.args.key v c.args.disk.now c.put.new.disk) (to_z-of_z w64 c.args.value c.ranges.value)
+    (subst (λ (k : ℤ). FirstPutLeaves g.D.Disk.files g.D.Disk.moment g.D.Disk.left_since k (passed c.args.value) c.args.disk.now c.put.new.disk) (to_z-of_z w64 c.args.key c.ranges.key)
+    (c.in-Err.ensures.first_moments honest rest is))

@@ -1,4 +1,4 @@
-use Rattle.std.proofs.Common.{◌≡◌, arith, length, None, cond, ◌++◌, ◌∷◌, [], List, ℕ, sym, ap, subst, ◌∙◌, rules}
+use Rattle.std.proofs.Common.{◌≡◌, inl, arith, length, None, cond, ◌++◌, ◌∷◌, [], List, ℕ, sym, ap, subst, ◌∙◌, rules}
 use Rattle.cli.specs.Cells.{payloads_of, item_payload, value_at, SpellCells}
 use Rattle.std.specs.Prelude.{Some, ℤ}
 use Rattle.std.specs.Int.{w64, cast_signed, cast_unsigned}
@@ -14,6 +14,7 @@ use Rattle.journal.specs.Journal.{BeforeOrAfter}
 use Rattle.cli.proofs.Replies.{store_keeps}
 use Rattle.cli.proofs.PutMoments.{not_yet, cells_either, length-cells}
 use Rattle.cli.proofs.CellLemmas.{spelled-push, payloads_of-push, has_cells-push}
+use Rattle.cli.proofs.FirstMoments.{still_empty, first_cell}
 use Rattle.cli.proofs.store.Store.put.Goals as goal
 
 pub returns-in-Ok-clause-put : goal.returns-in-Ok-clause-put
@@ -73,3 +74,23 @@ returns-in-Err-clause-limit g c honest cells is full =
     let none : value_at cells c.args.key ≡ None = search rules in
     let limit = c.in-Err.ensures.limit honest (payloads_of cells) is.journal full in
     (none, omega (arith, limit, length-cells cells, ap length c.payload_of.ensures))
+
+pub returns-in-Some-clause-first_moments : goal.returns-in-Some-clause-first_moments
+returns-in-Some-clause-first_moments g c honest rest is t le =
+    inl (still_empty g.D.Disk.files g.D.Disk.moment g.D.Disk.left_since c.args.disk.now c.args.disk.now (ap (λ (f : File). f.content) rest) (g.met.D.Disk.reads_left honest c.args.disk.now)
+    (λ contents left. left) (g.met.D.Disk.counts_now honest c.args.disk.now) t le)
+
+pub returns-in_err-insert-clause-first_moments : goal.returns-in_err-insert-clause-first_moments
+returns-in_err-insert-clause-first_moments g c honest rest is t le =
+    inl (still_empty g.D.Disk.files g.D.Disk.moment g.D.Disk.left_since c.args.disk.now c.args.disk.now (ap (λ (f : File). f.content) rest) (g.met.D.Disk.reads_left honest c.args.disk.now)
+    (λ contents left. left) (g.met.D.Disk.counts_now honest c.args.disk.now) t le)
+
+pub returns-in-Ok-clause-first_moments : goal.returns-in-Ok-clause-first_moments
+returns-in-Ok-clause-first_moments g c honest rest is =
+    let payload = c.payload_of.ensures ∙ ap (λ (k : ℤ). item_payload k (cast_signed w64 (cast_unsigned w64 c.args.value))) (to_z-of_z w64 c.args.key c.ranges.key) ∙ ap (item_payload c.args.key) (to_z-of_z w64 c.args.value c.ranges.value) in
+    first_cell g.D.Disk.files g.D.Disk.moment g.D.Disk.left_since c.args.disk.now c.append.new.disk _ c.args.key c.args.value payload c.ranges.key c.ranges.value (c.append.ensures.first_moments honest rest is.journal)
+
+pub returns-in-Err-clause-first_moments : goal.returns-in-Err-clause-first_moments
+returns-in-Err-clause-first_moments g c honest rest is =
+    let payload = c.payload_of.ensures ∙ ap (λ (k : ℤ). item_payload k (cast_signed w64 (cast_unsigned w64 c.args.value))) (to_z-of_z w64 c.args.key c.ranges.key) ∙ ap (item_payload c.args.key) (to_z-of_z w64 c.args.value c.ranges.value) in
+    first_cell g.D.Disk.files g.D.Disk.moment g.D.Disk.left_since c.args.disk.now c.append.new.disk _ c.args.key c.args.value payload c.ranges.key c.ranges.value (c.append.ensures.first_moments honest rest is.journal)

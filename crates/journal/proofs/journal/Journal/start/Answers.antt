@@ -1,4 +1,4 @@
-use Rattle.std.proofs.Common.{◌≤◌, [], ℕ, List, length, drop, ap, sym, subst, rules}
+use Rattle.std.proofs.Common.{◌≤◌, inl, [], ℕ, List, length, drop, ap, sym, subst, rules}
 use Rattle.disk.specs.File.{File, MayLeave}
 use Rattle.disk.specs.Settled.{settled_only}
 use Rattle.disk.specs.Moments.{begun}
@@ -26,3 +26,6 @@ returns-clause-begun g c honest =
       stands = subst (λ (l : List ℕ). StandsFor (drop c.args.at l) []) (sym is) (stands_for_none content c.args.at (c.requires honest));
       end = search rules;
     }
+
+pub returns-then-at-ge-LIMIT-clause-at_once : goal.returns-then-at-ge-LIMIT-clause-at_once
+returns-then-at-ge-LIMIT-clause-at_once g c honest t le = inl (λ contents left. g.met.D.Disk.counts_now honest c.args.disk.now t contents le left)
