@@ -22,7 +22,7 @@ use std::io::Write;
 /// Does what a command asks of the store on a disk, and replies: what was put, read or refused on `out`, a fault of the
 /// store or below it on `err`. It answers the disk and the status.
 ///
-/// After status 5 a value that was to be put may be there or not.
+/// After status 5 a value that was to be put may be there or not; where file A was empty, any bytes may be there.
 pub fn cell<D: Disk, W: Write, E: Write>(
     alloc: Global,
     command: &Command<'_>,
@@ -35,7 +35,7 @@ pub fn cell<D: Disk, W: Write, E: Write>(
     ensures other { IsTrue D.is_honest → OtherStays A (D.files disk) (D.files result.0) }
 
     // A crash at any moment of a put leaves the cells before it or after it, from the moment on at which the journal of
-    // file A was begun. A get adds at no moment to what a crash may leave, nor does a put where file A holds no cells.
+    // file A was begun. A get adds at no moment to what a crash may leave, nor does a put where file A is damaged.
     ensures moments { IsTrue D.is_honest → CommandLeaves D.files D.moment D.left_since command.now disk result.0 }
 {
     let reply = answer(alloc, command, &mut disk);

@@ -34,7 +34,7 @@ pub enum Reply {
     Value { key: i64, value: i64 },
     /// The cell was never put.
     Absent { key: i64 },
-    /// Nothing was put or read.
+    /// Refused. After `Device` or `NoMemory` a value that was to be put may be there.
     Refused(Refusal),
 }
 

@@ -12,7 +12,7 @@ use byteorder::{ByteOrder, LittleEndian};
 use disk::{Disk, Side, write_synced};
 use std::alloc::{AllocError, Global};
 
-/// Positions behind the last byte of a side lie below this.
+/// The position of the closed gate that ends a journal lies below this.
 pub const LIMIT: u64 = 1 << 30;
 
 /// Where the records of a journal end.
