@@ -29,15 +29,15 @@ begun_or_more payload bytes is = record { front = refl; stands = inl (gate_alone
 more_or_none : (payload bytes old : List ℕ) → BeforeOrAfter 0 old [] payload bytes → BeforeOrAfter 0 [] [] payload bytes
 more_or_none payload bytes old either = record { front = refl; stands = either.stands }
 
-module _ {D : Type 0} (files : D → Side → File) (moment : D → ℕ) (left_since : D → ℕ → Contents → Type 0) where
+module _ {D : Type 0} (files : D → Side → File) (moment : D → ℕ) (left_at : D → ℕ → Contents → Type 0) where
   -- what reads give
   abbrev reads_of : D → Contents
   reads_of disk side = (files disk side).content
 
   -- a crash may leave file A empty at each moment so far, where reads find it empty and a crash may leave what they give
   pub still_empty : (old new : D) → (files old A).content ≡ [] → MayLeaveNow (files old) (reads_of old) → ((contents : Contents) → MayLeaveNow (files old) contents → MayLeaveNow (files new) contents)
-      → ((t : ℕ) (contents : Contents) → t ≤ moment new → MayLeaveNow (files new) contents → left_since new t contents)
-      → (t : ℕ) → t ≤ moment new → (contents : Contents) × left_since new t contents × (contents A ≡ [])
+      → ((t : ℕ) (contents : Contents) → t ≤ moment new → MayLeaveNow (files new) contents → left_at new t contents)
+      → (t : ℕ) → t ≤ moment new → (contents : Contents) × left_at new t contents × (contents A ≡ [])
   still_empty old new empty reads keeps counts t le = (reads_of old, counts t (reads_of old) le (keeps (reads_of old) reads), empty)
 
   -- no payload or this one, and of file B what a crash might have left before
@@ -45,10 +45,10 @@ module _ {D : Type 0} (files : D → Side → File) (moment : D → ℕ) (left_s
   Leaves old payload contents = BeforeOrAfter 0 [] [] payload (contents A) × OtherMayBe A (files old) contents
 
   -- a journal is begun, and a record appended
-  pub first_append : (old mid new : D) (payload : List ℕ) → files old A ≡ at_rest [] → MayLeaveNow (files old) (reads_of old) → AtOnce files moment left_since old mid
+  pub first_append : (old mid new : D) (payload : List ℕ) → files old A ≡ at_rest [] → MayLeaveNow (files old) (reads_of old) → AtOnce files moment left_at old mid
       → files mid A ≡ at_rest (0 ∷ []) → OtherStays A (files old) (files mid)
-      → LeavesOnly moment left_since mid new (λ contents. BeforeOrAfter 0 (0 ∷ []) [] payload (contents A) × OtherMayBe A (files mid) contents)
-      → ((t u : ℕ) (contents : Contents) → t ≤ u → left_since new u contents → left_since new t contents) → FirstAppendLeaves files moment left_since payload old new
+      → LeavesOnly moment left_at mid new (λ contents. BeforeOrAfter 0 (0 ∷ []) [] payload (contents A) × OtherMayBe A (files mid) contents)
+      → ((t u : ℕ) (contents : Contents) → t ≤ u → left_at new u contents → left_at new t contents) → FirstAppendLeaves files moment left_at payload old new
   first_append old mid new payload empty reads at_once begun others appends widens t le = elim (cases_lt (moment mid) t) [
     | inl behind ↦ inr (λ contents left. added contents (appends.each contents (widens (moment mid) t contents (omega arith) left)))
     | inr before ↦ elim (at_once t before) [
@@ -68,7 +68,7 @@ module _ {D : Type 0} (files : D → Side → File) (moment : D → ℕ) (left_s
 
   -- the record is that of a cell
   pub first_cell : (old new : D) (payload : List ℕ) (key value : ℤ) → payload ≡ item_payload key value → FitsSigned w64 key → FitsSigned w64 value
-      → FirstAppendLeaves files moment left_since payload old new → FirstPutLeaves files moment left_since key value old new
+      → FirstAppendLeaves files moment left_at payload old new → FirstPutLeaves files moment left_at key value old new
   first_cell old new payload key value spelled fits_key fits_value leaves t le =
       ⊎_elim (λ empty. inl empty) (λ only. inr (λ contents left. (either (contents A) (only contents left).0, (only contents left).1))) (leaves t le)
     where
@@ -78,6 +78,6 @@ module _ {D : Type 0} (files : D → Side → File) (moment : D → ℕ) (left_s
           (subst (λ (p : List ℕ). BeforeOrAfter 0 [] [] p bytes) spelled stands)
 
   -- the store was opened first
-  pub first_opened : (old opened new : D) (key value : ℤ) → OtherStays A (files old) (files opened) → FirstPutLeaves files moment left_since key value opened new → FirstPutLeaves files moment left_since key value old new
+  pub first_opened : (old opened new : D) (key value : ℤ) → OtherStays A (files old) (files opened) → FirstPutLeaves files moment left_at key value opened new → FirstPutLeaves files moment left_at key value old new
   first_opened old opened new key value others leaves t le =
       ⊎_elim (λ empty. inl empty) (λ only. inr (λ contents left. ((only contents left).0, other_before A (files old) (files opened) others contents (only contents left).1))) (leaves t le)

@@ -105,10 +105,10 @@ module _ {D : Type 0} (files : D → Side → File) where
   answers_stay (next ∷ later) earlier round first cells answered holds =
       one_later next round first (later ++ round ∷ earlier) cells (λ held holds_before. answers_stay later earlier round first held answered holds_before) (has_answered next) holds
 
-  module _ (moment : D → ℕ) (left_since : D → ℕ → Contents → Type 0) (failures : D → ℕ) where
+  module _ (moment : D → ℕ) (left_at : D → ℕ → Contents → Type 0) (failures : D → ℕ) where
     -- ---- the put that begins a journal
 
-    pub first_put_begins : FirstPutBegins files moment left_since failures
+    pub first_put_begins : FirstPutBegins files moment left_at failures
     first_put_begins round key value since is puts empty le crash none contents left = elim (is.leaves.first_put key value puts empty since le) [
       | inl still ↦ absurd (none still.0 still.1 still.2)
       | inr only ↦ (only contents (crash contents left)).0
@@ -117,25 +117,25 @@ module _ {D : Type 0} (files : D → Side → File) where
     -- ---- one round
 
     -- a crash behind a reply about cells leaves what reads gave then
-    pub told_left : (round : Round D) → IsRound files moment left_since failures round → round.told ≡ true → status_of round.reply ≤ 1 → (contents : Contents) → MayLeaveNow (files round.crashed) contents
+    pub told_left : (round : Round D) → IsRound files moment left_at failures round → round.told ≡ true → status_of round.reply ≤ 1 → (contents : Contents) → MayLeaveNow (files round.crashed) contents
         → contents A ≡ (files round.after A).content
     told_left round is told few contents left =
-        let now = subst (λ (b : Bool). MatchBool b (MayLeaveNow (files round.after) contents) (left_since round.after (moment round.before) contents)) told (is.crash contents left) in
+        let now = subst (λ (b : Bool). MatchBool b (MayLeaveNow (files round.after) contents) (left_at round.after (moment round.before) contents)) told (is.crash contents left) in
         settled_only (files round.after A).content (contents A) (subst (λ (f : File). MayLeave f.durable (contents A)) (is.comes.durable refl few) (now A))
 
     module _ (reads : (disk : D) (side : Side) → MayLeave (files disk side).durable (files disk side).content)
-        (counts : (disk : D) (t : ℕ) (contents : Contents) → t ≤ moment disk → MayLeaveNow (files disk) contents → left_since disk t contents) where
+        (counts : (disk : D) (t : ℕ) (contents : Contents) → t ≤ moment disk → MayLeaveNow (files disk) contents → left_at disk t contents) where
       -- what a crash in a command leaves of file A: what one might have left before, or what was read with what is put
       abbrev Struck : Command → D → Cells → Contents → Type 0
       Struck command before old contents = MayLeaveNow (files before) contents ⊎ ((cells : Cells) × KeepsCells (contents A) cells × ((cells ≡ old) ⊎ Adds command old cells))
 
       -- whether the crash struck behind the reply or not
-      struck_at : (told : Bool) (before after : D) → moment before ≤ moment after → (contents : Contents) → MatchBool told (MayLeaveNow (files after) contents) (left_since after (moment before) contents) → left_since after (moment before) contents
+      struck_at : (told : Bool) (before after : D) → moment before ≤ moment after → (contents : Contents) → MatchBool told (MayLeaveNow (files after) contents) (left_at after (moment before) contents) → left_at after (moment before) contents
       struck_at true before after later contents left = counts after (moment before) contents later left
       struck_at false before after later contents left = left
 
-      struck : (command : Command) (told : Bool) (before after : D) (old : Cells) → CommandLeaves files moment left_since command before after → KeepsCells (files before A).content old
-          → (contents : Contents) → MatchBool told (MayLeaveNow (files after) contents) (left_since after (moment before) contents) → Struck command before old contents
+      struck : (command : Command) (told : Bool) (before after : D) (old : Cells) → CommandLeaves files moment left_at command before after → KeepsCells (files before A).content old
+          → (contents : Contents) → MatchBool told (MayLeaveNow (files after) contents) (left_at after (moment before) contents) → Struck command before old contents
       struck (asked.Put directory key value) told before after old leaves keeps contents left =
           let only = leaves.puts key value (refl, refl) old keeps in
           elim (only.each contents (struck_at told before after only.later contents left)) [
@@ -152,7 +152,7 @@ module _ {D : Type 0} (files : D → Side → File) where
       abbrev Left : D → List (Round D) → Contents → Type 0
       Left first rounds contents = (cells : Cells) × KeepsCells (contents A) cells × MayHold files first rounds cells
 
-      answered_left : (round : Round D) (earlier : List (Round D)) (first : D) → IsRound files moment left_since failures round → has_answered round ≡ true → (old : Cells) → ReadIn files round old → MayHold files first earlier old
+      answered_left : (round : Round D) (earlier : List (Round D)) (first : D) → IsRound files moment left_at failures round → has_answered round ≡ true → (old : Cells) → ReadIn files round old → MayHold files first earlier old
           → (contents : Contents) → MayLeaveNow (files round.crashed) contents → Left first (round ∷ earlier) contents
       answered_left round earlier first is answered old read held contents left =
           let parts = and_parts round.told (nat_le (status_of round.reply) 1) answered in
@@ -169,7 +169,7 @@ module _ {D : Type 0} (files : D → Side → File) where
       unanswered_left round earlier first answered contents cells keeps held =
           (cells, keeps, subst (λ (b : Bool). MatchBool b (Answered round first earlier cells) (Unanswered round first earlier cells)) (sym answered) held)
 
-      goes_on : (round : Round D) (earlier : List (Round D)) (first : D) → IsRound files moment left_since failures round → ((contents : Contents) → MayLeaveNow (files round.before) contents → Left first earlier contents)
+      goes_on : (round : Round D) (earlier : List (Round D)) (first : D) → IsRound files moment left_at failures round → ((contents : Contents) → MayLeaveNow (files round.before) contents → Left first earlier contents)
           → (contents : Contents) → MayLeaveNow (files round.crashed) contents → Left first (round ∷ earlier) contents
       goes_on round earlier first is before contents left =
           let old = before (λ side. (files round.before side).content) (reads round.before) in
@@ -182,7 +182,7 @@ module _ {D : Type 0} (files : D → Side → File) where
             ]
           ]
 
-      pub histories : HistoriesKeep files moment left_since failures
+      pub histories : HistoriesKeep files moment left_at failures
       histories [] first start follow contents left = let begun = start contents left in (begun.0, begun.1, (contents, left, begun.1))
       histories (round ∷ earlier) first start follow contents left =
           goes_on round earlier first follow.0 (λ c l. histories earlier first start follow.2 c (subst (λ (d : D). MayLeaveNow (files d) c) follow.1 l)) contents left

@@ -14,12 +14,12 @@ use Rattle.cli.specs.Journal.{IsJournalOf}
 use Rattle.cli.proofs.CellLemmas.{spelled-push}
 
 -- the journal of file A is on side A
-pub put_on_a : {D : Type 0} (files : D → Side → File) (moment : D → ℕ) (left_since : D → ℕ → Contents → Type 0) (old new : D) (begun : Journal) (content : List ℕ) (payloads : List (List ℕ)) (payload : List ℕ)
+pub put_on_a : {D : Type 0} (files : D → Side → File) (moment : D → ℕ) (left_at : D → ℕ → Contents → Type 0) (old new : D) (begun : Journal) (content : List ℕ) (payloads : List (List ℕ)) (payload : List ℕ)
     → IsJournalOf (Some begun) content payloads → files old A ≡ at_rest content
-    → (files old begun.side ≡ at_rest content → IsAt begun 0 content payloads → LeavesOnly moment left_since old new (λ contents. BeforeOrAfter 0 content payloads payload (contents begun.side) × OtherMayBe begun.side (files old) contents))
-    → LeavesOnly moment left_since old new (λ contents. BeforeOrAfter 0 content payloads payload (contents A) × OtherMayBe A (files old) contents)
-put_on_a {D} files moment left_since old new begun content payloads payload is rest moments =
-    let P = λ (side : Side). LeavesOnly moment left_since old new (λ contents. BeforeOrAfter 0 content payloads payload (contents side) × OtherMayBe side (files old) contents) in
+    → (files old begun.side ≡ at_rest content → IsAt begun 0 content payloads → LeavesOnly moment left_at old new (λ contents. BeforeOrAfter 0 content payloads payload (contents begun.side) × OtherMayBe begun.side (files old) contents))
+    → LeavesOnly moment left_at old new (λ contents. BeforeOrAfter 0 content payloads payload (contents A) × OtherMayBe A (files old) contents)
+put_on_a {D} files moment left_at old new begun content payloads payload is rest moments =
+    let P = λ (side : Side). LeavesOnly moment left_at old new (λ contents. BeforeOrAfter 0 content payloads payload (contents side) × OtherMayBe side (files old) contents) in
     subst P is.0 (moments (subst (λ (side : Side). files old side ≡ at_rest content) (sym is.0) rest) is.1)
 
 -- payloads before or after are cells before or after

@@ -48,11 +48,11 @@ first_keeps (asked.Get directory key) (said.Value at value) old new zero answers
 first_keeps command (said.Absent at) old new zero answers = absurd (omega arith)
 first_keeps command (said.Refused why) old new zero answers = absurd (no_refusal why zero)
 
-module _ {D : Type 0} (files : D → Side → File) (moment : D → ℕ) (left_since : D → ℕ → Contents → Type 0) (failures : D → ℕ) where
+module _ {D : Type 0} (files : D → Side → File) (moment : D → ℕ) (left_at : D → ℕ → Contents → Type 0) (failures : D → ℕ) where
   -- a crash that settled nothing
-  pub told_round : (command : Command) (reply : Reply) (before after crashed : D) → Comes true files failures command reply before after → CommandLeaves files moment left_since command before after
+  pub told_round : (command : Command) (reply : Reply) (before after crashed : D) → Comes true files failures command reply before after → CommandLeaves files moment left_at command before after
       → ((side : Side) → (files crashed side).durable ≡ (files after side).durable)
-      → IsRound files moment left_since failures (record { command = command; reply = reply; told = true; before = before; after = after; crashed = crashed })
+      → IsRound files moment left_at failures (record { command = command; reply = reply; told = true; before = before; after = after; crashed = crashed })
   told_round command reply before after crashed comes leaves same = record {
     comes = comes;
     leaves = leaves;
@@ -60,8 +60,8 @@ module _ {D : Type 0} (files : D → Side → File) (moment : D → ℕ) (left_s
   }
 
   -- the first of them begins a journal
-  pub told_begins : (round : Round D) → IsRound files moment left_since failures round → round.told ≡ true → status_of round.reply ≡ 0 → (files round.before A).content ≡ [] → IsBegun files round.crashed
+  pub told_begins : (round : Round D) → IsRound files moment left_at failures round → round.told ≡ true → status_of round.reply ≡ 0 → (files round.before A).content ≡ [] → IsBegun files round.crashed
   told_begins round is told zero empty contents left =
-      let here = told_left files moment left_since failures round is told (omega arith) contents left in
+      let here = told_left files moment left_at failures round is told (omega arith) contents left in
       let kept = first_keeps round.command round.reply _ _ zero ((is.comes.settles refl).by_cells [] (inl (empty, refl))) in
       (kept.0, subst (λ (l : List ℕ). KeepsCells l kept.0) (sym here) kept.1)

@@ -43,7 +43,7 @@ impl Store {
         ensures other { IsTrue D.is_honest → OtherStays A (D.files disk.old) (D.files disk.new) }
 
         // At no moment it adds to what a crash may leave.
-        ensures any_moment { IsTrue D.is_honest → LeavesOnly D.moment D.left_since disk.old disk.new (MayLeaveNow (D.files disk.old)) }
+        ensures any_moment { IsTrue D.is_honest → LeavesOnly D.moment D.left_at disk.old disk.new (MayLeaveNow (D.files disk.old)) }
 
         ensures already { (there : ℤ) → IsErrOf result (AlreadyPut there) → ⊥ }
         ensures full { IsErrOf result Full → ⊥ }
@@ -93,10 +93,10 @@ impl Store {
 
         // Once the journal of file A was begun, a crash at any moment of the call leaves the cells before it or after it.
         ensures any_moment { IsTrue D.is_honest → (content : List ℕ) (cells : Cells) → D.files disk.old A ≡ at_rest content → content ≢ [] → IsStoreOf self.old content cells
-            → LeavesOnly D.moment D.left_since disk.old disk.new (λ contents. KeepsEither cells key value (contents A) × OtherMayBe A (D.files disk.old) contents) }
+            → LeavesOnly D.moment D.left_at disk.old disk.new (λ contents. KeepsEither cells key value (contents A) × OtherMayBe A (D.files disk.old) contents) }
 
         // On an empty file A a crash leaves no cell or the new one, from the moment on at which its journal was begun.
-        ensures first_moments { IsTrue D.is_honest → D.files disk.old A ≡ at_rest [] → IsStoreOf self.old [] [] → FirstPutLeaves D.files D.moment D.left_since key value disk.old disk.new }
+        ensures first_moments { IsTrue D.is_honest → D.files disk.old A ≡ at_rest [] → IsStoreOf self.old [] [] → FirstPutLeaves D.files D.moment D.left_at key value disk.old disk.new }
 
         ensures full { IsTrue D.is_honest → IsErrOf result Full → disk.new ≡ disk.old }
         ensures limit { IsTrue D.is_honest → (cells : Cells) → IsStoreOf self.old (D.files disk.old A).content cells
@@ -134,9 +134,9 @@ fn append<D: Disk>(
     ensures durable { IsTrue D.is_honest → OnOk result (D.files disk.new A ≡ at_rest (D.files disk.new A).content) }
     ensures other { IsTrue D.is_honest → OtherStays A (D.files disk.old) (D.files disk.new) }
     ensures any_moment { IsTrue D.is_honest → (content : List ℕ) (payloads : List (List ℕ)) → D.files disk.old A ≡ at_rest content → content ≢ [] → IsJournalOf journal.old content payloads
-        → LeavesOnly D.moment D.left_since disk.old disk.new (λ contents. BeforeOrAfter 0 content payloads payload.now (contents A) × OtherMayBe A (D.files disk.old) contents) }
+        → LeavesOnly D.moment D.left_at disk.old disk.new (λ contents. BeforeOrAfter 0 content payloads payload.now (contents A) × OtherMayBe A (D.files disk.old) contents) }
     ensures first_moments { IsTrue D.is_honest → D.files disk.old A ≡ at_rest [] → IsJournalOf journal.old [] []
-        → FirstAppendLeaves D.files D.moment D.left_since payload.now disk.old disk.new }
+        → FirstAppendLeaves D.files D.moment D.left_at payload.now disk.old disk.new }
     ensures already { (there : ℤ) → IsErrOf result (AlreadyPut there) → ⊥ }
     ensures full { IsErrOf result Full → disk.new ≡ disk.old }
     ensures limit { IsTrue D.is_honest → (payloads : List (List ℕ)) → IsJournalOf journal.old (D.files disk.old A).content payloads
@@ -169,7 +169,7 @@ fn add<D: Disk>(
     ensures durable { IsTrue D.is_honest → begun.side ≡ A → OnOk result (D.files disk.new A ≡ at_rest (D.files disk.new A).content) }
     ensures other { IsTrue D.is_honest → begun.side ≡ A → OtherStays A (D.files disk.old) (D.files disk.new) }
     ensures any_moment { IsTrue D.is_honest → (content : List ℕ) (payloads : List (List ℕ)) → D.files disk.old A ≡ at_rest content → IsJournalOf (Some begun) content payloads
-        → LeavesOnly D.moment D.left_since disk.old disk.new (λ contents. BeforeOrAfter 0 content payloads payload.now (contents A) × OtherMayBe A (D.files disk.old) contents) }
+        → LeavesOnly D.moment D.left_at disk.old disk.new (λ contents. BeforeOrAfter 0 content payloads payload.now (contents A) × OtherMayBe A (D.files disk.old) contents) }
     ensures already { (there : ℤ) → IsErrOf result (AlreadyPut there) → ⊥ }
     ensures full { IsErrOf result Full → LIMIT ≤ begun.end + 5 + length payload.now }
     ensures before_the_disk { IsErrOf result Full → disk.new ≡ disk.old }

@@ -36,16 +36,16 @@ failed_sync_keeps T side (Ok _) first old new syncs others so_far = tt
 failed_sync_keeps T side (Err _) first old new syncs others so_far =
     λ contents left. nothing_back side old new (λ bytes. subst (λ (f : File). MayLeave f.durable bytes) (sym syncs)) others contents (so_far contents left)
 
-module _ {D : Type 0} (files : D → Side → File) (moment : D → ℕ) (left_since : D → ℕ → Contents → Type 0) where
+module _ {D : Type 0} (files : D → Side → File) (moment : D → ℕ) (left_at : D → ℕ → Contents → Type 0) where
   -- calls that take nothing back
   pub kept_at_once : (old new : D) → ((contents : Contents) → MayLeaveNow (files old) contents → MayLeaveNow (files new) contents)
-      → ((t : ℕ) (contents : Contents) → t ≤ moment new → MayLeaveNow (files new) contents → left_since new t contents) → AtOnce files moment left_since old new
+      → ((t : ℕ) (contents : Contents) → t ≤ moment new → MayLeaveNow (files new) contents → left_at new t contents) → AtOnce files moment left_at old new
   kept_at_once old new keeps counts t le = inl (λ contents left. counts t contents le (keeps contents left))
 
   -- and one behind them: a moment is one of theirs, or there is but what a crash may leave in the end
   pub call_at_once : (old mid new : D) → ((contents : Contents) → MayLeaveNow (files old) contents → MayLeaveNow (files mid) contents)
-      → ((t : ℕ) (contents : Contents) → t ≤ moment mid → MayLeaveNow (files mid) contents → left_since mid t contents)
-      → Elapses (moment mid) (moment new) (left_since mid) (left_since new) (MayLeaveNow (files new)) → AtOnce files moment left_since old new
+      → ((t : ℕ) (contents : Contents) → t ≤ moment mid → MayLeaveNow (files mid) contents → left_at mid t contents)
+      → Elapses (moment mid) (moment new) (left_at mid) (left_at new) (MayLeaveNow (files new)) → AtOnce files moment left_at old new
   call_at_once old mid new keeps counts time t le = elim (cases_lt (moment mid) t) [
     | inl behind ↦ inr (λ contents left. time.behind t contents behind left)
     | inr before ↦ inl (λ contents left. time.keeps t contents before (counts t contents before (keeps contents left)))

@@ -4,14 +4,14 @@ use Rattle.disk.specs.declared.side.Side.{Side}
 use Rattle.disk.specs.File.{File, MayLeave}
 use Rattle.disk.specs.Time.{Contents, OtherStays, OtherMayBe, Elapses, LeavesOnly}
 
-module _ {D : Type 0} (moment : D → ℕ) (left_since : D → ℕ → Contents → Type 0) where
+module _ {D : Type 0} (moment : D → ℕ) (left_at : D → ℕ → Contents → Type 0) where
   -- before the first call
-  pub begun : (old : D) (P : Contents → Type 0) → ((c : Contents) → left_since old (moment old) c → P c) → LeavesOnly moment left_since old old P
+  pub begun : (old : D) (P : Contents → Type 0) → ((c : Contents) → left_at old (moment old) c → P c) → LeavesOnly moment left_at old old P
   begun old P now = record { later = omega arith; each = now; before = λ t c le left. inl left; keeps = λ t c le left. left }
 
   -- after one call more, where a crash leaves what has P
-  pub goes_on : (old mid new : D) (P may_leave : Contents → Type 0) → LeavesOnly moment left_since old mid P → Elapses (moment mid) (moment new) (left_since mid) (left_since new) may_leave
-      → ((c : Contents) → may_leave c → P c) → LeavesOnly moment left_since old new P
+  pub goes_on : (old mid new : D) (P may_leave : Contents → Type 0) → LeavesOnly moment left_at old mid P → Elapses (moment mid) (moment new) (left_at mid) (left_at new)
+      → ((c : Contents) → may_leave c → P c) → LeavesOnly moment left_at old new P
   goes_on old mid new P may_leave so_far time now = record {
     later = omega (arith, so_far.later, time.later);
     each = λ c left. ⊎_elim (so_far.each c) (now c) (time.nothing_else (moment old) c so_far.later left);
@@ -20,7 +20,7 @@ module _ {D : Type 0} (moment : D → ℕ) (left_since : D → ℕ → Contents 
   }
 
   -- what has P has Q
-  pub weakened : (old new : D) (P Q : Contents → Type 0) → LeavesOnly moment left_since old new P → ((c : Contents) → P c → Q c) → LeavesOnly moment left_since old new Q
+  pub weakened : (old new : D) (P Q : Contents → Type 0) → LeavesOnly moment left_at old new P → ((c : Contents) → P c → Q c) → LeavesOnly moment left_at old new Q
   weakened old new P Q only from = record {
     later = only.later;
     each = λ c left. from c (only.each c left);
@@ -29,8 +29,8 @@ module _ {D : Type 0} (moment : D → ℕ) (left_since : D → ℕ → Contents 
   }
 
   -- two lists of calls, one after the other
-  pub joined : (old mid new : D) (P Q R : Contents → Type 0) → LeavesOnly moment left_since old mid P → LeavesOnly moment left_since mid new Q
-      → ((c : Contents) → P c → R c) → ((c : Contents) → Q c → R c) → LeavesOnly moment left_since old new R
+  pub joined : (old mid new : D) (P Q R : Contents → Type 0) → LeavesOnly moment left_at old mid P → LeavesOnly moment left_at mid new Q
+      → ((c : Contents) → P c → R c) → ((c : Contents) → Q c → R c) → LeavesOnly moment left_at old new R
   joined old mid new P Q R first second from_first from_second = record {
     later = omega (arith, first.later, second.later);
     each = λ c left. ⊎_elim (λ before. from_first c (first.each c before)) (from_second c) (second.before (moment old) c first.later left);

@@ -50,7 +50,7 @@ returns-in-Put-clause-moments g c honest = record {
       let asked = subst (λ (command : Command). PutsAt command key value) c.in-Put.is puts in
       let same_key : cast_signed w64 (cast_unsigned w64 c.in-Put.key) ≡ key = search rules in
       let same_value : cast_signed w64 (cast_unsigned w64 c.in-Put.value) ≡ value = search rules in
-      joined g.D.Disk.moment g.D.Disk.left_since c.args.disk.now c.open.new.disk c.put.new.disk _ _ _ (c.in-Ok.ensures.any_moment honest)
+      joined g.D.Disk.moment g.D.Disk.left_at c.args.disk.now c.open.new.disk c.put.new.disk _ _ _ (c.in-Ok.ensures.any_moment honest)
       (c.put.ensures.any_moment honest (g.D.Disk.files c.args.disk.now A).content cells (c.in-Ok.ensures.durable honest) (is_there (g.D.Disk.files c.args.disk.now A).content cells keeps) (c.in-Ok.ensures.only honest cells (inr keeps)))
       (λ contents left. inl left)
       (λ contents left. inr (
@@ -64,18 +64,18 @@ returns-in-Put-clause-moments g c honest = record {
       let store = subst (λ (content : List ℕ). IsStoreOf c.in-Ok.store content []) empty (c.in-Ok.ensures.only honest [] (inl (empty, refl))) in
       let rest = c.in-Ok.ensures.durable honest ∙ ap at_rest empty in
       let put = c.put.ensures.first_moments honest rest store in
-      first_opened g.D.Disk.files g.D.Disk.moment g.D.Disk.left_since c.args.disk.now c.open.new.disk c.put.new.disk key value (c.in-Ok.ensures.other honest)
-      (subst (λ (v : ℤ). FirstPutLeaves g.D.Disk.files g.D.Disk.moment g.D.Disk.left_since key v c.open.new.disk c.put.new.disk) same_value
-      (subst (λ (k : ℤ). FirstPutLeaves g.D.Disk.files g.D.Disk.moment g.D.Disk.left_since k (cast_signed w64 (cast_unsigned w64 c.in-Put.value)) c.open.new.disk c.put.new.disk) same_key put));
+      first_opened g.D.Disk.files g.D.Disk.moment g.D.Disk.left_at c.args.disk.now c.open.new.disk c.put.new.disk key value (c.in-Ok.ensures.other honest)
+      (subst (λ (v : ℤ). FirstPutLeaves g.D.Disk.files g.D.Disk.moment g.D.Disk.left_at key v c.open.new.disk c.put.new.disk) same_value
+      (subst (λ (k : ℤ). FirstPutLeaves g.D.Disk.files g.D.Disk.moment g.D.Disk.left_at k (cast_signed w64 (cast_unsigned w64 c.in-Put.value)) c.open.new.disk c.put.new.disk) same_key put));
   gets = λ reads. absurd (subst Reads c.in-Put.is reads);
   damaged = λ none. let is = c.in-Ok.ensures.opened honest in absurd (none is.0 (store_holds _ _ is.0 is.1));
 }
 
 pub returns-clause-moments : goal.returns-clause-moments
 returns-clause-moments g c honest = record {
-  puts = λ key value puts cells keeps. weakened g.D.Disk.moment g.D.Disk.left_since c.args.disk.now c.open.new.disk _ _ (c.in-Err.ensures.any_moment honest) (λ contents left. inl left);
+  puts = λ key value puts cells keeps. weakened g.D.Disk.moment g.D.Disk.left_at c.args.disk.now c.open.new.disk _ _ (c.in-Err.ensures.any_moment honest) (λ contents left. inl left);
   first_put = λ key value puts empty t le.
-      inl (still_empty g.D.Disk.files g.D.Disk.moment g.D.Disk.left_since c.open.new.disk c.open.new.disk (c.in-Err.ensures.same honest ∙ empty) (g.met.D.Disk.reads_left honest c.open.new.disk) (λ contents left. left) (g.met.D.Disk.counts_now honest c.open.new.disk) t le);
+      inl (still_empty g.D.Disk.files g.D.Disk.moment g.D.Disk.left_at c.open.new.disk c.open.new.disk (c.in-Err.ensures.same honest ∙ empty) (g.met.D.Disk.reads_left honest c.open.new.disk) (λ contents left. left) (g.met.D.Disk.counts_now honest c.open.new.disk) t le);
   gets = λ reads. c.in-Err.ensures.any_moment honest;
   damaged = λ none. c.in-Err.ensures.any_moment honest;
 }

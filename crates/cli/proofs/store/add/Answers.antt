@@ -12,8 +12,8 @@ returns-clause-added g c honest payloads is =
 
 pub returns-in_err-appended-clause-any_moment : goal.returns-in_err-appended-clause-any_moment
 returns-in_err-appended-clause-any_moment g c honest content payloads rest is =
-    put_on_a g.D.Disk.files g.D.Disk.moment g.D.Disk.left_since c.args.disk.now c.append-appended.new.disk c.args.begun content payloads c.args.payload.now is rest (c.append-appended.ensures.any_moment honest 0 payloads content)
+    put_on_a g.D.Disk.files g.D.Disk.moment g.D.Disk.left_at c.args.disk.now c.append-appended.new.disk c.args.begun content payloads c.args.payload.now is rest (c.append-appended.ensures.any_moment honest 0 payloads content)
 
 pub returns-clause-any_moment : goal.returns-clause-any_moment
 returns-clause-any_moment g c honest content payloads rest is =
-    put_on_a g.D.Disk.files g.D.Disk.moment g.D.Disk.left_since c.args.disk.now c.append-appended.new.disk c.args.begun content payloads c.args.payload.now is rest (c.append-appended.ensures.any_moment honest 0 payloads content)
+    put_on_a g.D.Disk.files g.D.Disk.moment g.D.Disk.left_at c.args.disk.now c.append-appended.new.disk c.args.begun content payloads c.args.payload.now is rest (c.append-appended.ensures.any_moment honest 0 payloads content)

@@ -7,13 +7,13 @@ use Rattle.cli.proofs.store.append.Goals as goal
 
 pub returns-in_err-start-in-None-clause-first_moments : goal.returns-in_err-start-in-None-clause-first_moments
 returns-in_err-start-in-None-clause-first_moments g c honest rest is t le =
-    inl (still_empty g.D.Disk.files g.D.Disk.moment g.D.Disk.left_since c.args.disk.now c.start.new.disk (ap (λ (f : File). f.content) rest) (g.met.D.Disk.reads_left honest c.args.disk.now)
+    inl (still_empty g.D.Disk.files g.D.Disk.moment g.D.Disk.left_at c.args.disk.now c.start.new.disk (ap (λ (f : File). f.content) rest) (g.met.D.Disk.reads_left honest c.args.disk.now)
     (c.in_err-start-in-None.ensures.err honest) (g.met.D.Disk.counts_now honest c.start.new.disk) t le)
 
 pub returns-in_ok-start-in-None-clause-first_moments : goal.returns-in_ok-start-in-None-clause-first_moments
 returns-in_ok-start-in-None-clause-first_moments g c honest rest is =
     let begun : g.D.Disk.files c.start.new.disk A ≡ at_rest (0 ∷ []) = c.in_ok-start-in-None.ensures.file honest ∙ ap (λ (f : File). at_rest (overwritten f.content 0 (0 ∷ []))) rest in
     let stands = subst (λ (content : List ℕ). IsAt c.in_ok-start-in-None.field-0 0 content []) (ap (λ (f : File). f.content) begun) (c.in_ok-start-in-None.ensures.begun honest) in
-    first_append g.D.Disk.files g.D.Disk.moment g.D.Disk.left_since c.args.disk.now c.start.new.disk c.add-in-None.new.disk c.args.payload.now rest (g.met.D.Disk.reads_left honest c.args.disk.now)
+    first_append g.D.Disk.files g.D.Disk.moment g.D.Disk.left_at c.args.disk.now c.start.new.disk c.add-in-None.new.disk c.args.payload.now rest (g.met.D.Disk.reads_left honest c.args.disk.now)
     (c.start.ensures.at_once honest) begun (c.start.ensures.other honest)
     (c.add-in-None.ensures.any_moment honest (0 ∷ []) [] begun (c.in_ok-start-in-None.ensures.side, stands)) (g.met.D.Disk.widens honest c.add-in-None.new.disk)

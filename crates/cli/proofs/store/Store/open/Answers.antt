@@ -51,19 +51,19 @@ returns-clause-only g c honest cells holds =
 -- ---- at no moment more may be left
 
 pub returns-in_err-sync-clause-any_moment : goal.returns-in_err-sync-clause-any_moment
-returns-in_err-sync-clause-any_moment g c honest = sync_moments g.D.Disk.files g.D.Disk.moment g.D.Disk.left_since c.args.disk.now c.sync.new.self _ c.sync.result (c.sync.ensures.file honest) (c.sync.ensures.other honest) (g.met.D.Disk.reads_left honest c.args.disk.now A) (g.met.D.Disk.only_now honest c.args.disk.now) (c.sync.ensures.time honest)
+returns-in_err-sync-clause-any_moment g c honest = sync_moments g.D.Disk.files g.D.Disk.moment g.D.Disk.left_at c.args.disk.now c.sync.new.self _ c.sync.result (c.sync.ensures.file honest) (c.sync.ensures.other honest) (g.met.D.Disk.reads_left honest c.args.disk.now A) (g.met.D.Disk.only_now honest c.args.disk.now) (c.sync.ensures.time honest)
 
 pub returns-in_err-len-clause-any_moment : goal.returns-in_err-len-clause-any_moment
-returns-in_err-len-clause-any_moment g c honest = look_moments g.D.Disk.files g.D.Disk.moment g.D.Disk.left_since c.args.disk.now c.sync.new.self _ c.sync.result (c.sync.ensures.file honest) (c.sync.ensures.other honest) (g.met.D.Disk.reads_left honest c.args.disk.now A) (g.met.D.Disk.only_now honest c.args.disk.now) (c.sync.ensures.time honest) c.len.new.self (c.len.ensures.same honest) (c.len.ensures.time honest)
+returns-in_err-len-clause-any_moment g c honest = look_moments g.D.Disk.files g.D.Disk.moment g.D.Disk.left_at c.args.disk.now c.sync.new.self _ c.sync.result (c.sync.ensures.file honest) (c.sync.ensures.other honest) (g.met.D.Disk.reads_left honest c.args.disk.now A) (g.met.D.Disk.only_now honest c.args.disk.now) (c.sync.ensures.time honest) c.len.new.self (c.len.ensures.same honest) (c.len.ensures.time honest)
 
 pub returns-then-branch-eq0-clause-any_moment : goal.returns-then-branch-eq0-clause-any_moment
-returns-then-branch-eq0-clause-any_moment g c honest = look_moments g.D.Disk.files g.D.Disk.moment g.D.Disk.left_since c.args.disk.now c.sync.new.self _ c.sync.result (c.sync.ensures.file honest) (c.sync.ensures.other honest) (g.met.D.Disk.reads_left honest c.args.disk.now A) (g.met.D.Disk.only_now honest c.args.disk.now) (c.sync.ensures.time honest) c.len.new.self (c.len.ensures.same honest) (c.len.ensures.time honest)
+returns-then-branch-eq0-clause-any_moment g c honest = look_moments g.D.Disk.files g.D.Disk.moment g.D.Disk.left_at c.args.disk.now c.sync.new.self _ c.sync.result (c.sync.ensures.file honest) (c.sync.ensures.other honest) (g.met.D.Disk.reads_left honest c.args.disk.now A) (g.met.D.Disk.only_now honest c.args.disk.now) (c.sync.ensures.time honest) c.len.new.self (c.len.ensures.same honest) (c.len.ensures.time honest)
 
 pub returns-in_err-journal-clause-any_moment : goal.returns-in_err-journal-clause-any_moment
-returns-in_err-journal-clause-any_moment g c honest = scan_moments g.D.Disk.files g.D.Disk.moment g.D.Disk.left_since c.args.disk.now c.sync.new.self _ c.sync.result (c.sync.ensures.file honest) (c.sync.ensures.other honest) (g.met.D.Disk.reads_left honest c.args.disk.now A) (g.met.D.Disk.only_now honest c.args.disk.now) (c.sync.ensures.time honest) c.len.new.self (c.len.ensures.same honest) (c.len.ensures.time honest) c.scan.new.disk (c.scan.ensures.any_moment honest)
+returns-in_err-journal-clause-any_moment g c honest = scan_moments g.D.Disk.files g.D.Disk.moment g.D.Disk.left_at c.args.disk.now c.sync.new.self _ c.sync.result (c.sync.ensures.file honest) (c.sync.ensures.other honest) (g.met.D.Disk.reads_left honest c.args.disk.now A) (g.met.D.Disk.only_now honest c.args.disk.now) (c.sync.ensures.time honest) c.len.new.self (c.len.ensures.same honest) (c.len.ensures.time honest) c.scan.new.disk (c.scan.ensures.any_moment honest)
 
 pub returns-in_err-cells-clause-any_moment : goal.returns-in_err-cells-clause-any_moment
-returns-in_err-cells-clause-any_moment g c honest = scan_moments g.D.Disk.files g.D.Disk.moment g.D.Disk.left_since c.args.disk.now c.sync.new.self _ c.sync.result (c.sync.ensures.file honest) (c.sync.ensures.other honest) (g.met.D.Disk.reads_left honest c.args.disk.now A) (g.met.D.Disk.only_now honest c.args.disk.now) (c.sync.ensures.time honest) c.len.new.self (c.len.ensures.same honest) (c.len.ensures.time honest) c.scan.new.disk (c.scan.ensures.any_moment honest)
+returns-in_err-cells-clause-any_moment g c honest = scan_moments g.D.Disk.files g.D.Disk.moment g.D.Disk.left_at c.args.disk.now c.sync.new.self _ c.sync.result (c.sync.ensures.file honest) (c.sync.ensures.other honest) (g.met.D.Disk.reads_left honest c.args.disk.now A) (g.met.D.Disk.only_now honest c.args.disk.now) (c.sync.ensures.time honest) c.len.new.self (c.len.ensures.same honest) (c.len.ensures.time honest) c.scan.new.disk (c.scan.ensures.any_moment honest)
 
 pub returns-clause-any_moment : goal.returns-clause-any_moment
-returns-clause-any_moment g c honest = scan_moments g.D.Disk.files g.D.Disk.moment g.D.Disk.left_since c.args.disk.now c.sync.new.self _ c.sync.result (c.sync.ensures.file honest) (c.sync.ensures.other honest) (g.met.D.Disk.reads_left honest c.args.disk.now A) (g.met.D.Disk.only_now honest c.args.disk.now) (c.sync.ensures.time honest) c.len.new.self (c.len.ensures.same honest) (c.len.ensures.time honest) c.scan.new.disk (c.scan.ensures.any_moment honest)
+returns-clause-any_moment g c honest = scan_moments g.D.Disk.files g.D.Disk.moment g.D.Disk.left_at c.args.disk.now c.sync.new.self _ c.sync.result (c.sync.ensures.file honest) (c.sync.ensures.other honest) (g.met.D.Disk.reads_left honest c.args.disk.now A) (g.met.D.Disk.only_now honest c.args.disk.now) (c.sync.ensures.time honest) c.len.new.self (c.len.ensures.same honest) (c.len.ensures.time honest) c.scan.new.disk (c.scan.ensures.any_moment honest)

@@ -9,14 +9,14 @@ use Rattle.journal.proofs.journal.Journal.start.Goals as goal
 -- no call of the disk was made
 pub returns-then-at-ge-LIMIT-clause-any_moment : goal.returns-then-at-ge-LIMIT-clause-any_moment
 returns-then-at-ge-LIMIT-clause-any_moment g c honest content is =
-    begun g.D.Disk.moment g.D.Disk.left_since c.args.disk.now _ (λ contents left.
+    begun g.D.Disk.moment g.D.Disk.left_at c.args.disk.now _ (λ contents left.
     let now = g.met.D.Disk.only_now honest c.args.disk.now contents left in
     let here = settled_only content (contents c.args.side) (subst (λ (f : File). MayLeave f.durable (contents c.args.side)) is (now c.args.side)) in
     (unwritten content c.args.at 1 (subst (λ (f : File). c.args.at ≤ length f.content) is (c.requires honest)) (contents c.args.side) here, λ other differs. now other))
 
 pub returns-then-at-ge-LIMIT-clause-other_moments : goal.returns-then-at-ge-LIMIT-clause-other_moments
 returns-then-at-ge-LIMIT-clause-other_moments g c honest =
-    begun g.D.Disk.moment g.D.Disk.left_since c.args.disk.now _ (λ contents left. let now = g.met.D.Disk.only_now honest c.args.disk.now contents left in λ other differs. now other)
+    begun g.D.Disk.moment g.D.Disk.left_at c.args.disk.now _ (λ contents left. let now = g.met.D.Disk.only_now honest c.args.disk.now contents left in λ other differs. now other)
 
 pub returns-clause-begun : goal.returns-clause-begun
 returns-clause-begun g c honest =
