@@ -1,5 +1,5 @@
--- What a record of calls says of the two files: what is durable now, and what a crash since a moment may have left.
-use Rattle.std.specs.Prelude.{◌≡◌, ◌≤◌, ℕ, List, [], ◌∷◌, ◌++◌, length, take, if◌then◌else◌, count_by}
+-- What a record of calls says of the two files: what is durable now, and what a crash at a moment may have left.
+use Rattle.std.specs.Prelude.{◌≡◌, ◌↔◌, ℕ, List, [], ◌∷◌, ◌++◌, length, take, if◌then◌else◌, count_by}
 use Rattle.std.proofs.Common.{sym, subst, arith}
 use Rattle.std.proofs.lemmas.List.{take_all}
 use Rattle.disk.specs.declared.side.Side.{Side}
@@ -47,4 +47,10 @@ failures_of calls = count_by (λ call. call.failed) calls
 
 -- at this moment that is what a crash now may leave
 pub at_now : (calls : List Call) (contents : Contents) → LeftAt calls (length calls) contents ↔ ((side : Side) → MayLeave (durable_of calls side) (contents side))
-at_now calls contents = ?
+at_now calls contents = (
+  λ left side. subst (λ (l : List Call). MayLeave (durable_of l side) (contents side)) whole (left side),
+  λ now side. subst (λ (l : List Call). MayLeave (durable_of l side) (contents side)) (sym whole) (now side),
+)
+  where
+    whole : take (length calls) calls ≡ calls
+    whole = take_all (length calls) calls (omega arith)

@@ -1,4 +1,4 @@
--- The two files of a disk over time: what a crash now, or at some moment since, may leave of both.
+-- The two files of a disk over time: what a crash now, or at an earlier moment, may leave of both.
 use Rattle.std.specs.Prelude.{◌≡◌, ◌≢◌, ◌⊎◌, ◌↔◌, ◌+◌, ◌≤◌, ◌<◌, ℕ, List, Result, IsErrOf}
 use Rattle.disk.specs.declared.side.Side.{Side}
 use Rattle.disk.specs.declared.error.DiskError.{DiskError}

@@ -13,9 +13,10 @@ returns-in_err-write_at-clause-touches g c honest =
     let files = g.D.Disk.files in
     let n = length c.args.bytes.now in
     let P : Contents → Type 0 = Touches c.args.side c.args.at n (files c.args.disk.now) in
-    let start = begun g.D.Disk.moment g.D.Disk.left_at c.args.disk.now P (λ contents left. touches_before c.args.side c.args.at n (files c.args.disk.now) contents (g.met.D.Disk.only_now honest c.args.disk.now contents left)) in
-    goes_on g.D.Disk.moment g.D.Disk.left_at c.args.disk.now c.args.disk.now c.write_at.new.self P _ start (c.write_at.ensures.time honest)
-    (touches_after c.args.side c.args.at n _ (written c.args.at c.args.bytes.now) c.write_at.result (files c.args.disk.now) (files c.write_at.new.self) refl (c.write_at.ensures.file honest) (c.write_at.ensures.other honest))
+    let start = begun g.D.Disk.moment g.D.Disk.left_at c.args.disk.now P (λ contents left. touches_before c.args.side c.args.at n (files c.args.disk.now) contents ((g.met.D.Disk.at_now honest c.args.disk.now contents).0 left)) in
+    goes_on g.D.Disk.moment g.D.Disk.left_at c.args.disk.now c.args.disk.now c.write_at.new.self P start (c.write_at.ensures.time honest)
+    (λ contents left. touches_after c.args.side c.args.at n _ (written c.args.at c.args.bytes.now) c.write_at.result (files c.args.disk.now) (files c.write_at.new.self) refl (c.write_at.ensures.file honest) (c.write_at.ensures.other honest)
+    contents ((g.met.D.Disk.at_now honest c.write_at.new.self contents).0 left))
 
 pub returns-in_err-write_at-clause-any_moment : goal.returns-in_err-write_at-clause-any_moment
 returns-in_err-write_at-clause-any_moment g c honest synced is =
@@ -27,12 +28,12 @@ returns-clause-touches g c honest =
     let files = g.D.Disk.files in
     let n = length c.args.bytes.now in
     let P : Contents → Type 0 = Touches c.args.side c.args.at n (files c.args.disk.now) in
-    let start = begun g.D.Disk.moment g.D.Disk.left_at c.args.disk.now P (λ contents left. touches_before c.args.side c.args.at n (files c.args.disk.now) contents (g.met.D.Disk.only_now honest c.args.disk.now contents left)) in
+    let start = begun g.D.Disk.moment g.D.Disk.left_at c.args.disk.now P (λ contents left. touches_before c.args.side c.args.at n (files c.args.disk.now) contents ((g.met.D.Disk.at_now honest c.args.disk.now contents).0 left)) in
     let after = touches_after c.args.side c.args.at n _ (written c.args.at c.args.bytes.now) c.write_at.result (files c.args.disk.now) (files c.write_at.new.self) refl (c.write_at.ensures.file honest) (c.write_at.ensures.other honest) in
-    let wrote = goes_on g.D.Disk.moment g.D.Disk.left_at c.args.disk.now c.args.disk.now c.write_at.new.self P _ start (c.write_at.ensures.time honest) after in
-    goes_on g.D.Disk.moment g.D.Disk.left_at c.args.disk.now c.write_at.new.self c.sync.new.self P _ wrote (c.sync.ensures.time honest)
+    let wrote = goes_on g.D.Disk.moment g.D.Disk.left_at c.args.disk.now c.args.disk.now c.write_at.new.self P start (c.write_at.ensures.time honest) (λ contents left. after contents ((g.met.D.Disk.at_now honest c.write_at.new.self contents).0 left)) in
+    goes_on g.D.Disk.moment g.D.Disk.left_at c.args.disk.now c.write_at.new.self c.sync.new.self P wrote (c.sync.ensures.time honest)
     (λ contents left. after contents (now_after_sync _ c.args.side c.sync.result (files c.write_at.new.self) (files c.sync.new.self) (c.sync.ensures.file honest) (c.sync.ensures.other honest)
-    (g.met.D.Disk.reads_left honest c.write_at.new.self c.args.side) contents left))
+    (g.met.D.Disk.reads_left honest c.write_at.new.self c.args.side) contents ((g.met.D.Disk.at_now honest c.sync.new.self contents).0 left)))
 
 pub returns-clause-any_moment : goal.returns-clause-any_moment
 returns-clause-any_moment g c honest synced is =
@@ -40,9 +41,8 @@ returns-clause-any_moment g c honest synced is =
     (leaves_of c.args.side c.args.at (length c.args.bytes.now) (g.D.Disk.files c.args.disk.now) synced is (subst (λ (f : File). c.args.at ≤ length f.content) is (c.requires honest)))
 
 pub returns-in_err-write_at-clause-at_once : goal.returns-in_err-write_at-clause-at_once
-returns-in_err-write_at-clause-at_once g c honest = kept_at_once g.D.Disk.files g.D.Disk.moment g.D.Disk.left_at c.args.disk.now c.write_at.new.self
+returns-in_err-write_at-clause-at_once g c honest = kept_at_once g.D.Disk.files g.D.Disk.moment g.D.Disk.left_at (g.met.D.Disk.at_now honest) c.args.disk.now c.write_at.new.self (c.write_at.ensures.time honest)
     (write_keeps _ c.args.side (written c.args.at c.args.bytes.now) (write_touches (g.D.Disk.files c.args.disk.now c.args.side).durable c.args.at (length c.args.bytes.now)) c.write_at.result (g.D.Disk.files c.args.disk.now) (g.D.Disk.files c.write_at.new.self) refl (c.write_at.ensures.file honest) (c.write_at.ensures.other honest))
-    (g.met.D.Disk.counts_now honest c.write_at.new.self)
 
 pub returns-in_err-write_at-clause-err : goal.returns-in_err-write_at-clause-err
 returns-in_err-write_at-clause-err g c honest =
@@ -51,9 +51,9 @@ returns-in_err-write_at-clause-err g c honest =
     rw p.1 keeps
 
 pub returns-clause-at_once : goal.returns-clause-at_once
-returns-clause-at_once g c honest = call_at_once g.D.Disk.files g.D.Disk.moment g.D.Disk.left_at c.args.disk.now c.write_at.new.self c.sync.new.self
+returns-clause-at_once g c honest = call_at_once g.D.Disk.files g.D.Disk.moment g.D.Disk.left_at (g.met.D.Disk.at_now honest) c.args.disk.now c.write_at.new.self c.sync.new.self (c.write_at.ensures.time honest)
     (write_keeps _ c.args.side (written c.args.at c.args.bytes.now) (write_touches (g.D.Disk.files c.args.disk.now c.args.side).durable c.args.at (length c.args.bytes.now)) c.write_at.result (g.D.Disk.files c.args.disk.now) (g.D.Disk.files c.write_at.new.self) refl (c.write_at.ensures.file honest) (c.write_at.ensures.other honest))
-    (g.met.D.Disk.counts_now honest c.write_at.new.self) (c.sync.ensures.time honest)
+    (c.sync.ensures.time honest)
 
 pub returns-clause-err : goal.returns-clause-err
 returns-clause-err g c honest = failed_sync_keeps _ c.args.side c.sync.result (g.D.Disk.files c.args.disk.now) (g.D.Disk.files c.write_at.new.self) (g.D.Disk.files c.sync.new.self) (c.sync.ensures.file honest) (c.sync.ensures.other honest)

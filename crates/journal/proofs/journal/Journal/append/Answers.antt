@@ -10,14 +10,14 @@ use Rattle.journal.proofs.journal.Journal.append.Goals as goal
 pub returns-then-not-fits-clause-any_moment : goal.returns-then-not-fits-clause-any_moment
 returns-then-not-fits-clause-any_moment g c honest start payloads content is at =
     begun g.D.Disk.moment g.D.Disk.left_at c.args.disk.now _ (λ contents left.
-    let now = g.met.D.Disk.only_now honest c.args.disk.now contents left in
+    let now = (g.met.D.Disk.at_now honest c.args.disk.now contents).0 left in
     let here = settled_only content (contents c.args.self.now.side) (subst (λ (f : File). MayLeave f.durable (contents c.args.self.now.side)) is (now c.args.self.now.side)) in
     (crash_now start content payloads c.args.payload.now at.stands (contents c.args.self.now.side) here, λ other differs. now other))
 
 pub returns-in_err-spell-clause-any_moment : goal.returns-in_err-spell-clause-any_moment
 returns-in_err-spell-clause-any_moment g c honest start payloads content is at =
     begun g.D.Disk.moment g.D.Disk.left_at c.args.disk.now _ (λ contents left.
-    let now = g.met.D.Disk.only_now honest c.args.disk.now contents left in
+    let now = (g.met.D.Disk.at_now honest c.args.disk.now contents).0 left in
     let here = settled_only content (contents c.args.self.now.side) (subst (λ (f : File). MayLeave f.durable (contents c.args.self.now.side)) is (now c.args.self.now.side)) in
     (crash_now start content payloads c.args.payload.now at.stands (contents c.args.self.now.side) here, λ other differs. now other))
 
@@ -67,11 +67,11 @@ returns-clause-added g c honest start payloads at =
 -- of the other file, whatever this one is like
 pub returns-then-not-fits-clause-other_moments : goal.returns-then-not-fits-clause-other_moments
 returns-then-not-fits-clause-other_moments g c honest =
-    begun g.D.Disk.moment g.D.Disk.left_at c.args.disk.now _ (λ contents left. let now = g.met.D.Disk.only_now honest c.args.disk.now contents left in λ other differs. now other)
+    begun g.D.Disk.moment g.D.Disk.left_at c.args.disk.now _ (λ contents left. let now = (g.met.D.Disk.at_now honest c.args.disk.now contents).0 left in λ other differs. now other)
 
 pub returns-in_err-spell-clause-other_moments : goal.returns-in_err-spell-clause-other_moments
 returns-in_err-spell-clause-other_moments g c honest =
-    begun g.D.Disk.moment g.D.Disk.left_at c.args.disk.now _ (λ contents left. let now = g.met.D.Disk.only_now honest c.args.disk.now contents left in λ other differs. now other)
+    begun g.D.Disk.moment g.D.Disk.left_at c.args.disk.now _ (λ contents left. let now = (g.met.D.Disk.at_now honest c.args.disk.now contents).0 left in λ other differs. now other)
 
 pub returns-in_err-write_synced-clause-other_moments : goal.returns-in_err-write_synced-clause-other_moments
 returns-in_err-write_synced-clause-other_moments g c honest =
