@@ -1,5 +1,5 @@
 -- What is there only once a write and the sync behind it are both done, and what is left where one of them failed.
-use Rattle.std.proofs.Common.{◌≡◌, inl, inr, ℕ, ◌≤◌, Bool, List, sym, ap, subst, ◌∙◌, arith}
+use Rattle.std.proofs.Common.{◌≡◌, inl, inr, ℕ, Bool, List, sym, ap, subst, ◌∙◌, arith}
 use Rattle.std.specs.Prelude.{◌↔◌, Result, Ok, Err, OnErr}
 use Rattle.std.proofs.lemmas.Bool.{cases_lt}
 use Rattle.disk.specs.declared.side.Side.{Side}
@@ -7,7 +7,7 @@ use Rattle.disk.specs.declared.error.DiskError.{DiskError}
 use Rattle.disk.specs.declared.error.DiskError.TheVariants.{Device, NoMemory}
 use Rattle.disk.specs.Side.{which}
 use Rattle.disk.specs.File.{Durable, File, MayLeave, Changes, Syncs, touching}
-use Rattle.disk.specs.Time.{Contents, MayLeaveNow, OtherStays, Elapses, AtOnce}
+use Rattle.disk.specs.Time.{Contents, MayLeaveNow, OtherStays, Elapses, KeepsAll, AtOnce}
 use Rattle.disk.specs.Moments.{call_keeps}
 use Rattle.disk.proofs.Left.{touching_left}
 
@@ -40,6 +40,26 @@ failed_sync_keeps T side (Err _) first old new syncs others so_far =
 module _ {D : Type 0} (files : D → Side → File) (moment : D → ℕ) (left_at : D → ℕ → Contents → Type 0)
     (at_now : (disk : D) (c : Contents) → left_at disk (moment disk) c ↔ MayLeaveNow (files disk) c) where
   -- a call that takes nothing back
+  pub call_keeps_all : (old new : D) → Elapses (moment old) (moment new) (left_at old) (left_at new)
+      → ((contents : Contents) → MayLeaveNow (files old) contents → MayLeaveNow (files new) contents) → KeepsAll files moment left_at old new
+  call_keeps_all old new time keeps k contents from to left = call_keeps moment left_at files at_now old new time contents left (keeps contents left) k from to
+
+  -- and another behind it
+  both_keep_all : (old mid new : D) → Elapses (moment old) (moment mid) (left_at old) (left_at mid) → ((contents : Contents) → MayLeaveNow (files old) contents → MayLeaveNow (files mid) contents)
+      → Elapses (moment mid) (moment new) (left_at mid) (left_at new) → ((contents : Contents) → MayLeaveNow (files mid) contents → MayLeaveNow (files new) contents) → KeepsAll files moment left_at old new
+  both_keep_all old mid new first first_keeps second second_keeps k contents from to left = elim (cases_lt (moment mid) k) [
+    | inl behind ↦ call_keeps_all mid new second second_keeps k contents (omega (arith, behind)) to (first_keeps contents left)
+    | inr before ↦ (second.stays k contents before).1 (call_keeps_all old mid first first_keeps k contents from before left)
+  ]
+
+  -- where that is a sync that failed
+  pub failed_sync_keeps_all : (T : Type 0) (side : Side) (result : Result T DiskError) (old mid new : D) → Elapses (moment old) (moment mid) (left_at old) (left_at mid)
+      → ((contents : Contents) → MayLeaveNow (files old) contents → MayLeaveNow (files mid) contents) → Elapses (moment mid) (moment new) (left_at mid) (left_at new)
+      → Syncs result (files mid side) (files new side) → OtherStays side (files mid) (files new) → OnErr result (KeepsAll files moment left_at old new)
+  failed_sync_keeps_all T side (Ok _) old mid new first keeps second syncs others = tt
+  failed_sync_keeps_all T side (Err e) old mid new first keeps second syncs others =
+      both_keep_all old mid new first keeps second (failed_sync_keeps T side (Err e) (files mid) (files mid) (files new) syncs others (λ contents left. left))
+
   pub kept_at_once : (old new : D) → Elapses (moment old) (moment new) (left_at old) (left_at new)
       → ((contents : Contents) → MayLeaveNow (files old) contents → MayLeaveNow (files new) contents) → AtOnce files moment left_at old new
   kept_at_once old new time keeps t from to =

@@ -1,7 +1,6 @@
 -- What a record of calls says after one more call.
-use Rattle.std.proofs.Common.{◌≡◌, ◌≢◌, ◌⊎◌, inl, inr, ℕ, zero, suc, ◌≤◌, Bool, true, false, ◌||◌, List, [], ◌∷◌, ◌++◌, length, take, if◌then◌else◌, refl, sym, ap, subst, ◌∙◌, arith}
-use Rattle.std.proofs.lemmas.List.{take_all, length_push}
-use Rattle.std.proofs.lemmas.Bool.{cases_lt}
+use Rattle.std.proofs.Common.{◌≡◌, ◌≢◌, inl, inr, ℕ, zero, suc, ◌≤◌, Bool, true, false, ◌||◌, List, [], ◌∷◌, ◌++◌, length, take, if◌then◌else◌, refl, sym, ap, subst, ◌∙◌, arith}
+use Rattle.std.proofs.lemmas.List.{length_push}
 use Rattle.std.specs.Prelude.{Err, slice_get}
 use Rattle.disk.specs.declared.side.Side.{Side}
 use Rattle.disk.specs.declared.side.Side.TheVariants.{A, B}
@@ -12,7 +11,7 @@ use Rattle.disk.specs.declared.record.Change.{Change}
 use Rattle.disk.specs.declared.record.Change.TheVariants.{Nothing, Write, Cut}
 use Rattle.disk.specs.Side.{is_side, pick, which}
 use Rattle.disk.specs.File.{Durable, File, MayLeave, Changes, settled, touching, write_touches, cut_touches}
-use Rattle.disk.specs.Time.{Contents, OtherStays, Elapses}
+use Rattle.disk.specs.Time.{OtherStays, Elapses}
 use Rattle.disk.specs.Calls.{changed, durable_after, durable_of, files_after, Kept, LeftAt}
 use Rattle.disk.proofs.Left.{touching_left}
 

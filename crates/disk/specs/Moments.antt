@@ -49,7 +49,7 @@ module _ {D : Type 0} (moment : D → ℕ) (left_at : D → ℕ → Contents →
         (λ left. early.0 (last.0 left), λ left. last.1 (early.1 left));
   }
 
-  -- at each moment of one call all may be left that might have been before it, where it takes nothing back
+  -- at each moment of one call a crash may leave what it may leave before the call and behind it
   pub call_keeps : (files : D → Side → File) (at_now : (disk : D) (c : Contents) → left_at disk (moment disk) c ↔ MayLeaveNow (files disk) c) (old new : D)
       → Elapses (moment old) (moment new) (left_at old) (left_at new) → (c : Contents) → MayLeaveNow (files old) c → MayLeaveNow (files new) c
       → (k : ℕ) → moment old ≤ k → k ≤ moment new → left_at new k c

@@ -37,6 +37,10 @@ pub record LeavesOnly {D : Type 0} (moment : D → ℕ) (left_at : D → ℕ →
   pub each : (t : ℕ) (contents : Contents) → moment old ≤ t → t ≤ moment new → left_at new t contents → P contents
   pub stays : (t : ℕ) (contents : Contents) → t ≤ moment old → left_at new t contents ↔ left_at old t contents
 
+-- At each moment of these calls a crash may leave all that it might have left before them.
+abbrev pub KeepsAll : {D : Type 0} → (D → Side → File) → (D → ℕ) → (D → ℕ → Contents → Type 0) → D → D → Type 0
+KeepsAll files moment left_at old new = (k : ℕ) (contents : Contents) → moment old ≤ k → k ≤ moment new → MayLeaveNow (files old) contents → left_at new k contents
+
 -- These calls settle nothing until they settle all: of each moment it holds that up to it a crash may leave all that it might
 -- have left before them, or that from it on one leaves only what it may leave behind them.
 abbrev pub AtOnce : {D : Type 0} → (D → Side → File) → (D → ℕ) → (D → ℕ → Contents → Type 0) → D → D → Type 0

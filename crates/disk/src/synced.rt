@@ -1,6 +1,6 @@
 ghost use Rattle.std.specs.Prelude.{◌≡◌, ◌≤◌, IsTrue, List, ℕ, length, OnOk, OnErr};
 ghost use Rattle.disk.specs.File.{MayLeave, WriteLeaves, at_rest, overwritten, touching, write_touches};
-ghost use Rattle.disk.specs.Time.{Contents, MayLeaveNow, OtherStays, OtherMayBe, LeavesOnly, AtOnce, HasCause};
+ghost use Rattle.disk.specs.Time.{Contents, MayLeaveNow, OtherStays, OtherMayBe, LeavesOnly, KeepsAll, AtOnce, HasCause};
 
 use crate::{Disk, DiskError, Side};
 
@@ -25,8 +25,9 @@ pub fn write_synced<D: Disk>(
     // Nothing of the call is settled until all of it is.
     ensures at_once { IsTrue D.is_honest → AtOnce D.files D.moment D.left_at disk.old disk.new }
 
-    // After an error a crash may leave all that one might have left before.
+    // After an error a crash may leave all that one might have left before, and so at each moment of the call.
     ensures err { IsTrue D.is_honest → OnErr result ((contents : Contents) → MayLeaveNow (D.files disk.old) contents → MayLeaveNow (D.files disk.new) contents) }
+    ensures err_moments { IsTrue D.is_honest → OnErr result (KeepsAll D.files D.moment D.left_at disk.old disk.new) }
     ensures cause { HasCause (D.failures disk.old) (D.failures disk.new) result }
 {
     disk.write_at(side, at, bytes)?;

@@ -1,11 +1,11 @@
 use Rattle.std.proofs.Common.{length, ◌≤◌, refl, subst}
 use Rattle.std.proofs.lemmas.Result.{err_from_is_err_and}
 use Rattle.disk.specs.File.{File, written, write_touches}
-use Rattle.disk.specs.Time.{Contents, MayLeaveNow}
+use Rattle.disk.specs.Time.{Contents, MayLeaveNow, KeepsAll}
 use Rattle.disk.specs.Moments.{begun, goes_on, weakened}
 use Rattle.disk.specs.Settled.{now_after_sync}
 use Rattle.disk.proofs.Durability.{Touches, touches_before, touches_after, leaves_of}
-use Rattle.disk.proofs.AtOnce.{write_keeps, failed_sync_keeps, kept_at_once, call_at_once}
+use Rattle.disk.proofs.AtOnce.{write_keeps, failed_sync_keeps, call_keeps_all, failed_sync_keeps_all, kept_at_once, call_at_once}
 use Rattle.disk.proofs.synced.write_synced.Goals as goal
 
 pub returns-in_err-write_at-clause-touches : goal.returns-in_err-write_at-clause-touches
@@ -58,3 +58,16 @@ returns-clause-at_once g c honest = call_at_once g.D.Disk.files g.D.Disk.moment 
 pub returns-clause-err : goal.returns-clause-err
 returns-clause-err g c honest = failed_sync_keeps _ c.args.side c.sync.result (g.D.Disk.files c.args.disk.now) (g.D.Disk.files c.write_at.new.self) (g.D.Disk.files c.sync.new.self) (c.sync.ensures.file honest) (c.sync.ensures.other honest)
     (write_keeps _ c.args.side (written c.args.at c.args.bytes.now) (write_touches (g.D.Disk.files c.args.disk.now c.args.side).durable c.args.at (length c.args.bytes.now)) c.write_at.result (g.D.Disk.files c.args.disk.now) (g.D.Disk.files c.write_at.new.self) refl (c.write_at.ensures.file honest) (c.write_at.ensures.other honest))
+
+pub returns-in_err-write_at-clause-err_moments : goal.returns-in_err-write_at-clause-err_moments
+returns-in_err-write_at-clause-err_moments g c honest =
+    let p = err_from_is_err_and c.from_residual.result c.from_residual.ensures.1 in
+    let keeps : KeepsAll g.D.Disk.files g.D.Disk.moment g.D.Disk.left_at c.args.disk.now c.write_at.new.self =
+    call_keeps_all g.D.Disk.files g.D.Disk.moment g.D.Disk.left_at (g.met.D.Disk.at_now honest) c.args.disk.now c.write_at.new.self (c.write_at.ensures.time honest)
+    (write_keeps _ c.args.side (written c.args.at c.args.bytes.now) (write_touches (g.D.Disk.files c.args.disk.now c.args.side).durable c.args.at (length c.args.bytes.now)) c.write_at.result (g.D.Disk.files c.args.disk.now) (g.D.Disk.files c.write_at.new.self) refl (c.write_at.ensures.file honest) (c.write_at.ensures.other honest)) in
+    rw p.1 keeps
+
+pub returns-clause-err_moments : goal.returns-clause-err_moments
+returns-clause-err_moments g c honest = failed_sync_keeps_all g.D.Disk.files g.D.Disk.moment g.D.Disk.left_at (g.met.D.Disk.at_now honest) _ c.args.side c.sync.result c.args.disk.now c.write_at.new.self c.sync.new.self (c.write_at.ensures.time honest)
+    (write_keeps _ c.args.side (written c.args.at c.args.bytes.now) (write_touches (g.D.Disk.files c.args.disk.now c.args.side).durable c.args.at (length c.args.bytes.now)) c.write_at.result (g.D.Disk.files c.args.disk.now) (g.D.Disk.files c.write_at.new.self) refl (c.write_at.ensures.file honest) (c.write_at.ensures.other honest))
+    (c.sync.ensures.time honest) (c.sync.ensures.file honest) (c.sync.ensures.other honest)
