@@ -1,4 +1,4 @@
-ghost use Rattle.std.specs.Prelude.{◌≡◌, ◌≢◌, ◌⊎◌, ◌≤◌, ◌<◌, ◌++◌, ◌∷◌, [], ℕ, ℤ, List, IsTrue, MatchOption, Some, false};
+ghost use Rattle.std.specs.Prelude.{◌≡◌, ◌≢◌, ◌⊎◌, ◌≤◌, ◌<◌, ◌++◌, ◌∷◌, [], ℕ, ℤ, List, IsTrue, MatchOption, Some, ⊤, false};
 ghost use Rattle.std.specs.Io.KnownBytes.{Appends};
 ghost use Rattle.disk.specs.declared.side.Side.TheVariants.{A};
 ghost use Rattle.disk.specs.File.{at_rest};
@@ -70,6 +70,7 @@ fn put<D: Disk>(store: &mut Store, disk: &mut D, key: i64, value: i64) -> Reply
     ensures any_moment { IsTrue D.is_honest → (content : List ℕ) (cells : Cells) → D.files disk.old A ≡ at_rest content → content ≢ [] → IsStoreOf store.old content cells
         → LeavesOnly D.moment D.left_at disk.old disk.new (λ contents. KeepsEither cells key value (contents A) × OtherMayBe A (D.files disk.old) contents) }
     ensures first_moments { IsTrue D.is_honest → D.files disk.old A ≡ at_rest [] → IsStoreOf store.old [] [] → FirstPutLeaves D.files D.moment D.left_at key value disk.old disk.new }
+    ensures earlier { IsTrue D.is_honest → LeavesOnly D.moment D.left_at disk.old disk.new (λ _. ⊤) }
     ensures damaged { (place : ℕ) → result ≡ Refused (Damaged place) → ⊥ }
     ensures device { result ≡ Refused Device → D.failures disk.old < D.failures disk.new }
     ensures failures { D.failures disk.old ≤ D.failures disk.new }

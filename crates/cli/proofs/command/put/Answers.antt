@@ -18,7 +18,7 @@ puts_passed command key value same_key same_value puts =
 pub returns-in-Ok-clause-puts : goal.returns-in-Ok-clause-puts
 returns-in-Ok-clause-puts g c honest cells is command puts =
     let done = c.in-Ok.ensures.put honest cells is in
-    put_done command (passed c.args.key) (passed c.args.value) cells _ _ (puts_passed command c.args.key c.args.value (to_z-of_z w64 c.args.key c.ranges.key) (to_z-of_z w64 c.args.value c.ranges.value) puts) done.0
+    put_done command (passed c.args.key) (passed c.args.value) cells _ _ (puts_passed command c.args.key c.args.value (to_z-of_z w64 c.args.key c.ranges.key) (to_z-of_z w64 c.args.value c.ranges.value) puts) done.0 (c.in-Ok.ensures.room honest cells is)
     (store_holds c.put.new.self _ _ done.1)
 
 pub returns-in-Err-clause-puts : goal.returns-in-Err-clause-puts
