@@ -37,6 +37,7 @@ pub fn cell<D: Disk, W: Write, E: Write>(
     // A crash at any moment of a put leaves the cells before it or after it, from the moment on at which the journal of
     // file A was begun. A get adds at no moment to what a crash may leave, nor does a put where file A holds no cells.
     ensures moments { IsTrue D.is_honest → CommandLeaves D.files D.moment D.left_at command.now disk result.0 }
+    ensures later { IsTrue D.is_honest → D.moment disk ≤ D.moment result.0 }
 {
     let reply = answer(alloc, command, &mut disk);
     let status = tell(reply, out, err);
@@ -50,6 +51,7 @@ fn answer<D: Disk>(alloc: Global, command: &Command<'_>, disk: &mut D) -> Reply
     ensures device { result ≡ Refused Device → D.failures disk.old < D.failures disk.new }
     ensures other { IsTrue D.is_honest → OtherStays A (D.files disk.old) (D.files disk.new) }
     ensures moments { IsTrue D.is_honest → CommandLeaves D.files D.moment D.left_at command.now disk.old disk.new }
+    ensures later { IsTrue D.is_honest → D.moment disk.old ≤ D.moment disk.new }
 {
     match Store::open(alloc, disk) {
         Ok(mut store) => match *command {
