@@ -1,5 +1,5 @@
 -- What a store that is open says of the bytes of file A, and what its answers say of a command.
-use Rattle.std.proofs.Common.{◌≡◌, ◌≢◌, inl, inr, arith, ◌≤◌, ◌+◌, ◌*◌, length, ℕ, ℤ, List, [], ◌∷◌, ◌++◌, refl, sym, ap, subst, ◌∙◌}
+use Rattle.std.proofs.Common.{◌≡◌, ◌≢◌, inl, inr, arith, ◌≤◌, ◌<◌, ◌+◌, ◌*◌, length, ℕ, ℤ, List, [], ◌∷◌, ◌++◌, refl, sym, ap, subst, ◌∙◌}
 use Rattle.std.specs.Prelude.{Option, Some, None, MatchOption}
 use Rattle.journal.specs.declared.journal.Journal.{Journal}
 use Rattle.journal.specs.declared.journal.TheConstants.{LIMIT}
@@ -37,12 +37,13 @@ pub store_keeps : (store : Store) (content : List ℕ) (cells : Cells) → conte
 store_keeps store content cells there is = kept_of store.journal content cells there is.journal is.spelled
 
 -- a put that was done
-pub put_done : (command : Command) (key value : ℤ) (cells : Cells) (old new : List ℕ) → PutsAt command key value → value_at cells key ≡ None → HoldsCells new (cells ++ (key, value) ∷ []) → Answers command cells reply.Put old new
-put_done (asked.Put directory at what) key value cells old new puts none holds = (
+pub put_done : (command : Command) (key value : ℤ) (cells : Cells) (old new : List ℕ) → PutsAt command key value → value_at cells key ≡ None → 25 * (length cells + 1) < LIMIT → HoldsCells new (cells ++ (key, value) ∷ []) → Answers command cells reply.Put old new
+put_done (asked.Put directory at what) key value cells old new puts none room holds = (
   ap (value_at cells) puts.0 ∙ none,
+  room,
   subst (λ (k : ℤ). HoldsCells new (cells ++ (k, what) ∷ [])) (sym puts.0) (subst (λ (v : ℤ). HoldsCells new (cells ++ (key, v) ∷ [])) (sym puts.1) holds),
 )
-put_done (asked.Get directory at) key value cells old new puts none holds = absurd puts
+put_done (asked.Get directory at) key value cells old new puts none room holds = absurd puts
 
 -- a put that was refused
 pub put_refused : (why : Refusal) (command : Command) (key value : ℤ) (cells : Cells) (old new : List ℕ) → PutsAt command key value → HoldsCells old cells

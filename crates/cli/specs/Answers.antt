@@ -20,7 +20,7 @@ Unchanged cells old new = HoldsCells new cells × (new ≡ old)
 
 abbrev pub Answers : Command → Cells → Reply → List ℕ → List ℕ → Type 0
 -- a value is put where none was, and nowhere else
-Answers (asked.Put directory key value) cells said.Put old new = (value_at cells key ≡ None) × HoldsCells new (cells ++ (key, value) ∷ [])
+Answers (asked.Put directory key value) cells said.Put old new = (value_at cells key ≡ None) × (25 * (length cells + 1) < LIMIT) × HoldsCells new (cells ++ (key, value) ∷ [])
 Answers (asked.Put directory key value) cells (said.Refused (refusal.AlreadyPut there)) old new = (value_at cells key ≡ Some there) × Unchanged cells old new
 Answers (asked.Put directory key value) cells (said.Refused refusal.Full) old new = (value_at cells key ≡ None) × (LIMIT ≤ 25 * (length cells + 1)) × Unchanged cells old new
 Answers (asked.Get directory key) cells (said.Value at value) old new = (at ≡ key) × (value_at cells key ≡ Some value) × Unchanged cells old new
@@ -60,21 +60,30 @@ pub record Comes {D : Type 0} (honest : Bool) (files : D → Side → File) (fai
 abbrev pub PutLeaves : Cells → ℤ → ℤ → (Side → File) → Contents → Type 0
 PutLeaves cells key value files contents = MayLeaveNow files contents ⊎ (KeepsEither cells key value (contents A) × OtherMayBe A files contents)
 
--- At each moment of a put on an empty file A: a crash since then may leave it empty, or leaves no cell or the new one, and of file B what it might have left before.
+-- The put on an empty file A begins its journal: of each moment it holds that up to it a crash may leave file A empty, or that
+-- from it on one leaves no cell or the new one, and of file B what it might have left before.
 abbrev pub FirstPutLeaves : {D : Type 0} → (D → Side → File) → (D → ℕ) → (D → ℕ → Contents → Type 0) → ℤ → ℤ → D → D → Type 0
-FirstPutLeaves files moment left_since key value old new = (t : ℕ) → t ≤ moment new
-    → ((contents : Contents) × left_since new t contents × (contents A ≡ []))
-    ⊎ ((contents : Contents) → left_since new t contents → KeepsEither [] key value (contents A) × OtherMayBe A (files old) contents)
+FirstPutLeaves files moment left_at key value old new = (t : ℕ) → moment old ≤ t → t ≤ moment new
+    → ((k : ℕ) → moment old ≤ k → k ≤ t → (contents : Contents) × left_at new k contents × (contents A ≡ []))
+    ⊎ ((k : ℕ) (contents : Contents) → t ≤ k → k ≤ moment new → left_at new k contents → KeepsEither [] key value (contents A) × OtherMayBe A (files old) contents)
+
+-- A put settles what it read before it writes: of each moment it holds that up to it a crash may leave all that it might have
+-- left before the put, or that from it on one leaves the cells before the put or after it.
+abbrev pub PutSettles : {D : Type 0} → (D → Side → File) → (D → ℕ) → (D → ℕ → Contents → Type 0) → Cells → ℤ → ℤ → D → D → Type 0
+PutSettles files moment left_at cells key value old new = (t : ℕ) → moment old ≤ t → t ≤ moment new
+    → ((k : ℕ) (contents : Contents) → moment old ≤ k → k ≤ t → MayLeaveNow (files old) contents → left_at new k contents)
+    ⊎ ((k : ℕ) (contents : Contents) → t ≤ k → k ≤ moment new → left_at new k contents → KeepsEither cells key value (contents A) × OtherMayBe A (files old) contents)
 
 -- what a crash at any moment of a command leaves
-pub record CommandLeaves {D : Type 0} (files : D → Side → File) (moment : D → ℕ) (left_since : D → ℕ → Contents → Type 0) (command : Command) (old new : D) : Type 0 where
+pub record CommandLeaves {D : Type 0} (files : D → Side → File) (moment : D → ℕ) (left_at : D → ℕ → Contents → Type 0) (command : Command) (old new : D) : Type 0 where
   -- of a put on a journal that was begun
-  pub puts : (key value : ℤ) → PutsAt command key value → (cells : Cells) → KeepsCells (files old A).content cells → LeavesOnly moment left_since old new (PutLeaves cells key value (files old))
+  pub puts : (key value : ℤ) → PutsAt command key value → (cells : Cells) → KeepsCells (files old A).content cells → LeavesOnly moment left_at old new (PutLeaves cells key value (files old))
+  pub settles : (key value : ℤ) → PutsAt command key value → (cells : Cells) → KeepsCells (files old A).content cells → PutSettles files moment left_at cells key value old new
   -- of the put that begins the journal
-  pub first_put : (key value : ℤ) → PutsAt command key value → (files old A).content ≡ [] → FirstPutLeaves files moment left_since key value old new
+  pub first_put : (key value : ℤ) → PutsAt command key value → (files old A).content ≡ [] → FirstPutLeaves files moment left_at key value old new
   -- a get adds nothing, and no command does where file A holds no cells
-  pub gets : Reads command → LeavesOnly moment left_since old new (MayLeaveNow (files old))
-  pub damaged : ((cells : Cells) → HoldsCells (files old A).content cells → ⊥) → LeavesOnly moment left_since old new (MayLeaveNow (files old))
+  pub gets : Reads command → LeavesOnly moment left_at old new (MayLeaveNow (files old))
+  pub damaged : ((cells : Cells) → HoldsCells (files old A).content cells → ⊥) → LeavesOnly moment left_at old new (MayLeaveNow (files old))
 
 -- the line of the reply was written on one output and nothing on the other, or the status is 5
 pub record TellsOn {T O : Type 0} (reply : Reply) (contents : T → Option (List ℕ)) (old new : T) (other_old other_new : O) (status : ℕ) : Type 0 where

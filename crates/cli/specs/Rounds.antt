@@ -12,23 +12,26 @@ use Rattle.cli.specs.Cells.{Cells, KeepsCells, KeepsEither}
 use Rattle.cli.specs.Reply.{status_of}
 use Rattle.cli.specs.Answers.{PutsAt, Comes, CommandLeaves}
 
--- a command that ends in a crash: the disk before it and behind it, its reply, whether the crash struck behind the reply,
--- and the disk that the crash left. Of a command that was cut off, the disk behind it and the reply are those that it
--- would have come to: a crash within it is one at some moment since it began.
+-- a command that ends in a crash: the disk before it and behind it, its reply, the moment at which the crash struck, whether
+-- that was behind the reply, and the disk that the crash left. Of a command that was cut off, the disk behind it and the
+-- reply are those that it would have come to: a crash within it is one at a moment since it began.
 pub record Round (D : Type 0) : Type 0 where
   pub command : Command
   pub reply : Reply
+  pub struck : ℕ
   pub told : Bool
   pub before : D
   pub after : D
   pub crashed : D
 
--- the command is as `cell` promises, and the crash struck behind its reply, or at some moment of it
-pub record IsRound {D : Type 0} (files : D → Side → File) (moment : D → ℕ) (left_since : D → ℕ → Contents → Type 0) (failures : D → ℕ) (round : Round D) : Type 0 where
+-- the command is as `cell` promises, and the crash struck at a moment of it, or behind its reply
+pub record IsRound {D : Type 0} (files : D → Side → File) (moment : D → ℕ) (left_at : D → ℕ → Contents → Type 0) (failures : D → ℕ) (round : Round D) : Type 0 where
   pub comes : Comes true files failures round.command round.reply round.before round.after
-  pub leaves : CommandLeaves files moment left_since round.command round.before round.after
-  pub crash : (contents : Contents) → MayLeaveNow (files round.crashed) contents
-      → MatchBool round.told (MayLeaveNow (files round.after) contents) (left_since round.after (moment round.before) contents)
+  pub leaves : CommandLeaves files moment left_at round.command round.before round.after
+  pub begun : moment round.before ≤ round.struck
+  pub ended : round.struck ≤ moment round.after
+  pub behind : round.told ≡ true → round.struck ≡ moment round.after
+  pub crash : (contents : Contents) → MayLeaveNow (files round.crashed) contents → left_at round.after round.struck contents
 
 -- the disk after these rounds, the newest first
 abbrev pub last : {D : Type 0} → D → List (Round D) → D
@@ -37,9 +40,9 @@ last first (round ∷ earlier) = round.crashed
 
 -- each round begins on the disk that the one before it left
 abbrev pub Follow : {D : Type 0} → (D → Side → File) → (D → ℕ) → (D → ℕ → Contents → Type 0) → (D → ℕ) → D → List (Round D) → Type 0
-Follow files moment left_since failures first [] = ⊤
-Follow files moment left_since failures first (round ∷ earlier) =
-    IsRound files moment left_since failures round × (round.before ≡ last first earlier) × Follow files moment left_since failures first earlier
+Follow files moment left_at failures first [] = ⊤
+Follow files moment left_at failures first (round ∷ earlier) =
+    IsRound files moment left_at failures round × (round.before ≡ last first earlier) × Follow files moment left_at failures first earlier
 
 -- each crash now leaves a journal that keeps some cells
 abbrev pub IsBegun : {D : Type 0} → (D → Side → File) → D → Type 0
@@ -73,16 +76,26 @@ MayHold files first (round ∷ earlier) cells = MatchBool (has_answered round)
 
 -- After every history on a journal that was begun, each crash leaves cells that file A may hold.
 abbrev pub HistoriesKeep : {D : Type 0} → (D → Side → File) → (D → ℕ) → (D → ℕ → Contents → Type 0) → (D → ℕ) → Type 0
-HistoriesKeep {D} files moment left_since failures = (rounds : List (Round D)) (first : D) → IsBegun files first → Follow files moment left_since failures first rounds
+HistoriesKeep {D} files moment left_at failures = (rounds : List (Round D)) (first : D) → IsBegun files first → Follow files moment left_at failures first rounds
     → (contents : Contents) → MayLeaveNow (files (last first rounds)) contents → (cells : Cells) × KeepsCells (contents A) cells × MayHold files first rounds cells
 
--- A put on an empty file A begins a journal: where its crash struck at a moment since which none leaves file A empty, each leaves no cell or the new one.
+-- A put on an empty file A begins a journal: where its crash struck at a moment at which, or before which, none could leave
+-- file A empty, it left no cell or the new one; and behind `ok` just the new one.
 abbrev pub FirstPutBegins : {D : Type 0} → (D → Side → File) → (D → ℕ) → (D → ℕ → Contents → Type 0) → (D → ℕ) → Type 0
-FirstPutBegins {D} files moment left_since failures = (round : Round D) (key value : ℤ) (since : ℕ) → IsRound files moment left_since failures round
-    → PutsAt round.command key value → (files round.before A).content ≡ [] → since ≤ moment round.after
-    → ((contents : Contents) → MayLeaveNow (files round.crashed) contents → left_since round.after since contents)
-    → ((contents : Contents) → left_since round.after since contents → contents A ≢ [])
+FirstPutBegins {D} files moment left_at failures = (round : Round D) (key value : ℤ) (t : ℕ) → IsRound files moment left_at failures round
+    → PutsAt round.command key value → (files round.before A).content ≡ [] → moment round.before ≤ t → t ≤ round.struck
+    → ((contents : Contents) → left_at round.after t contents → contents A ≢ [])
     → (contents : Contents) → MayLeaveNow (files round.crashed) contents → KeepsEither [] key value (contents A)
+
+abbrev pub FirstOkStays : {D : Type 0} → (D → Side → File) → (D → ℕ) → (D → ℕ → Contents → Type 0) → (D → ℕ) → Type 0
+FirstOkStays {D} files moment left_at failures = (round : Round D) (key value : ℤ) → IsRound files moment left_at failures round
+    → PutsAt round.command key value → (files round.before A).content ≡ [] → round.told ≡ true → round.reply ≡ said.Put
+    → (contents : Contents) → MayLeaveNow (files round.crashed) contents → KeepsCells (contents A) ((key, value) ∷ [])
+
+-- What file A kept before the first round is there after each, in front of what was put since.
+abbrev pub BaseStays : {D : Type 0} → (D → Side → File) → Type 0
+BaseStays {D} files = (rounds : List (Round D)) (first : D) (cells : Cells) → MayHold files first rounds cells
+    → (old added : Cells) × MayHold files first [] old × (cells ≡ old ++ added)
 
 -- What a round answered from is there after each later one, in front of what was put since.
 abbrev pub AnswersStay : {D : Type 0} → (D → Side → File) → Type 0

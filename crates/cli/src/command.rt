@@ -1,4 +1,4 @@
-ghost use Rattle.std.specs.Prelude.{◌≡◌, ◌≢◌, ◌⊎◌, ◌≤◌, ◌<◌, ◌++◌, ◌∷◌, [], ℕ, ℤ, List, IsTrue, MatchOption, Some, false};
+ghost use Rattle.std.specs.Prelude.{◌≡◌, ◌≢◌, ◌⊎◌, ◌≤◌, ◌<◌, ◌++◌, ◌∷◌, [], ℕ, ℤ, List, IsTrue, MatchOption, Some, ⊤, false};
 ghost use Rattle.std.specs.Io.KnownBytes.{Appends};
 ghost use Rattle.disk.specs.declared.side.Side.TheVariants.{A};
 ghost use Rattle.disk.specs.File.{at_rest};
@@ -36,7 +36,8 @@ pub fn cell<D: Disk, W: Write, E: Write>(
 
     // A crash at any moment of a put leaves the cells before it or after it, from the moment on at which the journal of
     // file A was begun. A get adds at no moment to what a crash may leave, nor does a put where file A is damaged.
-    ensures moments { IsTrue D.is_honest → CommandLeaves D.files D.moment D.left_since command.now disk result.0 }
+    ensures moments { IsTrue D.is_honest → CommandLeaves D.files D.moment D.left_at command.now disk result.0 }
+    ensures later { IsTrue D.is_honest → D.moment disk ≤ D.moment result.0 }
 {
     let reply = answer(alloc, command, &mut disk);
     let status = tell(reply, out, err);
@@ -49,7 +50,8 @@ fn answer<D: Disk>(alloc: Global, command: &Command<'_>, disk: &mut D) -> Reply
     ensures durable { IsTrue D.is_honest → status_of result ≤ 1 → D.files disk.new A ≡ at_rest (D.files disk.new A).content }
     ensures device { result ≡ Refused Device → D.failures disk.old < D.failures disk.new }
     ensures other { IsTrue D.is_honest → OtherStays A (D.files disk.old) (D.files disk.new) }
-    ensures moments { IsTrue D.is_honest → CommandLeaves D.files D.moment D.left_since command.now disk.old disk.new }
+    ensures moments { IsTrue D.is_honest → CommandLeaves D.files D.moment D.left_at command.now disk.old disk.new }
+    ensures later { IsTrue D.is_honest → D.moment disk.old ≤ D.moment disk.new }
 {
     match Store::open(alloc, disk) {
         Ok(mut store) => match *command {
@@ -68,8 +70,9 @@ fn put<D: Disk>(store: &mut Store, disk: &mut D, key: i64, value: i64) -> Reply
     ensures durable { IsTrue D.is_honest → D.files disk.old A ≡ at_rest (D.files disk.old A).content → status_of result ≤ 1 → D.files disk.new A ≡ at_rest (D.files disk.new A).content }
     ensures other { IsTrue D.is_honest → OtherStays A (D.files disk.old) (D.files disk.new) }
     ensures any_moment { IsTrue D.is_honest → (content : List ℕ) (cells : Cells) → D.files disk.old A ≡ at_rest content → content ≢ [] → IsStoreOf store.old content cells
-        → LeavesOnly D.moment D.left_since disk.old disk.new (λ contents. KeepsEither cells key value (contents A) × OtherMayBe A (D.files disk.old) contents) }
-    ensures first_moments { IsTrue D.is_honest → D.files disk.old A ≡ at_rest [] → IsStoreOf store.old [] [] → FirstPutLeaves D.files D.moment D.left_since key value disk.old disk.new }
+        → LeavesOnly D.moment D.left_at disk.old disk.new (λ contents. KeepsEither cells key value (contents A) × OtherMayBe A (D.files disk.old) contents) }
+    ensures first_moments { IsTrue D.is_honest → D.files disk.old A ≡ at_rest [] → IsStoreOf store.old [] [] → FirstPutLeaves D.files D.moment D.left_at key value disk.old disk.new }
+    ensures earlier { IsTrue D.is_honest → LeavesOnly D.moment D.left_at disk.old disk.new (λ _. ⊤) }
     ensures damaged { (place : ℕ) → result ≡ Refused (Damaged place) → ⊥ }
     ensures device { result ≡ Refused Device → D.failures disk.old < D.failures disk.new }
     ensures failures { D.failures disk.old ≤ D.failures disk.new }

@@ -1,4 +1,4 @@
-ghost use Rattle.std.specs.Prelude.{◌≡◌, ◌≢◌, ◌≤◌, ◌<◌, ◌+◌, ◌*◌, ◌++◌, ◌∷◌, [], ℕ, ℤ, List, length, IsTrue, Some, None, ◌↔◌, IfOk, IfErr, OnOk, OnErr, IsErrOf, IfSome, MatchBool};
+ghost use Rattle.std.specs.Prelude.{◌≡◌, ◌≢◌, ◌≤◌, ◌<◌, ◌+◌, ◌*◌, ◌++◌, ◌∷◌, [], ℕ, ℤ, List, length, IsTrue, Some, None, ⊤, ◌↔◌, IfOk, IfErr, OnOk, OnErr, IsErrOf, IfSome, MatchBool};
 ghost use Rattle.disk.specs.declared.side.Side.TheVariants.{A};
 ghost use Rattle.disk.specs.File.{at_rest};
 ghost use Rattle.disk.specs.Time.{OtherStays, OtherMayBe, LeavesOnly, MayLeaveNow};
@@ -31,7 +31,7 @@ pub(crate) struct Store {
 }
 
 impl Store {
-    ghost use Rattle.cli.specs.Store.{IsStoreOf};
+    ghost use Rattle.cli.specs.Store.{IsStoreOf, OpenSettles, StaysEmpty};
 
     /// Reads the store of file A, which it syncs first, so that what is read stays.
     pub(crate) fn open<D: Disk>(alloc: Global, disk: &mut D) -> Result<Store, Refusal>
@@ -43,7 +43,11 @@ impl Store {
         ensures other { IsTrue D.is_honest → OtherStays A (D.files disk.old) (D.files disk.new) }
 
         // At no moment it adds to what a crash may leave.
-        ensures any_moment { IsTrue D.is_honest → LeavesOnly D.moment D.left_since disk.old disk.new (MayLeaveNow (D.files disk.old)) }
+        ensures any_moment { IsTrue D.is_honest → LeavesOnly D.moment D.left_at disk.old disk.new (MayLeaveNow (D.files disk.old)) }
+
+        // Its sync settles what it reads, and an empty file A stays empty.
+        ensures settles { IsTrue D.is_honest → OpenSettles D.files D.moment D.left_at disk.old disk.new }
+        ensures empty { IsTrue D.is_honest → (D.files disk.old A).content ≡ [] → StaysEmpty D.moment D.left_at disk.old disk.new }
 
         ensures already { (there : ℤ) → IsErrOf result (AlreadyPut there) → ⊥ }
         ensures full { IsErrOf result Full → ⊥ }
@@ -93,14 +97,16 @@ impl Store {
 
         // Once the journal of file A was begun, a crash at any moment of the call leaves the cells before it or after it.
         ensures any_moment { IsTrue D.is_honest → (content : List ℕ) (cells : Cells) → D.files disk.old A ≡ at_rest content → content ≢ [] → IsStoreOf self.old content cells
-            → LeavesOnly D.moment D.left_since disk.old disk.new (λ contents. KeepsEither cells key value (contents A) × OtherMayBe A (D.files disk.old) contents) }
+            → LeavesOnly D.moment D.left_at disk.old disk.new (λ contents. KeepsEither cells key value (contents A) × OtherMayBe A (D.files disk.old) contents) }
 
         // On an empty file A a crash leaves no cell or the new one, from the moment on at which its journal was begun.
-        ensures first_moments { IsTrue D.is_honest → D.files disk.old A ≡ at_rest [] → IsStoreOf self.old [] [] → FirstPutLeaves D.files D.moment D.left_since key value disk.old disk.new }
+        ensures first_moments { IsTrue D.is_honest → D.files disk.old A ≡ at_rest [] → IsStoreOf self.old [] [] → FirstPutLeaves D.files D.moment D.left_at key value disk.old disk.new }
+        ensures earlier { IsTrue D.is_honest → LeavesOnly D.moment D.left_at disk.old disk.new (λ _. ⊤) }
 
         ensures full { IsTrue D.is_honest → IsErrOf result Full → disk.new ≡ disk.old }
         ensures limit { IsTrue D.is_honest → (cells : Cells) → IsStoreOf self.old (D.files disk.old A).content cells
             → IsErrOf result Full → (value_at cells key ≡ None) × (LIMIT ≤ 25 * (length cells + 1)) }
+        ensures room { IsTrue D.is_honest → (cells : Cells) → IsStoreOf self.old (D.files disk.old A).content cells → OnOk result (25 * (length cells + 1) < LIMIT) }
         ensures damaged { (place : ℕ) → IsErrOf result (Damaged place) → ⊥ }
         ensures device { IsErrOf result Device → D.failures disk.old < D.failures disk.new }
         ensures failures { D.failures disk.old ≤ D.failures disk.new }
@@ -134,13 +140,16 @@ fn append<D: Disk>(
     ensures durable { IsTrue D.is_honest → OnOk result (D.files disk.new A ≡ at_rest (D.files disk.new A).content) }
     ensures other { IsTrue D.is_honest → OtherStays A (D.files disk.old) (D.files disk.new) }
     ensures any_moment { IsTrue D.is_honest → (content : List ℕ) (payloads : List (List ℕ)) → D.files disk.old A ≡ at_rest content → content ≢ [] → IsJournalOf journal.old content payloads
-        → LeavesOnly D.moment D.left_since disk.old disk.new (λ contents. BeforeOrAfter 0 content payloads payload.now (contents A) × OtherMayBe A (D.files disk.old) contents) }
+        → LeavesOnly D.moment D.left_at disk.old disk.new (λ contents. BeforeOrAfter 0 content payloads payload.now (contents A) × OtherMayBe A (D.files disk.old) contents) }
     ensures first_moments { IsTrue D.is_honest → D.files disk.old A ≡ at_rest [] → IsJournalOf journal.old [] []
-        → FirstAppendLeaves D.files D.moment D.left_since payload.now disk.old disk.new }
+        → FirstAppendLeaves D.files D.moment D.left_at payload.now disk.old disk.new }
+    ensures earlier { IsTrue D.is_honest → LeavesOnly D.moment D.left_at disk.old disk.new (λ _. ⊤) }
     ensures already { (there : ℤ) → IsErrOf result (AlreadyPut there) → ⊥ }
     ensures full { IsErrOf result Full → disk.new ≡ disk.old }
     ensures limit { IsTrue D.is_honest → (payloads : List (List ℕ)) → IsJournalOf journal.old (D.files disk.old A).content payloads
         → IsErrOf result Full → LIMIT ≤ length (records payloads) + 5 + length payload.now }
+    ensures room { IsTrue D.is_honest → (payloads : List (List ℕ)) → IsJournalOf journal.old (D.files disk.old A).content payloads
+        → OnOk result (length (records payloads) + 5 + length payload.now < LIMIT) }
     ensures damaged { (place : ℕ) → IsErrOf result (Damaged place) → ⊥ }
     ensures device { IsErrOf result Device → D.failures disk.old < D.failures disk.new }
     ensures failures { D.failures disk.old ≤ D.failures disk.new }
@@ -169,9 +178,11 @@ fn add<D: Disk>(
     ensures durable { IsTrue D.is_honest → begun.side ≡ A → OnOk result (D.files disk.new A ≡ at_rest (D.files disk.new A).content) }
     ensures other { IsTrue D.is_honest → begun.side ≡ A → OtherStays A (D.files disk.old) (D.files disk.new) }
     ensures any_moment { IsTrue D.is_honest → (content : List ℕ) (payloads : List (List ℕ)) → D.files disk.old A ≡ at_rest content → IsJournalOf (Some begun) content payloads
-        → LeavesOnly D.moment D.left_since disk.old disk.new (λ contents. BeforeOrAfter 0 content payloads payload.now (contents A) × OtherMayBe A (D.files disk.old) contents) }
+        → LeavesOnly D.moment D.left_at disk.old disk.new (λ contents. BeforeOrAfter 0 content payloads payload.now (contents A) × OtherMayBe A (D.files disk.old) contents) }
+    ensures earlier { IsTrue D.is_honest → LeavesOnly D.moment D.left_at disk.old disk.new (λ _. ⊤) }
     ensures already { (there : ℤ) → IsErrOf result (AlreadyPut there) → ⊥ }
     ensures full { IsErrOf result Full → LIMIT ≤ begun.end + 5 + length payload.now }
+    ensures room { OnOk result (begun.end + 5 + length payload.now < LIMIT) }
     ensures before_the_disk { IsErrOf result Full → disk.new ≡ disk.old }
     ensures damaged { (place : ℕ) → IsErrOf result (Damaged place) → ⊥ }
     ensures device { IsErrOf result Device → D.failures disk.old < D.failures disk.new }

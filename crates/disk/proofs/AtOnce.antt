@@ -1,13 +1,14 @@
 -- What is there only once a write and the sync behind it are both done, and what is left where one of them failed.
-use Rattle.std.proofs.Common.{◌≡◌, inl, inr, ℕ, ◌≤◌, Bool, List, sym, ap, subst, ◌∙◌}
-use Rattle.std.specs.Prelude.{Result, Ok, Err, OnErr}
+use Rattle.std.proofs.Common.{◌≡◌, inl, inr, ℕ, Bool, List, sym, ap, subst, ◌∙◌, arith}
+use Rattle.std.specs.Prelude.{◌↔◌, Result, Ok, Err, OnErr}
 use Rattle.std.proofs.lemmas.Bool.{cases_lt}
 use Rattle.disk.specs.declared.side.Side.{Side}
 use Rattle.disk.specs.declared.error.DiskError.{DiskError}
 use Rattle.disk.specs.declared.error.DiskError.TheVariants.{Device, NoMemory}
 use Rattle.disk.specs.Side.{which}
 use Rattle.disk.specs.File.{Durable, File, MayLeave, Changes, Syncs, touching}
-use Rattle.disk.specs.Time.{Contents, MayLeaveNow, OtherStays, Elapses, AtOnce}
+use Rattle.disk.specs.Time.{Contents, MayLeaveNow, OtherStays, Elapses, KeepsAll, AtOnce}
+use Rattle.disk.specs.Moments.{call_keeps}
 use Rattle.disk.proofs.Left.{touching_left}
 
 -- a call of one file that takes nothing back of what might be left of that file takes back nothing at all
@@ -36,17 +37,42 @@ failed_sync_keeps T side (Ok _) first old new syncs others so_far = tt
 failed_sync_keeps T side (Err _) first old new syncs others so_far =
     λ contents left. nothing_back side old new (λ bytes. subst (λ (f : File). MayLeave f.durable bytes) (sym syncs)) others contents (so_far contents left)
 
-module _ {D : Type 0} (files : D → Side → File) (moment : D → ℕ) (left_since : D → ℕ → Contents → Type 0) where
-  -- calls that take nothing back
-  pub kept_at_once : (old new : D) → ((contents : Contents) → MayLeaveNow (files old) contents → MayLeaveNow (files new) contents)
-      → ((t : ℕ) (contents : Contents) → t ≤ moment new → MayLeaveNow (files new) contents → left_since new t contents) → AtOnce files moment left_since old new
-  kept_at_once old new keeps counts t le = inl (λ contents left. counts t contents le (keeps contents left))
+module _ {D : Type 0} (files : D → Side → File) (moment : D → ℕ) (left_at : D → ℕ → Contents → Type 0)
+    (at_now : (disk : D) (c : Contents) → left_at disk (moment disk) c ↔ MayLeaveNow (files disk) c) where
+  -- a call that takes nothing back
+  pub call_keeps_all : (old new : D) → Elapses (moment old) (moment new) (left_at old) (left_at new)
+      → ((contents : Contents) → MayLeaveNow (files old) contents → MayLeaveNow (files new) contents) → KeepsAll files moment left_at old new
+  call_keeps_all old new time keeps k contents from to left = call_keeps moment left_at files at_now old new time contents left (keeps contents left) k from to
 
-  -- and one behind them: a moment is one of theirs, or there is but what a crash may leave in the end
-  pub call_at_once : (old mid new : D) → ((contents : Contents) → MayLeaveNow (files old) contents → MayLeaveNow (files mid) contents)
-      → ((t : ℕ) (contents : Contents) → t ≤ moment mid → MayLeaveNow (files mid) contents → left_since mid t contents)
-      → Elapses (moment mid) (moment new) (left_since mid) (left_since new) (MayLeaveNow (files new)) → AtOnce files moment left_since old new
-  call_at_once old mid new keeps counts time t le = elim (cases_lt (moment mid) t) [
-    | inl behind ↦ inr (λ contents left. time.behind t contents behind left)
-    | inr before ↦ inl (λ contents left. time.keeps t contents before (counts t contents before (keeps contents left)))
+  -- and another behind it
+  both_keep_all : (old mid new : D) → Elapses (moment old) (moment mid) (left_at old) (left_at mid) → ((contents : Contents) → MayLeaveNow (files old) contents → MayLeaveNow (files mid) contents)
+      → Elapses (moment mid) (moment new) (left_at mid) (left_at new) → ((contents : Contents) → MayLeaveNow (files mid) contents → MayLeaveNow (files new) contents) → KeepsAll files moment left_at old new
+  both_keep_all old mid new first first_keeps second second_keeps k contents from to left = elim (cases_lt (moment mid) k) [
+    | inl behind ↦ call_keeps_all mid new second second_keeps k contents (omega (arith, behind)) to (first_keeps contents left)
+    | inr before ↦ (second.stays k contents before).1 (call_keeps_all old mid first first_keeps k contents from before left)
+  ]
+
+  -- where that is a sync that failed
+  pub failed_sync_keeps_all : (T : Type 0) (side : Side) (result : Result T DiskError) (old mid new : D) → Elapses (moment old) (moment mid) (left_at old) (left_at mid)
+      → ((contents : Contents) → MayLeaveNow (files old) contents → MayLeaveNow (files mid) contents) → Elapses (moment mid) (moment new) (left_at mid) (left_at new)
+      → Syncs result (files mid side) (files new side) → OtherStays side (files mid) (files new) → OnErr result (KeepsAll files moment left_at old new)
+  failed_sync_keeps_all T side (Ok _) old mid new first keeps second syncs others = tt
+  failed_sync_keeps_all T side (Err e) old mid new first keeps second syncs others =
+      both_keep_all old mid new first keeps second (failed_sync_keeps T side (Err e) (files mid) (files mid) (files new) syncs others (λ contents left. left))
+
+  pub kept_at_once : (old new : D) → Elapses (moment old) (moment new) (left_at old) (left_at new)
+      → ((contents : Contents) → MayLeaveNow (files old) contents → MayLeaveNow (files new) contents) → AtOnce files moment left_at old new
+  kept_at_once old new time keeps t from to =
+      inl (λ k contents begins ends left. call_keeps moment left_at files at_now old new time contents left (keeps contents left) k begins (omega (arith, ends, to)))
+
+  -- and one behind it: a moment is one of theirs, or there is but what a crash may leave in the end
+  pub call_at_once : (old mid new : D) → Elapses (moment old) (moment mid) (left_at old) (left_at mid)
+      → ((contents : Contents) → MayLeaveNow (files old) contents → MayLeaveNow (files mid) contents)
+      → Elapses (moment mid) (moment new) (left_at mid) (left_at new) → AtOnce files moment left_at old new
+  call_at_once old mid new first keeps time t from to = elim (cases_lt (moment mid) t) [
+    | inl behind ↦ inr (λ k contents begins ends left.
+        (at_now new contents).0 (subst (λ (n : ℕ). left_at new n contents) (omega (arith, behind, begins, ends, time.by_one)) left))
+    | inr before ↦ inl (λ k contents begins ends left.
+        (time.stays k contents (omega (arith, before, ends))).1
+        (call_keeps moment left_at files at_now old mid first contents left (keeps contents left) k begins (omega (arith, before, ends))))
   ]

@@ -1,7 +1,6 @@
 -- What a record of calls says after one more call.
-use Rattle.std.proofs.Common.{◌≡◌, ◌≢◌, ◌⊎◌, inl, inr, ℕ, zero, suc, ◌≤◌, Bool, true, false, ◌||◌, List, [], ◌∷◌, ◌++◌, length, take, if◌then◌else◌, refl, sym, ap, subst, ◌∙◌, arith}
-use Rattle.std.proofs.lemmas.List.{take_all, length_push}
-use Rattle.std.proofs.lemmas.Bool.{cases_lt}
+use Rattle.std.proofs.Common.{◌≡◌, ◌≢◌, inl, inr, ℕ, zero, suc, ◌≤◌, Bool, true, false, ◌||◌, List, [], ◌∷◌, ◌++◌, length, take, if◌then◌else◌, refl, sym, ap, subst, ◌∙◌, arith}
+use Rattle.std.proofs.lemmas.List.{length_push}
 use Rattle.std.specs.Prelude.{Err, slice_get}
 use Rattle.disk.specs.declared.side.Side.{Side}
 use Rattle.disk.specs.declared.side.Side.TheVariants.{A, B}
@@ -12,8 +11,8 @@ use Rattle.disk.specs.declared.record.Change.{Change}
 use Rattle.disk.specs.declared.record.Change.TheVariants.{Nothing, Write, Cut}
 use Rattle.disk.specs.Side.{is_side, pick, which}
 use Rattle.disk.specs.File.{Durable, File, MayLeave, Changes, settled, touching, write_touches, cut_touches}
-use Rattle.disk.specs.Time.{Contents, OtherStays, Elapses}
-use Rattle.disk.specs.Calls.{changed, durable_after, durable_of, files_after, Kept, LeftSince}
+use Rattle.disk.specs.Time.{OtherStays, Elapses}
+use Rattle.disk.specs.Calls.{changed, durable_after, durable_of, files_after, Kept, LeftAt}
 use Rattle.disk.proofs.Left.{touching_left}
 
 pub durable_after-append : (side : Side) (calls more : List Call) (d : Durable) → durable_after side (calls ++ more) d ≡ durable_after side more (durable_after side calls d)
@@ -28,23 +27,16 @@ take_front calls call zero le = refl
 take_front [] call (suc k) le = absurd (omega arith)
 take_front (c ∷ calls) call (suc k) le = ap (λ (l : List Call). c ∷ l) (take_front calls call k (omega arith))
 
--- one more call: a crash since t might have left what it might have left before, or what it may leave now
-pub elapses_push : (calls : List Call) (call : Call) → Elapses (length calls) (length (calls ++ call ∷ [])) (LeftSince calls) (LeftSince (calls ++ call ∷ [])) (λ (contents : Contents). (side : Side) → MayLeave (durable_of (calls ++ call ∷ []) side) (contents side))
+-- one more call: what a crash at an earlier moment may have left stays what it was
+pub elapses_push : (calls : List Call) (call : Call) → Elapses (length calls) (length (calls ++ call ∷ [])) (LeftAt calls) (LeftAt (calls ++ call ∷ []))
 elapses_push calls call = record {
   later = omega (arith, length_push calls call);
-  nothing_else = λ t contents le left. elim (split left.0 left.2) [
-    | inl before ↦ inl (left.0, left.1, before, λ side. subst (λ (l : List Call). MayLeave (durable_of l side) (contents side)) (take_front calls call left.0 before) (left.3 side))
-    | inr now ↦ inr (λ side. subst (λ (l : List Call). MayLeave (durable_of l side) (contents side)) (take_all left.0 (calls ++ call ∷ []) now) (left.3 side))
-  ];
-  keeps = λ t contents le left. (left.0, left.1, omega (arith, length_push calls call, left.2), λ side. subst (λ (l : List Call). MayLeave (durable_of l side) (contents side)) (sym (take_front calls call left.0 left.2)) (left.3 side));
-  behind = λ t contents lt left side. subst (λ (l : List Call). MayLeave (durable_of l side) (contents side)) (take_all left.0 (calls ++ call ∷ []) (omega (arith, length_push calls call, left.1))) (left.3 side);
+  by_one = omega (arith, length_push calls call);
+  stays = λ t contents le. (
+    λ left side. subst (λ (l : List Call). MayLeave (durable_of l side) (contents side)) (take_front calls call t le) (left side),
+    λ left side. subst (λ (l : List Call). MayLeave (durable_of l side) (contents side)) (sym (take_front calls call t le)) (left side),
+  );
 }
-  where
-    split : (k : ℕ) → k ≤ length (calls ++ call ∷ []) → (k ≤ length calls) ⊎ (length (calls ++ call ∷ []) ≤ k)
-    split k le = elim (cases_lt (length calls) k) [
-      | inl after ↦ inr (omega (arith, length_push calls call))
-      | inr before ↦ inl before
-    ]
 
 -- ---- a call that was begun
 
@@ -78,12 +70,12 @@ write_only_touches at count d = (write_touches d at count, refl)
 pub cut_only_touches : (count : ℕ) → Touches (Cut count)
 cut_only_touches count d = (cut_touches count, refl)
 
-pub elapses_kept : (error : DiskError) (call : Call) (calls after : List Call) → Kept error call calls after → Elapses (length calls) (length after) (LeftSince calls) (LeftSince after) (λ (contents : Contents). (side : Side) → MayLeave (durable_of after side) (contents side))
+pub elapses_kept : (error : DiskError) (call : Call) (calls after : List Call) → Kept error call calls after → Elapses (length calls) (length after) (LeftAt calls) (LeftAt after)
 elapses_kept Device call calls after is =
-    subst (λ (l : List Call). Elapses (length calls) (length l) (LeftSince calls) (LeftSince l) (λ (contents : Contents). (side : Side) → MayLeave (durable_of l side) (contents side))) (sym is) (elapses_push calls call)
+    subst (λ (l : List Call). Elapses (length calls) (length l) (LeftAt calls) (LeftAt l)) (sym is) (elapses_push calls call)
 elapses_kept NoMemory call calls after is =
-    subst (λ (l : List Call). Elapses (length calls) (length l) (LeftSince calls) (LeftSince l) (λ (contents : Contents). (side : Side) → MayLeave (durable_of l side) (contents side))) (sym is)
-    (record { later = omega arith; nothing_else = λ t contents le left. inl left; keeps = λ t contents le left. left; behind = λ t contents lt left. absurd (omega (arith, left.1, left.2)) })
+    subst (λ (l : List Call). Elapses (length calls) (length l) (LeftAt calls) (LeftAt l)) (sym is)
+    (record { later = omega arith; by_one = omega arith; stays = λ t contents le. (λ left. left, λ left. left) })
 
 module _ (call : Call) (calls after : List Call) where
   push_same : after ≡ calls ++ call ∷ [] → durable_of after call.side ≡ changed call.change (durable_of calls call.side)

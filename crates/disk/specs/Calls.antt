@@ -1,5 +1,5 @@
--- What a record of calls says of the two files: what is durable now, and what a crash since a moment may have left.
-use Rattle.std.specs.Prelude.{◌≡◌, ◌≤◌, ℕ, List, [], ◌∷◌, ◌++◌, length, take, if◌then◌else◌, count_by}
+-- What a record of calls says of the two files: what is durable now, and what a crash at a moment may have left.
+use Rattle.std.specs.Prelude.{◌≡◌, ◌↔◌, ℕ, List, [], ◌∷◌, ◌++◌, length, take, if◌then◌else◌, count_by}
 use Rattle.std.proofs.Common.{sym, subst, arith}
 use Rattle.std.proofs.lemmas.List.{take_all}
 use Rattle.disk.specs.declared.side.Side.{Side}
@@ -37,23 +37,20 @@ abbrev pub Kept : DiskError → Call → List Call → List Call → Type 0
 Kept Device call old new = new ≡ old ++ call ∷ []
 Kept NoMemory call old new = new ≡ old
 
--- a crash after some number of the calls, t of them at least, may have left these bytes
-abbrev pub LeftSince : List Call → ℕ → Contents → Type 0
-LeftSince calls t contents = (k : ℕ) × (t ≤ k) × (k ≤ length calls) × ((side : Side) → MayLeave (durable_of (take k calls) side) (contents side))
+-- a crash after so many of the calls may have left these bytes
+abbrev pub LeftAt : List Call → ℕ → Contents → Type 0
+LeftAt calls t contents = (side : Side) → MayLeave (durable_of (take t calls) side) (contents side)
 
 -- how many of the calls failed
 abbrev pub failures_of : List Call → ℕ
 failures_of calls = count_by (λ call. call.failed) calls
 
--- this moment is one of those since an earlier one
-pub counts_now : (calls : List Call) (t : ℕ) (contents : Contents) → t ≤ length calls → ((side : Side) → MayLeave (durable_of calls side) (contents side)) → LeftSince calls t contents
-counts_now calls t contents le now =
-    (length calls, le, omega arith, λ side. subst (λ (l : List Call). MayLeave (durable_of l side) (contents side)) (sym (take_all (length calls) calls (omega arith))) (now side))
-
--- since this moment there is no other
-pub only_now : (calls : List Call) (contents : Contents) → LeftSince calls (length calls) contents → (side : Side) → MayLeave (durable_of calls side) (contents side)
-only_now calls contents left side = subst (λ (l : List Call). MayLeave (durable_of l side) (contents side)) (take_all left.0 calls left.1) (left.3 side)
-
--- what a crash since a moment may have left, one since an earlier moment may have left too
-pub widens : (calls : List Call) (t u : ℕ) (contents : Contents) → t ≤ u → LeftSince calls u contents → LeftSince calls t contents
-widens calls t u contents le left = (left.0, omega (arith, left.1), left.2, left.3)
+-- at this moment that is what a crash now may leave
+pub at_now : (calls : List Call) (contents : Contents) → LeftAt calls (length calls) contents ↔ ((side : Side) → MayLeave (durable_of calls side) (contents side))
+at_now calls contents = (
+  λ left side. subst (λ (l : List Call). MayLeave (durable_of l side) (contents side)) whole (left side),
+  λ now side. subst (λ (l : List Call). MayLeave (durable_of l side) (contents side)) (sym whole) (now side),
+)
+  where
+    whole : take (length calls) calls ≡ calls
+    whole = take_all (length calls) calls (omega arith)

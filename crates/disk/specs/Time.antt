@@ -1,5 +1,5 @@
--- The two files of a disk over time: what a crash now, or at some moment since, may leave of both.
-use Rattle.std.specs.Prelude.{◌≡◌, ◌≢◌, ◌⊎◌, ◌≤◌, ◌<◌, ℕ, List, Result, IsErrOf}
+-- The two files of a disk over time: what a crash now, or at an earlier moment, may leave of both.
+use Rattle.std.specs.Prelude.{◌≡◌, ◌≢◌, ◌⊎◌, ◌↔◌, ◌+◌, ◌≤◌, ◌<◌, ℕ, List, Result, IsErrOf}
 use Rattle.disk.specs.declared.side.Side.{Side}
 use Rattle.disk.specs.declared.error.DiskError.{DiskError}
 use Rattle.disk.specs.declared.error.DiskError.TheVariants.{Device}
@@ -21,27 +21,32 @@ OtherStays side old new = (other : Side) → other ≢ side → new other ≡ ol
 abbrev pub OtherMayBe : Side → (Side → File) → Contents → Type 0
 OtherMayBe side files contents = (other : Side) → other ≢ side → MayLeave (files other).durable (contents other)
 
--- Time goes on by one call: a crash since t might have left what it might have left before, or what it may leave now.
-pub record Elapses (before now : ℕ) (past since : ℕ → Contents → Type 0) (may_leave : Contents → Type 0) : Type 0 where
+-- Time goes on by one call: by one moment at most, and what a crash at an earlier one may have left stays what it was.
+pub record Elapses (before now : ℕ) (past at : ℕ → Contents → Type 0) : Type 0 where
   pub later : before ≤ now
-  pub nothing_else : (t : ℕ) (contents : Contents) → t ≤ before → since t contents → past t contents ⊎ may_leave contents
-  pub keeps : (t : ℕ) (contents : Contents) → t ≤ before → past t contents → since t contents
-  -- behind the moment at which the call began there is nothing but what a crash may leave now
-  pub behind : (t : ℕ) (contents : Contents) → before < t → since t contents → may_leave contents
+  pub by_one : now ≤ before + 1
+  pub stays : (t : ℕ) (contents : Contents) → t ≤ before → at t contents ↔ past t contents
 
--- At each moment so far: a crash since then may leave all that one might have left before, or only what one may leave now.
-abbrev pub AtOnce : {D : Type 0} → (D → Side → File) → (D → ℕ) → (D → ℕ → Contents → Type 0) → D → D → Type 0
-AtOnce files moment left_since old new = (t : ℕ) → t ≤ moment new
-    → ((contents : Contents) → MayLeaveNow (files old) contents → left_since new t contents) ⊎ ((contents : Contents) → left_since new t contents → MayLeaveNow (files new) contents)
+-- a crash at some moment since this one may have left these bytes
+abbrev pub LeftSince : {D : Type 0} → (D → ℕ) → (D → ℕ → Contents → Type 0) → D → ℕ → Contents → Type 0
+LeftSince moment left_at disk since contents = (t : ℕ) × (since ≤ t) × (t ≤ moment disk) × left_at disk t contents
 
--- Each crash since old left what has P.
-pub record LeavesOnly {D : Type 0} (moment : D → ℕ) (left_since : D → ℕ → Contents → Type 0) (old new : D) (P : Contents → Type 0) : Type 0 where
+-- At each moment since old a crash left what has P; and what one at an earlier moment may have left stays what it was.
+pub record LeavesOnly {D : Type 0} (moment : D → ℕ) (left_at : D → ℕ → Contents → Type 0) (old new : D) (P : Contents → Type 0) : Type 0 where
   pub later : moment old ≤ moment new
-  pub each : (contents : Contents) → left_since new (moment old) contents → P contents
-  -- for a list of calls that began earlier
-  pub before : (t : ℕ) (contents : Contents) → t ≤ moment old → left_since new t contents → left_since old t contents ⊎ P contents
-  -- and nothing is forgotten
-  pub keeps : (t : ℕ) (contents : Contents) → t ≤ moment old → left_since old t contents → left_since new t contents
+  pub each : (t : ℕ) (contents : Contents) → moment old ≤ t → t ≤ moment new → left_at new t contents → P contents
+  pub stays : (t : ℕ) (contents : Contents) → t ≤ moment old → left_at new t contents ↔ left_at old t contents
+
+-- At each moment of these calls a crash may leave all that it might have left before them.
+abbrev pub KeepsAll : {D : Type 0} → (D → Side → File) → (D → ℕ) → (D → ℕ → Contents → Type 0) → D → D → Type 0
+KeepsAll files moment left_at old new = (k : ℕ) (contents : Contents) → moment old ≤ k → k ≤ moment new → MayLeaveNow (files old) contents → left_at new k contents
+
+-- These calls settle nothing until they settle all: of each moment it holds that up to it a crash may leave all that it might
+-- have left before them, or that from it on one leaves only what it may leave behind them.
+abbrev pub AtOnce : {D : Type 0} → (D → Side → File) → (D → ℕ) → (D → ℕ → Contents → Type 0) → D → D → Type 0
+AtOnce files moment left_at old new = (t : ℕ) → moment old ≤ t → t ≤ moment new
+    → ((k : ℕ) (contents : Contents) → moment old ≤ k → k ≤ t → MayLeaveNow (files old) contents → left_at new k contents)
+    ⊎ ((k : ℕ) (contents : Contents) → t ≤ k → k ≤ moment new → left_at new k contents → MayLeaveNow (files new) contents)
 
 -- `Device` is answered only where the count of failures grew
 pub record HasCause {T : Type 0} (before now : ℕ) (result : Result T DiskError) : Type 0 where

@@ -130,15 +130,11 @@ impl Disk for FileDisk {
 
     ghost moment = { λ _. 0 };
 
-    ghost left_since = { λ _ _ _. ⊥ };
+    ghost left_at = { λ _ _ _. ⊥ };
 
     ghost failures = { λ disk. vec_len disk.failures };
 
-    ghost counts_now = { λ honest. absurd (false≢true honest) };
-
-    ghost widens = { λ honest. absurd (false≢true honest) };
-
-    ghost only_now = { λ honest. absurd (false≢true honest) };
+    ghost at_now = { λ honest. absurd (false≢true honest) };
 
     ghost reads_left = { λ honest. absurd (false≢true honest) };
 

@@ -92,7 +92,7 @@ impl MemDisk {
 
 impl Disk for MemDisk {
     ghost use Rattle.std.specs.Prelude.{true, length};
-    ghost use Rattle.disk.specs.Calls.{LeftSince, failures_of, counts_now, only_now, widens};
+    ghost use Rattle.disk.specs.Calls.{LeftAt, failures_of, at_now};
     ghost use Rattle.disk.specs.MemDisk.{files_of, reads_left};
 
     ghost is_honest = { true };
@@ -101,15 +101,11 @@ impl Disk for MemDisk {
 
     ghost moment = { λ disk. length disk.history.calls.items };
 
-    ghost left_since = { λ disk. LeftSince disk.history.calls.items };
+    ghost left_at = { λ disk. LeftAt disk.history.calls.items };
 
     ghost failures = { λ disk. failures_of disk.history.calls.items };
 
-    ghost counts_now = { λ _ disk. counts_now disk.history.calls.items };
-
-    ghost widens = { λ _ disk. widens disk.history.calls.items };
-
-    ghost only_now = { λ _ disk. only_now disk.history.calls.items };
+    ghost at_now = { λ _ disk. at_now disk.history.calls.items };
 
     ghost reads_left = { λ _. reads_left };
 

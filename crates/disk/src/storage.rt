@@ -1,4 +1,4 @@
-ghost use Rattle.std.specs.Prelude.{◌≡◌, ◌≤◌, ◌+◌, ℕ, Bool, IsTrue, List, length, take, drop, IfOk, OnOk};
+ghost use Rattle.std.specs.Prelude.{◌≡◌, ◌≤◌, ◌↔◌, ◌+◌, ℕ, Bool, IsTrue, List, length, take, drop, IfOk, OnOk};
 ghost use Rattle.disk.specs.declared.side.Side.{Side};
 ghost use Rattle.disk.specs.File.{File, MayLeave, Changes, Syncs, written, cut, write_touches, cut_touches};
 ghost use Rattle.disk.specs.Time.{Contents, MayLeaveNow, OtherStays, Elapses, HasCause};
@@ -18,8 +18,8 @@ pub trait Disk {
     /// The moment, as a number that does not fall.
     ghost moment: { Self → ℕ };
 
-    /// What a crash at some moment from that one on may have left, during a call or between two.
-    ghost left_since: { Self → ℕ → Contents → Type 0 };
+    /// What a crash at that moment may have left, during a call or between two.
+    ghost left_at: { Self → ℕ → Contents → Type 0 };
 
     /// How often the device has failed.
     ghost failures: { Self → ℕ };
@@ -28,7 +28,7 @@ pub trait Disk {
     fn len(&mut self, side: Side) -> Result<u64, DiskError>
         ensures value { IsTrue is_honest → IfOk result (λ count. count ≡ length (files self.old side).content) }
         ensures same { IsTrue is_honest → (each : Side) → files self.new each ≡ files self.old each }
-        ensures time { IsTrue is_honest → Elapses (moment self.old) (moment self.new) (left_since self.old) (left_since self.new) (MayLeaveNow (files self.new)) }
+        ensures time { IsTrue is_honest → Elapses (moment self.old) (moment self.new) (left_at self.old) (left_at self.new) }
         ensures cause { HasCause (failures self.old) (failures self.new) result };
 
     /// Fills the buffer with the bytes from a position on. After an error the buffer holds any bytes.
@@ -36,7 +36,7 @@ pub trait Disk {
         requires { IsTrue is_honest → at + length buffer.old ≤ length (files self.old side).content }
         ensures value { IsTrue is_honest → OnOk result (buffer.new ≡ take (length buffer.old) (drop at (files self.old side).content)) }
         ensures same { IsTrue is_honest → (each : Side) → files self.new each ≡ files self.old each }
-        ensures time { IsTrue is_honest → Elapses (moment self.old) (moment self.new) (left_since self.old) (left_since self.new) (MayLeaveNow (files self.new)) }
+        ensures time { IsTrue is_honest → Elapses (moment self.old) (moment self.new) (left_at self.old) (left_at self.new) }
         ensures cause { HasCause (failures self.old) (failures self.new) result };
 
     /// Writes over what is there from a position on, and past the end.
@@ -44,7 +44,7 @@ pub trait Disk {
         requires { IsTrue is_honest → at ≤ length (files self.old side).content }
         ensures file { IsTrue is_honest → Changes (written at bytes.now) (write_touches (files self.old side).durable at (length bytes.now)) result (files self.old side) (files self.new side) }
         ensures other { IsTrue is_honest → OtherStays side (files self.old) (files self.new) }
-        ensures time { IsTrue is_honest → Elapses (moment self.old) (moment self.new) (left_since self.old) (left_since self.new) (MayLeaveNow (files self.new)) }
+        ensures time { IsTrue is_honest → Elapses (moment self.old) (moment self.new) (left_at self.old) (left_at self.new) }
         ensures cause { HasCause (failures self.old) (failures self.new) result };
 
     /// Cuts a file to its first bytes.
@@ -52,24 +52,18 @@ pub trait Disk {
         requires { IsTrue is_honest → count ≤ length (files self.old side).content }
         ensures file { IsTrue is_honest → Changes (cut count) (cut_touches count) result (files self.old side) (files self.new side) }
         ensures other { IsTrue is_honest → OtherStays side (files self.old) (files self.new) }
-        ensures time { IsTrue is_honest → Elapses (moment self.old) (moment self.new) (left_since self.old) (left_since self.new) (MayLeaveNow (files self.new)) }
+        ensures time { IsTrue is_honest → Elapses (moment self.old) (moment self.new) (left_at self.old) (left_at self.new) }
         ensures cause { HasCause (failures self.old) (failures self.new) result };
 
     /// From `Ok` on, a crash leaves of this file what a read gives, until it is written or cut.
     fn sync(&mut self, side: Side) -> Result<(), DiskError>
         ensures file { IsTrue is_honest → Syncs result (files self.old side) (files self.new side) }
         ensures other { IsTrue is_honest → OtherStays side (files self.old) (files self.new) }
-        ensures time { IsTrue is_honest → Elapses (moment self.old) (moment self.new) (left_since self.old) (left_since self.new) (MayLeaveNow (files self.new)) }
+        ensures time { IsTrue is_honest → Elapses (moment self.old) (moment self.new) (left_at self.old) (left_at self.new) }
         ensures cause { HasCause (failures self.old) (failures self.new) result };
 
-    /// This moment is one of those since an earlier one.
-    ghost counts_now: { IsTrue is_honest → (disk : Self) (t : ℕ) (contents : Contents) → t ≤ moment disk → MayLeaveNow (files disk) contents → left_since disk t contents };
-
-    /// What a crash since a moment may have left, one since an earlier moment may have left too.
-    ghost widens: { IsTrue is_honest → (disk : Self) (t u : ℕ) (contents : Contents) → t ≤ u → left_since disk u contents → left_since disk t contents };
-
-    /// Since this moment there is no other.
-    ghost only_now: { IsTrue is_honest → (disk : Self) (contents : Contents) → left_since disk (moment disk) contents → MayLeaveNow (files disk) contents };
+    /// At this moment that is what a crash now may leave.
+    ghost at_now: { IsTrue is_honest → (disk : Self) (contents : Contents) → left_at disk (moment disk) contents ↔ MayLeaveNow (files disk) contents };
 
     /// A crash may leave what reads give.
     ghost reads_left: { IsTrue is_honest → (disk : Self) (side : Side) → MayLeave (files disk side).durable (files disk side).content };

@@ -1,6 +1,6 @@
 ghost use Rattle.std.specs.Prelude.{◌≡◌, ◌≤◌, IsTrue, List, ℕ, length, OnOk, OnErr};
 ghost use Rattle.disk.specs.File.{MayLeave, WriteLeaves, at_rest, overwritten, touching, write_touches};
-ghost use Rattle.disk.specs.Time.{Contents, MayLeaveNow, OtherStays, OtherMayBe, LeavesOnly, AtOnce, HasCause};
+ghost use Rattle.disk.specs.Time.{Contents, MayLeaveNow, OtherStays, OtherMayBe, LeavesOnly, KeepsAll, AtOnce, HasCause};
 
 use crate::{Disk, DiskError, Side};
 
@@ -16,17 +16,18 @@ pub fn write_synced<D: Disk>(
     ensures other { IsTrue D.is_honest → OtherStays side (D.files disk.old) (D.files disk.new) }
 
     // A crash at any moment of the call leaves of the file at most what the write may leave, and of the other what it might before.
-    ensures touches { IsTrue D.is_honest → LeavesOnly D.moment D.left_since disk.old disk.new
+    ensures touches { IsTrue D.is_honest → LeavesOnly D.moment D.left_at disk.old disk.new
         (λ contents. MayLeave (touching (write_touches (D.files disk.old side).durable at (length bytes.now)) (D.files disk.old side).durable) (contents side) × OtherMayBe side (D.files disk.old) contents) }
 
     // Of a synced file that is:
-    ensures any_moment { IsTrue D.is_honest → (synced : List ℕ) → D.files disk.old side ≡ at_rest synced → LeavesOnly D.moment D.left_since disk.old disk.new
+    ensures any_moment { IsTrue D.is_honest → (synced : List ℕ) → D.files disk.old side ≡ at_rest synced → LeavesOnly D.moment D.left_at disk.old disk.new
         (λ contents. WriteLeaves synced at (length bytes.now) (contents side) × OtherMayBe side (D.files disk.old) contents) }
     // Nothing of the call is settled until all of it is.
-    ensures at_once { IsTrue D.is_honest → AtOnce D.files D.moment D.left_since disk.old disk.new }
+    ensures at_once { IsTrue D.is_honest → AtOnce D.files D.moment D.left_at disk.old disk.new }
 
-    // After an error a crash may leave all that one might have left before.
+    // After an error a crash may leave all that one might have left before, and so at each moment of the call.
     ensures err { IsTrue D.is_honest → OnErr result ((contents : Contents) → MayLeaveNow (D.files disk.old) contents → MayLeaveNow (D.files disk.new) contents) }
+    ensures err_moments { IsTrue D.is_honest → OnErr result (KeepsAll D.files D.moment D.left_at disk.old disk.new) }
     ensures cause { HasCause (D.failures disk.old) (D.failures disk.new) result }
 {
     disk.write_at(side, at, bytes)?;

@@ -29,15 +29,11 @@ impl Disk for Liar {
 
     ghost moment = { λ _. 0 };
 
-    ghost left_since = { λ _ _ _. ⊥ };
+    ghost left_at = { λ _ _ _. ⊥ };
 
     ghost failures = { λ _. 0 };
 
-    ghost counts_now = { λ honest. absurd (false≢true honest) };
-
-    ghost widens = { λ honest. absurd (false≢true honest) };
-
-    ghost only_now = { λ honest. absurd (false≢true honest) };
+    ghost at_now = { λ honest. absurd (false≢true honest) };
 
     ghost reads_left = { λ honest. absurd (false≢true honest) };
 

@@ -175,21 +175,21 @@ crash_now start content payloads payload stands c is = record { front = ap (take
 
 -- ---- the two steps of an append, at every moment
 
-module _ {D : Type 0} (moment : D → ℕ) (left_since : D → ℕ → Contents → Type 0) (old mid new : D) (side : Side) (before between : Side → File) (stays : OtherStays side before between) where
+module _ {D : Type 0} (moment : D → ℕ) (left_at : D → ℕ → Contents → Type 0) (old mid new : D) (side : Side) (before between : Side → File) (stays : OtherStays side before between) where
   pub moments_of_both : (start : ℕ) (content : List ℕ) (payloads : List (List ℕ)) (payload : List ℕ) (end count : ℕ) (stands : StandsFor (drop start content) payloads) (ends : end ≡ start + length (records payloads)) (short : IsShort payload)
-      → LeavesOnly moment left_since old mid (λ contents. WriteLeaves content (end + 1) count (contents side) × OtherMayBe side before contents)
-      → LeavesOnly moment left_since mid new (λ contents. WriteLeaves (overwritten content (end + 1) (body_of payload ++ 0 ∷ [])) end 1 (contents side) × OtherMayBe side between contents)
-      → LeavesOnly moment left_since old new (λ contents. BeforeOrAfter start content payloads payload (contents side) × OtherMayBe side before contents)
+      → LeavesOnly moment left_at old mid (λ contents. WriteLeaves content (end + 1) count (contents side) × OtherMayBe side before contents)
+      → LeavesOnly moment left_at mid new (λ contents. WriteLeaves (overwritten content (end + 1) (body_of payload ++ 0 ∷ [])) end 1 (contents side) × OtherMayBe side between contents)
+      → LeavesOnly moment left_at old new (λ contents. BeforeOrAfter start content payloads payload (contents side) × OtherMayBe side before contents)
   moments_of_both start content payloads payload end count stands ends short first second =
-      joined moment left_since old mid new _ _ _ first second
+      joined moment left_at old mid new _ _ _ first second
       (λ contents leaves. (crash_behind start content payloads end stands ends payload short count (contents side) leaves.0, leaves.1))
       (λ contents leaves. (crash_at_gate start content payloads end stands ends payload short (contents side) leaves.0, other_before side before between stays contents leaves.1))
 
   -- of the other file
-  pub other_moments : (P Q : Contents → Type 0) → LeavesOnly moment left_since old mid (λ contents. P contents × OtherMayBe side before contents)
-      → LeavesOnly moment left_since mid new (λ contents. Q contents × OtherMayBe side between contents) → LeavesOnly moment left_since old new (OtherMayBe side before)
+  pub other_moments : (P Q : Contents → Type 0) → LeavesOnly moment left_at old mid (λ contents. P contents × OtherMayBe side before contents)
+      → LeavesOnly moment left_at mid new (λ contents. Q contents × OtherMayBe side between contents) → LeavesOnly moment left_at old new (OtherMayBe side before)
   other_moments P Q first second =
-      joined moment left_since old mid new _ _ _ first second (λ contents leaves. leaves.1) (λ contents leaves. other_before side before between stays contents leaves.1)
+      joined moment left_at old mid new _ _ _ first second (λ contents leaves. leaves.1) (λ contents leaves. other_before side before between stays contents leaves.1)
 
 -- ---- the first gate of a journal
 

@@ -1,6 +1,6 @@
 ghost use Rattle.std.specs.Prelude.{◌≡◌, ◌≤◌, ◌<◌, ◌+◌, ◌^◌, ◌↔◌, [], ◌∷◌, ◌++◌, List, ℕ, length, take, drop, IsTrue, IfOk, OnOk, OnErr, IsErrOf, Err};
 ghost use Rattle.disk.specs.File.{WriteLeaves, at_rest, overwritten};
-ghost use Rattle.disk.specs.Time.{Contents, MayLeaveNow, OtherStays, OtherMayBe, LeavesOnly, AtOnce};
+ghost use Rattle.disk.specs.Time.{Contents, MayLeaveNow, OtherStays, OtherMayBe, LeavesOnly, KeepsAll, AtOnce};
 ghost use Rattle.byteorder.specs.Endian.{little_bytes};
 ghost use Rattle.journal.specs.Records.{record_of};
 ghost use Rattle.journal.specs.declared.journal.TheConstants.{LIMIT};
@@ -59,12 +59,13 @@ impl Journal {
 
         // A crash at any moment of the call, on a file of which all is on the disk, leaves what the one byte's write may leave.
         ensures any_moment { IsTrue D.is_honest → (content : List ℕ) → D.files disk.old side ≡ at_rest content
-            → LeavesOnly D.moment D.left_since disk.old disk.new (λ contents. WriteLeaves content at 1 (contents side) × OtherMayBe side (D.files disk.old) contents) }
-        ensures other_moments { IsTrue D.is_honest → LeavesOnly D.moment D.left_since disk.old disk.new (OtherMayBe side (D.files disk.old)) }
+            → LeavesOnly D.moment D.left_at disk.old disk.new (λ contents. WriteLeaves content at 1 (contents side) × OtherMayBe side (D.files disk.old) contents) }
+        ensures other_moments { IsTrue D.is_honest → LeavesOnly D.moment D.left_at disk.old disk.new (OtherMayBe side (D.files disk.old)) }
 
         // Nothing of the journal is settled until it was begun, and after an error it was not.
-        ensures at_once { IsTrue D.is_honest → AtOnce D.files D.moment D.left_since disk.old disk.new }
+        ensures at_once { IsTrue D.is_honest → AtOnce D.files D.moment D.left_at disk.old disk.new }
         ensures err { IsTrue D.is_honest → OnErr result ((contents : Contents) → MayLeaveNow (D.files disk.old) contents → MayLeaveNow (D.files disk.new) contents) }
+        ensures err_moments { IsTrue D.is_honest → OnErr result (KeepsAll D.files D.moment D.left_at disk.old disk.new) }
 
         ensures full { IsErrOf result Full ↔ (LIMIT ≤ at) }
         ensures before_the_disk { IsErrOf result Full → disk.new ≡ disk.old }
@@ -95,8 +96,8 @@ impl Journal {
 
         // A crash at any moment of the call, on a file of which all is on the disk, leaves the payloads before it or after it.
         ensures any_moment { IsTrue D.is_honest → (start : ℕ) (payloads : List (List ℕ)) (content : List ℕ) → D.files disk.old self.old.side ≡ at_rest content → IsAt self.old start content payloads
-            → LeavesOnly D.moment D.left_since disk.old disk.new (λ contents. BeforeOrAfter start content payloads payload.now (contents self.old.side) × OtherMayBe self.old.side (D.files disk.old) contents) }
-        ensures other_moments { IsTrue D.is_honest → LeavesOnly D.moment D.left_since disk.old disk.new (OtherMayBe self.old.side (D.files disk.old)) }
+            → LeavesOnly D.moment D.left_at disk.old disk.new (λ contents. BeforeOrAfter start content payloads payload.now (contents self.old.side) × OtherMayBe self.old.side (D.files disk.old) contents) }
+        ensures other_moments { IsTrue D.is_honest → LeavesOnly D.moment D.left_at disk.old disk.new (OtherMayBe self.old.side (D.files disk.old)) }
 
         ensures full { IsErrOf result Full ↔ (LIMIT ≤ self.old.end + 5 + length payload.now) }
         ensures before_the_disk { IsErrOf result Full → disk.new ≡ disk.old }

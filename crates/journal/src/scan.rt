@@ -35,7 +35,7 @@ impl Journal {
         ensures failures { D.failures disk.old ≤ D.failures disk.new }
 
         ensures same { IsTrue D.is_honest → (each : Side) → D.files disk.new each ≡ D.files disk.old each }
-        ensures any_moment { IsTrue D.is_honest → LeavesOnly D.moment D.left_since disk.old disk.new (MayLeaveNow (D.files disk.old)) }
+        ensures any_moment { IsTrue D.is_honest → LeavesOnly D.moment D.left_at disk.old disk.new (MayLeaveNow (D.files disk.old)) }
     {
         let bytes = read_from(alloc, disk, side, at)?;
         let found = find_records(alloc, &bytes)?;
@@ -61,7 +61,7 @@ fn read_from<D: Disk>(
     ensures fits { IfOk result (λ bytes. at + vec_len bytes < 2 ^ 64) }
     ensures cause { HasCause (D.failures disk.old) (D.failures disk.new) result }
     ensures same { IsTrue D.is_honest → (each : Side) → D.files disk.new each ≡ D.files disk.old each }
-    ensures any_moment { IsTrue D.is_honest → LeavesOnly D.moment D.left_since disk.old disk.new (MayLeaveNow (D.files disk.old)) }
+    ensures any_moment { IsTrue D.is_honest → LeavesOnly D.moment D.left_at disk.old disk.new (MayLeaveNow (D.files disk.old)) }
 {
     let end = disk.len(side)?;
     if end <= at {

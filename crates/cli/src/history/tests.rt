@@ -37,7 +37,7 @@ fn get(key: i64) -> Command<'static> {
 /// A command of status 0, and behind its reply a crash that leaves these bytes of file A.
 fn round(alloc: Global, command: &Command<'_>, disk: MemDisk, left: &[u8]) -> Option<MemDisk>
     ensures { IfSome result (λ crashed. (it : Round MemDisk) × (it.before ≡ disk) × (it.crashed ≡ crashed) × (it.told ≡ true) × (status_of it.reply ≡ 0)
-        × IsRound ⟦<MemDisk as Disk>⟧.files ⟦<MemDisk as Disk>⟧.moment ⟦<MemDisk as Disk>⟧.left_since ⟦<MemDisk as Disk>⟧.failures it) }
+        × IsRound ⟦<MemDisk as Disk>⟧.files ⟦<MemDisk as Disk>⟧.moment ⟦<MemDisk as Disk>⟧.left_at ⟦<MemDisk as Disk>⟧.failures it) }
 {
     let mut out = Vec::new(alloc);
     let mut err = Vec::new(alloc);
@@ -56,7 +56,7 @@ fn round(alloc: Global, command: &Command<'_>, disk: MemDisk, left: &[u8]) -> Op
 /// On an empty disk a put begins the journal; behind it come another put and a get, each of them ended by a crash.
 fn two_puts_and_a_get(alloc: Global) -> Option<MemDisk>
     ensures { IfSome result (λ disk. (first : MemDisk) × (rounds : List (Round MemDisk)) × (2 ≤ length rounds) × IsBegun ⟦<MemDisk as Disk>⟧.files first
-        × Follow ⟦<MemDisk as Disk>⟧.files ⟦<MemDisk as Disk>⟧.moment ⟦<MemDisk as Disk>⟧.left_since ⟦<MemDisk as Disk>⟧.failures first rounds × (last first rounds ≡ disk)) }
+        × Follow ⟦<MemDisk as Disk>⟧.files ⟦<MemDisk as Disk>⟧.moment ⟦<MemDisk as Disk>⟧.left_at ⟦<MemDisk as Disk>⟧.failures first rounds × (last first rounds ≡ disk)) }
 {
     let begun = round(alloc, &put(3, 5), MemDisk::new(alloc), &ONE_CELL)?;
     let second = round(alloc, &put(4, 7), begun, &TWO_CELLS)?;

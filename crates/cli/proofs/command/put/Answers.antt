@@ -18,7 +18,7 @@ puts_passed command key value same_key same_value puts =
 pub returns-in-Ok-clause-puts : goal.returns-in-Ok-clause-puts
 returns-in-Ok-clause-puts g c honest cells is command puts =
     let done = c.in-Ok.ensures.put honest cells is in
-    put_done command (passed c.args.key) (passed c.args.value) cells _ _ (puts_passed command c.args.key c.args.value (to_z-of_z w64 c.args.key c.ranges.key) (to_z-of_z w64 c.args.value c.ranges.value) puts) done.0
+    put_done command (passed c.args.key) (passed c.args.value) cells _ _ (puts_passed command c.args.key c.args.value (to_z-of_z w64 c.args.key c.ranges.key) (to_z-of_z w64 c.args.value c.ranges.value) puts) done.0 (c.in-Ok.ensures.room honest cells is)
     (store_holds c.put.new.self _ _ done.1)
 
 pub returns-in-Err-clause-puts : goal.returns-in-Err-clause-puts
@@ -31,12 +31,12 @@ returns-in-Err-clause-puts g c honest cells is command puts =
 
 pub returns-in-Ok-clause-first_moments : goal.returns-in-Ok-clause-first_moments
 returns-in-Ok-clause-first_moments g c honest rest is =
-    subst (λ (v : ℤ). FirstPutLeaves g.D.Disk.files g.D.Disk.moment g.D.Disk.left_since c.args.key v c.args.disk.now c.put.new.disk) (to_z-of_z w64 c.args.value c.ranges.value)
-    (subst (λ (k : ℤ). FirstPutLeaves g.D.Disk.files g.D.Disk.moment g.D.Disk.left_since k (passed c.args.value) c.args.disk.now c.put.new.disk) (to_z-of_z w64 c.args.key c.ranges.key)
+    subst (λ (v : ℤ). FirstPutLeaves g.D.Disk.files g.D.Disk.moment g.D.Disk.left_at c.args.key v c.args.disk.now c.put.new.disk) (to_z-of_z w64 c.args.value c.ranges.value)
+    (subst (λ (k : ℤ). FirstPutLeaves g.D.Disk.files g.D.Disk.moment g.D.Disk.left_at k (passed c.args.value) c.args.disk.now c.put.new.disk) (to_z-of_z w64 c.args.key c.ranges.key)
     (c.in-Ok.ensures.first_moments honest rest is))
 
 pub returns-in-Err-clause-first_moments : goal.returns-in-Err-clause-first_moments
 returns-in-Err-clause-first_moments g c honest rest is =
-    subst (λ (v : ℤ). FirstPutLeaves g.D.Disk.files g.D.Disk.moment g.D.Disk.left_since c.args.key v c.args.disk.now c.put.new.disk) (to_z-of_z w64 c.args.value c.ranges.value)
-    (subst (λ (k : ℤ). FirstPutLeaves g.D.Disk.files g.D.Disk.moment g.D.Disk.left_since k (passed c.args.value) c.args.disk.now c.put.new.disk) (to_z-of_z w64 c.args.key c.ranges.key)
+    subst (λ (v : ℤ). FirstPutLeaves g.D.Disk.files g.D.Disk.moment g.D.Disk.left_at c.args.key v c.args.disk.now c.put.new.disk) (to_z-of_z w64 c.args.value c.ranges.value)
+    (subst (λ (k : ℤ). FirstPutLeaves g.D.Disk.files g.D.Disk.moment g.D.Disk.left_at k (passed c.args.value) c.args.disk.now c.put.new.disk) (to_z-of_z w64 c.args.key c.ranges.key)
     (c.in-Err.ensures.first_moments honest rest is))

@@ -1,5 +1,6 @@
 use Rattle.std.proofs.Common.{◌++◌, ◌∷◌, [], sym, subst, ◌∙◌}
 use Rattle.disk.specs.declared.side.Side.{Side}
+use Rattle.disk.specs.Moments.{weakened}
 use Rattle.journal.specs.Journal.{IsAt}
 use Rattle.cli.proofs.PutMoments.{put_on_a}
 use Rattle.cli.proofs.store.add.Goals as goal
@@ -12,8 +13,16 @@ returns-clause-added g c honest payloads is =
 
 pub returns-in_err-appended-clause-any_moment : goal.returns-in_err-appended-clause-any_moment
 returns-in_err-appended-clause-any_moment g c honest content payloads rest is =
-    put_on_a g.D.Disk.files g.D.Disk.moment g.D.Disk.left_since c.args.disk.now c.append-appended.new.disk c.args.begun content payloads c.args.payload.now is rest (c.append-appended.ensures.any_moment honest 0 payloads content)
+    put_on_a g.D.Disk.files g.D.Disk.moment g.D.Disk.left_at c.args.disk.now c.append-appended.new.disk c.args.begun content payloads c.args.payload.now is rest (c.append-appended.ensures.any_moment honest 0 payloads content)
 
 pub returns-clause-any_moment : goal.returns-clause-any_moment
 returns-clause-any_moment g c honest content payloads rest is =
-    put_on_a g.D.Disk.files g.D.Disk.moment g.D.Disk.left_since c.args.disk.now c.append-appended.new.disk c.args.begun content payloads c.args.payload.now is rest (c.append-appended.ensures.any_moment honest 0 payloads content)
+    put_on_a g.D.Disk.files g.D.Disk.moment g.D.Disk.left_at c.args.disk.now c.append-appended.new.disk c.args.begun content payloads c.args.payload.now is rest (c.append-appended.ensures.any_moment honest 0 payloads content)
+
+-- ---- what a crash at an earlier moment may have left
+
+pub returns-in_err-appended-clause-earlier : goal.returns-in_err-appended-clause-earlier
+returns-in_err-appended-clause-earlier g c honest = weakened g.D.Disk.moment g.D.Disk.left_at c.args.disk.now c.append-appended.new.disk _ _ (c.append-appended.ensures.other_moments honest) (λ contents left. tt)
+
+pub returns-clause-earlier : goal.returns-clause-earlier
+returns-clause-earlier g c honest = weakened g.D.Disk.moment g.D.Disk.left_at c.args.disk.now c.append-appended.new.disk _ _ (c.append-appended.ensures.other_moments honest) (λ contents left. tt)

@@ -2,6 +2,7 @@ use Rattle.std.proofs.Common.{[], ◌∷◌, ap, sym, subst, ◌∙◌, arith}
 use Rattle.disk.specs.declared.mem_disk.MemDisk.{MemDisk}
 use Rattle.disk.specs.declared.side.Side.TheVariants.{A}
 use Rattle.disk.specs.File.{File}
+use Rattle.disk.specs.Calls.{at_now}
 use Rattle.disk.specs.MemDisk.{files_of}
 use Rattle.cli.specs.Rounds.{IsBegun}
 use Rattle.cli.proofs.ToldRounds.{told_begins}
@@ -16,7 +17,7 @@ returns c =
       c.in_ok-begun.begun,
       third.0 ∷ second.0 ∷ [],
       omega arith,
-      subst (IsBegun files_of) first.2 (told_begins files_of _ _ _ first.0 first.5 first.3 first.4 empty),
+      subst (IsBegun files_of) first.2 (told_begins files_of _ _ _ (λ disk. at_now disk.history.calls.items) first.0 first.5 first.3 first.4 empty),
       (third.5, third.1 ∙ sym second.2, (second.5, second.1, tt)),
       third.2,
     )

@@ -9,22 +9,22 @@ use Rattle.journal.proofs.journal.Journal.append.Goals as goal
 -- no call of the disk was made
 pub returns-then-not-fits-clause-any_moment : goal.returns-then-not-fits-clause-any_moment
 returns-then-not-fits-clause-any_moment g c honest start payloads content is at =
-    begun g.D.Disk.moment g.D.Disk.left_since c.args.disk.now _ (λ contents left.
-    let now = g.met.D.Disk.only_now honest c.args.disk.now contents left in
+    begun g.D.Disk.moment g.D.Disk.left_at c.args.disk.now _ (λ contents left.
+    let now = (g.met.D.Disk.at_now honest c.args.disk.now contents).0 left in
     let here = settled_only content (contents c.args.self.now.side) (subst (λ (f : File). MayLeave f.durable (contents c.args.self.now.side)) is (now c.args.self.now.side)) in
     (crash_now start content payloads c.args.payload.now at.stands (contents c.args.self.now.side) here, λ other differs. now other))
 
 pub returns-in_err-spell-clause-any_moment : goal.returns-in_err-spell-clause-any_moment
 returns-in_err-spell-clause-any_moment g c honest start payloads content is at =
-    begun g.D.Disk.moment g.D.Disk.left_since c.args.disk.now _ (λ contents left.
-    let now = g.met.D.Disk.only_now honest c.args.disk.now contents left in
+    begun g.D.Disk.moment g.D.Disk.left_at c.args.disk.now _ (λ contents left.
+    let now = (g.met.D.Disk.at_now honest c.args.disk.now contents).0 left in
     let here = settled_only content (contents c.args.self.now.side) (subst (λ (f : File). MayLeave f.durable (contents c.args.self.now.side)) is (now c.args.self.now.side)) in
     (crash_now start content payloads c.args.payload.now at.stands (contents c.args.self.now.side) here, λ other differs. now other))
 
 -- the record is written behind the closed gate
 pub returns-in_err-write_synced-clause-any_moment : goal.returns-in_err-write_synced-clause-any_moment
 returns-in_err-write_synced-clause-any_moment g c honest start payloads content is at =
-    weakened g.D.Disk.moment g.D.Disk.left_since c.args.disk.now c.write_synced.new.disk _ _ (c.write_synced.ensures.any_moment honest content is)
+    weakened g.D.Disk.moment g.D.Disk.left_at c.args.disk.now c.write_synced.new.disk _ _ (c.write_synced.ensures.any_moment honest content is)
     (λ contents leaves. (crash_behind start content payloads c.args.self.now.end at.stands at.end c.args.payload.now (omega arith) _ (contents c.args.self.now.side) leaves.0, leaves.1))
 
 -- the gate is opened
@@ -35,7 +35,7 @@ returns-in_err-write_synced-2-clause-any_moment g c honest start payloads conten
     let spelled : c.deref.result.now ≡ body_of c.args.payload.now ++ 0 ∷ [] = c.deref.ensures.value ∙ c.in_ok-spell.ensures in
     let staged : g.D.Disk.files c.write_synced.new.disk side ≡ at_rest (overwritten content (c.args.self.now.end + 1) (body_of c.args.payload.now ++ 0 ∷ [])) =
     c.in_ok-write_synced.ensures.ok honest ∙ ap (λ (f : File). at_rest (overwritten f.content (c.args.self.now.end + 1) c.deref.result.now)) is ∙ ap (λ (l : List ℕ). at_rest (overwritten content (c.args.self.now.end + 1) l)) spelled in
-    moments_of_both g.D.Disk.moment g.D.Disk.left_since c.args.disk.now c.write_synced.new.disk c.write_synced-2.new.disk side (g.D.Disk.files c.args.disk.now) (g.D.Disk.files c.write_synced.new.disk) (c.write_synced.ensures.other honest)
+    moments_of_both g.D.Disk.moment g.D.Disk.left_at c.args.disk.now c.write_synced.new.disk c.write_synced-2.new.disk side (g.D.Disk.files c.args.disk.now) (g.D.Disk.files c.write_synced.new.disk) (c.write_synced.ensures.other honest)
     start content payloads c.args.payload.now c.args.self.now.end _ at.stands at.end short (c.write_synced.ensures.any_moment honest content is) (c.write_synced-2.ensures.any_moment honest _ staged)
 
 pub returns-clause-any_moment : goal.returns-clause-any_moment
@@ -45,7 +45,7 @@ returns-clause-any_moment g c honest start payloads content is at =
     let spelled : c.deref.result.now ≡ body_of c.args.payload.now ++ 0 ∷ [] = c.deref.ensures.value ∙ c.in_ok-spell.ensures in
     let staged : g.D.Disk.files c.write_synced.new.disk side ≡ at_rest (overwritten content (c.args.self.now.end + 1) (body_of c.args.payload.now ++ 0 ∷ [])) =
     c.in_ok-write_synced.ensures.ok honest ∙ ap (λ (f : File). at_rest (overwritten f.content (c.args.self.now.end + 1) c.deref.result.now)) is ∙ ap (λ (l : List ℕ). at_rest (overwritten content (c.args.self.now.end + 1) l)) spelled in
-    moments_of_both g.D.Disk.moment g.D.Disk.left_since c.args.disk.now c.write_synced.new.disk c.write_synced-2.new.disk side (g.D.Disk.files c.args.disk.now) (g.D.Disk.files c.write_synced.new.disk) (c.write_synced.ensures.other honest)
+    moments_of_both g.D.Disk.moment g.D.Disk.left_at c.args.disk.now c.write_synced.new.disk c.write_synced-2.new.disk side (g.D.Disk.files c.args.disk.now) (g.D.Disk.files c.write_synced.new.disk) (c.write_synced.ensures.other honest)
     start content payloads c.args.payload.now c.args.self.now.end _ at.stands at.end short (c.write_synced.ensures.any_moment honest content is) (c.write_synced-2.ensures.any_moment honest _ staged)
 
 -- and then the file stands for one payload more
@@ -67,22 +67,22 @@ returns-clause-added g c honest start payloads at =
 -- of the other file, whatever this one is like
 pub returns-then-not-fits-clause-other_moments : goal.returns-then-not-fits-clause-other_moments
 returns-then-not-fits-clause-other_moments g c honest =
-    begun g.D.Disk.moment g.D.Disk.left_since c.args.disk.now _ (λ contents left. let now = g.met.D.Disk.only_now honest c.args.disk.now contents left in λ other differs. now other)
+    begun g.D.Disk.moment g.D.Disk.left_at c.args.disk.now _ (λ contents left. let now = (g.met.D.Disk.at_now honest c.args.disk.now contents).0 left in λ other differs. now other)
 
 pub returns-in_err-spell-clause-other_moments : goal.returns-in_err-spell-clause-other_moments
 returns-in_err-spell-clause-other_moments g c honest =
-    begun g.D.Disk.moment g.D.Disk.left_since c.args.disk.now _ (λ contents left. let now = g.met.D.Disk.only_now honest c.args.disk.now contents left in λ other differs. now other)
+    begun g.D.Disk.moment g.D.Disk.left_at c.args.disk.now _ (λ contents left. let now = (g.met.D.Disk.at_now honest c.args.disk.now contents).0 left in λ other differs. now other)
 
 pub returns-in_err-write_synced-clause-other_moments : goal.returns-in_err-write_synced-clause-other_moments
 returns-in_err-write_synced-clause-other_moments g c honest =
-    weakened g.D.Disk.moment g.D.Disk.left_since c.args.disk.now c.write_synced.new.disk _ _ (c.write_synced.ensures.touches honest) (λ contents leaves. leaves.1)
+    weakened g.D.Disk.moment g.D.Disk.left_at c.args.disk.now c.write_synced.new.disk _ _ (c.write_synced.ensures.touches honest) (λ contents leaves. leaves.1)
 
 pub returns-in_err-write_synced-2-clause-other_moments : goal.returns-in_err-write_synced-2-clause-other_moments
 returns-in_err-write_synced-2-clause-other_moments g c honest =
-    other_moments g.D.Disk.moment g.D.Disk.left_since c.args.disk.now c.write_synced.new.disk c.write_synced-2.new.disk c.args.self.now.side (g.D.Disk.files c.args.disk.now) (g.D.Disk.files c.write_synced.new.disk) (c.write_synced.ensures.other honest)
+    other_moments g.D.Disk.moment g.D.Disk.left_at c.args.disk.now c.write_synced.new.disk c.write_synced-2.new.disk c.args.self.now.side (g.D.Disk.files c.args.disk.now) (g.D.Disk.files c.write_synced.new.disk) (c.write_synced.ensures.other honest)
     _ _ (c.write_synced.ensures.touches honest) (c.write_synced-2.ensures.touches honest)
 
 pub returns-clause-other_moments : goal.returns-clause-other_moments
 returns-clause-other_moments g c honest =
-    other_moments g.D.Disk.moment g.D.Disk.left_since c.args.disk.now c.write_synced.new.disk c.write_synced-2.new.disk c.args.self.now.side (g.D.Disk.files c.args.disk.now) (g.D.Disk.files c.write_synced.new.disk) (c.write_synced.ensures.other honest)
+    other_moments g.D.Disk.moment g.D.Disk.left_at c.args.disk.now c.write_synced.new.disk c.write_synced-2.new.disk c.args.self.now.side (g.D.Disk.files c.args.disk.now) (g.D.Disk.files c.write_synced.new.disk) (c.write_synced.ensures.other honest)
     _ _ (c.write_synced.ensures.touches honest) (c.write_synced-2.ensures.touches honest)
