@@ -1,3 +1,9 @@
+mod FirstFaults
+mod Joining
 mod Kept
-mod Trees
+mod Lists
+mod Places
+mod Resolving
+mod Statements
 mod TreeLaws
+mod Trees
