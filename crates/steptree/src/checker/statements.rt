@@ -154,6 +154,7 @@ fn put_tag(
     tag: &NamedKey<'_>,
 ) -> Result<Block, CheckFault>
     requires named { length names.now ≤ MOST_NAMES }
+    requires items { AreFew sheet.now.items.now }
     requires tags { AreFew sheet.now.tags.now }
     ensures statement { IfOk result (λ first. (p : _) → IsStatement (texts names.now) sheet.now (named.PutTag' tag.now p) first) }
     ensures faults { Reports (key_faults (texts names.now) sheet.now.tags.now sheet.now.tag_puts.now UndeclaredPut tag.now) result }
