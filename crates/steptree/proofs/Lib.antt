@@ -1,2 +1,9 @@
-mod Trees
+mod FirstFaults
+mod Joining
+mod Kept
+mod Lists
+mod Places
+mod Resolving
+mod Statements
 mod TreeLaws
+mod Trees

@@ -6,4 +6,5 @@ pub mod Names
 pub mod Resolved
 pub mod Run
 pub mod Sheet
+pub mod Statements
 pub mod Values

@@ -1,8 +1,7 @@
 -- What a body may name, and that it names nothing else, at any reads.
-use Rattle.std.specs.Prelude.{◌≡◌, ⊤, ℕ, ℤ, Bool, true, false, List, [], ◌∷◌, length, get_or, slice_get, Some}
+use Rattle.std.specs.Prelude.{◌≡◌, ⊤, ℕ, ℤ, Bool, true, false, List, length, get_or, slice_get, Some}
 use Rattle.std.specs.List.{AllByRecursion}
 use Rattle.terms.specs.declared.name.Addr.{Addr}
-use Rattle.terms.specs.declared.name.Tag.{Tag}
 use Rattle.terms.specs.declared.put.Put.{Put}
 use Rattle.terms.specs.declared.put.Put.TheVariants as put
 use Rattle.steptree.specs.declared.sheet.Declared.{Declared}

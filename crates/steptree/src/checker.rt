@@ -5,8 +5,14 @@ ghost use Rattle.steptree.specs.Limits.{IsWithinLimits};
 ghost use Rattle.steptree.specs.Resolved.{Resolves};
 ghost use Rattle.steptree.specs.Sheet.{BodyKeepsTo};
 
-use crate::{Checked, Sheet, Step};
-use std::alloc::{AllocError, Global};
+mod expressions;
+mod names;
+mod statements;
+
+use crate::{Body, Checked, Sheet, Step};
+use names::{all_names, owned_texts};
+use statements::resolve_block;
+use std::alloc::{AllocError, AllocFailed, Global};
 use thiserror::Error;
 
 /// What is wrong with a name in the body of a step.
@@ -47,6 +53,17 @@ impl From<AllocError> for CheckFault {
     }
 }
 
+impl<T: Drop> From<AllocFailed<T>> for CheckFault {
+    ghost from_gives = { λ _ fault. fault.error ≡ NoMemory };
+
+    fn from(_: AllocFailed<T>) -> Self {
+        CheckFault {
+            error: CheckError::NoMemory,
+            place: 0,
+        }
+    }
+}
+
 /// Resolves the names of a step by what its sheet allows, or answers the first fault from the left.
 ///
 /// Of several faults at one name an unknown name comes first, then what the step may not read or put, then the number of
@@ -58,9 +75,15 @@ pub fn check(alloc: Global, step: &Step<'_>, sheet: &Sheet<'_>) -> Result<Checke
     ensures no_fault { OnOk result (faults_of sheet.now step.now ≡ []) }
     ensures first { IfErr result (λ fault. (fault.error ≡ NoMemory) ⊎ (slice_get (faults_of sheet.now step.now) 0 ≡ Some fault)) }
 {
-    let _ = (alloc, step, sheet);
-    Err(CheckFault {
-        error: CheckError::NoMemory,
-        place: 0,
+    let names = all_names(alloc, step)?;
+    let read = resolve_block(alloc, &names, sheet, &step.read)?;
+    let write = resolve_block(alloc, &names, sheet, &step.write)?;
+    Ok(Checked {
+        names: owned_texts(alloc, &names)?,
+        parameters: step.parameters.len(),
+        body: Body { read, write },
     })
 }
+
+#[cfg(test)]
+mod tests;

@@ -24,3 +24,16 @@ pub fn ends_once()
     ensures some { LookUpEnds }
     ensures one { LookUpEndsOnce }
 {}
+
+#[cfg(test)]
+mod tests {
+    use super::*;
+
+    #[test]
+    fn laws_are_there() {
+        along_one_list();
+        keeps_to_its_sheet();
+        growth_keeps();
+        ends_once();
+    }
+}

@@ -6,8 +6,8 @@
 
 mod block;
 mod body;
-mod checker;
 mod checked;
+mod checker;
 mod components;
 mod expression;
 mod laws;
@@ -17,8 +17,8 @@ mod step;
 
 pub use block::Block;
 pub use body::{BUDGET, Body, MOST_PUTS};
-pub use checker::{CheckError, CheckFault, check};
 pub use checked::Checked;
+pub use checker::{CheckError, CheckFault, check};
 pub use components::Components;
 pub use expression::{Expression, Operator};
 pub use laws::{along_one_list, ends_once, growth_keeps, keeps_to_its_sheet};

@@ -1,0 +1,82 @@
+ghost use Rattle.std.specs.Prelude.{◌≡◌, ◌≤◌, length, IfOk};
+ghost use Rattle.terms.specs.declared.key.TheConstants.{MAX_COMPONENTS};
+ghost use Rattle.steptree.specs.declared.slot.TheConstants.{MOST_NAMES};
+ghost use Rattle.steptree.specs.CheckFaults.{expression_faults, component_faults, key_faults};
+ghost use Rattle.steptree.specs.Limits.{AreFew};
+ghost use Rattle.steptree.specs.Resolved.{IsExpression, AreExpressions, IsKey};
+ghost use Rattle.steptree.specs.Sheet.{IsAllowed};
+ghost use Rattle.steptree.specs.Statements.{texts, Reports};
+
+use super::names::{number, slot};
+use crate::{
+    CheckError, CheckFault, Components, Declared, Expression, Name, NamedExpression, NamedKey,
+};
+use std::alloc::Global;
+
+/// An expression, each variable by its slot.
+pub(crate) fn resolve_expression(
+    alloc: Global,
+    names: &[Name<'_>],
+    expression: &NamedExpression<'_>,
+) -> Result<Expression, CheckFault>
+    requires { length names.now ≤ MOST_NAMES }
+    ensures resolves { IfOk result (IsExpression (texts names.now) expression.now) }
+    ensures faults { Reports (expression_faults (texts names.now) expression.now) result }
+{
+    match expression {
+        NamedExpression::Number(number) => Ok(Expression::Number(*number)),
+        NamedExpression::Variable(name) => Ok(Expression::Variable(slot(names, name)?)),
+        NamedExpression::Negation(operand) => {
+            let operand = resolve_expression(alloc, names, operand)?;
+            Ok(Expression::Negation(Box::new(alloc, operand)?))
+        }
+        NamedExpression::Operation(operator, left, right) => {
+            let left = resolve_expression(alloc, names, left)?;
+            let right = resolve_expression(alloc, names, right)?;
+            let left = Box::new(alloc, left)?;
+            let right = Box::new(alloc, right)?;
+            Ok(Expression::Operation(*operator, left, right))
+        }
+    }
+}
+
+/// The expressions of a key's components.
+fn resolve_components(
+    alloc: Global,
+    names: &[Name<'_>],
+    expressions: &[NamedExpression<'_>],
+) -> Result<Components, CheckFault>
+    requires named { length names.now ≤ MOST_NAMES }
+    requires short { length expressions.now ≤ MAX_COMPONENTS }
+    ensures resolves { IfOk result (AreExpressions (texts names.now) expressions.now) }
+    ensures as_many { IfOk result (λ components. length components ≡ length expressions.now) }
+    ensures faults { Reports (component_faults (texts names.now) expressions.now) result }
+{
+    let mut resolved = Vec::new(alloc);
+    for expression in expressions {
+        let expression = resolve_expression(alloc, names, expression)?;
+        resolved.reserve(1)?;
+        resolved.push_reserved(expression);
+    }
+    Ok(Components::new(resolved))
+}
+
+/// The number of a key's collection and the expressions of its components.
+pub(crate) fn resolve_key(
+    alloc: Global,
+    names: &[Name<'_>],
+    collections: &[Declared<'_>],
+    allowed: &[bool],
+    error: CheckError,
+    key: &NamedKey<'_>,
+) -> Result<(u16, Components), CheckFault>
+    requires named { length names.now ≤ MOST_NAMES }
+    requires few { AreFew collections.now }
+    ensures is_key { IfOk result (λ resolved. IsKey (texts names.now) collections.now key.now resolved.0 resolved.1) }
+    ensures allowed { IfOk result (λ resolved. IsAllowed collections.now allowed.now resolved.0 (length resolved.1)) }
+    ensures faults { Reports (key_faults (texts names.now) collections.now allowed.now error key.now) result }
+{
+    let number = number(collections, allowed, error, key)?;
+    let components = resolve_components(alloc, names, &key.components)?;
+    Ok((number, components))
+}
