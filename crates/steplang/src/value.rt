@@ -1,4 +1,4 @@
-ghost use Rattle.std.specs.Prelude.{◌≡◌, Ok, Err, List, ℤ, length, IfOk, OnOk};
+ghost use Rattle.std.specs.Prelude.{◌≡◌, ◌-◌, ◌++◌, pos, replicate, Ok, Err, List, ℤ, length, IfOk, OnOk};
 ghost use Rattle.steptree.specs.declared.expression.Operator.TheVariants.{Divide, Remainder};
 ghost use Rattle.steptree.specs.Values.{held, operated, value_of, values_of};
 ghost use Rattle.steptree.specs.declared.slot.TheConstants.{MOST_NAMES};
@@ -8,6 +8,16 @@ use terms::{FaultKind, Key, MAX_COMPONENTS};
 
 /// The values of an instance's variables, by their slots.
 pub(crate) type Variables = [i64; MOST_NAMES];
+
+/// The values before the first statement: the components of the key, and 0 behind them.
+pub(crate) fn variables_of(key: Key) -> Variables
+    ensures { result ≡ key ++ replicate (MOST_NAMES - length key) (pos 0) }
+{
+    let mut variables = [0; MOST_NAMES];
+    let components = key.components();
+    variables[..components.len()].copy_from_slice(components);
+    variables
+}
 
 /// What an expression gives, its operands from the left.
 pub(crate) fn evaluate(expression: &Expression, variables: &Variables) -> Result<i64, FaultKind>
