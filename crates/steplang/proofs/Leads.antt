@@ -1,5 +1,5 @@
 -- What a statement leads to, said of another outcome that is the same.
-use Rattle.std.proofs.Common.{◌≡◌, ℤ, List, [], ◌∷◌, ◌∙◌}
+use Rattle.std.proofs.Common.{◌≡◌, List, [], ◌∷◌, ◌∙◌}
 use Rattle.std.specs.Prelude.{Result, Ok, Err, IfOk}
 use Rattle.steptree.specs.Run.{Read, Outcome}
 use Rattle.steplang.specs.declared.machine.Machine.{Machine}

@@ -1,4 +1,6 @@
 pub mod Answered
+pub mod Counted
+pub mod Endings
 pub mod Valued
 pub mod Leads
 pub mod Unwound

@@ -1,3 +1,4 @@
+pub mod Leaf
 pub mod Machine
 pub mod Stages
 pub mod Turns

@@ -1,7 +1,7 @@
 -- An instance while its body runs, as what is still to come of it.
-use Rattle.std.specs.Prelude.{◌≡◌, ℤ, List, [], ◌∷◌, slice_set}
+use Rattle.std.specs.Prelude.{◌≡◌, ℕ, ◌+◌, ◌-◌, ◌*◌, ◌<◌, ◌≤◌, ℤ, List, [], ◌∷◌, length}
 use Rattle.std.specs.Int.{int_gap}
-use Rattle.terms.specs.declared.name.Addr.{Addr}
+use Rattle.steptree.specs.declared.body.TheConstants.{BUDGET}
 use Rattle.steptree.specs.Run.{Read, State, Outcome, ends, faults, asks, assigned, followed, turns, run}
 use Rattle.steplang.specs.declared.machine.Frame.{Frame}
 use Rattle.steplang.specs.declared.machine.Frame.TheVariants.{Rest, Turns}
@@ -34,3 +34,15 @@ LeadsFrom from (Asked address variable) new = (from [] ≡ asks address)
     × ((value : ℤ) (reads : List Read) → from ((address, value) ∷ reads) ≡ unwound new.frames.items (run new.block.now (assigned variable value (state_of new reads))))
 LeadsFrom from (Failed kind) new = (reads : List Read) → from reads ≡ faults kind reads
 LeadsFrom from Ended new = (reads : List Read) → from reads ≡ ends (state_of new reads)
+
+-- how many statements and ends of blocks are left to it at most: each statement counts one, and opens one block at most
+abbrev pub left_of : Machine → ℕ
+left_of machine = 2 * (BUDGET - machine.counted) + length machine.frames.items
+
+-- where the next statement is at hand, fewer are left than before
+abbrev pub Falls : Machine → Step → Machine → Type 0
+Falls old step new = step ≡ On → left_of new < left_of old
+
+-- where the next statement is at hand, one block more is open at most
+abbrev pub OpensOne : Machine → Step → Machine → Type 0
+OpensOne old step new = step ≡ On → left_of new ≤ left_of old + 1

@@ -7,11 +7,11 @@ ghost use Rattle.steptree.specs.Run.{Read, ends, assigned, counting, given, foll
 ghost use Rattle.steptree.specs.Values.{value_of, values_of};
 ghost use Rattle.steptree.specs.Bodies.{outcome_of};
 ghost use Rattle.steplang.specs.declared.machine.Step.TheVariants.{On};
-ghost use Rattle.steplang.specs.Machine.{state_of, unwound, outcome_from, LeadsFrom};
+ghost use Rattle.steplang.specs.Machine.{state_of, unwound, outcome_from, LeadsFrom, Falls, OpensOne};
 
-use crate::value::{Variables, evaluate, evaluate_key};
+use crate::value::{Variables, evaluate, evaluate_key, variables_of};
 use std::alloc::{AllocError, Global};
-use steptree::{BUDGET, Block, Body, Components, Expression, MOST_NAMES, MOST_PUTS, Slot};
+use steptree::{BUDGET, Block, Body, Components, Expression, MOST_PUTS, Slot};
 use terms::{Addr, FaultKind, ItemCollection, Key, Put, Tag, TagCollection};
 
 /// What is still to be done behind a block.
@@ -51,18 +51,16 @@ pub(crate) struct Machine<'a> {
 }
 
 impl<'a> Machine<'a> {
+    #[tactic(auto, using(crate::proofs::Unwound::unwound_last))]
     /// An instance with this key before the first statement of its body.
     pub(crate) fn start(alloc: Global, body: &'a Body, key: Key) -> Result<Self, AllocError>
         ensures { IfOk result (λ machine. (reads : List Read) → outcome_of body.now key reads ≡ outcome_from machine reads) }
     {
-        let mut variables = [0; MOST_NAMES];
-        let components = key.components();
-        variables[..components.len()].copy_from_slice(components);
         let mut frames = Vec::new(alloc);
         frames.reserve(1)?;
         frames.push_reserved(Frame::Rest(&body.write));
         Ok(Machine {
-            variables,
+            variables: variables_of(key),
             counted: 0,
             puts: Vec::new(alloc),
             frames,
@@ -105,7 +103,8 @@ impl<'a> Machine<'a> {
     // A variable gets the value of an expression.
     #[tactic(auto, using(crate::proofs::Unwound::unwound_faults))]
     fn assign(&mut self, variable: Slot, value: &Expression, rest: &'a Block) -> Step
-        ensures { LeadsFrom (λ reads. unwound self.old.frames.items (given (value_of value.now self.old.variables) (state_of self.old reads) (λ v. run rest.now (assigned variable v (state_of self.old reads))))) result self.new }
+        ensures leads { LeadsFrom (λ reads. unwound self.old.frames.items (given (value_of value.now self.old.variables) (state_of self.old reads) (λ v. run rest.now (assigned variable v (state_of self.old reads))))) result self.new }
+        ensures opens { OpensOne self.old result self.new }
     {
         match evaluate(value, &self.variables) {
             Ok(value) => {
@@ -126,8 +125,9 @@ impl<'a> Machine<'a> {
         second: &'a Block,
         rest: &'a Block,
     ) -> Result<Step, AllocError>
-        ensures { IfOk result (λ step. LeadsFrom (λ reads. unwound self.old.frames.items (given (value_of condition.now self.old.variables) (state_of self.old reads) (λ v.
+        ensures leads { IfOk result (λ step. LeadsFrom (λ reads. unwound self.old.frames.items (given (value_of condition.now self.old.variables) (state_of self.old reads) (λ v.
             followed (if int_eq v (pos 0) then run second.now (state_of self.old reads) else run first.now (state_of self.old reads)) (run rest.now)))) step self.new) }
+        ensures opens { IfOk result (λ step. OpensOne self.old step self.new) }
     {
         match evaluate(condition, &self.variables) {
             Ok(value) => {
@@ -150,7 +150,8 @@ impl<'a> Machine<'a> {
         block: &'a Block,
     ) -> Result<Step, AllocError>
         requires { value <ℤ to }
-        ensures { IfOk result (λ step. LeadsFrom (λ reads. unwound self.old.frames.items (turns (run block.now) variable value (int_gap value to) (state_of self.old reads))) step self.new) }
+        ensures leads { IfOk result (λ step. LeadsFrom (λ reads. unwound self.old.frames.items (turns (run block.now) variable value (int_gap value to) (state_of self.old reads))) step self.new) }
+        ensures falls { IfOk result (λ step. Falls self.old step self.new) }
     {
         if !self.count() {
             return Ok(Step::Failed(FaultKind::Budget));
@@ -178,8 +179,9 @@ impl<'a> Machine<'a> {
         block: &'a Block,
         rest: &'a Block,
     ) -> Result<Step, AllocError>
-        ensures { IfOk result (λ step. LeadsFrom (λ reads. unwound self.old.frames.items (given (value_of from.now self.old.variables) (state_of self.old reads) (λ a. given (value_of to.now self.old.variables) (state_of self.old reads) (λ b.
+        ensures leads { IfOk result (λ step. LeadsFrom (λ reads. unwound self.old.frames.items (given (value_of from.now self.old.variables) (state_of self.old reads) (λ a. given (value_of to.now self.old.variables) (state_of self.old reads) (λ b.
             followed (turns (run block.now) variable a (int_gap a b) (state_of self.old reads)) (run rest.now))))) step self.new) }
+        ensures opens { IfOk result (λ step. OpensOne self.old step self.new) }
     {
         let from = match evaluate(from, &self.variables) {
             Ok(from) => from,
@@ -202,7 +204,8 @@ impl<'a> Machine<'a> {
         block: &'a Block,
         rest: &'a Block,
     ) -> Result<Step, AllocError>
-        ensures { IfOk result (λ step. LeadsFrom (λ reads. unwound self.old.frames.items (followed (turns (run block.now) variable from (int_gap from to) (state_of self.old reads)) (run rest.now))) step self.new) }
+        ensures leads { IfOk result (λ step. LeadsFrom (λ reads. unwound self.old.frames.items (followed (turns (run block.now) variable from (int_gap from to) (state_of self.old reads)) (run rest.now))) step self.new) }
+        ensures opens { IfOk result (λ step. OpensOne self.old step self.new) }
     {
         if from >= to {
             self.block = rest;
@@ -216,7 +219,8 @@ impl<'a> Machine<'a> {
     // Leaves a block that came to its end, and goes on with what stands behind it.
     #[tactic(auto, using(crate::proofs::Unwound::unwound_last))]
     fn leave(&mut self) -> Result<Step, AllocError>
-        ensures { IfOk result (λ step. LeadsFrom (λ reads. unwound self.old.frames.items (ends (state_of self.old reads))) step self.new) }
+        ensures leads { IfOk result (λ step. LeadsFrom (λ reads. unwound self.old.frames.items (ends (state_of self.old reads))) step self.new) }
+        ensures falls { IfOk result (λ step. Falls self.old step self.new) }
     {
         while let Some(frame) = self.frames.pop() {
             match frame {
@@ -248,8 +252,9 @@ impl<'a> Machine<'a> {
         components: &Components,
         rest: &'a Block,
     ) -> Step
-        ensures { LeadsFrom (λ reads. unwound self.old.frames.items (given (values_of components.now self.old.variables) (state_of self.old reads) (λ key.
+        ensures leads { LeadsFrom (λ reads. unwound self.old.frames.items (given (values_of components.now self.old.variables) (state_of self.old reads) (λ key.
             answered (record { collection = collection; key = key }) reads (λ v left. run rest.now (assigned variable v (state_of self.old left)))))) result self.new }
+        ensures opens { OpensOne self.old result self.new }
     {
         match evaluate_key(components, &self.variables) {
             Ok(key) => {
@@ -269,8 +274,9 @@ impl<'a> Machine<'a> {
         value: &Expression,
         rest: &'a Block,
     ) -> Result<Step, AllocError>
-        ensures { IfOk result (λ step. LeadsFrom (λ reads. unwound self.old.frames.items (given (values_of components.now self.old.variables) (state_of self.old reads) (λ key. given (value_of value.now self.old.variables) (state_of self.old reads) (λ v.
+        ensures leads { IfOk result (λ step. LeadsFrom (λ reads. unwound self.old.frames.items (given (values_of components.now self.old.variables) (state_of self.old reads) (λ key. given (value_of value.now self.old.variables) (state_of self.old reads) (λ v.
             putting (put.Item (record { collection = collection; key = key }) v) (state_of self.old reads) (run rest.now))))) step self.new) }
+        ensures opens { IfOk result (λ step. OpensOne self.old step self.new) }
     {
         let key = match evaluate_key(components, &self.variables) {
             Ok(key) => key,
@@ -291,8 +297,9 @@ impl<'a> Machine<'a> {
         components: &Components,
         rest: &'a Block,
     ) -> Result<Step, AllocError>
-        ensures { IfOk result (λ step. LeadsFrom (λ reads. unwound self.old.frames.items (given (values_of components.now self.old.variables) (state_of self.old reads) (λ key.
+        ensures leads { IfOk result (λ step. LeadsFrom (λ reads. unwound self.old.frames.items (given (values_of components.now self.old.variables) (state_of self.old reads) (λ key.
             putting (put.Tag (record { collection = collection; key = key })) (state_of self.old reads) (run rest.now)))) step self.new) }
+        ensures opens { IfOk result (λ step. OpensOne self.old step self.new) }
     {
         match evaluate_key(components, &self.variables) {
             Ok(key) => self.put(Put::Tag(Tag { collection, key }), rest),
@@ -303,7 +310,8 @@ impl<'a> Machine<'a> {
     // One put more, if there may be one.
     #[tactic(auto, using(crate::proofs::Unwound::unwound_faults))]
     fn put(&mut self, put: Put, rest: &'a Block) -> Result<Step, AllocError>
-        ensures { IfOk result (λ step. LeadsFrom (λ reads. unwound self.old.frames.items (putting put (state_of self.old reads) (run rest.now))) step self.new) }
+        ensures leads { IfOk result (λ step. LeadsFrom (λ reads. unwound self.old.frames.items (putting put (state_of self.old reads) (run rest.now))) step self.new) }
+        ensures opens { IfOk result (λ step. OpensOne self.old step self.new) }
     {
         if self.puts.len() >= MOST_PUTS {
             return Ok(Step::Failed(FaultKind::TooManyPuts));
@@ -313,10 +321,10 @@ impl<'a> Machine<'a> {
         Ok(Step::On)
     }
 
-
     /// Makes the next statement, or goes on behind a block that came to its end.
     pub(crate) fn step(&mut self) -> Result<Step, AllocError>
-        ensures { IfOk result (λ step. LeadsFrom (outcome_from self.old) step self.new) }
+        ensures leads { IfOk result (λ step. LeadsFrom (outcome_from self.old) step self.new) }
+        ensures falls { IfOk result (λ step. Falls self.old step self.new) }
     {
         let block = self.block;
         if let Block::End = block {

@@ -46,6 +46,43 @@ pub struct Given<'a> {
     ghost along: { Along checked.now.body instance.key reads (Gives puts) },
 }
 
+impl<'a> Given<'a> {
+    /// The step.
+    pub fn checked(&self) -> &'a Checked
+        ensures { result ≡ self.now.checked }
+    {
+        self.checked
+    }
+
+    /// The instance.
+    pub fn instance(&self) -> Inst
+        ensures { result ≡ self.now.instance }
+    {
+        self.instance
+    }
+
+    /// What it read, in order.
+    pub fn reads(&self) -> &Reads
+        ensures { result.now ≡ self.now.reads }
+    {
+        &self.reads
+    }
+
+    /// What it put, in order.
+    pub fn puts(&self) -> &Puts
+        ensures { result.now ≡ self.now.puts }
+    {
+        &self.puts
+    }
+
+    /// Takes out what it put.
+    pub fn into_puts(self) -> Puts
+        ensures { result ≡ self.entry.puts }
+    {
+        self.puts
+    }
+}
+
 /// An instance whose body is at fault. Along its reads that is what its body means.
 #[derive(Drop)]
 pub struct Bad<'a> {
@@ -56,6 +93,36 @@ pub struct Bad<'a> {
     ghost along: { Along checked.now.body instance.key reads (Faults kind) },
 }
 
+impl<'a> Bad<'a> {
+    /// The step.
+    pub fn checked(&self) -> &'a Checked
+        ensures { result ≡ self.now.checked }
+    {
+        self.checked
+    }
+
+    /// The instance.
+    pub fn instance(&self) -> Inst
+        ensures { result ≡ self.now.instance }
+    {
+        self.instance
+    }
+
+    /// What it read, in order.
+    pub fn reads(&self) -> &Reads
+        ensures { result.now ≡ self.now.reads }
+    {
+        &self.reads
+    }
+
+    /// The fault.
+    pub fn kind(&self) -> FaultKind
+        ensures { result ≡ self.now.kind }
+    {
+        self.kind
+    }
+}
+
 /// An instance whose body asks for an item. Along its reads that is what its body means.
 #[derive(Drop)]
 pub struct Parked<'a> {
@@ -64,6 +131,36 @@ pub struct Parked<'a> {
     pub(crate) reads: Reads,
     pub(crate) address: Addr,
     ghost along: { Along checked.now.body instance.key reads (Asks address) },
+}
+
+impl<'a> Parked<'a> {
+    /// The step.
+    pub fn checked(&self) -> &'a Checked
+        ensures { result ≡ self.now.checked }
+    {
+        self.checked
+    }
+
+    /// The instance.
+    pub fn instance(&self) -> Inst
+        ensures { result ≡ self.now.instance }
+    {
+        self.instance
+    }
+
+    /// What it read, in order.
+    pub fn reads(&self) -> &Reads
+        ensures { result.now ≡ self.now.reads }
+    {
+        &self.reads
+    }
+
+    /// The item that it asks for.
+    pub fn address(&self) -> Addr
+        ensures { result ≡ self.now.address }
+    {
+        self.address
+    }
 }
 
 /// What a run came to.

@@ -1,6 +1,7 @@
-ghost use Rattle.std.specs.Prelude.{◌≡◌, Ok, Err, List, ℤ, length, IfOk, OnOk};
+ghost use Rattle.std.specs.Prelude.{◌≡◌, ◌-◌, ◌++◌, pos, replicate, Ok, Err, List, ℤ, length, IfSome, IfNone, IfOk, OnOk};
 ghost use Rattle.steptree.specs.declared.expression.Operator.TheVariants.{Divide, Remainder};
 ghost use Rattle.steptree.specs.Values.{held, operated, value_of, values_of};
+ghost use Rattle.steplang.specs.Leaf.{IsDeep};
 ghost use Rattle.steptree.specs.declared.slot.TheConstants.{MOST_NAMES};
 
 use steptree::{Components, Expression, MOST_NAMES, Operator};
@@ -8,6 +9,29 @@ use terms::{FaultKind, Key, MAX_COMPONENTS};
 
 /// The values of an instance's variables, by their slots.
 pub(crate) type Variables = [i64; MOST_NAMES];
+
+/// The values before the first statement: the components of the key, and 0 behind them.
+pub(crate) fn variables_of(key: Key) -> Variables
+    ensures { result ≡ key ++ replicate (MOST_NAMES - length key) (pos 0) }
+{
+    let mut variables = [0; MOST_NAMES];
+    let components = key.components();
+    variables[..components.len()].copy_from_slice(components);
+    variables
+}
+
+// The value of a number or a variable. Most operands are one, and this takes no call.
+#[inline(always)]
+fn leaf(expression: &Expression, variables: &Variables) -> Option<i64>
+    ensures value { IfSome result (λ value. value_of expression.now variables.now ≡ Ok value) }
+    ensures deep { IfNone result (IsDeep expression.now) }
+{
+    match expression {
+        Expression::Number(number) => Some(*number),
+        Expression::Variable(slot) => Some(variables[slot.place()]),
+        _ => None,
+    }
+}
 
 /// What an expression gives, its operands from the left.
 pub(crate) fn evaluate(expression: &Expression, variables: &Variables) -> Result<i64, FaultKind>
@@ -21,8 +45,14 @@ pub(crate) fn evaluate(expression: &Expression, variables: &Variables) -> Result
             value.checked_neg().ok_or(FaultKind::Overflow)
         }
         Expression::Operation(operator, left, right) => {
-            let left = evaluate(left, variables)?;
-            let right = evaluate(right, variables)?;
+            let left = match leaf(left, variables) {
+                Some(value) => value,
+                None => evaluate(left, variables)?,
+            };
+            let right = match leaf(right, variables) {
+                Some(value) => value,
+                None => evaluate(right, variables)?,
+            };
             operate(*operator, left, right)
         }
     }
@@ -41,6 +71,7 @@ pub(crate) fn evaluate_key(components: &Components, variables: &Variables) -> Re
 }
 
 // What an operator gives of two values.
+#[inline(always)]
 fn operate(operator: Operator, left: i64, right: i64) -> Result<i64, FaultKind>
     ensures { result ≡ operated operator left right }
 {

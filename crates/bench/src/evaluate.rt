@@ -1,0 +1,74 @@
+//! How long the evaluator takes for so many statements.
+use anyhow::Error;
+use std::alloc::{AllocError, Global};
+use std::io::Print;
+use std::time::{Clock, Instant};
+use steplang::{Run, Turn};
+use steptree::{Block, Body, Checked, Components, Expression, Operator, Slot};
+use terms::{Inst, ItemCollection, Key, StepCollection};
+
+/// The turns of an instance: its loop, its turns, an assignment at each and its put are all that one instance may take.
+const TURNS: u32 = 499_999;
+
+/// Runs instances of `write { for b in 0 .. k { a = (a + b); } put [0] = a; }` until so many statements and turns are made,
+/// and prints how many they were, how long that took, and what the last instance put.
+pub(crate) fn measure<R: Clock + Print + AllocGlobal>(rt: &R, statements: u32) -> Result<(), Error> {
+    let checked = sum(rt.alloc())?;
+    let runs = statements.div_ceil(2 * TURNS + 2);
+    let start = Instant::now(rt)?;
+    let mut puts = 0;
+    for _ in 0..runs {
+        puts = made(rt.alloc(), &checked)?;
+    }
+    let seconds = start.elapsed(rt)?.as_secs_f64();
+    let count = u64::from(runs) * u64::from(2 * TURNS + 2);
+    println!(rt; "{count} statements in {seconds} seconds, {puts} puts an instance")?;
+    Ok(())
+}
+
+// How many puts an instance made.
+fn made(alloc: Global, checked: &Checked) -> Result<usize, AllocError> {
+    let instance = Inst {
+        collection: StepCollection(0),
+        key: Key::new(&[i64::from(TURNS)]),
+    };
+    let mut run = Run::start(alloc, checked, instance)?;
+    match run.advance(None)? {
+        Turn::Gave(given) => Ok(given.puts().as_slice().len()),
+        _ => Ok(0),
+    }
+}
+
+// write { for b in 0 .. k { a = (a + b); } put [0] = a; }
+fn sum(alloc: Global) -> Result<Checked, AllocError> {
+    let total = Slot::new(1);
+    let turn = Slot::new(2);
+    let put = Block::PutItem {
+        collection: ItemCollection(0),
+        components: Components::new(Vec::new(alloc)),
+        value: Expression::Variable(total),
+        rest: Box::new(alloc, Block::End)?,
+    };
+    let left = Box::new(alloc, Expression::Variable(total))?;
+    let right = Box::new(alloc, Expression::Variable(turn))?;
+    let add = Block::Assign {
+        variable: total,
+        value: Expression::Operation(Operator::Add, left, right),
+        rest: Box::new(alloc, Block::End)?,
+    };
+    let write = Block::For {
+        variable: turn,
+        from: Expression::Number(0),
+        to: Expression::Variable(Slot::new(0)),
+        block: Box::new(alloc, add)?,
+        rest: Box::new(alloc, put)?,
+    };
+    Ok(Checked {
+        names: Vec::new(alloc),
+        parameters: 1,
+        body: Body {
+            read: Block::End,
+            write,
+        },
+    })
+}
