@@ -6,13 +6,19 @@
 #![tactic(auto)]
 
 mod decode;
+mod element;
 mod encode;
 mod error;
 mod image;
-mod law;
+mod lists;
+mod reader;
+mod spelled;
+mod writing;
 
-pub use decode::{decode_event, decode_image};
-pub use encode::{encode_event, encode_image};
+pub use decode::decode_event;
+pub use encode::encode_event;
 pub use error::CodecError;
 pub use image::{Image, Instances, Items, Tags};
-pub use law::{spellings_of_events, spellings_of_images};
+
+#[cfg(test)]
+mod tests;
