@@ -1,3 +1,4 @@
 pub mod Appended
 pub mod Numbers
+pub mod Rising
 pub mod Several

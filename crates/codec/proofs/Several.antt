@@ -13,7 +13,7 @@ pub behind_none : {X : Type 0} (read : Result (List X × List ℕ) CodecError) �
 behind_none (Ok read) = refl
 behind_none (Err error) = refl
 
-regroup : {X : Type 0} (front : List X) (x : X) (read : Result (List X × List ℕ) CodecError) → behind front (go_on read (λ xs. always (x ∷ xs))) ≡ behind (front ++ x ∷ []) read
+pub regroup : {X : Type 0} (front : List X) (x : X) (read : Result (List X × List ℕ) CodecError) → behind front (go_on read (λ xs. always (x ∷ xs))) ≡ behind (front ++ x ∷ []) read
 regroup {X = X} front x (Ok read) = ap (λ (xs : List X). Ok (xs, read.1)) (sym (append_assoc front (x ∷ []) read.0))
 regroup {X = X} front x (Err error) = refl
 

@@ -15,7 +15,7 @@ mod reader;
 mod spelled;
 mod writing;
 
-pub use decode::decode_event;
+pub use decode::{decode_event, decode_image};
 pub use encode::encode_event;
 pub use error::CodecError;
 pub use image::{Image, Instances, Items, Tags};

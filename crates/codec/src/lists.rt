@@ -1,9 +1,9 @@
 ghost use Rattle.std.specs.Prelude.{◌≡◌, ◌≤◌, ◌*◌, [], length, IfOk, vec_capacity};
 ghost use Rattle.codec.specs.Answers.{items_in, ReadsOrRefused};
-ghost use Rattle.codec.specs.Reading.{several};
+ghost use Rattle.codec.specs.Reading.{several, comes_after, list};
 
 use crate::CodecError;
-use crate::element::Element;
+use crate::element::{Element, Ranked};
 use crate::reader::Reader;
 use std::alloc::{AllocError, Global};
 
@@ -33,4 +33,35 @@ pub(crate) fn several<T: Element>(
         elements.push(T::read(reader)?)?;
     }
     Ok(elements)
+}
+
+/// A list in strictly rising order: how many elements it has, and these.
+pub(crate) fn rising<T: Ranked>(
+    alloc: Global,
+    reader: &mut Reader<'_>,
+) -> Result<Vec<T>, CodecError>
+    ensures { ReadsOrRefused reader.new.rest.now (items_in result) (list T.cmp T.reading reader.old.rest.now) }
+{
+    let count = reader.count()?;
+    let mut elements = room(alloc, reader, count)?;
+    let mut before = None;
+    for _ in 0..count {
+        let element = T::read(reader)?;
+        if !may_follow(before, element) {
+            return Err(CodecError::Order);
+        }
+        elements.push(element)?;
+        before = Some(element);
+    }
+    Ok(elements)
+}
+
+// Whether an element may stand behind the one before it, if there is one.
+fn may_follow<T: Ranked>(before: Option<T>, element: T) -> bool
+    ensures { result ≡ comes_after T.cmp before element }
+{
+    match before {
+        None => true,
+        Some(before) => element.comes_after(&before),
+    }
 }

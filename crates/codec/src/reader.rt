@@ -1,7 +1,7 @@
 ghost use Rattle.std.specs.Prelude.{◌≡◌, ◌≤◌, length};
 ghost use Rattle.byteorder.specs.Endian.{little_number, twos_complement};
 ghost use Rattle.codec.specs.Answers.{leaving};
-ghost use Rattle.codec.specs.Reading.{number, value, key, address, tag, instance, fault_kind, mark, put_number, producer, all_used};
+ghost use Rattle.codec.specs.Reading.{number, value, key, address, tag, instance, fault_kind, mark, put_number, producer, image_fault, all_used};
 
 use crate::CodecError;
 use byteorder::{ByteOrder, LittleEndian};
@@ -132,6 +132,21 @@ impl Reader<'_> {
                 let instance = self.instance()?;
                 let number = self.put_number()?;
                 Ok(Producer::By(instance, number))
+            }
+            _ => Err(CodecError::Kind),
+        }
+    }
+
+    /// The instance at fault of an image, if there is one.
+    pub(crate) fn fault(&mut self) -> Result<Option<(Inst, FaultKind)>, CodecError>
+        ensures { leaving self.new.rest.now result ≡ image_fault self.old.rest.now }
+    {
+        match self.byte()? {
+            0 => Ok(None),
+            1 => {
+                let instance = self.instance()?;
+                let kind = self.fault_kind()?;
+                Ok(Some((instance, kind)))
             }
             _ => Err(CodecError::Kind),
         }
