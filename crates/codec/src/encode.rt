@@ -1,7 +1,8 @@
 ghost use Rattle.std.specs.Prelude.{◌≡◌, ◌++◌, length, take, OnOk};
-ghost use Rattle.codec.specs.Spelling.{HasFewPuts, IsEvent, event_bytes};
+ghost use Rattle.codec.specs.Spelling.{HasFewPuts, IsEvent, event_bytes, IsInOrder, IsImage, image_bytes};
 
-use crate::writing::{write_address, write_instance, write_list, write_tag, write_value};
+use crate::Image;
+use crate::writing::{write_address, write_fault, write_instance, write_list, write_tag, write_value};
 use std::alloc::AllocError;
 use terms::Event;
 
@@ -36,3 +37,15 @@ pub fn encode_event(out: &mut Vec<u8>, event: &Event) -> Result<(), AllocError>
     }
 }
 
+/// Appends the spelling of an image. After an error some of it may stand there.
+pub fn encode_image(out: &mut Vec<u8>, image: &Image) -> Result<(), AllocError>
+    requires { IsInOrder image.now }
+    ensures spelled { OnOk result (out.new.items ≡ out.old.items ++ image_bytes image.now) }
+    ensures in_range { OnOk result (IsImage image.now) }
+    ensures kept { take (length out.old.items) out.new.items ≡ out.old.items }
+{
+    write_fault(out, &image.fault)?;
+    write_list(out, image.items.as_slice())?;
+    write_list(out, image.tags.as_slice())?;
+    write_list(out, image.done.as_slice())
+}

@@ -16,7 +16,7 @@ mod spelled;
 mod writing;
 
 pub use decode::{decode_event, decode_image};
-pub use encode::encode_event;
+pub use encode::{encode_event, encode_image};
 pub use error::CodecError;
 pub use image::{Image, Instances, Items, Tags};
 

@@ -3,12 +3,12 @@
 ghost use Rattle.std.specs.Prelude.{◌≡◌, ◌++◌, ◌<◌, ◌^◌, length, take, OnOk};
 ghost use Rattle.std.specs.List.{flat_map, AllByRecursion};
 ghost use Rattle.byteorder.specs.Endian.{little_bytes};
-ghost use Rattle.codec.specs.Spelling.{value_bytes, name_bytes, addr_bytes, tag_bytes, inst_bytes, IsName, list_bytes};
+ghost use Rattle.codec.specs.Spelling.{value_bytes, name_bytes, addr_bytes, tag_bytes, inst_bytes, IsName, list_bytes, producer_bytes, IsProducer, IsNumbered, fault_bytes, IsFault};
 
 use crate::spelled::Spelled;
 use byteorder::{ByteOrder, LittleEndian};
 use std::alloc::AllocError;
-use terms::{Addr, Inst, Key, Tag};
+use terms::{Addr, FaultKind, Inst, Key, Producer, Tag};
 
 /// A count of elements, or the number of a put.
 pub(crate) fn write_count(out: &mut Vec<u8>, count: u32) -> Result<(), AllocError>
@@ -52,6 +52,48 @@ pub(crate) fn write_instance(out: &mut Vec<u8>, instance: &Inst) -> Result<(), A
     ensures kept { take (length out.old.items) out.new.items ≡ out.old.items }
 {
     write_name(out, instance.collection.0, &instance.key)
+}
+
+pub(crate) fn write_producer(out: &mut Vec<u8>, producer: &Producer) -> Result<(), AllocError>
+    requires { IsNumbered producer.now }
+    ensures spelled { OnOk result (out.new.items ≡ out.old.items ++ producer_bytes producer.now) }
+    ensures in_range { OnOk result (IsProducer producer.now) }
+    ensures kept { take (length out.old.items) out.new.items ≡ out.old.items }
+{
+    match producer {
+        Producer::Env => {
+            out.push(0)?;
+            Ok(())
+        }
+        Producer::By(instance, number) => {
+            out.push(1)?;
+            write_instance(out, instance)?;
+            write_count(out, *number)
+        }
+    }
+}
+
+/// The instance at fault of an image, if there is one.
+pub(crate) fn write_fault(
+    out: &mut Vec<u8>,
+    fault: &Option<(Inst, FaultKind)>,
+) -> Result<(), AllocError>
+    ensures spelled { OnOk result (out.new.items ≡ out.old.items ++ fault_bytes fault.now) }
+    ensures in_range { OnOk result (IsFault fault.now) }
+    ensures kept { take (length out.old.items) out.new.items ≡ out.old.items }
+{
+    match fault {
+        None => {
+            out.push(0)?;
+            Ok(())
+        }
+        Some((instance, kind)) => {
+            out.push(1)?;
+            write_instance(out, instance)?;
+            out.push(kind.number())?;
+            Ok(())
+        }
+    }
 }
 
 fn write_name(out: &mut Vec<u8>, collection: u16, key: &Key) -> Result<(), AllocError>
