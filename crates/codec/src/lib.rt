@@ -10,6 +10,7 @@ mod element;
 mod encode;
 mod error;
 mod image;
+mod law;
 mod lists;
 mod reader;
 mod spelled;
@@ -19,6 +20,7 @@ pub use decode::{decode_event, decode_image};
 pub use encode::{encode_event, encode_image};
 pub use error::CodecError;
 pub use image::{Image, Instances, Items, Tags};
+pub use law::{spellings_of_events, spellings_of_images};
 
 #[cfg(test)]
 mod tests;
