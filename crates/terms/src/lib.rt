@@ -27,4 +27,4 @@ pub use order::{
     addr_order, inst_order, key_order, orders_are_total, producer_order, put_order, tag_order,
 };
 pub use producer::Producer;
-pub use put::{Put, Puts};
+pub use put::{MOST_PUTS, Put, Puts};

@@ -3,6 +3,9 @@ ghost use Rattle.std.specs.Prelude.{◌≡◌};
 use crate::{Addr, Tag};
 use std::marker::Model;
 
+/// The greatest number of puts of one instance, items and tags together.
+pub const MOST_PUTS: usize = 4096;
+
 /// What an instance puts: an item with its value, or a tag.
 #[derive(Clone, Copy, Debug, PartialEq, Eq, PartialOrd, Ord)]
 pub enum Put {

@@ -1,0 +1,12 @@
+pub mod Agreeing
+pub mod Appended
+pub mod ChoiceLaws
+pub mod EventLaws
+pub mod FieldLaws
+pub mod ImageLaws
+pub mod ListLaws
+pub mod NumberLaws
+pub mod Numbers
+pub mod Rising
+pub mod Several
+pub mod WholeLaws

@@ -1,0 +1,5 @@
+pub mod Answers
+pub mod Entries
+pub mod Laws
+pub mod Reading
+pub mod Spelling

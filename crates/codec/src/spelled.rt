@@ -1,0 +1,102 @@
+ghost use Rattle.std.specs.Prelude.{◌≡◌, ◌++◌, FitsSigned, length, take, OnOk, ⊤};
+ghost use Rattle.std.specs.Int.{w64};
+ghost use Rattle.codec.specs.Spelling.{value_bytes, put_bytes, IsPut, item_bytes, HasPutNumber, IsItem, marked_bytes, inst_bytes, IsName};
+
+use crate::writing::{write_address, write_instance, write_producer, write_tag, write_value};
+use std::alloc::AllocError;
+use terms::{Addr, Inst, Producer, Put, Tag};
+
+/// What lists are spelled of.
+pub(crate) trait Spelled {
+    ghost use Rattle.std.specs.Prelude.{ℕ, List};
+
+    /// Its bytes.
+    ghost spelling: { Self → List ℕ };
+
+    /// What a caller sees to.
+    ghost May: { Self → Type 0 };
+
+    /// What has a spelling.
+    ghost Is: { Self → Type 0 };
+
+    /// Appends its bytes. After an error some of them may stand there.
+    fn write(&self, out: &mut Vec<u8>) -> Result<(), AllocError>
+        requires { May self.now }
+        ensures spelled { OnOk result (out.new.items ≡ out.old.items ++ spelling self.now) }
+        ensures in_range { OnOk result (Is self.now) }
+        ensures kept { take (length out.old.items) out.new.items ≡ out.old.items };
+}
+
+impl Spelled for i64 {
+    ghost spelling = { value_bytes };
+
+    ghost May = { λ _. ⊤ };
+
+    ghost Is = { FitsSigned w64 };
+
+    fn write(&self, out: &mut Vec<u8>) -> Result<(), AllocError> {
+        write_value(out, *self)
+    }
+}
+
+impl Spelled for Put {
+    ghost spelling = { put_bytes };
+
+    ghost May = { λ _. ⊤ };
+
+    ghost Is = { IsPut };
+
+    fn write(&self, out: &mut Vec<u8>) -> Result<(), AllocError> {
+        match self {
+            Put::Item(address, value) => {
+                out.push(1)?;
+                write_address(out, address)?;
+                write_value(out, *value)
+            }
+            Put::Tag(tag) => {
+                out.push(2)?;
+                write_tag(out, tag)
+            }
+        }
+    }
+}
+
+impl Spelled for (Addr, i64, Producer) {
+    ghost spelling = { item_bytes };
+
+    ghost May = { HasPutNumber };
+
+    ghost Is = { IsItem };
+
+    fn write(&self, out: &mut Vec<u8>) -> Result<(), AllocError> {
+        write_address(out, &self.0)?;
+        write_value(out, self.1)?;
+        write_producer(out, &self.2)
+    }
+}
+
+impl Spelled for (Tag, bool) {
+    ghost spelling = { marked_bytes };
+
+    ghost May = { λ _. ⊤ };
+
+    ghost Is = { λ marked. IsName marked.0.collection.0 marked.0.key };
+
+    fn write(&self, out: &mut Vec<u8>) -> Result<(), AllocError> {
+        write_tag(out, &self.0)?;
+        out.push(u8::from(self.1))?;
+        Ok(())
+    }
+}
+
+impl Spelled for Inst {
+    ghost spelling = { inst_bytes };
+
+    ghost May = { λ _. ⊤ };
+
+    ghost Is = { λ instance. IsName instance.collection.0 instance.key };
+
+    fn write(&self, out: &mut Vec<u8>) -> Result<(), AllocError> {
+        write_instance(out, self)
+    }
+}
