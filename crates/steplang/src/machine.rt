@@ -11,8 +11,8 @@ ghost use Rattle.steplang.specs.Machine.{state_of, unwound, outcome_from, LeadsF
 
 use crate::value::{Variables, evaluate, evaluate_key, variables_of};
 use std::alloc::{AllocError, Global};
-use steptree::{BUDGET, Block, Body, Components, Expression, MOST_PUTS, Slot};
-use terms::{Addr, FaultKind, ItemCollection, Key, Put, Tag, TagCollection};
+use steptree::{BUDGET, Block, Body, Components, Expression, Slot};
+use terms::{Addr, FaultKind, ItemCollection, Key, MOST_PUTS, Put, Tag, TagCollection};
 
 /// What is still to be done behind a block.
 #[derive(Clone, Copy)]

@@ -34,13 +34,14 @@ pub struct Run<'a> {
 }
 
 impl<'a> Run<'a> {
-    ghost use Rattle.std.specs.Prelude.{◌≡◌, [], IfOk, OnOk, OnErr, IsErr, IsSome, Some};
+    ghost use Rattle.std.specs.Prelude.{◌≡◌, [], length, IfOk, OnOk, OnErr, IsErr, IsSome, Some};
     ghost use Rattle.steplang.specs.Stages.{IsDue, pending_of, reads_with};
     ghost use Rattle.steplang.specs.Turns.{Tells};
     ghost use Rattle.steplang.specs.declared.run.Stage.TheVariants.{Ready, Waits, Refused};
 
     /// A run of this step for an instance, whose key has as many components as the step has parameters.
     pub fn start(alloc: Global, checked: &'a Checked, instance: Inst) -> Result<Run<'a>, AllocError>
+        requires { length instance.key ≡ checked.now.parameters }
         ensures checked { IfOk result (λ run. run.checked ≡ checked.entry) }
         ensures instance { IfOk result (λ run. run.instance ≡ instance) }
         ensures fresh { IfOk result (λ run. (run.stage ≡ Ready) × (run.reads.items ≡ [])) }

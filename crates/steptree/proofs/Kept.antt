@@ -14,7 +14,8 @@ use Rattle.steptree.specs.declared.expression.Expression.{Expression}
 use Rattle.steptree.specs.declared.block.Block.{Block}
 use Rattle.steptree.specs.declared.block.Block.TheVariants.{End, Assign', If', For', Get', PutItem', PutTag'}
 use Rattle.steptree.specs.declared.body.Body.{Body}
-use Rattle.steptree.specs.declared.body.TheConstants.{BUDGET, MOST_PUTS}
+use Rattle.steptree.specs.declared.body.TheConstants.{BUDGET}
+use Rattle.terms.specs.declared.put.TheConstants.{MOST_PUTS}
 use Rattle.steptree.specs.declared.sheet.Sheet.{Sheet}
 use Rattle.steptree.specs.Values.{with_value, value_of, values_of}
 use Rattle.steptree.specs.Run.{Read, State, Outcome, ends, faults, asks, strays, followed, counting, given, assigned, answered, putting, turns, run}

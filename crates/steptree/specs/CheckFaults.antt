@@ -1,7 +1,7 @@
 -- What is at fault in the body of a step, from the left.
 use Rattle.std.specs.Prelude.{ℕ, Bool, true, false, not, is_none, option_map, List, [], ◌∷◌, ◌++◌, length, Option, Some, None, get_or, slice_get, ◌==◌, if◌then◌else◌}
 use Rattle.steptree.specs.declared.checker.CheckError.{CheckError}
-use Rattle.steptree.specs.declared.checker.CheckError.TheVariants.{UnknownName, Arity, UndeclaredRead, UndeclaredPut}
+use Rattle.steptree.specs.declared.checker.CheckError.TheVariants.{UnknownName, Arity, UndeclaredRead, UndeclaredPut, NoMemory}
 use Rattle.steptree.specs.declared.checker.CheckFault.{CheckFault}
 use Rattle.steptree.specs.declared.sheet.Declared.{Declared}
 use Rattle.steptree.specs.declared.sheet.Sheet.{Sheet}
@@ -13,6 +13,10 @@ use Rattle.steptree.specs.declared.step.NamedBlock.{NamedBlock}
 use Rattle.steptree.specs.declared.step.NamedBlock.TheVariants.{End, Assign', If', For', Get', PutItem', PutTag'}
 use Rattle.steptree.specs.declared.step.Step.{Step}
 use Rattle.steptree.specs.Names.{Text, names_of, slot_of, number_of}
+
+-- memory was refused, at no place
+abbrev pub no_memory : CheckFault
+no_memory = record { error = NoMemory; place = 0 }
 
 -- a fault at a name, if it is there
 abbrev pub fault_if : Bool → CheckError → Name → List CheckFault

@@ -1,5 +1,6 @@
 -- The laws of the meaning of bodies.
-use Rattle.std.specs.Prelude.{◌≡◌, ◌≢◌, ℤ, true, Bool, List, ◌∷◌, ◌++◌, Option, Some}
+use Rattle.std.specs.Prelude.{◌≡◌, ◌≢◌, ℤ, true, Bool, List, [], ◌∷◌, ◌++◌, Option, Some}
+use Rattle.std.specs.List.{AllByRecursion}
 use Rattle.terms.specs.declared.name.Addr.{Addr}
 use Rattle.steptree.specs.declared.body.Body.{Body}
 use Rattle.steptree.specs.Run.{Read}
@@ -34,3 +35,17 @@ LookUpEnds = (body : Body) (key : List ℤ) (look : Addr → Option ℤ) → (en
 -- and in no other
 abbrev pub LookUpEndsOnce : Type 0
 LookUpEndsOnce = (body : Body) (key : List ℤ) (look : Addr → Option ℤ) (one two : Ending) → Means body key (Found look) one → Means body key (Found look) two → one ≡ two
+
+-- over any pairs, however they are told: what a body gives over some, and its faults, stay over more
+pub means_grows : (body : Body) (key : List ℤ) (some more : Addr → ℤ → Type 0) (ending : Ending) → ((address : Addr) (value : ℤ) → some address value → more address value)
+    → ((address : Addr) → ending ≢ Asks address) → Means body key some ending → Means body key more ending
+means_grows body key some more ending grows final means = record {
+  reads = means.reads;
+  among = each means.reads means.among;
+  along = means.along;
+  needs = λ address asks value there. final address asks;
+}
+  where
+    each : (reads : List Read) → AllByRecursion (λ (read : Read). some read.0 read.1) reads → AllByRecursion (λ (read : Read). more read.0 read.1) reads
+    each [] all = tt
+    each (read ∷ reads) all = (grows read.0 read.1 all.0, each reads all.1)

@@ -17,3 +17,4 @@ pub record IsWithinLimits (sheet : Sheet) (step : Step) : Type 0 where
   pub items : AreFew sheet.items.now
   pub tags : AreFew sheet.tags.now
   pub names : length (names_of step) ≤ MOST_NAMES
+  pub parameters : length step.parameters.items ≤ MAX_COMPONENTS

@@ -10,7 +10,8 @@ use Rattle.terms.specs.declared.fault.FaultKind.TheVariants.{Budget, TooManyPuts
 use Rattle.terms.specs.Same.{is_same}
 use Rattle.steptree.specs.declared.block.Block.{Block}
 use Rattle.steptree.specs.declared.block.Block.TheVariants.{End, Assign', If', For', Get', PutItem', PutTag'}
-use Rattle.steptree.specs.declared.body.TheConstants.{BUDGET, MOST_PUTS}
+use Rattle.steptree.specs.declared.body.TheConstants.{BUDGET}
+use Rattle.terms.specs.declared.put.TheConstants.{MOST_PUTS}
 use Rattle.steptree.specs.Values.{value_of, values_of}
 
 -- an item that a step read: its address and its value

@@ -2,13 +2,12 @@
 use Rattle.std.specs.Prelude.{◌≡◌, ◌⊎◌, List, [], ◌∷◌, map, Some, Result, MatchResult, slice_get}
 use Rattle.steptree.specs.declared.block.Block.{Block}
 use Rattle.steptree.specs.declared.block.Block.TheVariants.{End, Assign', If', For', Get', PutItem', PutTag'}
-use Rattle.steptree.specs.declared.checker.CheckError.TheVariants.{NoMemory}
 use Rattle.steptree.specs.declared.checker.CheckFault.{CheckFault}
 use Rattle.steptree.specs.declared.sheet.Sheet.{Sheet}
 use Rattle.steptree.specs.declared.step.Name.{Name}
 use Rattle.steptree.specs.declared.step.NamedBlock.{NamedBlock}
 use Rattle.steptree.specs.declared.step.NamedBlock.TheVariants as named
-use Rattle.steptree.specs.CheckFaults.{block_faults}
+use Rattle.steptree.specs.CheckFaults.{block_faults, no_memory}
 use Rattle.steptree.specs.Names.{Text}
 use Rattle.steptree.specs.Resolved.{IsBlock}
 use Rattle.steptree.specs.Sheet.{KeepsTo}
@@ -18,7 +17,7 @@ texts names = map (λ name. name.text.now) names
 
 -- memory was refused, or it is the first of these faults
 abbrev pub IsFirst : List CheckFault → CheckFault → Type 0
-IsFirst faults fault = (fault.error ≡ NoMemory) ⊎ (slice_get faults 0 ≡ Some fault)
+IsFirst faults fault = (fault ≡ no_memory) ⊎ (slice_get faults 0 ≡ Some fault)
 
 -- where there is a value there is none of these faults, else the first of them is answered
 abbrev pub Reports : {X : Type 0} → List CheckFault → Result X CheckFault → Type 0

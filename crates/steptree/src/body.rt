@@ -3,10 +3,9 @@ use crate::Block;
 /// The greatest number of statements and turns of loops of one instance.
 pub const BUDGET: u32 = 1_000_000;
 
-/// The greatest number of puts of one instance, items and tags together.
-pub const MOST_PUTS: usize = 4096;
-
-/// The body of a step: what it reads, and then what it puts.
+/// The body of a step: its read block, and behind it its write block.
+///
+/// That a text has gets in the one alone and puts in the other alone is for its grammar to see to.
 #[derive(Drop)]
 pub struct Body {
     pub read: Block,

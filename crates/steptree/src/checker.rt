@@ -1,6 +1,5 @@
 ghost use Rattle.std.specs.Prelude.{◌≡◌, ◌⊎◌, [], Some, IfOk, IfErr, OnOk, slice_get};
-ghost use Rattle.steptree.specs.declared.checker.CheckError.TheVariants.{NoMemory};
-ghost use Rattle.steptree.specs.CheckFaults.{faults_of};
+ghost use Rattle.steptree.specs.CheckFaults.{faults_of, no_memory};
 ghost use Rattle.steptree.specs.Limits.{IsWithinLimits};
 ghost use Rattle.steptree.specs.Resolved.{Resolves};
 ghost use Rattle.steptree.specs.Sheet.{BodyKeepsTo};
@@ -43,7 +42,7 @@ pub struct CheckFault {
 }
 
 impl From<AllocError> for CheckFault {
-    ghost from_gives = { λ _ fault. fault.error ≡ NoMemory };
+    ghost from_gives = { λ _ fault. fault ≡ no_memory };
 
     fn from(_: AllocError) -> Self {
         CheckFault {
@@ -54,7 +53,7 @@ impl From<AllocError> for CheckFault {
 }
 
 impl<T: Drop> From<AllocFailed<T>> for CheckFault {
-    ghost from_gives = { λ _ fault. fault.error ≡ NoMemory };
+    ghost from_gives = { λ _ fault. fault ≡ no_memory };
 
     fn from(_: AllocFailed<T>) -> Self {
         CheckFault {
@@ -64,7 +63,8 @@ impl<T: Drop> From<AllocFailed<T>> for CheckFault {
     }
 }
 
-/// Resolves the names of a step by what its sheet allows, or answers the first fault from the left.
+/// Resolves the names of a step by what its sheet allows, or answers the first fault in the order of its text. Of two equal
+/// names the first counts.
 ///
 /// Of several faults at one name an unknown name comes first, then what the step may not read or put, then the number of
 /// components.
@@ -73,7 +73,7 @@ pub fn check(alloc: Global, step: &Step<'_>, sheet: &Sheet<'_>) -> Result<Checke
     ensures resolves { IfOk result (λ checked. Resolves sheet.now step.now checked) }
     ensures keeps { IfOk result (λ checked. BodyKeepsTo sheet.now checked.body) }
     ensures no_fault { OnOk result (faults_of sheet.now step.now ≡ []) }
-    ensures first { IfErr result (λ fault. (fault.error ≡ NoMemory) ⊎ (slice_get (faults_of sheet.now step.now) 0 ≡ Some fault)) }
+    ensures first { IfErr result (λ fault. (fault ≡ no_memory) ⊎ (slice_get (faults_of sheet.now step.now) 0 ≡ Some fault)) }
 {
     let names = all_names(alloc, step)?;
     let read = resolve_block(alloc, &names, sheet, &step.read)?;

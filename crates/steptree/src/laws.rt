@@ -1,6 +1,21 @@
 //! The laws of what bodies mean. Each is a contract, with nothing to run.
+ghost use Rattle.std.specs.Prelude.{◌≡◌};
+ghost use Rattle.terms.specs.declared.key.TheConstants.{MAX_COMPONENTS};
+ghost use Rattle.terms.specs.declared.put.TheConstants.{MOST_PUTS};
+ghost use Rattle.steptree.specs.declared.body.TheConstants.{BUDGET};
+ghost use Rattle.steptree.specs.declared.sheet.TheConstants.{MOST_COLLECTIONS};
+ghost use Rattle.steptree.specs.declared.slot.TheConstants.{MOST_NAMES};
 ghost use Rattle.steptree.specs.Sheet.{KeepsAtAnyReads};
 ghost use Rattle.steptree.specs.Laws.{OneEnding, AsksInOrder, GrowthKeeps, LookUpGrowthKeeps, LookUpEnds, LookUpEndsOnce};
+
+/// The limits of steps, as numbers.
+pub fn limits()
+    ensures budget { BUDGET ≡ 1000000 }
+    ensures puts { MOST_PUTS ≡ 4096 }
+    ensures components { MAX_COMPONENTS ≡ 4 }
+    ensures names { MOST_NAMES ≡ 64 }
+    ensures collections { MOST_COLLECTIONS ≡ 64 }
+{}
 
 /// Along one list of reads a body ends in one way at most, and it asks for them one after another.
 pub fn along_one_list()
