@@ -34,24 +34,39 @@ fn leaf(expression: &Expression, variables: &Variables) -> Option<i64>
 }
 
 /// What an expression gives, its operands from the left.
+#[inline(always)]
 pub(crate) fn evaluate(expression: &Expression, variables: &Variables) -> Result<i64, FaultKind>
+    ensures { result ≡ value_of expression.now variables.now }
+{
+    // An operation on two leaves takes no call.
+    if let Expression::Operation(operator, left, right) = expression
+        && let Some(left) = leaf(left, variables)
+        && let Some(right) = leaf(right, variables)
+    {
+        return operate(*operator, left, right);
+    }
+    evaluate_any(expression, variables)
+}
+
+// What any expression gives.
+fn evaluate_any(expression: &Expression, variables: &Variables) -> Result<i64, FaultKind>
     ensures { result ≡ value_of expression.now variables.now }
 {
     match expression {
         Expression::Number(number) => Ok(*number),
         Expression::Variable(slot) => Ok(variables[slot.place()]),
         Expression::Negation(operand) => {
-            let value = evaluate(operand, variables)?;
+            let value = evaluate_any(operand, variables)?;
             value.checked_neg().ok_or(FaultKind::Overflow)
         }
         Expression::Operation(operator, left, right) => {
             let left = match leaf(left, variables) {
                 Some(value) => value,
-                None => evaluate(left, variables)?,
+                None => evaluate_any(left, variables)?,
             };
             let right = match leaf(right, variables) {
                 Some(value) => value,
-                None => evaluate(right, variables)?,
+                None => evaluate_any(right, variables)?,
             };
             operate(*operator, left, right)
         }
