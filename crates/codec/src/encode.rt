@@ -6,6 +6,9 @@ use crate::writing::{write_address, write_fault, write_instance, write_list, wri
 use std::alloc::AllocError;
 use terms::Event;
 
+// The most bytes of an event but for an instance's puts: its kind, a name of four components, and a value.
+const GREATEST: usize = 44;
+
 /// Appends the spelling of an event. After an error some of it may stand there.
 pub fn encode_event(out: &mut Vec<u8>, event: &Event) -> Result<(), AllocError>
     requires { HasFewPuts event.now }
@@ -13,6 +16,7 @@ pub fn encode_event(out: &mut Vec<u8>, event: &Event) -> Result<(), AllocError>
     ensures in_range { OnOk result (IsEvent event.now) }
     ensures kept { take (length out.old.items) out.new.items ≡ out.old.items }
 {
+    out.reserve(GREATEST)?;
     match event {
         Event::EnvItem(address, value) => {
             out.push(1)?;
