@@ -2,7 +2,9 @@ ghost use Rattle.std.specs.Prelude.{◌≡◌, ◌++◌, length, take, OnOk};
 ghost use Rattle.codec.specs.Spelling.{HasFewPuts, IsEvent, event_bytes, IsInOrder, IsImage, image_bytes};
 
 use crate::Image;
-use crate::writing::{write_address, write_fault, write_instance, write_list, write_tag, write_value};
+use crate::writing::{
+    write_address, write_fault, write_instance, write_list, write_tag, write_value,
+};
 use std::alloc::AllocError;
 use terms::Event;
 

@@ -110,10 +110,7 @@ fn write_name(out: &mut Vec<u8>, collection: u16, key: &Key) -> Result<(), Alloc
 }
 
 /// A list: the number of its elements, and the elements.
-pub(crate) fn write_list<T: Spelled>(
-    out: &mut Vec<u8>,
-    elements: &[T],
-) -> Result<(), AllocError>
+pub(crate) fn write_list<T: Spelled>(out: &mut Vec<u8>, elements: &[T]) -> Result<(), AllocError>
     requires few { length elements.now < 2 ^ 32 }
     requires each { AllByRecursion T.May elements.now }
     ensures spelled { OnOk result (out.new.items ≡ out.old.items ++ list_bytes T.spelling elements.now) }
@@ -125,10 +122,7 @@ pub(crate) fn write_list<T: Spelled>(
 }
 
 // The elements of a list, one behind another.
-fn write_each<T: Spelled>(
-    out: &mut Vec<u8>,
-    elements: &[T],
-) -> Result<(), AllocError>
+fn write_each<T: Spelled>(out: &mut Vec<u8>, elements: &[T]) -> Result<(), AllocError>
     requires { AllByRecursion T.May elements.now }
     ensures spelled { OnOk result (out.new.items ≡ out.old.items ++ flat_map T.spelling elements.now) }
     ensures in_range { OnOk result (AllByRecursion T.Is elements.now) }
