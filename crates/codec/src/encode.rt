@@ -37,8 +37,7 @@ pub fn encode_event(out: &mut Vec<u8>, event: &Event) -> Result<(), AllocError>
         Event::Stopped(instance, kind) => {
             out.push(4)?;
             write_instance(out, instance)?;
-            out.push(kind.number())?;
-            Ok(())
+            Ok(out.push(kind.number())?)
         }
     }
 }

@@ -61,10 +61,7 @@ pub(crate) fn write_producer(out: &mut Vec<u8>, producer: &Producer) -> Result<(
     ensures kept { take (length out.old.items) out.new.items ≡ out.old.items }
 {
     match producer {
-        Producer::Env => {
-            out.push(0)?;
-            Ok(())
-        }
+        Producer::Env => Ok(out.push(0)?),
         Producer::By(instance, number) => {
             out.push(1)?;
             write_instance(out, instance)?;
@@ -83,15 +80,11 @@ pub(crate) fn write_fault(
     ensures kept { take (length out.old.items) out.new.items ≡ out.old.items }
 {
     match fault {
-        None => {
-            out.push(0)?;
-            Ok(())
-        }
+        None => Ok(out.push(0)?),
         Some((instance, kind)) => {
             out.push(1)?;
             write_instance(out, instance)?;
-            out.push(kind.number())?;
-            Ok(())
+            Ok(out.push(kind.number())?)
         }
     }
 }
