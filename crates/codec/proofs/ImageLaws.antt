@@ -73,7 +73,7 @@ item_agrees =
     of_other_parts {P = ItemParts} {Q = Item} {V = Item} (λ p. IsName p.0.collection.0 p.0.key × (FitsSigned w64 p.1.0 × IsProducer p.1.1)) (λ p. addr_bytes p.0 ++ (value_bytes p.1.0 ++ producer_bytes p.1.1)) (λ p. (p.0, p.1.0, p.1.1))
     IsItem item_bytes (λ i. i) item
     (one_then (λ a. IsName a.collection.0 a.key) addr_bytes address (λ (p : ℤ × Producer). FitsSigned w64 p.0 × IsProducer p.1) (λ p. value_bytes p.0 ++ producer_bytes p.1) (λ a p. (a, p.0, p.1))
-        (λ a. next value (λ v. next producer (λ by. always (a, v, by)))) address_agrees value_producer_reads)
+    (λ a. next value (λ v. next producer (λ by. always (a, v, by)))) address_agrees value_producer_reads)
     (λ i. (i.0, (i.1, i.2))) (λ i is. ((is.0, (is.1, is.2)), refl, append_assoc (addr_bytes i.0) (value_bytes i.1) (producer_bytes i.2)))
     (λ p. (p.0, p.1.0, p.1.1)) (λ p is. ((is.0, is.1.0, is.1.1), refl, sym (append_assoc (addr_bytes p.0) (value_bytes p.1.0) (producer_bytes p.1.1))))
 
@@ -113,7 +113,7 @@ marked_agrees : Agrees IsMarked marked_bytes marked
 marked_agrees =
     of_other_parts {P = MarkedTag} {Q = MarkedTag} {V = MarkedTag} (λ p. IsName p.0.collection.0 p.0.key × ⊤) (λ p. tag_bytes p.0 ++ mark_bytes p.1) (λ p. (p.0, p.1)) IsMarked marked_bytes (λ m. m) marked
     (one_then (λ t. IsName t.collection.0 t.key) tag_bytes tag (λ _. ⊤) mark_bytes (λ t m. (t, m)) (λ t. next mark (λ m. always (t, m)))
-        tag_agrees (λ t. one_last (λ _. ⊤) mark_bytes mark (λ m. (t, m)) mark_agrees))
+    tag_agrees (λ t. one_last (λ _. ⊤) mark_bytes mark (λ m. (t, m)) mark_agrees))
     (λ m. m) (λ m is. ((is, tt), refl, refl))
     (λ m. m) (λ m is. (is.0, refl, refl))
 
@@ -201,7 +201,7 @@ image_agrees =
     (λ p. made p.0 p.1.0 p.1.1.0 p.1.1.1)
     IsImage image_bytes (λ i. i) image
     (one_then IsFault fault_bytes image_fault (λ (p : Lists). AreItems p.0 × (AreTags p.1.0 × AreInstances p.1.1)) (λ p. list_bytes item_bytes p.0 ++ (list_bytes marked_bytes p.1.0 ++ list_bytes inst_bytes p.1.1)) (λ f p. made f p.0 p.1.0 p.1.1)
-        (λ f. next (list item_cmp item) (λ items. next (list marked_cmp marked) (λ tags. next (list inst_cmp instance) (λ done. always (made f items tags done))))) fault_agrees items_reads)
+    (λ f. next (list item_cmp item) (λ items. next (list marked_cmp marked) (λ tags. next (list inst_cmp instance) (λ done. always (made f items tags done))))) fault_agrees items_reads)
     (λ i. (i.fault, (i.items, (i.tags, i.done)))) (λ i is. ((is.fault, (is.items, (is.tags, is.done))), refl, regrouped (fault_bytes i.fault) (list_bytes item_bytes i.items) (list_bytes marked_bytes i.tags) (list_bytes inst_bytes i.done)))
     (λ p. made p.0 p.1.0 p.1.1.0 p.1.1.1)
     (λ p is. (record { fault = is.0; items = is.1.0; tags = is.1.1.0; done = is.1.1.1 }, refl, sym (regrouped (fault_bytes p.0) (list_bytes item_bytes p.1.0) (list_bytes marked_bytes p.1.1.0) (list_bytes inst_bytes p.1.1.1))))

@@ -1,6 +1,7 @@
 pub mod Agreeing
 pub mod Appended
 pub mod ChoiceLaws
+pub mod Encodable
 pub mod EventLaws
 pub mod FieldLaws
 pub mod ImageLaws

@@ -3,9 +3,9 @@ ghost use Rattle.codec.specs.Answers.{leaving, ReadsOrRefused};
 ghost use Rattle.codec.specs.Reading.{event, counted, one_put, decoded_event, image, decoded_image};
 ghost use Rattle.codec.specs.declared.error.CodecError.TheVariants.{NoMemory};
 
-use crate::{CodecError, Image, Instances, Items, Tags};
 use crate::lists::{rising, several};
 use crate::reader::Reader;
+use crate::{CodecError, Image, Instances, Items, Tags};
 use std::alloc::Global;
 use terms::{Event, MOST_PUTS, Puts};
 

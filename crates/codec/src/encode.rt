@@ -2,9 +2,14 @@ ghost use Rattle.std.specs.Prelude.{◌≡◌, ◌++◌, length, take, OnOk};
 ghost use Rattle.codec.specs.Spelling.{HasFewPuts, IsEvent, event_bytes, IsInOrder, IsImage, image_bytes};
 
 use crate::Image;
-use crate::writing::{write_address, write_fault, write_instance, write_list, write_tag, write_value};
+use crate::writing::{
+    write_address, write_fault, write_instance, write_list, write_tag, write_value,
+};
 use std::alloc::AllocError;
 use terms::Event;
+
+// The most bytes of an event but for an instance's puts: its kind, a name of four components, and a value.
+const GREATEST: usize = 44;
 
 /// Appends the spelling of an event. After an error some of it may stand there.
 pub fn encode_event(out: &mut Vec<u8>, event: &Event) -> Result<(), AllocError>
@@ -13,6 +18,7 @@ pub fn encode_event(out: &mut Vec<u8>, event: &Event) -> Result<(), AllocError>
     ensures in_range { OnOk result (IsEvent event.now) }
     ensures kept { take (length out.old.items) out.new.items ≡ out.old.items }
 {
+    out.reserve(GREATEST)?;
     match event {
         Event::EnvItem(address, value) => {
             out.push(1)?;
@@ -31,8 +37,7 @@ pub fn encode_event(out: &mut Vec<u8>, event: &Event) -> Result<(), AllocError>
         Event::Stopped(instance, kind) => {
             out.push(4)?;
             write_instance(out, instance)?;
-            out.push(kind.number())?;
-            Ok(())
+            Ok(out.push(kind.number())?)
         }
     }
 }

@@ -8,11 +8,7 @@ use crate::reader::Reader;
 use std::alloc::{AllocError, Global};
 
 // Room for so many elements, but for no more than the bytes that are left could spell.
-fn room<T: Element>(
-    alloc: Global,
-    reader: &Reader<'_>,
-    count: u32,
-) -> Result<Vec<T>, AllocError>
+fn room<T: Element>(alloc: Global, reader: &Reader<'_>, count: u32) -> Result<Vec<T>, AllocError>
     ensures empty { IfOk result (λ elements. elements.items ≡ []) }
     ensures spelled { IfOk result (λ elements. T.LEAST * vec_capacity elements ≤ length reader.now.rest.now) }
 {

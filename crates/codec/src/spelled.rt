@@ -84,8 +84,7 @@ impl Spelled for (Tag, bool) {
 
     fn write(&self, out: &mut Vec<u8>) -> Result<(), AllocError> {
         write_tag(out, &self.0)?;
-        out.push(u8::from(self.1))?;
-        Ok(())
+        Ok(out.push(u8::from(self.1))?)
     }
 }
 

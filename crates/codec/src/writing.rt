@@ -61,10 +61,7 @@ pub(crate) fn write_producer(out: &mut Vec<u8>, producer: &Producer) -> Result<(
     ensures kept { take (length out.old.items) out.new.items ≡ out.old.items }
 {
     match producer {
-        Producer::Env => {
-            out.push(0)?;
-            Ok(())
-        }
+        Producer::Env => Ok(out.push(0)?),
         Producer::By(instance, number) => {
             out.push(1)?;
             write_instance(out, instance)?;
@@ -83,15 +80,11 @@ pub(crate) fn write_fault(
     ensures kept { take (length out.old.items) out.new.items ≡ out.old.items }
 {
     match fault {
-        None => {
-            out.push(0)?;
-            Ok(())
-        }
+        None => Ok(out.push(0)?),
         Some((instance, kind)) => {
             out.push(1)?;
             write_instance(out, instance)?;
-            out.push(kind.number())?;
-            Ok(())
+            Ok(out.push(kind.number())?)
         }
     }
 }
@@ -110,10 +103,7 @@ fn write_name(out: &mut Vec<u8>, collection: u16, key: &Key) -> Result<(), Alloc
 }
 
 /// A list: the number of its elements, and the elements.
-pub(crate) fn write_list<T: Spelled>(
-    out: &mut Vec<u8>,
-    elements: &[T],
-) -> Result<(), AllocError>
+pub(crate) fn write_list<T: Spelled>(out: &mut Vec<u8>, elements: &[T]) -> Result<(), AllocError>
     requires few { length elements.now < 2 ^ 32 }
     requires each { AllByRecursion T.May elements.now }
     ensures spelled { OnOk result (out.new.items ≡ out.old.items ++ list_bytes T.spelling elements.now) }
@@ -125,10 +115,7 @@ pub(crate) fn write_list<T: Spelled>(
 }
 
 // The elements of a list, one behind another.
-fn write_each<T: Spelled>(
-    out: &mut Vec<u8>,
-    elements: &[T],
-) -> Result<(), AllocError>
+fn write_each<T: Spelled>(out: &mut Vec<u8>, elements: &[T]) -> Result<(), AllocError>
     requires { AllByRecursion T.May elements.now }
     ensures spelled { OnOk result (out.new.items ≡ out.old.items ++ flat_map T.spelling elements.now) }
     ensures in_range { OnOk result (AllByRecursion T.Is elements.now) }

@@ -20,9 +20,8 @@ loop-place-preserved c =
     let xs = c.loop-place.components in
     let x = c.in_ok-components.field-0 in
     let here : to_z w64 (of_z w64 x) ≡ x = to_z-of_z w64 x (search rules) in
-    let fits : length xs ≡ 4 = c.loop-place.invariant.places in
     let more : take (place + 1) (slice_set xs place (to_z w64 (of_z w64 x))) ≡ take place xs ++ x ∷ [] = take_more_set xs place _ (omega arith) ∙ ap (λ z. take place xs ++ z ∷ []) here in
     record {
-      places = length-set xs place _ ∙ fits;
+      places = omega (arith, length-set xs place (to_z w64 (of_z w64 x)));
       so_far = rw more (one_more value (take place xs) c.from-count.result place c.loop-place.self.rest.now x c.value.new.self.rest.now _ c.loop-place-test.true c.in_ok-components.ensures c.loop-place.invariant.so_far);
     }
