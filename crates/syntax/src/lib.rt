@@ -1,0 +1,12 @@
+//! Graph texts: their tokens, and the tree that they are.
+//!
+//! A text is one list of tokens, each the longest that stands there (`AreTokens`).
+#![tactic(auto)]
+
+mod law;
+mod lexer;
+mod token;
+
+pub use law::tokens_once;
+pub use lexer::tokens;
+pub use token::{Placed, Symbol, Token, Word};
