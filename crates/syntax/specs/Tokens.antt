@@ -1,6 +1,6 @@
 -- The tokens of a text, read longest first.
-use Rattle.std.specs.Prelude.{◌≡◌, ◌≢◌, ◌⊎◌, ◌≤◌, ◌<◌, ◌+◌, ◌*◌, ◌-◌, ◌^◌, ⊤, ℕ, Bool, map, unsigned_abs, true, false, List, [], ◌∷◌, ◌++◌, length, codes, ◌||◌, ◌==◌}
-use Rattle.std.specs.Int.{is_in_range}
+use Rattle.std.specs.Prelude.{◌≡◌, ◌≢◌, ◌⊎◌, ◌≤◌, ◌<◌, ◌+◌, ◌-◌, ◌^◌, ⊤, ℕ, Bool, map, true, false, List, [], ◌∷◌, ◌++◌, length, codes, ◌||◌, ◌==◌}
+use Rattle.std.specs.Int.{is_in_range, cast_unsigned, w64}
 use Rattle.std.specs.List.{AllByRecursion}
 use Rattle.std.specs.Str.Parse.{digits_value}
 use Rattle.syntax.specs.declared.token.Word.{Word}
@@ -95,9 +95,10 @@ pub data Lexeme : Type 0 where
   symbol : Symbol → Lexeme
   unknown : Lexeme
 
+-- a number below 0 is, by its 64 bits, above the greatest, and so stands nowhere
 abbrev pub lexeme_of : Token → Lexeme
 lexeme_of (token.Name text) = name text.now
-lexeme_of (token.Number value) = number (unsigned_abs value)
+lexeme_of (token.Number value) = number (cast_unsigned w64 value)
 lexeme_of (token.Word reserved) = word reserved
 lexeme_of (token.Symbol sign) = symbol sign
 lexeme_of token.Unknown = unknown
