@@ -3,9 +3,13 @@
 //! A text is one list of tokens, each the longest that stands there (`AreTokens`).
 #![tactic(auto)]
 
+mod characters;
 mod law;
 mod lexer;
+mod numbers;
+mod symbols;
 mod token;
+mod words;
 
 pub use law::tokens_once;
 pub use lexer::tokens;
