@@ -8,6 +8,8 @@ mod law;
 mod lexer;
 mod numbers;
 mod symbols;
+#[cfg(test)]
+mod tests;
 mod token;
 mod words;
 
