@@ -1,0 +1,110 @@
+-- A worked example of tokens.
+use Rattle.std.proofs.Common.{◌≡◌, ◌≢◌, ℕ, ◌≤◌, List, [], ◌∷◌, length, codes, inl, refl, ap, arith, lit≤, lit<}
+use Rattle.syntax.specs.declared.token.Word.{Word}
+use Rattle.syntax.specs.declared.token.Word.TheVariants as reserved
+use Rattle.syntax.specs.declared.token.Symbol.{Symbol}
+use Rattle.syntax.specs.declared.token.Symbol.TheVariants.{OpenBracket, Colon, DoubleColon, Arrow, DoubleDot, Equal, NotEqual, LessOrEqual, GreaterOrEqual}
+use Rattle.syntax.specs.Tokens.{Begins, Stands, TokensExample, name, number, symbol, unknown, symbol_text, word_text}
+
+heads : (c d : ℕ) (r s : List ℕ) → c ∷ r ≡ d ∷ s → c ≡ d
+heads c d r s e = cc
+
+tails : (c d : ℕ) (r s : List ℕ) → c ∷ r ≡ d ∷ s → r ≡ s
+tails c d r s e = cc
+
+-- no sign that a `[` begins is longer
+open_longest : (rest : List ℕ) (other : Symbol) → Begins (symbol_text other) (91 ∷ rest) → length (symbol_text other) ≤ 1
+open_longest rest DoubleColon h = absurd (omega (arith, heads 91 58 _ _ h.1))
+open_longest rest Arrow h = absurd (omega (arith, heads 91 45 _ _ h.1))
+open_longest rest DoubleDot h = absurd (omega (arith, heads 91 46 _ _ h.1))
+open_longest rest Equal h = absurd (omega (arith, heads 91 61 _ _ h.1))
+open_longest rest NotEqual h = absurd (omega (arith, heads 91 33 _ _ h.1))
+open_longest rest LessOrEqual h = absurd (omega (arith, heads 91 60 _ _ h.1))
+open_longest rest GreaterOrEqual h = absurd (omega (arith, heads 91 62 _ _ h.1))
+open_longest rest _ h = lit≤ tt
+
+-- and none that a `:` before a digit begins
+colon_longest : (rest : List ℕ) (other : Symbol) → Begins (symbol_text other) (58 ∷ 49 ∷ rest) → length (symbol_text other) ≤ 1
+colon_longest rest DoubleColon h = absurd (omega (arith, heads 49 58 _ _ (tails 58 58 _ _ h.1)))
+colon_longest rest Arrow h = absurd (omega (arith, heads 58 45 _ _ h.1))
+colon_longest rest DoubleDot h = absurd (omega (arith, heads 58 46 _ _ h.1))
+colon_longest rest Equal h = absurd (omega (arith, heads 58 61 _ _ h.1))
+colon_longest rest NotEqual h = absurd (omega (arith, heads 58 33 _ _ h.1))
+colon_longest rest LessOrEqual h = absurd (omega (arith, heads 58 60 _ _ h.1))
+colon_longest rest GreaterOrEqual h = absurd (omega (arith, heads 58 62 _ _ h.1))
+colon_longest rest _ h = lit≤ tt
+
+-- a word of one letter is not reserved
+is_a_name : (letter : ℕ) (kept : Word) → letter ∷ [] ≢ word_text kept
+is_a_name letter reserved.Env e = omega (arith, ap length e)
+is_a_name letter _ e = omega (arith, ap length e)
+
+bracket : Stands (symbol OpenBracket) (codes "[x :12") (codes "x :12")
+bracket = (refl, open_longest (codes "x :12"))
+
+x_name : Stands (name (codes "x")) (codes "x :12") (codes " :12")
+x_name = (refl, ((refl, tt), refl), is_a_name 120)
+
+colon : Stands (symbol Colon) (codes ":12") (codes "12")
+colon = (refl, colon_longest (codes "2"))
+
+twelve : Stands (number 12) (codes "12") []
+twelve = (codes "12", refl, (λ none. cc, (refl, (refl, tt)), tt, refl), lit≤ tt)
+
+a_name : Stands (name (codes "a")) (codes "a 9223372036854775808 b") (codes " 9223372036854775808 b")
+a_name = (refl, ((refl, tt), refl), is_a_name 97)
+
+large : Stands unknown (codes "9223372036854775808 b") []
+large = (
+  refl,
+  inl (
+    codes "9223372036854775808",
+    codes " b",
+    9223372036854775808,
+    refl,
+    (λ none. cc, (refl, (refl, (refl, (refl, (refl, (refl, (refl, (refl, (refl, (refl, (refl, (refl, (refl, (refl, (refl, (refl, (refl, (refl, (refl, tt))))))))))))))))))), refl, refl),
+    lit< tt,
+  ),
+)
+
+pub example : TokensExample
+example = (
+  (
+    [],
+    codes "[x :12",
+    codes "x :12",
+    refl,
+    tt,
+    refl,
+    bracket,
+    (
+      [],
+      codes "x :12",
+      codes " :12",
+      refl,
+      tt,
+      refl,
+      x_name,
+      (
+        codes " ",
+        codes ":12",
+        codes "12",
+        refl,
+        (refl, tt),
+        refl,
+        colon,
+        ([], codes "12", [], refl, tt, refl, twelve, tt),
+      ),
+    ),
+  ),
+  (
+    [],
+    codes "a 9223372036854775808 b",
+    codes " 9223372036854775808 b",
+    refl,
+    tt,
+    refl,
+    a_name,
+    (codes " ", codes "9223372036854775808 b", [], refl, (refl, tt), refl, large, tt),
+  ),
+)

@@ -1,0 +1,183 @@
+-- A text is one list of tokens at most.
+use Rattle.std.proofs.Common.{◌≡◌, ◌≢◌, ℕ, ◌+◌, ◌-◌, ◌<◌, Bool, true, false, ◌⊎◌, if◌then◌else◌, List, [], ◌∷◌, ◌++◌, length, inl, inr, refl, sym, ap, subst, ◌∙◌, arith}
+use Rattle.std.specs.Str.Parse.{digits_value}
+use Rattle.std.proofs.lemmas.Bool.Decides.{nat_tests}
+use Rattle.std.proofs.lemmas.List.{append-nil}
+use Rattle.syntax.specs.declared.token.Symbol.{Symbol}
+use Rattle.syntax.specs.declared.token.Symbol.TheVariants.{OpenBracket}
+use Rattle.syntax.specs.Tokens.{AreBlank, AreDigits, AreTokens, Begins, BeginsNone, BeginsWithout, IsNumeral, IsTooLarge, IsWhole, IsWordText, Lexeme, name, number, word, symbol, unknown, Spot, Stands, is_blank, is_digit, is_letter, word_text, symbol_text}
+use Rattle.syntax.proofs.Runs.{Passes, split_once}
+use Rattle.syntax.proofs.Fronts.{is_word_part, letter_part}
+use Rattle.syntax.proofs.Spelled.{same_word, same_symbol}
+
+-- ---- the first character
+
+digit_no_letter : (byte : ℕ) → is_digit byte ≡ true → is_letter byte ≡ false
+digit_no_letter byte h = grind (arith, nat_tests)
+
+letter_no_blank : (byte : ℕ) → is_letter byte ≡ true → is_blank byte ≡ false
+letter_no_blank byte h = grind (arith, nat_tests)
+
+digit_no_blank : (byte : ℕ) → is_digit byte ≡ true → is_blank byte ≡ false
+digit_no_blank byte h = grind (arith, nat_tests)
+
+-- 0 for a letter, 1 for a digit, and 2 for another character
+abbrev lead : List ℕ → ℕ
+lead [] = 3
+lead (first ∷ rest) = if is_letter first then 0 else (if is_digit first then 1 else 2)
+
+letter_leads : (text rest bytes : List ℕ) → bytes ≡ text ++ rest → IsWordText text → lead bytes ≡ 0
+letter_leads [] rest bytes e h = absurd h
+letter_leads (first ∷ more) rest bytes e h = ap lead e ∙ ap (λ (b : Bool). if b then 0 else (if is_digit first then 1 else 2)) h.0
+
+digit_leads : (digits rest bytes : List ℕ) → bytes ≡ digits ++ rest → digits ≢ [] → AreDigits digits → lead bytes ≡ 1
+digit_leads [] rest bytes e some h = absurd (some refl)
+digit_leads (first ∷ more) rest bytes e some h =
+    ap lead e ∙ ap (λ (b : Bool). if b then 0 else (if is_digit first then 1 else 2)) (digit_no_letter first h.0) ∙ ap (λ (b : Bool). if b then 1 else 2) h.0
+
+sign_leads : (sign : Symbol) (rest : List ℕ) → lead (symbol_text sign ++ rest) ≡ 2
+sign_leads OpenBracket rest = refl
+sign_leads _ rest = refl
+
+none_leads : (bytes : List ℕ) → BeginsNone bytes → lead bytes ≡ 2
+none_leads [] h = absurd h
+none_leads (first ∷ rest) h = ap (λ (b : Bool). if b then 0 else (if is_digit first then 1 else 2)) h.0 ∙ ap (λ (b : Bool). if b then 1 else 2) h.1
+
+large_leads : (bytes : List ℕ) → IsTooLarge bytes → lead bytes ≡ 1
+large_leads bytes h = digit_leads h.0 h.1 bytes h.3 h.4.0 h.4.1
+
+unknown_leads : (bytes : List ℕ) → IsTooLarge bytes ⊎ BeginsNone bytes → 0 < lead bytes
+unknown_leads bytes h = elim h [ inl large ↦ omega (arith, large_leads bytes large) | inr none ↦ omega (arith, none_leads bytes none) ]
+
+-- ---- some character, and no blank
+
+abbrev Starts : List ℕ → Type 0
+Starts bytes = BeginsWithout is_blank bytes × (bytes ≢ [])
+
+text_starts : (text rest bytes : List ℕ) → bytes ≡ text ++ rest → IsWordText text → Starts bytes
+text_starts [] rest bytes e h = absurd h
+text_starts (first ∷ more) rest bytes e h = subst Starts (sym e) (letter_no_blank first h.0, λ none. absurd (cc))
+
+digits_start : (digits rest bytes : List ℕ) → bytes ≡ digits ++ rest → digits ≢ [] → AreDigits digits → Starts bytes
+digits_start [] rest bytes e some h = absurd (some refl)
+digits_start (first ∷ more) rest bytes e some h = subst Starts (sym e) (digit_no_blank first h.0, λ none. absurd (cc))
+
+sign_starts : (sign : Symbol) (rest : List ℕ) → Starts (symbol_text sign ++ rest)
+sign_starts OpenBracket rest = (refl, λ none. absurd (cc))
+sign_starts _ rest = (refl, λ none. absurd (cc))
+
+none_starts : (bytes : List ℕ) → BeginsNone bytes → Starts bytes
+none_starts [] h = absurd h
+none_starts (first ∷ rest) h = (h.2, λ none. absurd (cc))
+
+starts : (lexeme : Lexeme) (bytes rest : List ℕ) → Stands lexeme bytes rest → Starts bytes
+starts (name text) bytes rest h = text_starts text rest bytes h.0 h.1.0
+starts (word kept) bytes rest h = text_starts (word_text kept) rest bytes h.0 h.1.0
+starts (number value) bytes rest h = digits_start h.0 rest bytes h.1 h.2.0 h.2.1
+starts (symbol sign) bytes rest h = subst Starts (sym h.0) (sign_starts sign rest)
+starts unknown bytes rest h =
+    elim h.1 [ inl large ↦ digits_start large.0 large.1 bytes large.3 large.4.0 large.4.1 | inr none ↦ none_starts bytes none ]
+
+-- ---- one token in front
+
+word_passes : (text : List ℕ) → IsWordText text → Passes is_word_part text
+word_passes [] h = absurd h
+word_passes (first ∷ rest) h = (letter_part first h.0, h.1)
+
+same_texts : (one two r s : List ℕ) → one ++ r ≡ two ++ s → IsWhole one r → IsWhole two s → (one ≡ two) × (r ≡ s)
+same_texts one two r s e h k = split_once is_word_part one two r s (word_passes one h.0) (word_passes two k.0) h.1 k.1 e
+
+same_digits : (one two r s : List ℕ) (m n : ℕ) → one ++ r ≡ two ++ s → IsNumeral one m r → IsNumeral two n s → (m ≡ n) × (r ≡ s)
+same_digits one two r s m n e h k =
+    let same = split_once is_digit one two r s h.1 k.1 h.2 k.2 e in
+    (sym h.3 ∙ ap (digits_value 10) same.0 ∙ k.3, same.1)
+
+same_fronts : (one two r s : List ℕ) → length one ≡ length two → one ++ r ≡ two ++ s → (one ≡ two) × (r ≡ s)
+same_fronts [] [] r s long e = (refl, e)
+same_fronts [] (d ∷ two) r s long e = absurd (omega arith)
+same_fronts (c ∷ one) [] r s long e = absurd (omega arith)
+same_fronts (c ∷ one) (d ∷ two) r s long e =
+    let heads : c ≡ d = cc in
+    let tails : one ++ r ≡ two ++ s = cc in
+    let rest = same_fronts one two r s (omega arith) tails in
+    let fronts : one ≡ two = rest.0 in
+    (cc, rest.1)
+
+no_sign : (bytes : List ℕ) (sign : Symbol) → BeginsNone bytes → Begins (symbol_text sign) bytes → ⊥
+no_sign [] sign h begins = h
+no_sign (first ∷ rest) sign h begins = h.3 sign begins
+
+never_large : (bytes rest : List ℕ) (value : ℕ) → Stands (number value) bytes rest → IsTooLarge bytes ⊎ BeginsNone bytes → ⊥
+never_large bytes rest value x h = elim h [
+  | inl large ↦ let same = same_digits x.0 large.0 rest large.1 value large.2 (sym x.1 ∙ large.3) x.2 large.4 in omega (arith, same.0, x.3, large.5)
+  | inr none ↦ omega (arith, digit_leads x.0 rest bytes x.1 x.2.0 x.2.1, none_leads bytes none)
+]
+
+never_sign : (bytes rest : List ℕ) (sign : Symbol) → Stands (symbol sign) bytes rest → IsTooLarge bytes ⊎ BeginsNone bytes → ⊥
+never_sign bytes rest sign x h = elim h [
+  | inl large ↦ omega (arith, large_leads bytes large, ap lead x.0 ∙ sign_leads sign rest)
+  | inr none ↦ no_sign bytes sign none (rest, x.0)
+]
+
+abbrev Same : Lexeme → List ℕ → Lexeme → List ℕ → Type 0
+Same one r two s = (one ≡ two) × (r ≡ s)
+
+stands_once : (bytes r s : List ℕ) (one two : Lexeme) → Stands one bytes r → Stands two bytes s → Same one r two s
+stands_once bytes r s (name a) (name b) x y = let same = same_texts a b r s (sym x.0 ∙ y.0) x.1 y.1 in (ap name same.0, same.1)
+stands_once bytes r s (name a) (word k) x y = absurd (x.2 k (same_texts a (word_text k) r s (sym x.0 ∙ y.0) x.1 y.1).0)
+stands_once bytes r s (name a) (number n) x y = absurd (omega (arith, letter_leads a r bytes x.0 x.1.0, digit_leads y.0 s bytes y.1 y.2.0 y.2.1))
+stands_once bytes r s (name a) (symbol t) x y = absurd (omega (arith, letter_leads a r bytes x.0 x.1.0, ap lead y.0 ∙ sign_leads t s))
+stands_once bytes r s (name a) unknown x y = absurd (omega (arith, letter_leads a r bytes x.0 x.1.0, unknown_leads bytes y.1))
+stands_once bytes r s (word j) (name b) x y = absurd (y.2 j (sym (same_texts (word_text j) b r s (sym x.0 ∙ y.0) x.1 y.1).0))
+stands_once bytes r s (word j) (word k) x y = let same = same_texts (word_text j) (word_text k) r s (sym x.0 ∙ y.0) x.1 y.1 in (ap word (same_word j k same.0), same.1)
+stands_once bytes r s (word j) (number n) x y = absurd (omega (arith, letter_leads (word_text j) r bytes x.0 x.1.0, digit_leads y.0 s bytes y.1 y.2.0 y.2.1))
+stands_once bytes r s (word j) (symbol t) x y = absurd (omega (arith, letter_leads (word_text j) r bytes x.0 x.1.0, ap lead y.0 ∙ sign_leads t s))
+stands_once bytes r s (word j) unknown x y = absurd (omega (arith, letter_leads (word_text j) r bytes x.0 x.1.0, unknown_leads bytes y.1))
+stands_once bytes r s (number m) (name b) x y = absurd (omega (arith, letter_leads b s bytes y.0 y.1.0, digit_leads x.0 r bytes x.1 x.2.0 x.2.1))
+stands_once bytes r s (number m) (word k) x y = absurd (omega (arith, letter_leads (word_text k) s bytes y.0 y.1.0, digit_leads x.0 r bytes x.1 x.2.0 x.2.1))
+stands_once bytes r s (number m) (number n) x y = let same = same_digits x.0 y.0 r s m n (sym x.1 ∙ y.1) x.2 y.2 in (ap number same.0, same.1)
+stands_once bytes r s (number m) (symbol t) x y = absurd (omega (arith, digit_leads x.0 r bytes x.1 x.2.0 x.2.1, ap lead y.0 ∙ sign_leads t s))
+stands_once bytes r s (number m) unknown x y = absurd (never_large bytes r m x y.1)
+stands_once bytes r s (symbol t) (name b) x y = absurd (omega (arith, letter_leads b s bytes y.0 y.1.0, ap lead x.0 ∙ sign_leads t r))
+stands_once bytes r s (symbol t) (word k) x y = absurd (omega (arith, letter_leads (word_text k) s bytes y.0 y.1.0, ap lead x.0 ∙ sign_leads t r))
+stands_once bytes r s (symbol t) (number n) x y = absurd (omega (arith, digit_leads y.0 s bytes y.1 y.2.0 y.2.1, ap lead x.0 ∙ sign_leads t r))
+stands_once bytes r s (symbol t) (symbol u) x y =
+    let long : length (symbol_text t) ≡ length (symbol_text u) = omega (arith, x.1 u (s, y.0), y.1 t (r, x.0)) in
+    let same = same_fronts (symbol_text t) (symbol_text u) r s long (sym x.0 ∙ y.0) in
+    (ap symbol (same_symbol t u same.0), same.1)
+stands_once bytes r s (symbol t) unknown x y = absurd (never_sign bytes r t x y.1)
+stands_once bytes r s unknown (name b) x y = absurd (omega (arith, letter_leads b s bytes y.0 y.1.0, unknown_leads bytes x.1))
+stands_once bytes r s unknown (word k) x y = absurd (omega (arith, letter_leads (word_text k) s bytes y.0 y.1.0, unknown_leads bytes x.1))
+stands_once bytes r s unknown (number n) x y = absurd (never_large bytes s n y x.1)
+stands_once bytes r s unknown (symbol t) x y = absurd (never_sign bytes s t y x.1)
+stands_once bytes r s unknown unknown x y = (refl, x.0 ∙ sym y.0)
+
+-- ---- lists of tokens
+
+blank_is_none : (lexeme : Lexeme) (bytes blanks here rest : List ℕ) → AreBlank bytes → bytes ≡ blanks ++ here → AreBlank blanks → Stands lexeme here rest → ⊥
+blank_is_none lexeme bytes blanks here rest all e front stands =
+    let begins = starts lexeme here rest stands in
+    let same = split_once is_blank bytes blanks [] here all front tt begins.0 (append-nil bytes ∙ e) in
+    begins.1 (sym same.1)
+
+same_lists : (spot spot' : Spot) (more more' : List Spot) → spot.0 ≡ spot'.0 → spot.1 ≡ spot'.1 → more ≡ more' → spot ∷ more ≡ spot' ∷ more'
+same_lists spot spot' more more' lexemes places tails =
+    ap (λ (l : Lexeme). let s : Spot = (l, spot.1) in s ∷ more) lexemes ∙ ap (λ (n : ℕ). let s : Spot = (spot'.0, n) in s ∷ more) places ∙ ap (λ (rest : List Spot). spot' ∷ rest) tails
+
+pub once : (one two : List Spot) (at : ℕ) (bytes : List ℕ) → AreTokens at bytes one → AreTokens at bytes two → one ≡ two
+once [] [] at bytes x y = refl
+once [] (spot ∷ more) at bytes x y = absurd (blank_is_none spot.0 bytes y.0 y.1 y.2 x y.3 y.4 y.6)
+once (spot ∷ more) [] at bytes x y = absurd (blank_is_none spot.0 bytes x.0 x.1 x.2 y x.3 x.4 x.6)
+once (spot ∷ more) (spot' ∷ more') at bytes x y =
+    let from : Starts x.1 = starts spot.0 x.1 x.2 x.6 in
+    let from' : Starts y.1 = starts spot'.0 y.1 y.2 y.6 in
+    let same = split_once is_blank x.0 y.0 x.1 y.1 x.4 y.4 from.0 from'.0 (sym x.3 ∙ y.3) in
+    let here : Stands spot'.0 x.1 y.2 = subst (λ here. Stands spot'.0 here y.2) (sym same.1) y.6 in
+    let token = stands_once x.1 x.2 y.2 spot.0 spot'.0 x.6 here in
+    let place : spot.1 ≡ spot'.1 = x.5 ∙ ap (λ blanks. at + length blanks) same.0 ∙ sym y.5 in
+    let moved : spot'.1 + (length y.1 - length y.2) ≡ spot.1 + (length x.1 - length x.2) = omega (arith, ap length same.1, ap length token.1, place) in
+    let rest : AreTokens (spot.1 + (length x.1 - length x.2)) x.2 more' =
+    subst (λ k. AreTokens k x.2 more') moved (subst (λ r. AreTokens (spot'.1 + (length y.1 - length y.2)) r more') (sym token.1) y.7) in
+    let tails : more ≡ more' = once more more' _ x.2 x.7 rest in
+    let lexemes : spot.0 ≡ spot'.0 = token.0 in
+    same_lists spot spot' more more' lexemes place tails

@@ -1,0 +1,41 @@
+-- A word and a sign are told by their texts.
+use Rattle.std.proofs.Common.{◌≡◌, ℕ, ◌+◌, ◌*◌, if◌then◌else◌, ◌==◌, List, [], ◌∷◌, Option, Some, None, refl, sym, ap, ◌∙◌}
+use Rattle.syntax.specs.declared.token.Word.{Word}
+use Rattle.syntax.specs.declared.token.Word.TheVariants as reserved
+use Rattle.syntax.specs.declared.token.Symbol.{Symbol}
+use Rattle.syntax.specs.declared.token.Symbol.TheVariants.{OpenBracket, CloseBracket, OpenRound, CloseRound, Less, Greater, OpenBrace, CloseBrace, Colon, Semicolon, Comma, Assign, Plus, Minus, Star, Slash, Percent, DoubleColon, Arrow, DoubleDot, Equal, NotEqual, LessOrEqual, GreaterOrEqual}
+use Rattle.syntax.specs.Tokens.{word_text, symbol_text}
+
+-- one number for the bytes of a text
+abbrev number_of : List ℕ → ℕ
+number_of [] = 0
+number_of (first ∷ rest) = first + 256 * number_of rest
+
+-- the first of a list with this text
+abbrev with_text : {X : Type 0} → (X → List ℕ) → List X → ℕ → Option X
+with_text text [] n = None
+with_text text (x ∷ xs) n = if number_of (text x) == n then Some x else with_text text xs n
+
+abbrev words : List Word
+words = reserved.Env ∷ reserved.Step ∷ reserved.Var ∷ reserved.Read ∷ reserved.Write ∷ reserved.Get ∷ reserved.Put ∷ reserved.If ∷ reserved.Else ∷ reserved.For ∷ reserved.In ∷ []
+
+abbrev symbols : List Symbol
+symbols = OpenBracket ∷ CloseBracket ∷ OpenRound ∷ CloseRound ∷ Less ∷ Greater ∷ OpenBrace ∷ CloseBrace ∷ Colon ∷ Semicolon ∷ Comma ∷ Assign ∷ Plus ∷ Minus ∷ Star ∷ Slash ∷ Percent ∷ DoubleColon ∷ Arrow ∷ DoubleDot ∷ Equal ∷ NotEqual ∷ LessOrEqual ∷ GreaterOrEqual ∷ []
+
+word_found : (kept : Word) → with_text word_text words (number_of (word_text kept)) ≡ Some kept
+word_found reserved.Env = refl
+word_found _ = refl
+
+pub same_word : (one two : Word) → word_text one ≡ word_text two → one ≡ two
+same_word one two same =
+    let found : Some one ≡ Some two = sym (word_found one) ∙ ap (λ text. with_text word_text words (number_of text)) same ∙ word_found two in
+    cc
+
+symbol_found : (sign : Symbol) → with_text symbol_text symbols (number_of (symbol_text sign)) ≡ Some sign
+symbol_found OpenBracket = refl
+symbol_found _ = refl
+
+pub same_symbol : (one two : Symbol) → symbol_text one ≡ symbol_text two → one ≡ two
+same_symbol one two same =
+    let found : Some one ≡ Some two = sym (symbol_found one) ∙ ap (λ text. with_text symbol_text symbols (number_of text)) same ∙ symbol_found two in
+    cc

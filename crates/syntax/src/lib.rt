@@ -1,0 +1,18 @@
+//! Graph texts: their tokens, and the tree that they are.
+//!
+//! A text is one list of tokens, each the longest that stands there (`AreTokens`).
+#![tactic(auto)]
+
+mod characters;
+mod law;
+mod lexer;
+mod numbers;
+mod symbols;
+#[cfg(test)]
+mod tests;
+mod token;
+mod words;
+
+pub use law::tokens_once;
+pub use lexer::tokens;
+pub use token::{Placed, Symbol, Token, Word};
