@@ -2,7 +2,7 @@
 //!
 //! A file is what a read gives, the bytes of the last successful sync, and the positions touched since.
 //! A crash leaves any bytes that agree with the synced ones at every position that is not touched.
-//! The layer above stands on the clauses of the trait, and on its four laws.
+//! The layer above stands on the clauses of the trait, and on its two laws.
 #![tactic(auto)]
 
 mod crash;
