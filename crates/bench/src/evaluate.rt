@@ -32,6 +32,9 @@ fn made(alloc: Global, checked: &Checked) -> Result<usize, AllocError> {
         collection: StepCollection(0),
         key: Key::new(&[i64::from(TURNS)]),
     };
+    if instance.key.components().len() != checked.parameters {
+        return Ok(0);
+    }
     let mut run = Run::start(alloc, checked, instance)?;
     match run.advance(None)? {
         Turn::Gave(given) => Ok(given.puts().as_slice().len()),

@@ -125,6 +125,7 @@ fn an_if_takes_the_second_block_at_zero(rt: HostRuntime) -> Result<(), Fail> {
 #[test]
 fn a_run_is_parked_at_what_it_asks_for(rt: HostRuntime) -> Result<(), Fail> {
     let add = add(rt.alloc())?;
+    assert!(rt; add.parameters == 1);
     let mut run = Run::start(rt.alloc(), &add, instance(3))?;
     assert_eq!(rt; run.pending(), None);
     let turn = run.advance(None)?;

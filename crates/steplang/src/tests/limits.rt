@@ -51,6 +51,7 @@ fn puts_are_counted(rt: HostRuntime) -> Result<(), Fail> {
     let told = story(&rt, &puts, 4097, &[])?;
     assert_eq!(rt; told.as_str(), "fault TooManyPuts ");
 
+    assert!(rt; puts.parameters == 1);
     let mut run = Run::start(rt.alloc(), &puts, instance(4096))?;
     let Turn::Gave(given) = run.advance(None)? else {
         return Err(Fail::new("puts are given"));

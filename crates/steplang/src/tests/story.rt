@@ -18,6 +18,7 @@ pub(crate) fn story<R: Abort + AllocGlobal>(
 ) -> Result<String, Fail> {
     let alloc = rt.alloc();
     let mut text = String::new(alloc);
+    assert!(rt; checked.parameters == 1);
     let mut run = Run::start(alloc, checked, instance(component))?;
     let mut turn = go_on(rt, &mut run, None)?;
     for value in answers {

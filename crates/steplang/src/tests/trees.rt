@@ -1,3 +1,5 @@
+ghost use Rattle.std.specs.Prelude.{◌≡◌, length};
+
 use std::alloc::{AllocError, Global};
 use std::test::Fail;
 use steptree::{Block, Body, Checked, Components, Expression, MOST_NAMES, Operator, Slot};
@@ -193,7 +195,9 @@ pub(crate) fn step(alloc: Global, read: &[Part], write: &[Part]) -> Result<Check
 }
 
 // The instance of step 0 whose key has this one component.
-pub(crate) fn instance(component: i64) -> Inst {
+pub(crate) fn instance(component: i64) -> Inst
+    ensures { length result.key ≡ 1 }
+{
     Inst {
         collection: StepCollection(0),
         key: Key::new(&[component]),
