@@ -62,10 +62,10 @@ module _ {D : Type 0} (files : D → Side → File) (moment : D → ℕ) (left_a
     | inl behind ↦ inr (λ k contents begins ends left. added contents (appends.each k contents (omega (arith, behind, begins)) ends left))
     | inr before ↦ elim (at_once t from before) [
       | inl all ↦ inl (λ k begins ends. (
-          reads_of old,
-          (appends.stays k (reads_of old) (omega (arith, ends, before))).1 (all k (reads_of old) begins ends reads),
-          ap (λ (f : File). f.content) empty,
-        ))
+        reads_of old,
+        (appends.stays k (reads_of old) (omega (arith, ends, before))).1 (all k (reads_of old) begins ends reads),
+        ap (λ (f : File). f.content) empty,
+      ))
       | inr settled ↦ inr (λ k contents begins ends left. elim (cases_lt (moment mid) k) [
         | inl late ↦ added contents (appends.each k contents (omega (arith, late)) ends left)
         | inr early ↦ started contents (settled k contents begins early ((appends.stays k contents early).0 left))

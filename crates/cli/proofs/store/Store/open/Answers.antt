@@ -100,16 +100,16 @@ pub returns-then-branch-eq0-clause-empty : goal.returns-then-branch-eq0-clause-e
 returns-then-branch-eq0-clause-empty g c honest none = look_empty g.D.Disk.files g.D.Disk.moment g.D.Disk.left_at (g.met.D.Disk.at_now honest) (g.met.D.Disk.reads_left honest) c.args.disk.now c.sync.new.self (c.sync.ensures.other honest) (c.sync.ensures.time honest) none (ap (λ (f : File). f.content) (c.in_ok-sync.ensures.file honest)) c.len.new.self (c.len.ensures.same honest) (c.len.ensures.time honest)
 
 pub returns-in_err-journal-clause-empty : goal.returns-in_err-journal-clause-empty
-returns-in_err-journal-clause-empty g c honest none = 
+returns-in_err-journal-clause-empty g c honest none =
     let synced : (g.D.Disk.files c.sync.new.self A).content ≡ (g.D.Disk.files c.args.disk.now A).content = ap (λ (f : File). f.content) (c.in_ok-sync.ensures.file honest) in
     absurd (omega (arith, c.in_ok-len.ensures.value honest, ap length synced, ap length none, c.if-branch-eq0.false))
 
 pub returns-in_err-cells-clause-empty : goal.returns-in_err-cells-clause-empty
-returns-in_err-cells-clause-empty g c honest none = 
+returns-in_err-cells-clause-empty g c honest none =
     let synced : (g.D.Disk.files c.sync.new.self A).content ≡ (g.D.Disk.files c.args.disk.now A).content = ap (λ (f : File). f.content) (c.in_ok-sync.ensures.file honest) in
     absurd (omega (arith, c.in_ok-len.ensures.value honest, ap length synced, ap length none, c.if-branch-eq0.false))
 
 pub returns-clause-empty : goal.returns-clause-empty
-returns-clause-empty g c honest none = 
+returns-clause-empty g c honest none =
     let synced : (g.D.Disk.files c.sync.new.self A).content ≡ (g.D.Disk.files c.args.disk.now A).content = ap (λ (f : File). f.content) (c.in_ok-sync.ensures.file honest) in
     absurd (omega (arith, c.in_ok-len.ensures.value honest, ap length synced, ap length none, c.if-branch-eq0.false))
