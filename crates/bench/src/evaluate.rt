@@ -12,7 +12,10 @@ const TURNS: u32 = 499_999;
 
 /// Runs instances of `write { for b in 0 .. k { a = (a + b); } put [0] = a; }` until so many statements and turns are made,
 /// and prints how many they were, how long that took, and what the last instance put.
-pub(crate) fn measure<R: Clock + Print + AllocGlobal>(rt: &R, statements: u32) -> Result<(), Error> {
+pub(crate) fn measure<R: Clock + Print + AllocGlobal>(
+    rt: &R,
+    statements: u32,
+) -> Result<(), Error> {
     let checked = sum(rt.alloc())?;
     let runs = statements.div_ceil(2 * TURNS + 2);
     let start = Instant::now(rt)?;
