@@ -1,6 +1,5 @@
 -- What a reading and a spelling have to do with each other, and how this goes from parts to what is made of them.
-use Rattle.std.proofs.Common.{◌≡◌, ◌<◌, ◌^◌, ℕ, List, [], ◌∷◌, ◌++◌, get_or, suc, zero, Result, Ok, Err, refl, sym, ap, subst, ◌∙◌, arith, append_assoc}
-use Rattle.std.specs.List.{AllByRecursion}
+use Rattle.std.proofs.Common.{◌≡◌, ◌<◌, ℕ, List, [], ◌∷◌, ◌++◌, get_or, suc, zero, Result, Ok, Err, refl, sym, ap, subst, ◌∙◌, arith, append_assoc}
 use Rattle.codec.specs.declared.error.CodecError.{CodecError}
 use Rattle.codec.specs.Laws.{AreBytes}
 use Rattle.codec.specs.Reading.{Reading, go_on, always, next}

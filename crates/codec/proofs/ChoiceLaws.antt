@@ -1,12 +1,9 @@
 -- A byte that says which of several readings follows.
-use Rattle.std.proofs.Common.{◌≡◌, ◌<◌, ◌≤◌, ◌+◌, ◌-◌, ◌^◌, ℕ, suc, zero, Bool, true, false, cond, ltb, List, [], ◌∷◌, length, take, Result, Ok, Err, refl, sym, ap, ◌∙◌, arith}
+use Rattle.std.proofs.Common.{◌≡◌, ◌≤◌, ◌+◌, ◌-◌, ℕ, false, cond, ltb, List, [], ◌∷◌, length, take, Ok, refl, sym, ap, ◌∙◌, arith}
 use Rattle.std.proofs.lemmas.Bool.{ltb-false, le-ltb}
 use Rattle.byteorder.specs.Endian.{little_number}
-use Rattle.codec.specs.declared.error.CodecError.{CodecError}
-use Rattle.codec.specs.declared.error.CodecError.TheVariants.{Short, Kind}
-use Rattle.codec.specs.Laws.{AreBytes}
+use Rattle.codec.specs.declared.error.CodecError.TheVariants.{Kind}
 use Rattle.codec.specs.Reading.{Reading, number, go_on, fails, chosen, one_of}
-use Rattle.codec.proofs.Agreeing.{went_on}
 use Rattle.codec.proofs.ListLaws.{not_failed}
 
 pub byte_read : (byte : ℕ) (rest : List ℕ) → number 1 (byte ∷ rest) ≡ Ok (byte, rest)

@@ -1,5 +1,5 @@
 -- What was read can be spelled again.
-use Rattle.std.proofs.Common.{◌≡◌, ◌<◌, ◌^◌, ℕ, suc, List, [], ◌∷◌, ◌⊎◌, inl, inr, Result, Ok, Err, get_or, sym}
+use Rattle.std.proofs.Common.{◌≡◌, ◌<◌, ℕ, suc, List, [], ◌∷◌, ◌⊎◌, inl, inr, Result, Ok, get_or, sym}
 use Rattle.std.specs.Prelude.{IsErrOf}
 use Rattle.std.specs.List.{AllByRecursion}
 use Rattle.terms.specs.declared.event.Event.{Event}

@@ -1,7 +1,6 @@
 -- Events are read as they are spelled.
-use Rattle.std.proofs.Common.{◌≡◌, ◌<◌, ◌≤◌, ◌+◌, ◌^◌, ℕ, ℤ, suc, zero, List, [], ◌∷◌, ◌++◌, length, Result, Ok, Err, refl, sym, ap, subst, ◌∙◌, arith}
-use Rattle.std.specs.Prelude.{FitsSigned, ⊤}
-use Rattle.std.specs.Int.{w64}
+use Rattle.std.proofs.Common.{◌≡◌, ◌≤◌, ◌+◌, ◌^◌, ℕ, suc, zero, List, [], ◌∷◌, ◌++◌, length, Ok, refl, ap, subst, ◌∙◌, arith}
+use Rattle.std.specs.Prelude.{⊤}
 use Rattle.std.specs.List.{AllByRecursion}
 use Rattle.byteorder.specs.Endian.{little_bytes}
 use Rattle.terms.specs.declared.name.Inst.{Inst}
@@ -11,10 +10,9 @@ use Rattle.terms.specs.declared.put.Put.{Put}
 use Rattle.terms.specs.declared.event.Event.{Event}
 use Rattle.terms.specs.declared.event.Event.TheVariants.{EnvItem, EnvTag, Done, Stopped}
 use Rattle.terms.specs.Fault.{fault_number}
-use Rattle.codec.specs.declared.error.CodecError.{CodecError}
 use Rattle.codec.specs.Laws.{AreBytes}
 use Rattle.codec.specs.Spelling.{addr_bytes, value_bytes, tag_bytes, inst_bytes, put_bytes, list_bytes, event_bytes, IsName, IsPut, IsEvent}
-use Rattle.codec.specs.Reading.{Reading, number, always, next, counted, instance, one_put, fault_kind, chosen, env_item, env_tag, done, stopped, event}
+use Rattle.codec.specs.Reading.{Reading, always, next, counted, instance, one_put, fault_kind, chosen, env_item, env_tag, done, stopped, event}
 use Rattle.codec.proofs.Agreeing.{Agrees, Reads, one_then, one_last}
 use Rattle.codec.proofs.ChoiceLaws.{at_place, some_place}
 use Rattle.codec.proofs.FieldLaws.{item_reads, tag_reads, instance_agrees, put_agrees, fault_kind_agrees}

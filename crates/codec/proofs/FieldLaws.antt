@@ -1,8 +1,8 @@
 -- Names, puts, producers, marks and faults are read as they are spelled.
-use Rattle.std.proofs.Common.{◌≡◌, ◌<◌, ◌≤◌, ◌+◌, ◌-◌, ◌^◌, ℕ, ℤ, suc, zero, Bool, true, false, List, [], ◌∷◌, ◌++◌, length, Option, Some, None, Result, Ok, Err, refl, sym, ap, subst, ◌∙◌, arith, append_assoc}
+use Rattle.std.proofs.Common.{◌≡◌, ◌<◌, ◌≤◌, ◌+◌, ◌^◌, ℕ, ℤ, suc, zero, List, [], ◌∷◌, ◌++◌, length, Result, Ok, refl, sym, ap, subst, ◌∙◌, arith}
 use Rattle.std.specs.Prelude.{FitsSigned, ⊤}
 use Rattle.std.specs.Int.{w64}
-use Rattle.std.specs.List.{flat_map, AllByRecursion}
+use Rattle.std.specs.List.{AllByRecursion}
 use Rattle.byteorder.specs.Endian.{little_bytes}
 use Rattle.terms.specs.declared.key.TheConstants.{MAX_COMPONENTS}
 use Rattle.terms.specs.declared.name.Addr.{Addr}
@@ -10,15 +10,14 @@ use Rattle.terms.specs.declared.name.Tag.{Tag}
 use Rattle.terms.specs.declared.name.Inst.{Inst}
 use Rattle.terms.specs.declared.fault.FaultKind.{FaultKind}
 use Rattle.terms.specs.declared.fault.FaultKind.TheVariants.{Overflow, DivisionByZero, Budget, DoublePut, TooManyPuts}
-use Rattle.terms.specs.declared.put.TheConstants.{MOST_PUTS}
 use Rattle.terms.specs.declared.put.Put.{Put}
 use Rattle.terms.specs.declared.put.Put.TheVariants as put
 use Rattle.terms.specs.Fault.{fault_number}
 use Rattle.codec.specs.declared.error.CodecError.{CodecError}
 use Rattle.codec.specs.Laws.{AreBytes}
 use Rattle.codec.specs.Spelling.{value_bytes, key_bytes, name_bytes, addr_bytes, tag_bytes, inst_bytes, put_bytes, IsName, IsPut}
-use Rattle.codec.specs.Reading.{Reading, number, always, next, value, key, name, address, tag, instance, chosen, one_of, put_item, put_tag, one_put, fault_kind}
-use Rattle.codec.proofs.Agreeing.{Agrees, Reads, exactly, same_read, one_then, one_last, of_other_parts}
+use Rattle.codec.specs.Reading.{Reading, number, always, next, value, key, name, address, tag, instance, chosen, put_item, put_tag, one_put, fault_kind}
+use Rattle.codec.proofs.Agreeing.{Agrees, Reads, same_read, one_then, one_last, of_other_parts}
 use Rattle.codec.proofs.ChoiceLaws.{at_place, some_place}
 use Rattle.codec.proofs.ListLaws.{counted_agrees}
 use Rattle.codec.proofs.NumberLaws.{number_agrees, byte_agrees, value_agrees, wide_2}

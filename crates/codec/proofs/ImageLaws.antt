@@ -1,10 +1,9 @@
 -- Images are read as they are spelled.
-use Rattle.std.proofs.Common.{◌≡◌, ◌<◌, ◌≤◌, ◌+◌, ◌^◌, ℕ, ℤ, suc, zero, Bool, true, false, List, [], ◌∷◌, ◌++◌, length, Option, Some, None, Result, Ok, Err, refl, sym, ap, subst, ◌∙◌, arith, append_assoc}
+use Rattle.std.proofs.Common.{◌≡◌, ◌<◌, ◌+◌, ℕ, ℤ, suc, zero, Bool, true, false, List, [], ◌∷◌, ◌++◌, Option, Some, None, Ok, refl, sym, ap, subst, ◌∙◌, arith, append_assoc}
 use Rattle.std.specs.Prelude.{FitsSigned, ⊤, if◌then◌else◌}
 use Rattle.std.specs.Int.{w64}
 use Rattle.byteorder.specs.Endian.{little_bytes}
 use Rattle.terms.specs.declared.name.Addr.{Addr}
-use Rattle.terms.specs.declared.name.Tag.{Tag}
 use Rattle.terms.specs.declared.name.Inst.{Inst}
 use Rattle.terms.specs.declared.fault.FaultKind.{FaultKind}
 use Rattle.terms.specs.declared.producer.Producer.{Producer}
@@ -12,12 +11,11 @@ use Rattle.terms.specs.declared.producer.Producer.TheVariants.{Env, By}
 use Rattle.terms.specs.declared.put.TheConstants.{MOST_PUTS}
 use Rattle.terms.specs.Name.{inst_cmp}
 use Rattle.terms.specs.Fault.{fault_number}
-use Rattle.codec.specs.declared.error.CodecError.{CodecError}
 use Rattle.codec.specs.declared.image.Image.{Image}
 use Rattle.codec.specs.Entries.{Item, MarkedTag, item_cmp, marked_cmp}
 use Rattle.codec.specs.Laws.{AreBytes}
 use Rattle.codec.specs.Spelling.{addr_bytes, value_bytes, tag_bytes, inst_bytes, producer_bytes, item_bytes, marked_bytes, fault_bytes, list_bytes, image_bytes, IsName, IsProducer, IsItem, IsFault, IsList, IsImage}
-use Rattle.codec.specs.Reading.{Reading, number, always, next, address, value, tag, instance, chosen, put_number, by_instance, producer, item, mark, marked, list, some_fault, image_fault, image}
+use Rattle.codec.specs.Reading.{Reading, always, next, address, value, tag, instance, chosen, put_number, by_instance, producer, item, mark, marked, list, some_fault, image_fault, image}
 use Rattle.codec.proofs.Agreeing.{Agrees, Reads, same_read, one_then, one_last, of_other_parts}
 use Rattle.codec.proofs.ChoiceLaws.{at_place, some_place}
 use Rattle.codec.proofs.EventLaws.{stopped_reads}

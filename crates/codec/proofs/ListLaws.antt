@@ -1,5 +1,5 @@
 -- Lists whose elements are read as they are spelled are so too.
-use Rattle.std.proofs.Common.{◌≡◌, ◌<◌, ◌≤◌, ◌^◌, ℕ, suc, zero, Bool, true, false, cond, ltb, List, [], ◌∷◌, ◌++◌, length, Option, Some, None, Result, Ok, Err, refl, sym, ap, subst, ◌∙◌, arith, append_assoc}
+use Rattle.std.proofs.Common.{◌≡◌, ◌<◌, ◌≤◌, ◌^◌, ℕ, suc, zero, Bool, true, false, cond, ltb, List, [], ◌∷◌, ◌++◌, length, Option, Some, None, Ok, refl, sym, ap, subst, ◌∙◌, arith, append_assoc}
 use Rattle.std.specs.List.{flat_map, AllByRecursion}
 use Rattle.std.specs.declared.cmp.Ordering.{Ordering}
 use Rattle.std.specs.declared.cmp.Ordering.TheVariants.{Less, Equal, Greater}
@@ -12,7 +12,7 @@ use Rattle.codec.specs.Laws.{AreBytes}
 use Rattle.codec.specs.Spelling.{IsList, list_bytes}
 use Rattle.byteorder.specs.Endian.{little_bytes}
 use Rattle.codec.specs.Reading.{Reading, go_on, always, fails, next, number, several, counted, rising, list, comes_after}
-use Rattle.codec.proofs.Agreeing.{Agrees, Reads, exactly, went_on, same_read, bytes_behind}
+use Rattle.codec.proofs.Agreeing.{Agrees, exactly, went_on, same_read, bytes_behind}
 
 -- each behind the one before it, if there is one
 abbrev pub RisesBehind : {X : Type 0} → (X → X → Ordering) → Option X → List X → Type 0

@@ -1,21 +1,21 @@
 -- Numbers and values are read as they are spelled.
-use Rattle.std.proofs.Common.{◌≡◌, ◌<◌, ◌≤◌, ◌+◌, ◌-◌, ◌*◌, ◌%◌, ◌^◌, ℕ, ℤ, suc, zero, Bool, true, false, cond, ltb, List, [], ◌∷◌, ◌++◌, length, take, drop, get_or, Result, Ok, Err, refl, sym, ap, subst, ◌∙◌, arith, inl, inr}
+use Rattle.std.proofs.Common.{◌≡◌, ◌<◌, ◌≤◌, ◌+◌, ◌%◌, ◌^◌, ℕ, ℤ, Bool, true, false, cond, ltb, List, [], ◌∷◌, ◌++◌, length, take, drop, get_or, Result, Ok, Err, refl, sym, ap, subst, ◌∙◌, arith, inl, inr}
 use Rattle.std.specs.Prelude.{FitsSigned}
-use Rattle.std.specs.Int.{w64, cast_signed, cast_unsigned}
+use Rattle.std.specs.Int.{w64, cast_unsigned}
 use Rattle.std.proofs.Math.Nat.{mod-eq_of_lt}
 use Rattle.std.proofs.lemmas.Bool.{ltb-true, ltb-false, le-ltb, lt-ltb, cases_lt}
 use Rattle.std.proofs.lemmas.Int.{ints, to_z-of_z, of_z-to_z}
-use Rattle.std.proofs.lemmas.List.{length-append, length-take, take_at, drop_at, take-append-drop, get_or-take, get_or_past}
+use Rattle.std.proofs.lemmas.List.{length-append, length-take, drop_at, take-append-drop, get_or-take, get_or_past}
 use Rattle.std.proofs.lemmas.Nat.{le_bytes_2, le_bytes_4, le_bytes_8}
 use Rattle.byteorder.specs.Endian.{little_bytes, little_number, twos_complement}
 use Rattle.byteorder.specs.Numbers.{little_from-lt, little_from-take, little_number-reads_back, length-bytes_low_first}
 use Rattle.terms.specs.declared.put.TheConstants.{MOST_PUTS}
 use Rattle.codec.specs.declared.error.CodecError.{CodecError}
-use Rattle.codec.specs.declared.error.CodecError.TheVariants.{Short, Range, Kind}
+use Rattle.codec.specs.declared.error.CodecError.TheVariants.{Short, Range}
 use Rattle.codec.specs.Laws.{AreBytes}
 use Rattle.codec.specs.Spelling.{value_bytes}
-use Rattle.codec.specs.Reading.{Reading, number, value, go_on, always, fails, put_number}
-use Rattle.codec.proofs.Agreeing.{Agrees, Reads, exactly, went_on, same_read, bytes_are_low, one_last, of_other_parts}
+use Rattle.codec.specs.Reading.{number, value, go_on, always, fails, put_number}
+use Rattle.codec.proofs.Agreeing.{Agrees, exactly, went_on, same_read, bytes_are_low, one_last, of_other_parts}
 use Rattle.codec.proofs.ListLaws.{passed}
 use Rattle.codec.proofs.Numbers.{signed}
 

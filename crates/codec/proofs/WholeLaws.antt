@@ -1,11 +1,10 @@
 -- From values that are read as they are spelled, whatever follows, to the laws of whole spellings.
-use Rattle.std.proofs.Common.{◌≡◌, ℕ, List, [], ◌∷◌, ◌++◌, Result, Ok, Err, refl, sym, ap, subst, ◌∙◌}
+use Rattle.std.proofs.Common.{◌≡◌, ℕ, List, [], ◌∷◌, Result, Ok, Err, refl, sym, ap, ◌∙◌}
 use Rattle.std.proofs.lemmas.List.{append-nil}
 use Rattle.codec.specs.declared.error.CodecError.{CodecError}
-use Rattle.codec.specs.declared.error.CodecError.TheVariants.{Trailing}
-use Rattle.codec.specs.Laws.{AreBytes, ReadsBack, SpellsOne, BeginsNoOther}
+use Rattle.codec.specs.Laws.{ReadsBack, SpellsOne, BeginsNoOther}
 use Rattle.codec.specs.Reading.{Reading, all_used, whole}
-use Rattle.codec.proofs.Agreeing.{Agrees, Reads, exactly, same_read}
+use Rattle.codec.proofs.Agreeing.{Agrees, exactly, same_read}
 
 -- what was read as a whole left nothing
 nothing_left : {V : Type 0} (v value : V) (rest : List ℕ) → all_used v rest ≡ Ok value → (v ≡ value) × (rest ≡ [])

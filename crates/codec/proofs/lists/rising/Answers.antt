@@ -1,4 +1,4 @@
-use Rattle.std.proofs.Common.{◌≡◌, ◌++◌, ◌∷◌, [], inr, true, false, arith, rules, sym, ◌∙◌, Some, None}
+use Rattle.std.proofs.Common.{◌≡◌, ◌++◌, ◌∷◌, [], inr, true, false, rules, None}
 use Rattle.std.proofs.lemmas.Result.{err_from_is_err_and}
 use Rattle.codec.specs.Reading.{comes_after, rising}
 use Rattle.codec.proofs.Rising.{one_ranked, out_of_order, ranked_fault, all_ranked, list_read}

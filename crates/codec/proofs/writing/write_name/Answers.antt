@@ -1,5 +1,4 @@
-use Rattle.std.proofs.Common.{◌∷◌, [], ◌++◌, sym, ap, rules}
-use Rattle.byteorder.specs.Endian.{little_bytes}
+use Rattle.std.proofs.Common.{rules}
 use Rattle.codec.proofs.Appended.{kept_in_front}
 use Rattle.codec.proofs.writing.write_name.Goals as goal
 
