@@ -1,6 +1,7 @@
 //! Graph texts: their tokens, and the tree that they are.
 //!
-//! A text is one list of tokens, each the longest that stands there (`AreTokens`).
+//! A text is one list of tokens, each the longest that stands there (`AreTokens`). The layer above stands on `tokens`,
+//! which answers that list, and on the law `tokens_once`.
 #![tactic(auto)]
 
 mod characters;

@@ -23,7 +23,7 @@ fn assert_tokens<R: Abort + AllocGlobal>(rt: &R, text: &str, wanted: &str) -> Re
 
 #[test]
 fn texts_have_these_tokens(rt: HostRuntime) -> Result<(), Fail> {
-    let rows: [(&str, &str); 38] = [
+    let rows: [(&str, &str); 18] = [
         // No token.
         ("", ""),
         (" \t\r\n", ""),
@@ -33,44 +33,36 @@ fn texts_have_these_tokens(rt: HostRuntime) -> Result<(), Fail> {
             "0 Symbol(OpenBracket) 1 Name(\"x\") 3 Symbol(Colon) 4 Number(12) ",
         ),
         (" \ta\r\nb ", "2 Name(\"a\") 5 Name(\"b\") "),
-        // Names and numbers.
-        ("_", "0 Name(\"_\") "),
-        ("_0", "0 Name(\"_0\") "),
-        ("a_1Z9", "0 Name(\"a_1Z9\") "),
-        ("a1", "0 Name(\"a1\") "),
-        ("1a", "0 Number(1) 1 Name(\"a\") "),
-        ("Env IF", "0 Name(\"Env\") 4 Name(\"IF\") "),
-        ("0", "0 Number(0) "),
-        ("007", "0 Number(7) "),
-        ("-1", "0 Symbol(Minus) 1 Number(1) "),
-        // The greatest number, and one past it, which is the last token.
-        ("9223372036854775807", "0 Number(9223372036854775807) "),
-        ("0009223372036854775807", "0 Number(9223372036854775807) "),
+        // Names, and numbers up to the greatest.
+        (
+            "_ _0 a_1Z9 a1 1a Env",
+            "0 Name(\"_\") 2 Name(\"_0\") 5 Name(\"a_1Z9\") 11 Name(\"a1\") 14 Number(1) 15 Name(\"a\") 17 Name(\"Env\") ",
+        ),
+        (
+            "0 007 -1 1..2",
+            "0 Number(0) 2 Number(7) 6 Symbol(Minus) 7 Number(1) 9 Number(1) 10 Symbol(DoubleDot) 12 Number(2) ",
+        ),
+        (
+            "9223372036854775807 0009223372036854775807",
+            "0 Number(9223372036854775807) 20 Number(9223372036854775807) ",
+        ),
+        // One past it is the last token.
         ("9223372036854775808", "0 Unknown "),
         ("a 9223372036854775808 b", "0 Name(\"a\") 2 Unknown "),
         ("99999999999999999999999999", "0 Unknown "),
         // The longest sign first.
-        ("..", "0 Symbol(DoubleDot) "),
-        (". ..", "0 Unknown "),
+        (
+            "::: : : ->- <=> <-> ===",
+            "0 Symbol(DoubleColon) 2 Symbol(Colon) 4 Symbol(Colon) 6 Symbol(Colon) 8 Symbol(Arrow) 10 Symbol(Minus) 12 Symbol(LessOrEqual) 14 Symbol(Greater) 16 Symbol(Less) 17 Symbol(Arrow) 20 Symbol(Equal) 22 Symbol(Assign) ",
+        ),
         ("...", "0 Symbol(DoubleDot) 2 Unknown "),
-        ("1..2", "0 Number(1) 1 Symbol(DoubleDot) 3 Number(2) "),
+        (". ..", "0 Unknown "),
         ("!", "0 Unknown "),
-        ("!=", "0 Symbol(NotEqual) "),
         ("! =", "0 Unknown "),
-        (":::", "0 Symbol(DoubleColon) 2 Symbol(Colon) "),
-        (": :", "0 Symbol(Colon) 2 Symbol(Colon) "),
-        ("->-", "0 Symbol(Arrow) 2 Symbol(Minus) "),
-        ("<=>", "0 Symbol(LessOrEqual) 2 Symbol(Greater) "),
-        ("<->", "0 Symbol(Less) 1 Symbol(Arrow) "),
-        ("==", "0 Symbol(Equal) "),
-        ("=", "0 Symbol(Assign) "),
-        ("===", "0 Symbol(Equal) 2 Symbol(Assign) "),
         // An unknown character is the last token.
-        ("\0", "0 Unknown "),
         ("a\0b", "0 Name(\"a\") 1 Unknown "),
-        ("a \u{c} b", "0 Name(\"a\") 2 Unknown "),
+        ("\u{c}", "0 Unknown "),
         ("x @ 1 [", "0 Name(\"x\") 2 Unknown "),
-        ("\u{7f}", "0 Unknown "),
     ];
     for (text, wanted) in rows {
         assert_tokens(&rt, text, wanted)?;
