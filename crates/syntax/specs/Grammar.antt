@@ -1,21 +1,18 @@
--- The grammar of graph texts: its derivations, one constructor a production, with the tokens of each.
-use Rattle.std.specs.Prelude.{ℕ, List, [], ◌∷◌, ◌++◌, Option, Some, None}
-use Rattle.syntax.specs.declared.token.Word.TheVariants as kept
-use Rattle.syntax.specs.declared.token.Symbol.{Symbol}
-use Rattle.syntax.specs.declared.token.Symbol.TheVariants as sign
-use Rattle.syntax.specs.Tokens.{Lexeme, name, number, word, symbol, Spot}
+-- The grammar of graph texts: its derivations, one constructor a production.
+use Rattle.std.specs.Prelude.{ℕ, List, Option}
 
 -- a name and its position
 abbrev pub Named : Type 0
 Named = List ℕ × ℕ
 
--- the operators of the three levels
+-- ---- expressions
+
 pub data Comparison : Type 0 where
   equal : Comparison
   not_equal : Comparison
   less : Comparison
-  greater : Comparison
   less_or_equal : Comparison
+  greater : Comparison
   greater_or_equal : Comparison
 
 pub data Addition : Type 0 where
@@ -27,23 +24,101 @@ pub data Multiplication : Type 0 where
   over : Multiplication
   modulo : Multiplication
 
--- expr = sum [ comparison sum ]; sum = prod { addition prod }; prod = unary { multiplication unary };
--- unary = "-" unary | number | name | "(" expr ")"
 mutual
+  -- expr = sum [ comparison sum ]
   pub data Expr : Type 0 where
-    one_sum : Sum → Expr
+    sum_alone : Sum → Expr
     compared : Sum → Comparison → Sum → Expr
 
+  -- sum = prod { ( "+" | "-" ) prod }
   pub data Sum : Type 0 where
-    one_prod : Prod → Sum
+    prod_alone : Prod → Sum
     added : Sum → Addition → Prod → Sum
 
+  -- prod = unary { ( "*" | "/" | "%" ) unary }
   pub data Prod : Type 0 where
-    one_unary : Unary → Prod
+    unary_alone : Unary → Prod
     multiplied : Prod → Multiplication → Unary → Prod
 
+  -- unary = "-" unary | number | name | "(" expr ")"
   pub data Unary : Type 0 where
     negated : Unary → Unary
     literal : ℕ → Unary
     variable : Named → Unary
     bracketed : Expr → Unary
+
+-- [ ":" sum { "," sum } ]
+pub data Sums : Type 0 where
+  no_sums : Sums
+  sums : Sum → List Sum → Sums
+
+-- an item, "[" name sums "]", or a tag, "<" name sums ">"
+pub record Key : Type 0 where
+  pub collection : Named
+  pub components : Sums
+
+-- ---- statements
+
+mutual
+  -- a statement of a block whose own statements are of B:
+  -- own | name "=" expr ";" | "if" "(" expr ")" "{" .. "}" [ "else" "{" .. "}" ] | "for" name "in" expr ".." expr "{" .. "}"
+  pub data Statement (B : Type 0) : Type 0 where
+    own : B → Statement B
+    assigned : Named → Expr → Statement B
+    if_alone : Expr → Statements B → Statement B
+    if_else : Expr → Statements B → Statements B → Statement B
+    for : Named → Expr → Expr → Statements B → Statement B
+
+  pub data Statements (B : Type 0) : Type 0 where
+    no_more : Statements B
+    and_then : Statement B → Statements B → Statements B
+
+-- "get" name "=" item ";"
+pub record Get : Type 0 where
+  pub variable : Named
+  pub item : Key
+
+-- "put" item "=" expr ";" | "put" tag ";"
+pub data Put : Type 0 where
+  put_item : Key → Expr → Put
+  put_tag : Key → Put
+
+-- ---- graphs
+
+-- name { "," name }
+pub record Names : Type 0 where
+  pub first : Named
+  pub more : List Named
+
+-- "[" name [ ":" names ] "]" ";" | "<" name [ ":" names ] ">" ";"
+pub data Declaration : Type 0 where
+  item_declared : Named → Option Names → Declaration
+  tag_declared : Named → Option Names → Declaration
+
+pub data Relation : Type 0 where
+  -- "<" name ">" "::" "(" name ")" ";"
+  prescribes : Named → Named → Relation
+  -- "[" name "]" "->" "(" name ")" ";"
+  reads : Named → Named → Relation
+  -- "(" name ")" "->" "[" name "]" ";" and "(" name ")" "->" "<" name ">" ";"
+  puts_item : Named → Named → Relation
+  puts_tag : Named → Named → Relation
+  -- "env" "->" "[" name "]" ";" and "env" "->" "<" name ">" ";"
+  environment_puts_item : Named → Relation
+  environment_puts_tag : Named → Relation
+  -- "[" name "]" "->" "env" ";"
+  environment_gets : Named → Relation
+
+-- "step" name "(" [ names ] ")" "{" [ "var" names ";" ] "read" "{" .. "}" "write" "{" .. "}" "}"
+pub record StepText : Type 0 where
+  pub name : Named
+  pub parameters : Option Names
+  pub variables : Option Names
+  pub read : Statements Get
+  pub write : Statements Put
+
+-- { declaration } { relation } { step }
+pub record GraphText : Type 0 where
+  pub declarations : List Declaration
+  pub relations : List Relation
+  pub steps : List StepText

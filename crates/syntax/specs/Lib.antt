@@ -1,2 +1,3 @@
 pub mod Grammar
 pub mod Tokens
+pub mod Spelled

@@ -5,6 +5,7 @@
 #![tactic(auto)]
 
 mod characters;
+mod grammar;
 mod law;
 mod lexer;
 mod numbers;
@@ -14,6 +15,7 @@ mod tests;
 mod token;
 mod words;
 
+pub use grammar::grammar_example;
 pub use law::tokens_once;
 pub use lexer::tokens;
 pub use token::{Placed, Symbol, Token, Word};
