@@ -80,13 +80,14 @@ HistoriesKeep {D} files moment left_at failures = (rounds : List (Round D)) (fir
     → (contents : Contents) → MayLeaveNow (files (last first rounds)) contents → (cells : Cells) × KeepsCells (contents A) cells × MayHold files first rounds cells
 
 -- A put on an empty file A begins a journal: where its crash struck at a moment at which, or before which, none could leave
--- file A empty, it left no cell or the new one; and behind `ok` just the new one.
+-- file A empty, it left no cell or the new one.
 abbrev pub FirstPutBegins : {D : Type 0} → (D → Side → File) → (D → ℕ) → (D → ℕ → Contents → Type 0) → (D → ℕ) → Type 0
 FirstPutBegins {D} files moment left_at failures = (round : Round D) (key value : ℤ) (t : ℕ) → IsRound files moment left_at failures round
     → PutsAt round.command key value → (files round.before A).content ≡ [] → moment round.before ≤ t → t ≤ round.struck
     → ((contents : Contents) → left_at round.after t contents → contents A ≢ [])
     → (contents : Contents) → MayLeaveNow (files round.crashed) contents → KeepsEither [] key value (contents A)
 
+-- And behind `ok` each crash leaves just the new one.
 abbrev pub FirstOkStays : {D : Type 0} → (D → Side → File) → (D → ℕ) → (D → ℕ → Contents → Type 0) → (D → ℕ) → Type 0
 FirstOkStays {D} files moment left_at failures = (round : Round D) (key value : ℤ) → IsRound files moment left_at failures round
     → PutsAt round.command key value → (files round.before A).content ≡ [] → round.told ≡ true → round.reply ≡ said.Put
