@@ -2,4 +2,5 @@ pub mod Components
 pub mod Numbered
 pub mod Places
 pub mod Stated
+pub mod Told
 pub mod TwoKinds

@@ -4,3 +4,4 @@ pub mod Key
 pub mod Name
 pub mod Put
 pub mod Same
+pub mod Sets

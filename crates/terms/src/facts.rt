@@ -1,3 +1,4 @@
+ghost use Rattle.terms.specs.Sets.{OneFact, AmongBoth};
 ghost use Rattle.terms.specs.Facts.{FactsGoOn, EnvironmentGoesOn, EnvironmentIsStated, FactsOfExample, EnvironmentOfExample, NumbersOfPuts};
 
 /// A law, with nothing to run: what is stated by events, and by others behind them.
@@ -9,6 +10,12 @@ pub fn facts_go_on()
 /// A law, with nothing to run: what the environment put is part of what the events state.
 pub fn environment_is_stated()
     ensures { EnvironmentIsStated }
+{}
+
+/// A law, with nothing to run: facts are told apart, and so lists of facts are sets.
+pub fn facts_are_told_apart()
+    ensures one { OneFact }
+    ensures among { AmongBoth }
 {}
 
 /// Worked examples, with nothing to run: an item of the environment, and an instance that is done with two puts; and
@@ -27,6 +34,7 @@ mod tests {
     fn laws_are_there() {
         facts_go_on();
         environment_is_stated();
+        facts_are_told_apart();
         examples_of_facts();
     }
 }

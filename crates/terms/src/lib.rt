@@ -19,7 +19,7 @@ mod producer;
 mod put;
 
 pub use event::Event;
-pub use facts::{environment_is_stated, examples_of_facts, facts_go_on};
+pub use facts::{environment_is_stated, examples_of_facts, facts_are_told_apart, facts_go_on};
 pub use fault::FaultKind;
 pub use key::{Key, MAX_COMPONENTS};
 pub use name::{Addr, Inst, ItemCollection, StepCollection, Tag, TagCollection};
