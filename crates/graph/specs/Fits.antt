@@ -82,7 +82,7 @@ FitsAs g X (Stopped instance kind) = MayEnd g X instance
 -- the event fits the graph and the facts before it; behind a fault none does
 pub record Fits (g : Graph) (X : Facts) (event : Event) : Type 0 where
   pub working : HasNoFault X
-  pub as : FitsAs g X event
+  pub event_fits : FitsAs g X event
 
 -- ---- states
 

@@ -1,0 +1,55 @@
+-- Which events may be committed one after another, and when nothing is left to do.
+use Rattle.std.specs.Prelude.{◌≡◌, ◌⊎◌, ⊤, ℤ, true, false, List, [], ◌∷◌, ◌++◌}
+use Rattle.terms.specs.declared.name.Addr.{Addr}
+use Rattle.terms.specs.declared.name.Inst.{Inst}
+use Rattle.terms.specs.declared.fault.FaultKind.{FaultKind}
+use Rattle.terms.specs.declared.fault.FaultKind.TheVariants.{DoublePut}
+use Rattle.terms.specs.declared.producer.Producer.{Producer}
+use Rattle.terms.specs.declared.put.Put.{Put}
+use Rattle.terms.specs.declared.event.Event.{Event}
+use Rattle.terms.specs.declared.event.Event.TheVariants.{EnvItem, EnvTag, Done, Stopped}
+use Rattle.terms.specs.Facts.{Fact, tag, item, done, event_facts}
+use Rattle.terms.specs.Sets.{Facts, among}
+use Rattle.steptree.specs.Bodies.{Asks}
+use Rattle.graph.specs.Graph.{Graph, BodyMeans, EnvironmentMayPutItem, EnvironmentMayPutTag}
+use Rattle.graph.specs.Fits.{IsAbsent, IsPrescribed, HasNoFault, addresses, IsIn, IsTwiceIn, AreNew, Fits}
+use Rattle.machine.specs.Meaning.{items, BodyGives, BodyFaults}
+
+-- an item of these puts is there, or stands twice among them
+abbrev pub Conflicts : Facts → List Put → Type 0
+Conflicts X puts = (address : Addr) × (IsTwiceIn address (addresses puts)
+    ⊎ (IsIn address (addresses puts) × ((value : ℤ) × (by : Producer) × (X (item address value by) ≡ true))))
+
+-- an instance is at fault by its body, or by a double put of what its body gives
+abbrev pub IsAtFault : Graph → Facts → Inst → FaultKind → Type 0
+IsAtFault g X instance kind = BodyFaults g X instance kind ⊎ ((kind ≡ DoublePut) × ((puts : List Put) × BodyGives g X instance puts × Conflicts X puts))
+
+abbrev pub IsLegalAs : Graph → Facts → Event → Type 0
+IsLegalAs g X (EnvItem address value) = EnvironmentMayPutItem g address × IsAbsent X address
+IsLegalAs g X (EnvTag name) = EnvironmentMayPutTag g name × (X (tag name) ≡ false)
+IsLegalAs g X (Done instance puts) = IsPrescribed g X instance × (X (done instance) ≡ false) × BodyGives g X instance puts × AreNew X puts
+IsLegalAs g X (Stopped instance kind) = IsPrescribed g X instance × (X (done instance) ≡ false) × IsAtFault g X instance kind
+
+-- the event may come where these facts are there, and none comes behind a fault
+pub record IsLegal (g : Graph) (X : Facts) (event : Event) : Type 0 where
+  pub working : HasNoFault X
+  pub event_is_legal : IsLegalAs g X event
+
+-- each event of the list may come behind these facts and those of the events before it
+abbrev pub AreLegal : Graph → List Fact → List Event → Type 0
+AreLegal g before [] = ⊤
+AreLegal g before (event ∷ events) = IsLegal g (among before) event × AreLegal g (before ++ event_facts event) events
+
+-- and the same of events that fit
+abbrev pub AllFit : Graph → List Fact → List Event → Type 0
+AllFit g before [] = ⊤
+AllFit g before (event ∷ events) = Fits g (among before) event × AllFit g (before ++ event_facts event) events
+
+-- over the items of the set the instance asks for one that is not there
+abbrev pub IsBlocked : Graph → Facts → Inst → Type 0
+IsBlocked g X instance = (address : Addr) × BodyMeans g instance (items X) (Asks address)
+
+-- no instance is at fault, and each that is prescribed is done or asks for an item that is not there
+pub record IsQuiet (g : Graph) (X : Facts) : Type 0 where
+  pub no_fault : HasNoFault X
+  pub ended : (instance : Inst) → IsPrescribed g X instance → (X (done instance) ≡ true) ⊎ IsBlocked g X instance
