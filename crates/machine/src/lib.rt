@@ -3,3 +3,7 @@
 //! `Meaning` of `specs/Meaning.antt` is the least set of facts that a graph has on an environment; `AreLegal` of
 //! `specs/Legal.antt` tells which events may be committed one after another. The layers above stand on the laws of `laws`.
 #![tactic(auto)]
+
+mod laws;
+
+pub use laws::{legal_events_fit, legal_lists_go_on, one_end, quiet_is_meaning, stays_within, stopped_is_not_clean};

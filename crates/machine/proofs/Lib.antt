@@ -1,0 +1,6 @@
+pub mod Grown
+pub mod Kept
+pub mod PutFacts
+pub mod Quiet
+pub mod Sets
+pub mod Within

@@ -1,0 +1,71 @@
+//! The laws of what a graph means. Each is a contract, with nothing to run.
+ghost use Rattle.machine.specs.Laws.{StaysWithin, QuietIsMeaning, QuietIsClean, StoppedIsMeant, StoppedOrQuiet, OneEnd, GoesOn, HasLegalParts, LegalFits, FitKeeps, FitKeepsOneItem};
+
+use steptree::{ends_once, keeps_to_its_sheet};
+use terms::facts_are_told_apart;
+
+/// After a legal list of events from nothing the facts are within the meaning of the graph on what the environment put.
+pub fn stays_within()
+    ensures { StaysWithin }
+{
+    facts_are_told_apart();
+}
+
+/// Where nothing is left to do the facts are the meaning, and the meaning has no fault and one item at an address.
+pub fn quiet_is_meaning()
+    ensures meaning { QuietIsMeaning }
+    ensures clean { QuietIsClean }
+{
+    facts_are_told_apart();
+    ends_once();
+}
+
+/// Where a legal list ends in a fault the meaning has that fault, and no legal list on its environment is quiet.
+pub fn stopped_is_not_clean()
+    ensures meant { StoppedIsMeant }
+    ensures not_quiet { StoppedOrQuiet }
+{
+    facts_are_told_apart();
+    ends_once();
+}
+
+/// Two legal lists on one environment at whose ends nothing is left to do have the same facts, whatever their order.
+pub fn one_end()
+    ensures { OneEnd }
+{
+    facts_are_told_apart();
+    ends_once();
+}
+
+/// Legal lists one behind the other are a legal list, and each part of one is legal behind the parts before it.
+pub fn legal_lists_go_on()
+    ensures goes_on { GoesOn }
+    ensures parts { HasLegalParts }
+{
+    facts_are_told_apart();
+}
+
+/// Legal events fit, and what they leave fits.
+pub fn legal_events_fit()
+    ensures fit { LegalFits }
+    ensures keeps { FitKeeps }
+    ensures one_item { FitKeepsOneItem }
+{
+    facts_are_told_apart();
+    keeps_to_its_sheet();
+}
+
+#[cfg(test)]
+mod tests {
+    use super::*;
+
+    #[test]
+    fn laws_are_there() {
+        stays_within();
+        quiet_is_meaning();
+        stopped_is_not_clean();
+        one_end();
+        legal_lists_go_on();
+        legal_events_fit();
+    }
+}
