@@ -1,5 +1,6 @@
--- Which events fit a graph and facts, and which facts fit a graph. The bodies of steps play no part.
-use Rattle.std.specs.Prelude.{◌≡◌, ◌⊎◌, ℕ, ℤ, Bool, true, false, List, [], ◌∷◌, ◌++◌, length}
+-- Which events fit a graph and facts, and which facts fit a graph. The bodies of steps play no part, nor does what a step
+-- may put; and that a number is one of 64 bits stands elsewhere.
+use Rattle.std.specs.Prelude.{◌≡◌, ⊤, ℕ, ℤ, Bool, true, false, List, [], ◌∷◌, ◌++◌, length}
 use Rattle.std.specs.List.{AllByRecursion}
 use Rattle.terms.specs.declared.name.Addr.{Addr}
 use Rattle.terms.specs.declared.name.Tag.{Tag}
@@ -93,14 +94,25 @@ FactIsOf g (item address value by) = AddressIsOf g address
 FactIsOf g (done instance) = InstanceIsOf g instance
 FactIsOf g (bad instance kind) = InstanceIsOf g instance
 
--- the facts X, of which the environment put E, fit the graph
+-- what an environment can put: tags, and items of its own
+abbrev pub IsOfEnvironment : Fact → Type 0
+IsOfEnvironment (tag name) = ⊤
+IsOfEnvironment (item address value Env) = ⊤
+IsOfEnvironment fact = ⊥
+
+-- The facts X, of which the environment put E, fit the graph. An item tells itself who put it, a tag does not: of a tag only
+-- E tells. That no two items are at one address stands beside it.
 pub record FitsState (g : Graph) (E X : Facts) : Type 0 where
+  pub part : (fact : Fact) → E fact ≡ true → X fact ≡ true
+  pub of_environment : (fact : Fact) → E fact ≡ true → IsOfEnvironment fact
+  pub items : (address : Addr) (value : ℤ) → X (item address value Env) ≡ true → E (item address value Env) ≡ true
   pub of_graph : (fact : Fact) → X fact ≡ true → FactIsOf g fact
   pub environment_items : (address : Addr) (value : ℤ) → X (item address value Env) ≡ true → EnvironmentMayPutItem g address
   pub environment_tags : (name : Tag) → E (tag name) ≡ true → EnvironmentMayPutTag g name
   pub done_are_prescribed : (instance : Inst) → X (done instance) ≡ true → IsPrescribed g X instance
   pub producers_are_done : (address : Addr) (value : ℤ) (instance : Inst) (number : ℕ) → X (item address value (By instance number)) ≡ true → X (done instance) ≡ true
   pub fault : (instance : Inst) (kind : FaultKind) → X (bad instance kind) ≡ true → IsPrescribed g X instance × (X (done instance) ≡ false)
+  pub one_fault : (i j : Inst) (k l : FaultKind) → X (bad i k) ≡ true → X (bad j l) ≡ true → (i ≡ j) × (k ≡ l)
 
 -- no two items are at one address
 abbrev pub HasOneItemEach : Facts → Type 0

@@ -17,7 +17,7 @@ pub record Collection : Type 0 where
   pub name : List ℕ
   pub components : ℕ
 
--- a step: its name, the number of the tag collection that prescribes it, the names of its parameters and then of its
+-- a step collection: its name, the number of the tag collection that prescribes it, the names of its parameters and then of its
 -- variables, what it may read and what it may put, each by the numbers of the collections, and its body
 pub record Step : Type 0 where
   pub name : List ℕ
@@ -68,7 +68,7 @@ EnvironmentMayPutItem g address = IsOf g.items address.collection.0 (length addr
 abbrev pub EnvironmentMayPutTag : Graph → Tag → Type 0
 EnvironmentMayPutTag g tag = IsOf g.tags tag.collection.0 (length tag.key) × (get_or g.environment_tag_puts tag.collection.0 false ≡ true)
 
--- ---- graphs that a text can give
+-- ---- what is kept of a graph
 
 -- the sheet is what the graph lets the step name
 pub record IsSheet (g : Graph) (step : Step) (sheet : Sheet) : Type 0 where
@@ -91,9 +91,15 @@ pub record IsOfGraph (g : Graph) (step : Step) : Type 0 where
   pub sheet : Sheet
   pub is_sheet : IsSheet g step sheet
   pub keeps : BodyKeepsTo sheet step.body
+  pub each_read : length step.reads ≡ length g.items
+  pub each_item_put : length step.item_puts ≡ length g.items
+  pub each_tag_put : length step.tag_puts ≡ length g.tags
 
 pub record IsGraph (g : Graph) : Type 0 where
   pub items : AreCollections g.items
   pub tags : AreCollections g.tags
   pub few : length g.steps ≤ MOST_COLLECTIONS
   pub steps : (number : ℕ) (step : Step) → IsStep g number step → IsOfGraph g step
+  pub each_item : length g.environment_item_puts ≡ length g.items
+  pub each_tag : length g.environment_tag_puts ≡ length g.tags
+  pub each_get : length g.environment_gets ≡ length g.items

@@ -50,27 +50,83 @@ gave_within g X Y within instance it = record {
   distinct = it.distinct;
 }
 
+-- the items of these facts are at addresses that have none in the set, and no two of them are at one
+pub record AddsItems (X : Facts) (more : List Fact) : Type 0 where
+  pub new : (address : Addr) (value : ℤ) (by : Producer) → among more (item address value by) ≡ true → IsAbsent X address
+  pub each : HasOneItemEach (among more)
+
 module _ (told : OneFact) (both : AmongBoth) where
-  -- an item that is new keeps one item each
-  module _ (before more : List Fact) (new : (address : Addr) (value : ℤ) (by : Producer) → among more (item address value by) ≡ true → IsAbsent (among before) address)
-      (old : HasOneItemEach (among before)) (each : HasOneItemEach (among more)) where
-    pub one_item_more : HasOneItemEach (among (before ++ more))
-    one_item_more address v w p q one two =
-        elim (of_both both before more (item address v p) one) [
-          inl first ↦ elim (of_both both before more (item address w q) two) [
-              inl second ↦ old address v w p q first second
-            | inr second ↦ not_both (among before (item address v p)) first (new address w q second v p)
-            ]
-        | inr first ↦ elim (of_both both before more (item address w q) two) [
-              inl second ↦ not_both (among before (item address w q)) second (new address v p first w q)
-            | inr second ↦ each address v w p q first second
-            ]
-        ]
+  pub one_item_more : (before more : List Fact) → AddsItems (among before) more → HasOneItemEach (among before) → HasOneItemEach (among (before ++ more))
+  one_item_more before more adds old address v w p q one two =
+      elim (of_both both before more (item address v p) one) [
+        inl first ↦ elim (of_both both before more (item address w q) two) [
+            inl second ↦ old address v w p q first second
+          | inr second ↦ not_both (among before (item address v p)) first (adds.new address w q second v p)
+          ]
+      | inr first ↦ elim (of_both both before more (item address w q) two) [
+            inl second ↦ not_both (among before (item address w q)) second (adds.new address v p first w q)
+          | inr second ↦ adds.each address v w p q first second
+          ]
+      ]
+
+  pub only : (one : Fact) (fact : Fact) → among (one ∷ []) fact ≡ true → one ≡ fact
+  only one fact holds = elim (of_list told one [] fact holds) [ inl same ↦ same | inr none ↦ absurd (false≢true none) ]
+
+  pub adds_no_item : (X : Facts) (one : Fact) → ((address : Addr) (value : ℤ) (by : Producer) → one ≡ item address value by → ⊥) → AddsItems X (one ∷ [])
+  adds_no_item X one no_item = record {
+    new = λ address value by there. absurd (no_item address value by (only one (item address value by) there));
+    each = λ address v w p q first second. absurd (no_item address v p (only one (item address v p) first));
+  }
+
+  -- an item of the environment
+  module _ (X : Facts) (address : Addr) (value : ℤ) (absent : IsAbsent X address) where
+    abbrev it : Fact
+    it = item address value Env
+
+    its_address : (other : Addr) (w : ℤ) (by : Producer) → it ≡ item other w by → address ≡ other
+    its_address other w by same = cc
+
+    its_value : (other : Addr) (w : ℤ) (by : Producer) → it ≡ item other w by → value ≡ w
+    its_value other w by same = cc
+
+    its_producer : (other : Addr) (w : ℤ) (by : Producer) → it ≡ item other w by → Env ≡ by
+    its_producer other w by same = cc
+
+    pub adds_item : AddsItems X (it ∷ [])
+    adds_item = record {
+      new = λ other w by there. subst (λ (a : Addr). IsAbsent X a) (its_address other w by (only it (item other w by) there)) absent;
+      each = λ other v w p q first second. (sym (its_value other v p (only it (item other v p) first)) ∙ its_value other w q (only it (item other w q) second),
+                                            sym (its_producer other v p (only it (item other v p) first)) ∙ its_producer other w q (only it (item other w q) second));
+    }
+
+  -- an instance that is done, with its puts
+  module _ (X : Facts) (instance : Inst) (puts : List Put) (new : AreNew X puts) where
+    abbrev its : List Fact
+    its = done instance ∷ put_facts instance 0 puts
+
+    -- an item of these is one of the puts
+    pub of_puts : (address : Addr) (value : ℤ) (by : Producer) → among its (item address value by) ≡ true → among (put_facts instance 0 puts) (item address value by) ≡ true
+    of_puts address value by there =
+        elim (of_list told (done instance) (put_facts instance 0 puts) (item address value by) there) [ inl same ↦ absurd (cc) | inr one ↦ one ]
+
+    pub adds_puts : AddsItems X its
+    adds_puts = record {
+      new = λ address value by there. new.absent address (item_is_put told instance 0 puts address value by (of_puts address value by there)).0;
+      each = λ address v w p q one two. one_item_each told instance 0 puts new.distinct address v w p q (of_puts address v p one) (of_puts address w q two);
+    }
+
+    -- who put one of them is done
+    pub its_producers : ProducersAreDone (among its)
+    its_producers address value other number there =
+        let one = item_is_put told instance 0 puts address value (By other number) (of_puts address value (By other number) there) in
+        let same : other ≡ instance = one_instance other number one.1.0 one.1.1 in
+        subst (λ (i : Inst). among its (done i) ≡ true) (sym same) (the_first told (done instance) (put_facts instance 0 puts))
+      where
+        one_instance : (other : Inst) (m n : ℕ) → By other m ≡ By instance n → other ≡ instance
+        one_instance other m n same = cc
 
   -- what is stated beside them keeps all three
-  module _ (g : Graph) (before more : List Fact) (kept : Kept g (among before))
-      (new : (address : Addr) (value : ℤ) (by : Producer) → among more (item address value by) ≡ true → IsAbsent (among before) address)
-      (each : HasOneItemEach (among more)) (producers : ProducersAreDone (among more))
+  module _ (g : Graph) (before more : List Fact) (kept : Kept g (among before)) (adds : AddsItems (among before) more) (producers : ProducersAreDone (among more))
       (gave : (instance : Inst) → among more (done instance) ≡ true → Gave g (among (before ++ more)) instance) where
     producers_more : ProducersAreDone (among (before ++ more))
     producers_more address value instance number there =
@@ -87,94 +143,53 @@ module _ (told : OneFact) (both : AmongBoth) where
         ]
 
     kept_more : Kept g (among (before ++ more))
-    kept_more = record { one_item = one_item_more before more new kept.one_item each; producers = producers_more; gave = gave_more }
-
-  pub only : (one : Fact) (fact : Fact) → among (one ∷ []) fact ≡ true → one ≡ fact
-  only one fact holds = elim (of_list told one [] fact holds) [ inl same ↦ same | inr none ↦ absurd (false≢true none) ]
+    kept_more = record { one_item = one_item_more before more adds kept.one_item; producers = producers_more; gave = gave_more }
 
   -- one fact that is neither an item nor a done instance
   module _ (g : Graph) (before : List Fact) (one : Fact) (kept : Kept g (among before))
       (no_item : (address : Addr) (value : ℤ) (by : Producer) → one ≡ item address value by → ⊥) (not_done : (instance : Inst) → one ≡ done instance → ⊥) where
     kept_other : Kept g (among (before ++ one ∷ []))
-    kept_other = kept_more g before (one ∷ []) kept
-        (λ address value by there. absurd (no_item address value by (only one (item address value by) there)))
-        (λ address v w p q first second. absurd (no_item address v p (only one (item address v p) first)))
+    kept_other = kept_more g before (one ∷ []) kept (adds_no_item (among before) one no_item)
         (λ address value instance number there. absurd (no_item address value (By instance number) (only one (item address value (By instance number)) there)))
         (λ instance there. absurd (not_done instance (only one (done instance) there)))
 
   -- an item of the environment
-  module _ (g : Graph) (before : List Fact) (address : Addr) (value : ℤ) (kept : Kept g (among before)) (absent : IsAbsent (among before) address) where
-    abbrev it : Fact
-    it = item address value Env
+  kept_item : (g : Graph) (before : List Fact) (address : Addr) (value : ℤ) → Kept g (among before) → IsAbsent (among before) address → Kept g (among (before ++ item address value Env ∷ []))
+  kept_item g before address value kept absent = kept_more g before (item address value Env ∷ []) kept (adds_item (among before) address value absent)
+      (λ other w instance number there. absurd (not_by other w instance number (only (item address value Env) (item other w (By instance number)) there)))
+      (λ instance there. absurd (not_done instance (only (item address value Env) (done instance) there)))
+    where
+      not_by : (other : Addr) (w : ℤ) (instance : Inst) (number : ℕ) → item address value Env ≡ item other w (By instance number) → ⊥
+      not_by other w instance number same = cc
 
-    its_address : (other : Addr) (w : ℤ) (by : Producer) → it ≡ item other w by → address ≡ other
-    its_address other w by same = cc
-
-    its_value : (other : Addr) (w : ℤ) (by : Producer) → it ≡ item other w by → value ≡ w
-    its_value other w by same = cc
-
-    its_producer : (other : Addr) (w : ℤ) (by : Producer) → it ≡ item other w by → Env ≡ by
-    its_producer other w by same = cc
-
-    not_by : (instance : Inst) (number : ℕ) → Env ≡ By instance number → ⊥
-    not_by instance number same = cc
-
-    not_done : (instance : Inst) → it ≡ done instance → ⊥
-    not_done instance same = cc
-
-    kept_item : Kept g (among (before ++ it ∷ []))
-    kept_item = kept_more g before (it ∷ []) kept
-        (λ other w by there. subst (λ (a : Addr). IsAbsent (among before) a) (its_address other w by (only it (item other w by) there)) absent)
-        (λ other v w p q first second. (sym (its_value other v p (only it (item other v p) first)) ∙ its_value other w q (only it (item other w q) second),
-                                        sym (its_producer other v p (only it (item other v p) first)) ∙ its_producer other w q (only it (item other w q) second)))
-        (λ other w instance number there. absurd (not_by instance number (its_producer other w (By instance number) (only it (item other w (By instance number)) there))))
-        (λ instance there. absurd (not_done instance (only it (done instance) there)))
+      not_done : (instance : Inst) → item address value Env ≡ done instance → ⊥
+      not_done instance same = cc
 
   -- an instance that is done
   module _ (g : Graph) (before : List Fact) (instance : Inst) (puts : List Put) (kept : Kept g (among before)) (gives : BodyGives g (among before) instance puts) (new : AreNew (among before) puts) where
-    abbrev its : List Fact
-    its = done instance ∷ put_facts instance 0 puts
+    abbrev of_it : List Fact
+    of_it = done instance ∷ put_facts instance 0 puts
 
-    -- an item of these is one of the puts
-    of_puts : (address : Addr) (value : ℤ) (by : Producer) → among its (item address value by) ≡ true → among (put_facts instance 0 puts) (item address value by) ≡ true
-    of_puts address value by there =
-        elim (of_list told (done instance) (put_facts instance 0 puts) (item address value by) there) [ inl same ↦ absurd (cc) | inr it ↦ it ]
-
-    its_new : (address : Addr) (value : ℤ) (by : Producer) → among its (item address value by) ≡ true → IsAbsent (among before) address
-    its_new address value by there = new.absent address (item_is_put told instance 0 puts address value by (of_puts address value by there)).0
-
-    its_each : HasOneItemEach (among its)
-    its_each address v w p q one two = one_item_each told instance 0 puts new.distinct address v w p q (of_puts address v p one) (of_puts address w q two)
-
-    its_producers : ProducersAreDone (among its)
-    its_producers address value other number there =
-        let it = item_is_put told instance 0 puts address value (By other number) (of_puts address value (By other number) there) in
-        let same : other ≡ instance = one_instance other number it.1.0 it.1.1 in
-        subst (λ (i : Inst). among its (done i) ≡ true) (sym same) (the_first told (done instance) (put_facts instance 0 puts))
-      where
-        one_instance : (other : Inst) (m n : ℕ) → By other m ≡ By instance n → other ≡ instance
-        one_instance other m n same = cc
-
-    its_gave : (other : Inst) → among its (done other) ≡ true → Gave g (among (before ++ its)) other
+    its_gave : (other : Inst) → among of_it (done other) ≡ true → Gave g (among (before ++ of_it)) other
     its_gave other there =
         elim (of_list told (done instance) (put_facts instance 0 puts) (done other) there) [
-          inl same ↦ subst (λ (i : Inst). Gave g (among (before ++ its)) i) (one_instance same) gave
+          inl same ↦ subst (λ (i : Inst). Gave g (among (before ++ of_it)) i) (one_instance same) gave
         | inr it ↦ absurd (no_done told instance 0 puts other it)
         ]
       where
         one_instance : done instance ≡ done other → instance ≡ other
         one_instance same = cc
 
-        gave : Gave g (among (before ++ its)) instance
+        gave : Gave g (among (before ++ of_it)) instance
         gave = record {
           puts = puts;
-          gives = gives_within g (among before) (among (before ++ its)) (in_one both before its) instance puts gives;
-          there = λ fact holds. in_two both before its fact (behind_first told (done instance) (put_facts instance 0 puts) fact holds);
+          gives = gives_within g (among before) (among (before ++ of_it)) (in_one both before of_it) instance puts gives;
+          there = λ fact holds. in_two both before of_it fact (behind_first told (done instance) (put_facts instance 0 puts) fact holds);
           distinct = new.distinct;
         }
 
-    kept_done : Kept g (among (before ++ its))
-    kept_done = kept_more g before its kept its_new its_each its_producers its_gave
+    kept_done : Kept g (among (before ++ of_it))
+    kept_done = kept_more g before of_it kept (adds_puts (among before) instance puts new) (its_producers (among before) instance puts new) its_gave
 
   pub kept_event : (g : Graph) (before : List Fact) (event : Event) → Kept g (among before) → IsLegal g (among before) event → Kept g (among (before ++ event_facts event))
   kept_event g before (EnvItem address value) kept legal = kept_item g before address value kept legal.event_is_legal.1

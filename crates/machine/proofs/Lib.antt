@@ -1,3 +1,4 @@
+pub mod Fit
 pub mod Grown
 pub mod Kept
 pub mod PutFacts

@@ -17,7 +17,7 @@ use Rattle.graph.specs.Graph.{Graph, BodyMeans}
 use Rattle.graph.specs.Fits.{IsPrescribed, addresses}
 use Rattle.machine.specs.Meaning.{items, BodyGives, BodyFaults, IsAnother, IsDoubled, IsClosed, Meaning, IsClean}
 use Rattle.machine.specs.Legal.{AreLegal, IsQuiet}
-use Rattle.machine.specs.Laws.{stated, given, OnOneEnvironment}
+use Rattle.machine.specs.Laws.{stated, put_by_environment, IsThere}
 use Rattle.machine.proofs.Sets.{Within, not_both, same_truth, given_is_stated}
 use Rattle.machine.proofs.Grown.{one_ending}
 use Rattle.machine.proofs.PutFacts.{put_has_item}
@@ -35,7 +35,7 @@ module _ (told : OneFact) (both : AmongBoth) (once : LookUpEndsOnce) (g : Graph)
     -- an instance that gives puts is done, and these are its puts
     gave : (instance : Inst) (puts : List Put) → IsPrescribed g X instance → BodyGives g X instance puts → (it : Gave g X instance) × (it.puts ≡ puts) × (X (done instance) ≡ true)
     gave instance puts prescribed gives =
-        elim (quiet.ended instance prescribed) [
+        elim (quiet.done_or_blocked instance prescribed) [
           inl is_done ↦ (let it = (kept_from_nothing told both g events legal).gave instance is_done in
             (it, same_puts it.puts puts (unique instance (Gives it.puts) (Gives puts) it.gives gives), is_done))
         | inr blocked ↦ absurd (asks_gives blocked.0 puts (unique instance (Asks blocked.0) (Gives puts) blocked.1 gives))
@@ -68,7 +68,7 @@ module _ (told : OneFact) (both : AmongBoth) (once : LookUpEndsOnce) (g : Graph)
 
     no_faults : (instance : Inst) (kind : FaultKind) → IsPrescribed g X instance → BodyFaults g X instance kind → ⊥
     no_faults instance kind prescribed faults =
-        elim (quiet.ended instance prescribed) [
+        elim (quiet.done_or_blocked instance prescribed) [
           inl is_done ↦ (let it = (kept_from_nothing told both g events legal).gave instance is_done in
             gives_faults it.puts (unique instance (Gives it.puts) (Faults kind) it.gives faults))
         | inr blocked ↦ asks_faults blocked.0 (unique instance (Asks blocked.0) (Faults kind) blocked.1 faults)
@@ -80,7 +80,7 @@ module _ (told : OneFact) (both : AmongBoth) (once : LookUpEndsOnce) (g : Graph)
         asks_faults : (address : Addr) → Asks address ≡ Faults kind → ⊥
         asks_faults address same = cc
 
-    is_closed : IsClosed g (given events) X
+    is_closed : IsClosed g (put_by_environment events) X
     is_closed = record {
       environment = given_is_stated both events;
       done = λ instance puts prescribed gives. (gave instance puts prescribed gives).2;
@@ -92,39 +92,31 @@ module _ (told : OneFact) (both : AmongBoth) (once : LookUpEndsOnce) (g : Graph)
       faults = λ instance kind prescribed faults. absurd (no_faults instance kind prescribed faults);
     }
 
-    pub quiet_is_meaning : (fact : Fact) → Meaning g (given events) fact → stated events fact ≡ true
+    pub quiet_is_meaning : (fact : Fact) → Meaning g (put_by_environment events) fact → stated events fact ≡ true
     quiet_is_meaning fact meant = meant X is_closed
 
-    pub quiet_is_clean : IsClean g (given events)
+    pub quiet_is_clean : IsClean g (put_by_environment events)
     quiet_is_clean = record {
       no_fault = λ instance kind meant. not_both (X (bad instance kind)) (quiet_is_meaning (bad instance kind) meant) (quiet.no_fault instance kind);
       one_item = λ address v w p q one two. (kept_from_nothing told both g events legal).one_item address v w p q
           (quiet_is_meaning (item address v p) one) (quiet_is_meaning (item address w q) two);
     }
 
-  -- a meaning is that of its environment as a set
-  other_environment : (E F : Facts) → ((fact : Fact) → E fact ≡ F fact) → (fact : Fact) → Meaning g E fact → Meaning g F fact
-  other_environment E F same fact meant Y closed = meant Y (record {
-    environment = λ f there. closed.environment f (sym (same f) ∙ there);
-    done = closed.done;
-    puts = closed.puts;
-    doubled = closed.doubled;
-    faults = closed.faults;
-  })
+  -- a meaning is within each quiet set that has its environment
+  within_quiet : (one two : List Event) → AreLegal g [] two → IsQuiet g (stated two) → IsThere one two → (fact : Fact) → Meaning g (put_by_environment one) fact → stated two fact ≡ true
+  within_quiet one two legal quiet there fact meant =
+      let closed = is_closed two legal quiet in
+      meant (stated two) (record { environment = there; done = closed.done; puts = closed.puts; doubled = closed.doubled; faults = closed.faults })
 
   pub stopped_or_quiet : (one two : List Event) (instance : Inst) (kind : FaultKind) → AreLegal g [] (one ++ Stopped instance kind ∷ []) → AreLegal g [] two
-      → OnOneEnvironment one two → IsQuiet g (stated two) → ⊥
-  stopped_or_quiet one two instance kind first second same quiet =
-      (quiet_is_clean two second quiet).no_fault instance kind
-        (other_environment (given one) (given two) same (bad instance kind) (stopped_is_meant told both g one instance kind first))
+      → IsThere one two → IsQuiet g (stated two) → ⊥
+  stopped_or_quiet one two instance kind first second there quiet =
+      not_both (stated two (bad instance kind)) (within_quiet one two second quiet there (bad instance kind) (stopped_is_meant told both g one instance kind first)) (quiet.no_fault instance kind)
 
-  goes_over : (one two : List Event) → AreLegal g [] one → AreLegal g [] two → ((fact : Fact) → given one fact ≡ given two fact) → IsQuiet g (stated two)
-      → (fact : Fact) → stated one fact ≡ true → stated two fact ≡ true
-  goes_over one two first second same quiet fact there =
-      quiet_is_meaning two second quiet fact (other_environment (given one) (given two) same fact (stays_within told both g one first fact there))
+  goes_over : (one two : List Event) → AreLegal g [] one → AreLegal g [] two → IsThere one two → IsQuiet g (stated two) → (fact : Fact) → stated one fact ≡ true → stated two fact ≡ true
+  goes_over one two first second there quiet fact it = within_quiet one two second quiet there fact (stays_within told both g one first fact it)
 
-  pub one_end : (one two : List Event) → AreLegal g [] one → AreLegal g [] two → OnOneEnvironment one two → IsQuiet g (stated one) → IsQuiet g (stated two)
+  pub one_end : (one two : List Event) → AreLegal g [] one → AreLegal g [] two → IsThere one two → IsThere two one → IsQuiet g (stated one) → IsQuiet g (stated two)
       → (fact : Fact) → stated one fact ≡ stated two fact
-  one_end one two first second same quiet_one quiet_two fact =
-      same_truth (stated one fact) (stated two fact) (goes_over one two first second same quiet_two fact)
-        (goes_over two one second first (λ f. sym (same f)) quiet_one fact)
+  one_end one two first second there back quiet_one quiet_two fact =
+      same_truth (stated one fact) (stated two fact) (goes_over one two first second there quiet_two fact) (goes_over two one second first back quiet_one fact)

@@ -52,7 +52,7 @@ module _ (both : AmongBoth) where
   in_two one two fact holds = both one two fact ∙ or_right (among one fact) (among two fact) holds
 
   -- what the environment put is stated
-  given_in_event : (event : Event) → Within (among (environment_facts event)) (among (event_facts event))
+  pub given_in_event : (event : Event) → Within (among (environment_facts event)) (among (event_facts event))
   given_in_event (EnvItem address value) fact holds = holds
   given_in_event (EnvTag name) fact holds = holds
   given_in_event (Done instance puts) fact holds = absurd (false≢true holds)

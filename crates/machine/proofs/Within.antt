@@ -17,7 +17,7 @@ use Rattle.graph.specs.Graph.{Graph}
 use Rattle.graph.specs.Fits.{addresses, IsIn, IsTwiceIn}
 use Rattle.machine.specs.Meaning.{BodyGives, IsAnother, IsDoubled, IsClosed, Meaning}
 use Rattle.machine.specs.Legal.{Conflicts, IsAtFault, IsLegal, AreLegal}
-use Rattle.machine.specs.Laws.{stated, given}
+use Rattle.machine.specs.Laws.{stated, put_by_environment}
 use Rattle.machine.proofs.Sets.{Within, of_list, of_both, in_one, in_two, not_both}
 use Rattle.machine.proofs.Grown.{prescribed_within, gives_within, faults_within}
 use Rattle.machine.proofs.Kept.{Kept, ProducersAreDone, kept_nothing, kept_event, kept_list, only}
@@ -80,9 +80,9 @@ module _ (told : OneFact) (both : AmongBoth) (g : Graph) where
   kept_from_nothing events legal = kept_list told both g [] events (kept_nothing g) legal
 
   -- after a legal list from nothing the facts are within the meaning
-  pub stays_within : (events : List Event) → AreLegal g [] events → (fact : Fact) → stated events fact ≡ true → Meaning g (given events) fact
+  pub stays_within : (events : List Event) → AreLegal g [] events → (fact : Fact) → stated events fact ≡ true → Meaning g (put_by_environment events) fact
   stays_within events legal fact there Y closed =
-      list_within told both g (given events) Y closed [] events (kept_nothing g) (λ f none. absurd (false≢true none)) legal (λ f it. it) fact there
+      list_within told both g (put_by_environment events) Y closed [] events (kept_nothing g) (λ f none. absurd (false≢true none)) legal (λ f it. it) fact there
 
   -- the parts of a legal list
   pub parts : (before : List Fact) (one two : List Event) → AreLegal g before (one ++ two) → AreLegal g before one × AreLegal g (before ++ facts one) two
@@ -97,8 +97,8 @@ module _ (told : OneFact) (both : AmongBoth) (g : Graph) where
       (first.0, goes_on (before ++ event_facts event) one two first.1 (subst (λ (list : List Fact). AreLegal g list two) (sym (append_assoc before (event_facts event) (facts one))) second))
 
   -- a fault at the end of a legal list is meant
-  pub stopped_is_meant : (events : List Event) (instance : Inst) (kind : FaultKind) → AreLegal g [] (events ++ Stopped instance kind ∷ []) → Meaning g (given events) (bad instance kind)
+  pub stopped_is_meant : (events : List Event) (instance : Inst) (kind : FaultKind) → AreLegal g [] (events ++ Stopped instance kind ∷ []) → Meaning g (put_by_environment events) (bad instance kind)
   stopped_is_meant events instance kind legal Y closed =
       let split = parts [] events (Stopped instance kind ∷ []) legal in
-      fault_within told both g (given events) Y closed (stated events) (λ fact there. stays_within events split.0 fact there Y closed)
+      fault_within told both g (put_by_environment events) Y closed (stated events) (λ fact there. stays_within events split.0 fact there Y closed)
         (kept_from_nothing events split.0).producers instance kind split.1.0

@@ -15,7 +15,7 @@ use Rattle.graph.specs.Graph.{Graph, BodyMeans, EnvironmentMayPutItem, Environme
 use Rattle.graph.specs.Fits.{IsAbsent, IsPrescribed, HasNoFault, addresses, IsIn, IsTwiceIn, AreNew, Fits}
 use Rattle.machine.specs.Meaning.{items, BodyGives, BodyFaults}
 
--- an item of these puts is there, or stands twice among them
+-- An item of these puts is there, or stands twice among them. Whoever put it: an instance that is not done has put none.
 abbrev pub Conflicts : Facts → List Put → Type 0
 Conflicts X puts = (address : Addr) × (IsTwiceIn address (addresses puts)
     ⊎ (IsIn address (addresses puts) × ((value : ℤ) × (by : Producer) × (X (item address value by) ≡ true))))
@@ -35,6 +35,13 @@ pub record IsLegal (g : Graph) (X : Facts) (event : Event) : Type 0 where
   pub working : HasNoFault X
   pub event_is_legal : IsLegalAs g X event
 
+-- the bodies of steps mean the event: its puts are what the body gives, or its fault is the body's or a double put
+abbrev pub IsMeant : Graph → Facts → Event → Type 0
+IsMeant g X (EnvItem address value) = ⊤
+IsMeant g X (EnvTag name) = ⊤
+IsMeant g X (Done instance puts) = BodyGives g X instance puts
+IsMeant g X (Stopped instance kind) = IsAtFault g X instance kind
+
 -- each event of the list may come behind these facts and those of the events before it
 abbrev pub AreLegal : Graph → List Fact → List Event → Type 0
 AreLegal g before [] = ⊤
@@ -45,11 +52,11 @@ abbrev pub AllFit : Graph → List Fact → List Event → Type 0
 AllFit g before [] = ⊤
 AllFit g before (event ∷ events) = Fits g (among before) event × AllFit g (before ++ event_facts event) events
 
--- over the items of the set the instance asks for one that is not there
+-- over the items of the set the instance needs one that is not there: it asks for it, and is not answered
 abbrev pub IsBlocked : Graph → Facts → Inst → Type 0
 IsBlocked g X instance = (address : Addr) × BodyMeans g instance (items X) (Asks address)
 
 -- no instance is at fault, and each that is prescribed is done or asks for an item that is not there
 pub record IsQuiet (g : Graph) (X : Facts) : Type 0 where
   pub no_fault : HasNoFault X
-  pub ended : (instance : Inst) → IsPrescribed g X instance → (X (done instance) ≡ true) ⊎ IsBlocked g X instance
+  pub done_or_blocked : (instance : Inst) → IsPrescribed g X instance → (X (done instance) ≡ true) ⊎ IsBlocked g X instance

@@ -1,4 +1,5 @@
--- What a graph means on an environment: the facts that are in every closed set.
+-- What a graph means on an environment: the facts that are in every closed set. A set tells of each fact whether it is in it.
+-- Where bodies put two values at one address, the meaning has both, and the fault with them: more than any store holds.
 use Rattle.std.specs.Prelude.{◌≡◌, ◌≢◌, ◌⊎◌, ⊤, ℕ, ℤ, true, List}
 use Rattle.terms.specs.declared.name.Addr.{Addr}
 use Rattle.terms.specs.declared.name.Inst.{Inst}
@@ -30,7 +31,7 @@ abbrev pub IsAnother : Inst → Producer → Type 0
 IsAnother instance Env = ⊤
 IsAnother instance (By other number) = other ≢ instance
 
--- an item of these puts is there by another, or stands twice among them
+-- an item of these puts is there by another (for that of a done instance is there by itself), or stands twice among them
 abbrev pub IsDoubled : Facts → Inst → List Put → Type 0
 IsDoubled X instance puts = (address : Addr) × (IsTwiceIn address (addresses puts)
     ⊎ (IsIn address (addresses puts) × ((value : ℤ) × (by : Producer) × (X (item address value by) ≡ true) × IsAnother instance by)))

@@ -36,19 +36,19 @@ event_facts (EnvTag name) = tag name ∷ []
 event_facts (Done instance puts) = done instance ∷ put_facts instance 0 puts
 event_facts (Stopped instance kind) = bad instance kind ∷ []
 
--- an instance that is done
-abbrev pub IsDone : Event → Type 0
-IsDone (EnvItem address value) = ⊥
-IsDone (EnvTag name) = ⊥
-IsDone (Done instance puts) = Unit {0}
-IsDone (Stopped instance kind) = ⊥
-
 -- what of that the environment put
 abbrev pub environment_facts : Event → List Fact
 environment_facts (EnvItem address value) = item address value Env ∷ []
 environment_facts (EnvTag name) = tag name ∷ []
 environment_facts (Done instance puts) = []
 environment_facts (Stopped instance kind) = []
+
+-- the event is the end of an instance that is done
+abbrev pub IsDone : Event → Type 0
+IsDone (EnvItem address value) = ⊥
+IsDone (EnvTag name) = ⊥
+IsDone (Done instance puts) = Unit {0}
+IsDone (Stopped instance kind) = ⊥
 
 -- what the events of a list state, and what of that the environment put
 abbrev pub facts : List Event → List Fact
