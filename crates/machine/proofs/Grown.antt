@@ -13,7 +13,7 @@ use Rattle.terms.specs.Sets.{Facts, among, OneFact}
 use Rattle.steptree.specs.declared.body.Body.{Body}
 use Rattle.steptree.specs.Run.{Read}
 use Rattle.steptree.specs.Bodies.{Ending, Gives, Faults, Asks, Means}
-use Rattle.steptree.specs.Laws.{Found, LookUpEndsOnce, means_grows}
+use Rattle.steptree.specs.Laws.{Found, LookUpEnds, LookUpEndsOnce, means_grows}
 use Rattle.graph.specs.Graph.{Graph, Step, IsStep, Prescribes, BodyMeans}
 use Rattle.graph.specs.Fits.{IsPrescribed, HasOneItemEach}
 use Rattle.machine.specs.Meaning.{items, BodyGives, BodyFaults}
@@ -138,3 +138,22 @@ module _ (told : OneFact) where
           along = means.along;
           needs = λ address asks value found. means.needs address asks value (found_is_item list address value found);
         }
+
+    -- and in some way
+    pub some_ending : LookUpEnds → (g : Graph) (instance : Inst) (step : Step) → IsStep g instance.collection.0 step → (ending : Ending) × BodyMeans g instance (items (among list)) ending
+    some_ending ends g instance step is_step =
+        let it = ends step.body instance.key (look list) in
+        (it.0, record {
+          step = step;
+          is_step = is_step;
+          means = record {
+            reads = it.1.reads;
+            among = each_back it.1.reads it.1.among;
+            along = it.1.along;
+            needs = λ address asks value there. it.1.needs address asks value (is_found address value there);
+          };
+        })
+      where
+        each_back : (reads : List Read) → AllByRecursion (λ read. Found (look list) read.0 read.1) reads → AllByRecursion (λ read. items (among list) read.0 read.1) reads
+        each_back [] all = tt
+        each_back (read ∷ reads) all = (found_is_item list read.0 read.1 all.0, each_back reads all.1)

@@ -1,4 +1,5 @@
 pub mod Fit
+pub mod GoesOn
 pub mod Grown
 pub mod Kept
 pub mod PutFacts

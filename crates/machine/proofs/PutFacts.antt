@@ -14,13 +14,13 @@ use Rattle.terms.specs.Sets.{is_fact, among, OneFact}
 use Rattle.graph.specs.Fits.{addresses, IsIn, IsTwiceIn}
 use Rattle.machine.proofs.Sets.{of_list, the_first, behind_first}
 
-in_first : (address : Addr) (rest : List Addr) → IsIn address (address ∷ rest)
+pub in_first : (address : Addr) (rest : List Addr) → IsIn address (address ∷ rest)
 in_first address rest = ([], rest, refl)
 
 pub in_rest : (first : Addr) (rest : List Addr) (address : Addr) → IsIn address rest → IsIn address (first ∷ rest)
 in_rest first rest address it = (first ∷ it.0, it.1, ap (λ xs. first ∷ xs) it.2)
 
-twice_first : (address : Addr) (rest : List Addr) → IsIn address rest → IsTwiceIn address (address ∷ rest)
+pub twice_first : (address : Addr) (rest : List Addr) → IsIn address rest → IsTwiceIn address (address ∷ rest)
 twice_first address rest it = ([], it.0, it.1, ap (λ xs. address ∷ xs) it.2)
 
 pub twice_rest : (first : Addr) (rest : List Addr) (address : Addr) → IsTwiceIn address rest → IsTwiceIn address (first ∷ rest)

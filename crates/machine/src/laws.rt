@@ -1,5 +1,5 @@
 //! The laws of what a graph means. Each is a contract, with nothing to run.
-ghost use Rattle.machine.specs.Laws.{StaysWithin, QuietIsMeaning, QuietIsClean, StoppedIsMeant, StoppedOrQuiet, OneEnd, GoesOn, HasLegalParts, LegalFits, FitKeeps, FitKeepsOneItem};
+ghost use Rattle.machine.specs.Laws.{StaysWithin, QuietIsMeaning, QuietIsClean, StoppedIsMeant, StoppedOrQuiet, OneEnd, GoesOn, HasLegalParts, OneState, LegalFits, FitsAndMeant, FitKeeps, FitKeepsOneItem, NewOrConflicting, CanGoOn};
 
 use steptree::{ends_once, keeps_to_its_sheet};
 use terms::facts_are_told_apart;
@@ -37,22 +37,34 @@ pub fn one_end()
     ends_once();
 }
 
-/// Legal lists one behind the other are a legal list, and each part of one is legal behind the parts before it.
+/// Legal lists one behind the other are a legal list, and of one the second part is legal behind the first. What is legal is
+/// told by the set of facts before it.
 pub fn legal_lists_go_on()
     ensures goes_on { GoesOn }
     ensures parts { HasLegalParts }
+    ensures state { OneState }
 {
     facts_are_told_apart();
 }
 
-/// Legal events fit, and what they leave fits.
+/// Legal events fit, and events that fit and are meant are legal. What an event that fits leaves fits.
 pub fn legal_events_fit()
     ensures fit { LegalFits }
+    ensures legal { FitsAndMeant }
     ensures keeps { FitKeeps }
     ensures one_item { FitKeepsOneItem }
 {
     facts_are_told_apart();
     keeps_to_its_sheet();
+}
+
+/// An instance that is prescribed and not done is blocked, or can be ended: legality leaves none without a way on.
+pub fn each_instance_can_go_on()
+    ensures puts { NewOrConflicting }
+    ensures instance { CanGoOn }
+{
+    facts_are_told_apart();
+    ends_once();
 }
 
 #[cfg(test)]
@@ -67,5 +79,6 @@ mod tests {
         one_end();
         legal_lists_go_on();
         legal_events_fit();
+        each_instance_can_go_on();
     }
 }

@@ -6,4 +6,4 @@
 
 mod laws;
 
-pub use laws::{legal_events_fit, legal_lists_go_on, one_end, quiet_is_meaning, stays_within, stopped_is_not_clean};
+pub use laws::{each_instance_can_go_on, legal_events_fit, legal_lists_go_on, one_end, quiet_is_meaning, stays_within, stopped_is_not_clean};

@@ -1,3 +1,4 @@
+use Rattle.machine.proofs.GoesOn.{fits_and_meant}
 use Rattle.machine.proofs.Fit.{legal_fits, fit_keeps, keeps_one_item}
 use Rattle.machine.proofs.laws.legal_events_fit.Goals as goal
 
@@ -9,3 +10,6 @@ returns-clause-keeps c = fit_keeps c.facts_are_told_apart.ensures.one c.facts_ar
 
 pub returns-clause-one_item : goal.returns-clause-one_item
 returns-clause-one_item c = keeps_one_item c.facts_are_told_apart.ensures.one c.facts_are_told_apart.ensures.among
+
+pub returns-clause-legal : goal.returns-clause-legal
+returns-clause-legal c = fits_and_meant
