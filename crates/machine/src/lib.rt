@@ -4,6 +4,7 @@
 //! `specs/Legal.antt` tells which events may be committed one after another. The layers above stand on the laws of `laws`.
 #![tactic(auto)]
 
+mod examples;
 mod laws;
 
 pub use laws::{each_instance_can_go_on, legal_events_fit, legal_lists_go_on, one_end, quiet_is_meaning, stays_within, stopped_is_not_clean};

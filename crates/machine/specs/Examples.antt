@@ -1,0 +1,162 @@
+-- Worked examples of what graphs mean: a graph of Fibonacci numbers, and a step that puts one item twice.
+use Rattle.std.specs.Prelude.{◌≡◌, ◌⊎◌, ℕ, ℤ, pos, Bool, true, false, List, [], ◌∷◌, ◌++◌, codes, Box}
+use Rattle.std.specs.declared.alloc.Global.{Global}
+use Rattle.terms.specs.declared.name.Addr.{Addr}
+use Rattle.terms.specs.declared.name.Tag.{Tag}
+use Rattle.terms.specs.declared.name.Inst.{Inst}
+use Rattle.terms.specs.declared.fault.FaultKind.TheVariants.{DoublePut}
+use Rattle.terms.specs.declared.producer.Producer.{Producer}
+use Rattle.terms.specs.declared.producer.Producer.TheVariants.{Env, By}
+use Rattle.terms.specs.declared.put.Put.{Put}
+use Rattle.terms.specs.declared.put.Put.TheVariants as put
+use Rattle.terms.specs.declared.event.Event.{Event}
+use Rattle.terms.specs.declared.event.Event.TheVariants.{EnvItem, EnvTag, Done, Stopped}
+use Rattle.terms.specs.Facts.{Fact, item, facts}
+use Rattle.terms.specs.Sets.{Facts, among}
+use Rattle.steptree.specs.declared.expression.Operator.TheVariants as operator
+use Rattle.steptree.specs.declared.expression.Expression.{Expression}
+use Rattle.steptree.specs.declared.expression.Expression.TheVariants.{Number, Variable, Operation'}
+use Rattle.steptree.specs.declared.block.Block.{Block}
+use Rattle.steptree.specs.declared.block.Block.TheVariants.{End, Get', PutItem'}
+use Rattle.steptree.specs.Bodies.{Asks}
+use Rattle.graph.specs.Graph.{Graph, BodyMeans}
+use Rattle.machine.specs.Meaning.{items, IsClosed, Meaning}
+use Rattle.machine.specs.Legal.{IsLegal, AreLegal, IsQuiet}
+use Rattle.machine.specs.Laws.{stated, put_by_environment, IsThere}
+
+-- where a part of a tree lies in memory; it plays no part
+abbrev pub Place : Type 0
+Place = Box (Unit {0}) Global
+
+-- ---- Fibonacci numbers
+
+-- [fib: i]; <n: i>; <n> :: (add); [fib] -> (add); (add) -> [fib]; env -> [fib]; env -> <n>; [fib] -> env;
+-- step add(i) { var a, b; read { get a = [fib: i - 1]; get b = [fib: i - 2]; } write { put [fib: i] = a + b; } }
+module _ (place : Place) where
+  abbrev pub behind : ℕ → Expression
+  behind number = Operation' operator.Subtract place (Variable 0) place (Number (pos number))
+
+  abbrev pub fibonacci : Graph
+  fibonacci = record {
+    items = record { name = codes "fib"; components = 1 } ∷ [];
+    tags = record { name = codes "n"; components = 1 } ∷ [];
+    steps = record {
+      name = codes "add";
+      prescriber = 0;
+      names = codes "i" ∷ codes "a" ∷ codes "b" ∷ [];
+      parameters = 1;
+      reads = true ∷ [];
+      item_puts = true ∷ [];
+      tag_puts = false ∷ [];
+      body = record {
+        read = Get' 1 (record { 0 = 0 }) (behind 1 ∷ []) place (Get' 2 (record { 0 = 0 }) (behind 2 ∷ []) place End);
+        write = PutItem' (record { 0 = 0 }) (Variable 0 ∷ []) (Operation' operator.Add place (Variable 1) place (Variable 2)) place End;
+      };
+    } ∷ [];
+    environment_item_puts = true ∷ [];
+    environment_tag_puts = true ∷ [];
+    environment_gets = true ∷ [];
+  }
+
+abbrev pub fib : ℕ → Addr
+fib number = record { collection = record { 0 = 0 }; key = pos number ∷ [] }
+
+abbrev pub n : ℕ → Tag
+n number = record { collection = record { 0 = 0 }; key = pos number ∷ [] }
+
+abbrev pub add : ℕ → Inst
+add number = record { collection = record { 0 = 0 }; key = pos number ∷ [] }
+
+abbrev pub put_fib : ℕ → ℕ → Event
+put_fib number value = EnvItem (fib number) (pos value)
+
+-- the instance is done, and put its number
+abbrev pub added : ℕ → ℕ → Event
+added number value = Done (add number) (put.Item (fib number) (pos value) ∷ [])
+
+-- first what the environment puts, and then the steps; or each step as soon as its tag is there
+abbrev pub in_two_parts : List Event
+in_two_parts = EnvTag (n 2) ∷ EnvTag (n 3) ∷ EnvTag (n 4) ∷ EnvTag (n 5) ∷ put_fib 0 0 ∷ put_fib 1 1 ∷ added 2 1 ∷ added 3 2 ∷ added 4 3 ∷ added 5 5 ∷ []
+
+abbrev pub one_by_one : List Event
+one_by_one = put_fib 1 1 ∷ put_fib 0 0 ∷ EnvTag (n 2) ∷ added 2 1 ∷ EnvTag (n 3) ∷ added 3 2 ∷ EnvTag (n 4) ∷ added 4 3 ∷ EnvTag (n 5) ∷ added 5 5 ∷ []
+
+-- both are legal and quiet, and have the same facts, the six items among them
+pub record FiveNumbers (place : Place) : Type 0 where
+  pub first_legal : AreLegal (fibonacci place) [] in_two_parts
+  pub first_quiet : IsQuiet (fibonacci place) (stated in_two_parts)
+  pub second_legal : AreLegal (fibonacci place) [] one_by_one
+  pub second_quiet : IsQuiet (fibonacci place) (stated one_by_one)
+  pub same : (fact : Fact) → stated in_two_parts fact ≡ stated one_by_one fact
+  pub fifth : Meaning (fibonacci place) (put_by_environment one_by_one) (item (fib 5) (pos 5) (By (add 5) 0))
+
+-- with one number alone the step needs the other
+abbrev pub one_number : List Event
+one_number = put_fib 0 0 ∷ EnvTag (n 2) ∷ []
+
+pub record OneNumber (place : Place) : Type 0 where
+  pub legal : AreLegal (fibonacci place) [] one_number
+  pub quiet : IsQuiet (fibonacci place) (stated one_number)
+  pub needs : BodyMeans (fibonacci place) (add 2) (items (stated one_number)) (Asks (fib 1))
+
+-- where the number is there before, the step is at fault, and no order of that environment is quiet
+abbrev pub conflict : List Event
+conflict = put_fib 0 0 ∷ put_fib 1 1 ∷ put_fib 2 7 ∷ EnvTag (n 2) ∷ []
+
+pub record Conflict (place : Place) : Type 0 where
+  pub legal : AreLegal (fibonacci place) [] (conflict ++ Stopped (add 2) DoublePut ∷ [])
+  pub never_quiet : (other : List Event) → AreLegal (fibonacci place) [] other → IsThere conflict other → IsQuiet (fibonacci place) (stated other) → ⊥
+
+-- ---- one item twice
+
+-- [out: i]; <t: i>; <t> :: (two); (two) -> [out]; env -> <t>; [out] -> env;
+-- step two(k) { read { } write { put [out: k] = 1; put [out: k] = 1; } }
+module _ (place : Place) where
+  abbrev pub put_out : Block → Block
+  put_out rest = PutItem' (record { 0 = 0 }) (Variable 0 ∷ []) (Number (pos 1)) place rest
+
+  abbrev pub twice : Graph
+  twice = record {
+    items = record { name = codes "out"; components = 1 } ∷ [];
+    tags = record { name = codes "t"; components = 1 } ∷ [];
+    steps = record {
+      name = codes "two";
+      prescriber = 0;
+      names = codes "k" ∷ [];
+      parameters = 1;
+      reads = false ∷ [];
+      item_puts = true ∷ [];
+      tag_puts = false ∷ [];
+      body = record { read = End; write = put_out (put_out End) };
+    } ∷ [];
+    environment_item_puts = false ∷ [];
+    environment_tag_puts = true ∷ [];
+    environment_gets = true ∷ [];
+  }
+
+-- its instance can be ended by a double put alone
+pub record PutTwice (place : Place) : Type 0 where
+  pub legal : AreLegal (twice place) [] (EnvTag (n 1) ∷ Stopped (add 1) DoublePut ∷ [])
+  pub not_done : (puts : List Put) → IsLegal (twice place) (stated (EnvTag (n 1) ∷ [])) (Done (add 1) puts) → ⊥
+
+-- ---- what the definitions refuse
+
+abbrev pub enabled : List Event
+enabled = put_fib 0 0 ∷ put_fib 1 1 ∷ EnvTag (n 2) ∷ []
+
+pub record Refused (place : Place) : Type 0 where
+  -- an instance that has all its items, and is not done: not quiet, and not closed
+  pub not_quiet : IsQuiet (fibonacci place) (stated enabled) → ⊥
+  pub not_closed : IsClosed (fibonacci place) (put_by_environment enabled) (stated enabled) → ⊥
+  -- a fact in one closed set and not in another is not meant
+  pub all_closed : IsClosed (fibonacci place) (among []) (λ fact. true)
+  pub none_closed : IsClosed (fibonacci place) (among []) (among [])
+  pub not_meant : Meaning (fibonacci place) (among []) (item (fib 0) (pos 0) Env) → ⊥
+  -- a second put of an address, of the same value too; a tag again; an instance done again
+  pub not_twice : (v w : ℤ) → AreLegal (fibonacci place) [] (EnvItem (fib 0) v ∷ EnvItem (fib 0) w ∷ []) → ⊥
+  pub no_repeat : AreLegal (fibonacci place) [] (EnvTag (n 2) ∷ EnvTag (n 2) ∷ []) → ⊥
+  pub not_again : AreLegal (fibonacci place) [] (enabled ++ added 2 1 ∷ added 2 1 ∷ []) → ⊥
+  -- another number than the body gives
+  pub not_another : AreLegal (fibonacci place) [] (enabled ++ added 2 2 ∷ []) → ⊥
+  -- anything behind a fault
+  pub nothing_behind : AreLegal (fibonacci place) [] (conflict ++ Stopped (add 2) DoublePut ∷ EnvTag (n 3) ∷ []) → ⊥

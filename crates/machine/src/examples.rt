@@ -1,0 +1,19 @@
+//! Worked examples of what a graph means. Each is a contract, with nothing to run.
+ghost use Rattle.machine.specs.Examples.{Place, FiveNumbers, OneNumber, Conflict, PutTwice, Refused};
+
+/// Four Fibonacci numbers in two orders; one number alone; and a number that is there before.
+pub fn fibonacci_numbers()
+    ensures five_numbers { (place : Place) → FiveNumbers place }
+    ensures one_number { (place : Place) → OneNumber place }
+    ensures conflict { (place : Place) → Conflict place }
+{}
+
+/// A step that puts one item twice is at fault, and cannot be done.
+pub fn item_put_twice()
+    ensures { (place : Place) → PutTwice place }
+{}
+
+/// What the definitions refuse: sets that are not quiet, not closed or not meant, and lists that are not legal.
+pub fn refused_examples()
+    ensures { (place : Place) → Refused place }
+{}
