@@ -1,5 +1,5 @@
 -- Legal events fit, and what an event that fits leaves fits.
-use Rattle.std.proofs.Common.{◌≡◌, ◌⊎◌, ℕ, suc, ℤ, Bool, true, false, ◌||◌, List, [], ◌∷◌, ◌++◌, length, map, Option, Some, None, option_map, slice_get, inl, inr, refl, sym, ap, subst, ◌∙◌}
+use Rattle.std.proofs.Common.{◌≡◌, ℕ, suc, ℤ, Bool, true, false, ◌||◌, List, [], ◌∷◌, ◌++◌, length, map, Some, option_map, slice_get, inl, inr, refl, sym, ap, subst, ◌∙◌}
 use Rattle.std.specs.List.{AllByRecursion}
 use Rattle.std.proofs.lemmas.Bool.{false≢true}
 use Rattle.std.proofs.lemmas.Option.{slice_get-map}
@@ -7,23 +7,21 @@ use Rattle.terms.specs.declared.name.Addr.{Addr}
 use Rattle.terms.specs.declared.name.Tag.{Tag}
 use Rattle.terms.specs.declared.name.Inst.{Inst}
 use Rattle.terms.specs.declared.fault.FaultKind.{FaultKind}
-use Rattle.terms.specs.declared.producer.Producer.{Producer}
 use Rattle.terms.specs.declared.producer.Producer.TheVariants.{Env, By}
 use Rattle.terms.specs.declared.put.Put.{Put}
 use Rattle.terms.specs.declared.put.Put.TheVariants as put
 use Rattle.terms.specs.declared.event.Event.{Event}
 use Rattle.terms.specs.declared.event.Event.TheVariants.{EnvItem, EnvTag, Done, Stopped}
-use Rattle.terms.specs.Facts.{Fact, tag, item, done, bad, facts, event_facts, environment_facts, put_facts}
-use Rattle.terms.specs.Sets.{Facts, is_fact, among, OneFact, AmongBoth}
+use Rattle.terms.specs.Facts.{Fact, tag, item, done, bad, event_facts, environment_facts, put_facts}
+use Rattle.terms.specs.Sets.{Facts, among, OneFact, AmongBoth}
 use Rattle.steptree.specs.declared.sheet.Declared.{Declared}
-use Rattle.steptree.specs.declared.sheet.Sheet.{Sheet}
 use Rattle.steptree.specs.Sheet.{PutIsAllowed, KeepsAtAnyReads}
 use Rattle.steptree.specs.Bodies.{Gives}
-use Rattle.graph.specs.Graph.{Graph, Collection, Step, IsOf, IsGraph, IsOfGraph, IsSheet, Prescribes, EnvironmentMayPutItem, EnvironmentMayPutTag}
-use Rattle.graph.specs.Fits.{IsAbsent, IsPrescribed, AddressIsOf, TagIsOf, InstanceIsOf, PutIsOf, FactIsOf, IsOfEnvironment, MayEnd, Fits, FitsState, HasOneItemEach}
+use Rattle.graph.specs.Graph.{Graph, Collection, Step, IsOf, IsGraph, IsOfGraph, EnvironmentMayPutItem, EnvironmentMayPutTag}
+use Rattle.graph.specs.Fits.{IsPrescribed, TagIsOf, InstanceIsOf, PutIsOf, FactIsOf, IsOfEnvironment, Fits, FitsState, HasOneItemEach}
 use Rattle.machine.specs.Meaning.{BodyGives}
 use Rattle.machine.specs.Legal.{IsLegal, AreLegal, AllFit}
-use Rattle.machine.proofs.Sets.{Within, given_in_event, of_list, of_both, in_one, in_two, not_both, the_first, behind_first}
+use Rattle.machine.proofs.Sets.{Within, given_in_event, of_list, of_both, in_one, in_two, not_both}
 use Rattle.machine.proofs.Grown.{prescribed_within}
 use Rattle.machine.proofs.PutFacts.{item_is_put, no_done}
 use Rattle.machine.proofs.Kept.{AddsItems, one_item_more, only, adds_no_item, adds_item, adds_puts, its_producers, of_puts}
@@ -40,10 +38,11 @@ collection_of declared = record { name = declared.name.now; components = declare
 -- a collection that a sheet declares is one of the graph
 declared_is_of : (declared : List Declared) (collections : List Collection) → map collection_of declared ≡ collections
     → (number components : ℕ) → (it : Declared) × (slice_get declared number ≡ Some it) × (it.components ≡ components) → IsOf collections number components
-declared_is_of declared collections same number components it =
-    (collection_of it.0,
-     ap (λ (list : List Collection). slice_get list number) (sym same) ∙ slice_get-map collection_of declared number ∙ ap (option_map collection_of) it.1,
-     it.2)
+declared_is_of declared collections same number components it = (
+  collection_of it.0,
+  ap (λ (list : List Collection). slice_get list number) (sym same) ∙ slice_get-map collection_of declared number ∙ ap (option_map collection_of) it.1,
+  it.2,
+)
 
 module _ (told : OneFact) (both : AmongBoth) (keeps : KeepsAtAnyReads) (g : Graph) (is_graph : IsGraph g) where
   instance_is_of : (X : Facts) → TagsAreOf g X → (instance : Inst) → IsPrescribed g X instance → InstanceIsOf g instance
@@ -90,13 +89,13 @@ module _ (told : OneFact) (both : AmongBoth) (g : Graph) where
   put_facts_are_of instance number [] all fact there = absurd (false≢true there)
   put_facts_are_of instance number (put.Item address value ∷ puts) all fact there =
       elim (of_list told (item address value (By instance number)) (put_facts instance (suc number) puts) fact there) [
-        inl same ↦ subst (λ (f : Fact). FactIsOf g f) same all.0
-      | inr later ↦ put_facts_are_of instance (suc number) puts all.1 fact later
+        | inl same ↦ subst (λ (f : Fact). FactIsOf g f) same all.0
+        | inr later ↦ put_facts_are_of instance (suc number) puts all.1 fact later
       ]
   put_facts_are_of instance number (put.Tag name ∷ puts) all fact there =
       elim (of_list told (tag name) (put_facts instance (suc number) puts) fact there) [
-        inl same ↦ subst (λ (f : Fact). FactIsOf g f) same all.0
-      | inr later ↦ put_facts_are_of instance (suc number) puts all.1 fact later
+        | inl same ↦ subst (λ (f : Fact). FactIsOf g f) same all.0
+        | inr later ↦ put_facts_are_of instance (suc number) puts all.1 fact later
       ]
 
   -- what an event that fits states is of the graph
@@ -105,8 +104,8 @@ module _ (told : OneFact) (both : AmongBoth) (g : Graph) where
   facts_are_of X (EnvTag name) fits fact there = subst (λ (f : Fact). FactIsOf g f) (only told both (tag name) fact there) fits.event_fits.0.0
   facts_are_of X (Done instance puts) fits fact there =
       elim (of_list told (done instance) (put_facts instance 0 puts) fact there) [
-        inl same ↦ subst (λ (f : Fact). FactIsOf g f) same fits.event_fits.0.of_graph
-      | inr later ↦ put_facts_are_of instance 0 puts fits.event_fits.1 fact later
+        | inl same ↦ subst (λ (f : Fact). FactIsOf g f) same fits.event_fits.0.of_graph
+        | inr later ↦ put_facts_are_of instance 0 puts fits.event_fits.1 fact later
       ]
   facts_are_of X (Stopped instance kind) fits fact there = subst (λ (f : Fact). FactIsOf g f) (only told both (bad instance kind) fact there) fits.event_fits.of_graph
 
@@ -180,8 +179,8 @@ module _ (told : OneFact) (both : AmongBoth) (g : Graph) where
       no same = cc
   ended_is_prescribed X (Done other puts) fits instance there =
       elim (of_list told (done other) (put_facts other 0 puts) (done instance) there) [
-        inl same ↦ subst (λ (i : Inst). IsPrescribed g X i) (one_instance same) fits.event_fits.0.prescribed
-      | inr later ↦ absurd (no_done told other 0 puts instance later)
+        | inl same ↦ subst (λ (i : Inst). IsPrescribed g X i) (one_instance same) fits.event_fits.0.prescribed
+        | inr later ↦ absurd (no_done told other 0 puts instance later)
       ]
     where
       one_instance : done other ≡ done instance → other ≡ instance
@@ -280,13 +279,13 @@ module _ (told : OneFact) (both : AmongBoth) (g : Graph) where
     pub fit_keeps : FitsState g (among (environment ++ environment_facts event)) Y
     fit_keeps = record {
       part = λ fact there. elim (of_both both environment (environment_facts event) fact there) [
-          inl it ↦ old fact (state.part fact it)
+        | inl it ↦ old fact (state.part fact it)
         | inr it ↦ new fact (given_in_event both event fact it)
-        ];
+      ];
       of_environment = λ fact there. elim (of_both both environment (environment_facts event) fact there) [
-          inl it ↦ state.of_environment fact it
+        | inl it ↦ state.of_environment fact it
         | inr it ↦ given_is_of_environment event fact it
-        ];
+      ];
       items = λ address value there. by_both (item address value Env)
           (λ it. in_one both environment (environment_facts event) (item address value Env) (state.items address value it))
           (λ it. in_two both environment (environment_facts event) (item address value Env) (environment_item_is_given X event fits address value it)) there;
@@ -297,9 +296,9 @@ module _ (told : OneFact) (both : AmongBoth) (g : Graph) where
       environment_items = λ address value there.
           by_both (item address value Env) (state.environment_items address value) (environment_item X event fits address value) there;
       environment_tags = λ name there. elim (of_both both environment (environment_facts event) (tag name) there) [
-          inl it ↦ state.environment_tags name it
+        | inl it ↦ state.environment_tags name it
         | inr it ↦ environment_tag X event fits name it
-        ];
+      ];
       done_are_prescribed = λ instance there. prescribed_within g X Y old instance
           (by_both (done instance) (state.done_are_prescribed instance) (ended_is_prescribed X event fits instance) there);
       producers_are_done = λ address value instance number there. by_both (item address value (By instance number))
@@ -308,7 +307,7 @@ module _ (told : OneFact) (both : AmongBoth) (g : Graph) where
       fault = λ instance kind there. by_both (bad instance kind)
           (λ it. not_both (X (bad instance kind)) it (fits.working instance kind))
           (λ it. (let may = stopped_may_end X event fits instance kind it in
-            (prescribed_within g X Y old instance may.0, both before (event_facts event) (done instance) ∙ neither _ _ may.1 may.2))) there;
+          (prescribed_within g X Y old instance may.0, both before (event_facts event) (done instance) ∙ neither _ _ may.1 may.2))) there;
     }
       where
         neither : (a b : Bool) → a ≡ false → b ≡ false → (a || b) ≡ false
@@ -332,9 +331,9 @@ module _ (told : OneFact) (both : AmongBoth) (keeps : KeepsAtAnyReads) (g : Grap
     where
       more_tags : Fits g (among before) event → TagsAreOf g (among (before ++ event_facts event))
       more_tags fits name there = elim (of_both both before (event_facts event) (tag name) there) [
-          inl it ↦ tags name it
+        | inl it ↦ tags name it
         | inr it ↦ facts_are_of told both g (among before) event fits (tag name) it
-        ]
+      ]
 
   pub legal_fits : (environment before : List Fact) (events : List Event) → FitsState g (among environment) (among before) → AreLegal g before events → AllFit g before events
   legal_fits environment before events state legal = all_fit before (λ name there. state.of_graph (tag name) there) events legal

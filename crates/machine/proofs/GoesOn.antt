@@ -1,27 +1,24 @@
 -- What may come next: each instance that is not done is blocked, or can be ended.
-use Rattle.std.proofs.Common.{◌≡◌, ◌≢◌, ◌⊎◌, ℕ, ℤ, Bool, true, false, ◌&&◌, ◌||◌, List, [], ◌∷◌, ◌++◌, inl, inr, refl, sym, ap, subst, ◌∙◌}
-use Rattle.std.specs.List.{AllByRecursion}
-use Rattle.std.proofs.lemmas.Bool.{false≢true}
+use Rattle.std.proofs.Common.{◌≡◌, ◌⊎◌, ℤ, Bool, true, false, ◌&&◌, ◌||◌, List, [], ◌∷◌, ◌++◌, inl, inr, refl, sym, ap, subst, ◌∙◌}
 use Rattle.terms.specs.declared.name.Addr.{Addr}
 use Rattle.terms.specs.declared.name.Inst.{Inst}
 use Rattle.terms.specs.declared.fault.FaultKind.{FaultKind}
 use Rattle.terms.specs.declared.fault.FaultKind.TheVariants.{DoublePut}
 use Rattle.terms.specs.declared.producer.Producer.{Producer}
 use Rattle.terms.specs.declared.put.Put.{Put}
-use Rattle.terms.specs.declared.put.Put.TheVariants as put
 use Rattle.terms.specs.declared.event.Event.{Event}
 use Rattle.terms.specs.declared.event.Event.TheVariants.{EnvItem, EnvTag, Done, Stopped}
 use Rattle.terms.specs.Facts.{Fact, tag, item, done, bad, facts, event_facts}
 use Rattle.terms.specs.Same.{is_same, same_itself, same_address}
-use Rattle.terms.specs.Sets.{Facts, is_fact, among, OneFact, AmongBoth}
-use Rattle.steptree.specs.Bodies.{Ending, Gives, Faults, Asks, Means}
-use Rattle.steptree.specs.Laws.{LookUpEnds, Found}
+use Rattle.terms.specs.Sets.{Facts, among, OneFact, AmongBoth}
+use Rattle.steptree.specs.Bodies.{Ending, Gives, Faults, Asks}
+use Rattle.steptree.specs.Laws.{LookUpEnds}
 use Rattle.graph.specs.Graph.{Graph, BodyMeans}
-use Rattle.graph.specs.Fits.{IsAbsent, IsPrescribed, HasNoFault, addresses, IsIn, IsTwiceIn, AreNew, HasOneItemEach, Fits}
+use Rattle.graph.specs.Fits.{IsAbsent, IsPrescribed, HasNoFault, addresses, IsIn, IsTwiceIn, AreNew, Fits}
 use Rattle.machine.specs.Meaning.{items}
 use Rattle.machine.specs.Legal.{Conflicts, IsMeant, IsLegal, AreLegal, IsBlocked}
-use Rattle.machine.specs.Laws.{stated, put_by_environment}
-use Rattle.machine.proofs.Sets.{either, of_list, behind_first, the_first, not_both}
+use Rattle.machine.specs.Laws.{stated}
+use Rattle.machine.proofs.Sets.{behind_first, the_first, not_both}
 use Rattle.machine.proofs.Grown.{some_ending}
 use Rattle.machine.proofs.PutFacts.{in_first, in_rest, twice_first, twice_rest}
 use Rattle.machine.proofs.Within.{kept_from_nothing}
@@ -122,14 +119,14 @@ module _ (told : OneFact) where
       no address (x ∷ xs) between behind same = cc
   new_or_conflict_at before (first ∷ rest) =
       elim (item_or_none before first) [
-        inr there ↦ inr (first, inr (in_first first rest, there))
-      | inl absent ↦ elim (in_or_not first rest) [
-            inl again ↦ inr (first, inl (twice_first first rest again))
+        | inr there ↦ inr (first, inr (in_first first rest, there))
+        | inl absent ↦ elim (in_or_not first rest) [
+          | inl again ↦ inr (first, inl (twice_first first rest again))
           | inr once ↦ elim (new_or_conflict_at before rest) [
-                inl new ↦ inl (later_new (among before) first rest absent once new)
-              | inr conflict ↦ inr (later_conflict (among before) first rest conflict)
-              ]
+            | inl new ↦ inl (later_new (among before) first rest absent once new)
+            | inr conflict ↦ inr (later_conflict (among before) first rest conflict)
           ]
+        ]
       ]
 
   new_or_conflict : (before : List Fact) (puts : List Put) → AreNew (among before) puts ⊎ Conflicts (among before) puts
@@ -137,9 +134,9 @@ module _ (told : OneFact) where
 
   not_both_ways : (X : Facts) (puts : List Put) → AreNew X puts → Conflicts X puts → ⊥
   not_both_ways X puts new conflict = elim conflict.1 [
-        inl twice ↦ new.distinct conflict.0 twice
-      | inr it ↦ not_both (X (item conflict.0 it.1.0 it.1.1)) it.1.2 (new.absent conflict.0 it.0 it.1.0 it.1.1)
-      ]
+    | inl twice ↦ new.distinct conflict.0 twice
+    | inr it ↦ not_both (X (item conflict.0 it.1.0 it.1.1)) it.1.2 (new.absent conflict.0 it.0 it.1.0 it.1.1)
+  ]
 
   pub new_or_conflicting : (before : List Fact) (puts : List Put) → (AreNew (among before) puts ⊎ Conflicts (among before) puts) × (AreNew (among before) puts → Conflicts (among before) puts → ⊥)
   new_or_conflicting before puts = (new_or_conflict before puts, not_both_ways (among before) puts)
@@ -156,9 +153,9 @@ module _ (told : OneFact) where
       by_ending (Asks address) means = inl (address, means)
       by_ending (Faults kind) means = inr (inr (kind, record { working = working; event_is_legal = (prescribed, not_done, inl means) }))
       by_ending (Gives puts) means = elim (new_or_conflict (facts events) puts) [
-            inl new ↦ inr (inl (puts, record { working = working; event_is_legal = (prescribed, not_done, means, new) }))
-          | inr conflict ↦ inr (inr (DoublePut, record { working = working; event_is_legal = (prescribed, not_done, inr (refl, (puts, means, conflict))) }))
-          ]
+        | inl new ↦ inr (inl (puts, record { working = working; event_is_legal = (prescribed, not_done, means, new) }))
+        | inr conflict ↦ inr (inr (DoublePut, record { working = working; event_is_legal = (prescribed, not_done, inr (refl, (puts, means, conflict))) }))
+      ]
 
 pub fits_and_meant : (g : Graph) (X : Facts) (event : Event) → Fits g X event → IsMeant g X event → IsLegal g X event
 fits_and_meant g X (EnvItem address value) fits meant = record { working = fits.working; event_is_legal = fits.event_fits }
@@ -170,7 +167,8 @@ fits_and_meant g X (Stopped instance kind) fits meant = record { working = fits.
 -- what is legal is told by the set alone
 pub one_state : AmongBoth → (g : Graph) (before other : List Fact) (events : List Event) → ((fact : Fact) → among before fact ≡ among other fact) → AreLegal g before events → AreLegal g other events
 one_state both g before other [] same legal = tt
-one_state both g before other (event ∷ events) same legal =
-    (subst (λ (X : Facts). IsLegal g X event) (λ i fact. same fact i) legal.0,
-     one_state both g (before ++ event_facts event) (other ++ event_facts event) events
-       (λ fact. both before (event_facts event) fact ∙ ap (λ (b : Bool). b || among (event_facts event) fact) (same fact) ∙ sym (both other (event_facts event) fact)) legal.1)
+one_state both g before other (event ∷ events) same legal = (
+  subst (λ (X : Facts). IsLegal g X event) (λ i fact. same fact i) legal.0,
+  one_state both g (before ++ event_facts event) (other ++ event_facts event) events
+      (λ fact. both before (event_facts event) fact ∙ ap (λ (b : Bool). b || among (event_facts event) fact) (same fact) ∙ sym (both other (event_facts event) fact)) legal.1,
+)

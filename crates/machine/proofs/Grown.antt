@@ -1,5 +1,5 @@
 -- Bodies over more items, and over items of which each address has one.
-use Rattle.std.proofs.Common.{◌≡◌, ◌≢◌, ◌⊎◌, ℕ, ℤ, Bool, true, false, ◌&&◌, ◌||◌, List, [], ◌∷◌, Option, Some, None, if◌then◌else◌, slice_get, inl, inr, refl, sym, ap, subst, ◌∙◌}
+use Rattle.std.proofs.Common.{◌≡◌, ◌≢◌, ◌⊎◌, ℤ, Bool, true, false, List, [], ◌∷◌, Option, Some, None, if◌then◌else◌, inl, inr, refl, sym, subst, ◌∙◌}
 use Rattle.std.proofs.lemmas.Bool.{false≢true}
 use Rattle.std.specs.List.{AllByRecursion}
 use Rattle.terms.specs.declared.name.Addr.{Addr}
@@ -14,7 +14,7 @@ use Rattle.steptree.specs.declared.body.Body.{Body}
 use Rattle.steptree.specs.Run.{Read}
 use Rattle.steptree.specs.Bodies.{Ending, Gives, Faults, Asks, Means}
 use Rattle.steptree.specs.Laws.{Found, LookUpEnds, LookUpEndsOnce, means_grows}
-use Rattle.graph.specs.Graph.{Graph, Step, IsStep, Prescribes, BodyMeans}
+use Rattle.graph.specs.Graph.{Graph, Step, IsStep, BodyMeans}
 use Rattle.graph.specs.Fits.{IsPrescribed, HasOneItemEach}
 use Rattle.machine.specs.Meaning.{items, BodyGives, BodyFaults}
 use Rattle.machine.proofs.Sets.{Within, of_list, the_first, behind_first}
@@ -68,8 +68,8 @@ module _ (told : OneFact) where
       let it = found_is_item rest address value found in (it.0, behind_first told (tag name) rest (item address value it.0) it.1)
   found_is_item (item other other_value by ∷ rest) address value found =
       elim (choose (is_same other address) (Some other_value) (look rest address) (Some value) found) [
-        inl here ↦ (by, first_is other other_value by rest address value here.0 here.1)
-      | inr later ↦ (let it = found_is_item rest address value later in (it.0, behind_first told (item other other_value by) rest (item address value it.0) it.1))
+        | inl here ↦ (by, first_is other other_value by rest address value here.0 here.1)
+        | inr later ↦ (let it = found_is_item rest address value later in (it.0, behind_first told (item other other_value by) rest (item address value it.0) it.1))
       ]
     where
       first_is : (other : Addr) (other_value : ℤ) (by : Producer) (rest : List Fact) (address : Addr) (value : ℤ) → is_same other address ≡ true → Some other_value ≡ Some value
@@ -101,10 +101,10 @@ module _ (told : OneFact) where
   item_is_found (bad instance kind ∷ rest) address value there = item_is_found rest address value (some_rest (bad instance kind) rest address value there.0 (λ same. cc) there.1)
   item_is_found (item other u by ∷ rest) address value there =
       chosen (is_same other address) u (look rest address)
-        (elim (of_list told (item other u by) rest (item address value there.0) there.1) [
-          inl same ↦ inl (subst (λ (a : Addr). is_same other a ≡ true) (one_address same) (same_itself other))
+      (elim (of_list told (item other u by) rest (item address value there.0) there.1) [
+        | inl same ↦ inl (subst (λ (a : Addr). is_same other a ≡ true) (one_address same) (same_itself other))
         | inr later ↦ inr (item_is_found rest address value (there.0, later))
-        ])
+      ])
     where
       one_address : item other u by ≡ item address value there.0 → other ≡ address
       one_address same = cc
@@ -121,7 +121,7 @@ module _ (told : OneFact) where
     one_ending once g instance one two first second =
         let same : first.step ≡ second.step = same_step (sym first.is_step ∙ second.is_step) in
         let here : Means second.step.body instance.key (items (among list)) one =
-            subst (λ (step : Step). Means step.body instance.key (items (among list)) one) same first.means in
+        subst (λ (step : Step). Means step.body instance.key (items (among list)) one) same first.means in
         once second.step.body instance.key (look list) one two (moved second.step.body one here) (moved second.step.body two second.means)
       where
         same_step : {a b : Step} → Some a ≡ Some b → a ≡ b
@@ -142,17 +142,19 @@ module _ (told : OneFact) where
     -- and in some way
     pub some_ending : LookUpEnds → (g : Graph) (instance : Inst) (step : Step) → IsStep g instance.collection.0 step → (ending : Ending) × BodyMeans g instance (items (among list)) ending
     some_ending ends g instance step is_step =
-        let it = ends step.body instance.key (look list) in
-        (it.0, record {
-          step = step;
-          is_step = is_step;
-          means = record {
-            reads = it.1.reads;
-            among = each_back it.1.reads it.1.among;
-            along = it.1.along;
-            needs = λ address asks value there. it.1.needs address asks value (is_found address value there);
-          };
-        })
+        let it = ends step.body instance.key (look list) in (
+          it.0,
+          record {
+            step = step;
+            is_step = is_step;
+            means = record {
+              reads = it.1.reads;
+              among = each_back it.1.reads it.1.among;
+              along = it.1.along;
+              needs = λ address asks value there. it.1.needs address asks value (is_found address value there);
+            };
+          },
+        )
       where
         each_back : (reads : List Read) → AllByRecursion (λ read. Found (look list) read.0 read.1) reads → AllByRecursion (λ read. items (among list) read.0 read.1) reads
         each_back [] all = tt

@@ -1,10 +1,9 @@
 -- What holds of the facts behind a legal list, event after event.
-use Rattle.std.proofs.Common.{◌≡◌, ◌⊎◌, ℕ, ℤ, Bool, true, false, List, [], ◌∷◌, ◌++◌, inl, inr, refl, sym, ap, subst, ◌∙◌}
+use Rattle.std.proofs.Common.{◌≡◌, ℕ, ℤ, true, List, [], ◌∷◌, ◌++◌, inl, inr, sym, subst, ◌∙◌}
 use Rattle.std.proofs.lemmas.Bool.{false≢true}
 use Rattle.std.proofs.lemmas.List.{append_assoc, append-nil}
 use Rattle.terms.specs.declared.name.Addr.{Addr}
 use Rattle.terms.specs.declared.name.Inst.{Inst}
-use Rattle.terms.specs.declared.fault.FaultKind.{FaultKind}
 use Rattle.terms.specs.declared.producer.Producer.{Producer}
 use Rattle.terms.specs.declared.producer.Producer.TheVariants.{Env, By}
 use Rattle.terms.specs.declared.put.Put.{Put}
@@ -13,9 +12,9 @@ use Rattle.terms.specs.declared.event.Event.TheVariants.{EnvItem, EnvTag, Done, 
 use Rattle.terms.specs.Facts.{Fact, tag, item, done, bad, facts, event_facts, put_facts}
 use Rattle.terms.specs.Sets.{Facts, among, OneFact, AmongBoth}
 use Rattle.graph.specs.Graph.{Graph}
-use Rattle.graph.specs.Fits.{addresses, IsIn, IsTwiceIn, IsAbsent, AreNew, HasOneItemEach}
+use Rattle.graph.specs.Fits.{addresses, IsTwiceIn, IsAbsent, AreNew, HasOneItemEach}
 use Rattle.machine.specs.Meaning.{BodyGives}
-use Rattle.machine.specs.Legal.{IsLegal, IsLegalAs, AreLegal}
+use Rattle.machine.specs.Legal.{IsLegal, AreLegal}
 use Rattle.machine.proofs.Sets.{Within, of_list, of_both, in_one, in_two, not_both, the_first, behind_first}
 use Rattle.machine.proofs.Grown.{gives_within}
 use Rattle.machine.proofs.PutFacts.{item_is_put, one_item_each, no_done}
@@ -59,14 +58,14 @@ module _ (told : OneFact) (both : AmongBoth) where
   pub one_item_more : (before more : List Fact) → AddsItems (among before) more → HasOneItemEach (among before) → HasOneItemEach (among (before ++ more))
   one_item_more before more adds old address v w p q one two =
       elim (of_both both before more (item address v p) one) [
-        inl first ↦ elim (of_both both before more (item address w q) two) [
-            inl second ↦ old address v w p q first second
+        | inl first ↦ elim (of_both both before more (item address w q) two) [
+          | inl second ↦ old address v w p q first second
           | inr second ↦ not_both (among before (item address v p)) first (adds.new address w q second v p)
-          ]
-      | inr first ↦ elim (of_both both before more (item address w q) two) [
-            inl second ↦ not_both (among before (item address w q)) second (adds.new address v p first w q)
+        ]
+        | inr first ↦ elim (of_both both before more (item address w q) two) [
+          | inl second ↦ not_both (among before (item address w q)) second (adds.new address v p first w q)
           | inr second ↦ adds.each address v w p q first second
-          ]
+        ]
       ]
 
   pub only : (one : Fact) (fact : Fact) → among (one ∷ []) fact ≡ true → one ≡ fact
@@ -95,8 +94,10 @@ module _ (told : OneFact) (both : AmongBoth) where
     pub adds_item : AddsItems X (it ∷ [])
     adds_item = record {
       new = λ other w by there. subst (λ (a : Addr). IsAbsent X a) (its_address other w by (only it (item other w by) there)) absent;
-      each = λ other v w p q first second. (sym (its_value other v p (only it (item other v p) first)) ∙ its_value other w q (only it (item other w q) second),
-                                            sym (its_producer other v p (only it (item other v p) first)) ∙ its_producer other w q (only it (item other w q) second));
+      each = λ other v w p q first second. (
+        sym (its_value other v p (only it (item other v p) first)) ∙ its_value other w q (only it (item other w q) second),
+        sym (its_producer other v p (only it (item other v p) first)) ∙ its_producer other w q (only it (item other w q) second),
+      );
     }
 
   -- an instance that is done, with its puts
@@ -131,15 +132,15 @@ module _ (told : OneFact) (both : AmongBoth) where
     producers_more : ProducersAreDone (among (before ++ more))
     producers_more address value instance number there =
         elim (of_both both before more (item address value (By instance number)) there) [
-          inl old ↦ in_one both before more (done instance) (kept.producers address value instance number old)
-        | inr it ↦ in_two both before more (done instance) (producers address value instance number it)
+          | inl old ↦ in_one both before more (done instance) (kept.producers address value instance number old)
+          | inr it ↦ in_two both before more (done instance) (producers address value instance number it)
         ]
 
     gave_more : (instance : Inst) → among (before ++ more) (done instance) ≡ true → Gave g (among (before ++ more)) instance
     gave_more instance there =
         elim (of_both both before more (done instance) there) [
-          inl old ↦ gave_within g (among before) (among (before ++ more)) (in_one both before more) instance (kept.gave instance old)
-        | inr it ↦ gave instance it
+          | inl old ↦ gave_within g (among before) (among (before ++ more)) (in_one both before more) instance (kept.gave instance old)
+          | inr it ↦ gave instance it
         ]
 
     kept_more : Kept g (among (before ++ more))
@@ -173,8 +174,8 @@ module _ (told : OneFact) (both : AmongBoth) where
     its_gave : (other : Inst) → among of_it (done other) ≡ true → Gave g (among (before ++ of_it)) other
     its_gave other there =
         elim (of_list told (done instance) (put_facts instance 0 puts) (done other) there) [
-          inl same ↦ subst (λ (i : Inst). Gave g (among (before ++ of_it)) i) (one_instance same) gave
-        | inr it ↦ absurd (no_done told instance 0 puts other it)
+          | inl same ↦ subst (λ (i : Inst). Gave g (among (before ++ of_it)) i) (one_instance same) gave
+          | inr it ↦ absurd (no_done told instance 0 puts other it)
         ]
       where
         one_instance : done instance ≡ done other → instance ≡ other
@@ -202,4 +203,4 @@ module _ (told : OneFact) (both : AmongBoth) where
   kept_list g before [] kept legal = subst (λ (list : List Fact). Kept g (among list)) (sym (append-nil before)) kept
   kept_list g before (event ∷ events) kept legal =
       subst (λ (list : List Fact). Kept g (among list)) (append_assoc before (event_facts event) (facts events))
-        (kept_list g (before ++ event_facts event) events (kept_event g before event kept legal.0) legal.1)
+      (kept_list g (before ++ event_facts event) events (kept_event g before event kept legal.0) legal.1)

@@ -4,5 +4,6 @@ pub mod Grown
 pub mod Kept
 pub mod PutFacts
 pub mod Quiet
+pub mod Rows
 pub mod Sets
 pub mod Within

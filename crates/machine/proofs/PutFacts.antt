@@ -1,16 +1,14 @@
 -- The facts of a list of puts.
-use Rattle.std.proofs.Common.{◌≡◌, ◌⊎◌, ℕ, suc, ℤ, Bool, true, false, ◌||◌, List, [], ◌∷◌, ◌++◌, inl, inr, refl, sym, ap, subst, ◌∙◌}
+use Rattle.std.proofs.Common.{◌≡◌, ℕ, suc, ℤ, true, List, [], ◌∷◌, ◌++◌, inl, inr, refl, sym, ap, subst, ◌∙◌}
 use Rattle.std.proofs.lemmas.Bool.{false≢true}
 use Rattle.terms.specs.declared.name.Addr.{Addr}
-use Rattle.terms.specs.declared.name.Tag.{Tag}
 use Rattle.terms.specs.declared.name.Inst.{Inst}
-use Rattle.terms.specs.declared.fault.FaultKind.{FaultKind}
 use Rattle.terms.specs.declared.producer.Producer.{Producer}
-use Rattle.terms.specs.declared.producer.Producer.TheVariants.{Env, By}
+use Rattle.terms.specs.declared.producer.Producer.TheVariants.{By}
 use Rattle.terms.specs.declared.put.Put.{Put}
 use Rattle.terms.specs.declared.put.Put.TheVariants as put
-use Rattle.terms.specs.Facts.{Fact, tag, item, done, bad, put_fact, put_facts}
-use Rattle.terms.specs.Sets.{is_fact, among, OneFact}
+use Rattle.terms.specs.Facts.{Fact, tag, item, done, put_facts}
+use Rattle.terms.specs.Sets.{among, OneFact}
 use Rattle.graph.specs.Fits.{addresses, IsIn, IsTwiceIn}
 use Rattle.machine.proofs.Sets.{of_list, the_first, behind_first}
 
@@ -43,13 +41,13 @@ module _ (told : OneFact) where
   item_is_put instance number [] address value by holds = absurd (false≢true holds)
   item_is_put instance number (put.Item other w ∷ puts) address value by holds =
       elim (of_list told (item other w (By instance number)) (put_facts instance (suc number) puts) (item address value by) holds) [
-        inl here ↦ (subst (λ (a : Addr). IsIn a (other ∷ addresses puts)) (same_address other address w value (By instance number) by here) (in_first other (addresses puts)), (number, sym (same_producer other address w value (By instance number) by here)))
-      | inr later ↦ (let it = item_is_put instance (suc number) puts address value by later in (in_rest other (addresses puts) address it.0, it.1))
+        | inl here ↦ (subst (λ (a : Addr). IsIn a (other ∷ addresses puts)) (same_address other address w value (By instance number) by here) (in_first other (addresses puts)), (number, sym (same_producer other address w value (By instance number) by here)))
+        | inr later ↦ (let it = item_is_put instance (suc number) puts address value by later in (in_rest other (addresses puts) address it.0, it.1))
       ]
   item_is_put instance number (put.Tag name ∷ puts) address value by holds =
       elim (of_list told (tag name) (put_facts instance (suc number) puts) (item address value by) holds) [
-        inl here ↦ absurd (cc)
-      | inr later ↦ item_is_put instance (suc number) puts address value by later
+        | inl here ↦ absurd (cc)
+        | inr later ↦ item_is_put instance (suc number) puts address value by later
       ]
 
   -- an item of these facts at an address
@@ -86,26 +84,28 @@ module _ (told : OneFact) where
   one_item_each instance number [] distinct address v w p q one two = absurd (false≢true one)
   one_item_each instance number (put.Item other u ∷ puts) distinct address v w p q one two =
       elim (of_list told (item other u (By instance number)) (put_facts instance (suc number) puts) (item address v p) one) [
-        inl here ↦ elim (of_list told (item other u (By instance number)) (put_facts instance (suc number) puts) (item address w q) two) [
-            inl too ↦ (sym (same_value other address u v (By instance number) p here) ∙ same_value other address u w (By instance number) q too,
-                       sym (same_producer other address u v (By instance number) p here) ∙ same_producer other address u w (By instance number) q too)
+        | inl here ↦ elim (of_list told (item other u (By instance number)) (put_facts instance (suc number) puts) (item address w q) two) [
+          | inl too ↦ (
+            sym (same_value other address u v (By instance number) p here) ∙ same_value other address u w (By instance number) q too,
+            sym (same_producer other address u v (By instance number) p here) ∙ same_producer other address u w (By instance number) q too,
+          )
           | inr later ↦ absurd (again (same_address other address u v (By instance number) p here) (item_is_put instance (suc number) puts address w q later).0)
-          ]
-      | inr later ↦ elim (of_list told (item other u (By instance number)) (put_facts instance (suc number) puts) (item address w q) two) [
-            inl here ↦ absurd (again (same_address other address u w (By instance number) q here) (item_is_put instance (suc number) puts address v p later).0)
+        ]
+        | inr later ↦ elim (of_list told (item other u (By instance number)) (put_facts instance (suc number) puts) (item address w q) two) [
+          | inl here ↦ absurd (again (same_address other address u w (By instance number) q here) (item_is_put instance (suc number) puts address v p later).0)
           | inr too ↦ one_item_each instance (suc number) puts (λ a it. distinct a (twice_rest other (addresses puts) a it)) address v w p q later too
-          ]
+        ]
       ]
     where
       again : other ≡ address → IsIn address (addresses puts) → ⊥
       again same it = distinct address (subst (λ (a : Addr). IsTwiceIn address (a ∷ addresses puts)) (sym same) (twice_first address (addresses puts) it))
   one_item_each instance number (put.Tag name ∷ puts) distinct address v w p q one two =
       elim (of_list told (tag name) (put_facts instance (suc number) puts) (item address v p) one) [
-        inl here ↦ absurd (cc)
-      | inr later ↦ elim (of_list told (tag name) (put_facts instance (suc number) puts) (item address w q) two) [
-            inl here ↦ absurd (cc)
+        | inl here ↦ absurd (cc)
+        | inr later ↦ elim (of_list told (tag name) (put_facts instance (suc number) puts) (item address w q) two) [
+          | inl here ↦ absurd (cc)
           | inr too ↦ one_item_each instance (suc number) puts distinct address v w p q later too
-          ]
+        ]
       ]
 
   -- puts state no end of an instance
@@ -113,11 +113,11 @@ module _ (told : OneFact) where
   no_done instance number [] other holds = false≢true holds
   no_done instance number (put.Item a w ∷ puts) other holds =
       elim (of_list told (item a w (By instance number)) (put_facts instance (suc number) puts) (done other) holds) [
-        inl here ↦ absurd (cc)
-      | inr later ↦ no_done instance (suc number) puts other later
+        | inl here ↦ absurd (cc)
+        | inr later ↦ no_done instance (suc number) puts other later
       ]
   no_done instance number (put.Tag name ∷ puts) other holds =
       elim (of_list told (tag name) (put_facts instance (suc number) puts) (done other) holds) [
-        inl here ↦ absurd (cc)
-      | inr later ↦ no_done instance (suc number) puts other later
+        | inl here ↦ absurd (cc)
+        | inr later ↦ no_done instance (suc number) puts other later
       ]

@@ -1,6 +1,5 @@
 -- Where nothing is left to do the facts are closed.
-use Rattle.std.proofs.Common.{◌≡◌, ◌≢◌, ◌⊎◌, ℕ, ℤ, Bool, true, false, List, [], ◌∷◌, ◌++◌, inl, inr, refl, sym, ap, subst, ◌∙◌}
-use Rattle.std.proofs.lemmas.Bool.{false≢true}
+use Rattle.std.proofs.Common.{◌≡◌, ℕ, true, List, [], ◌∷◌, ◌++◌, inl, inr, sym, subst}
 use Rattle.terms.specs.declared.name.Addr.{Addr}
 use Rattle.terms.specs.declared.name.Inst.{Inst}
 use Rattle.terms.specs.declared.fault.FaultKind.{FaultKind}
@@ -14,11 +13,11 @@ use Rattle.terms.specs.Sets.{Facts, among, OneFact, AmongBoth}
 use Rattle.steptree.specs.Bodies.{Ending, Gives, Faults, Asks}
 use Rattle.steptree.specs.Laws.{LookUpEndsOnce}
 use Rattle.graph.specs.Graph.{Graph, BodyMeans}
-use Rattle.graph.specs.Fits.{IsPrescribed, addresses}
+use Rattle.graph.specs.Fits.{IsPrescribed}
 use Rattle.machine.specs.Meaning.{items, BodyGives, BodyFaults, IsAnother, IsDoubled, IsClosed, Meaning, IsClean}
 use Rattle.machine.specs.Legal.{AreLegal, IsQuiet}
 use Rattle.machine.specs.Laws.{stated, put_by_environment, IsThere}
-use Rattle.machine.proofs.Sets.{Within, not_both, same_truth, given_is_stated}
+use Rattle.machine.proofs.Sets.{not_both, same_truth, given_is_stated}
 use Rattle.machine.proofs.Grown.{one_ending}
 use Rattle.machine.proofs.PutFacts.{put_has_item}
 use Rattle.machine.proofs.Kept.{Gave}
@@ -36,9 +35,9 @@ module _ (told : OneFact) (both : AmongBoth) (once : LookUpEndsOnce) (g : Graph)
     gave : (instance : Inst) (puts : List Put) → IsPrescribed g X instance → BodyGives g X instance puts → (it : Gave g X instance) × (it.puts ≡ puts) × (X (done instance) ≡ true)
     gave instance puts prescribed gives =
         elim (quiet.done_or_blocked instance prescribed) [
-          inl is_done ↦ (let it = (kept_from_nothing told both g events legal).gave instance is_done in
-            (it, same_puts it.puts puts (unique instance (Gives it.puts) (Gives puts) it.gives gives), is_done))
-        | inr blocked ↦ absurd (asks_gives blocked.0 puts (unique instance (Asks blocked.0) (Gives puts) blocked.1 gives))
+          | inl is_done ↦ (let it = (kept_from_nothing told both g events legal).gave instance is_done in
+              (it, same_puts it.puts puts (unique instance (Gives it.puts) (Gives puts) it.gives gives), is_done))
+          | inr blocked ↦ absurd (asks_gives blocked.0 puts (unique instance (Asks blocked.0) (Gives puts) blocked.1 gives))
         ]
       where
         same_puts : (one two : List Put) → Gives one ≡ Gives two → one ≡ two
@@ -51,12 +50,12 @@ module _ (told : OneFact) (both : AmongBoth) (once : LookUpEndsOnce) (g : Graph)
     not_doubled instance puts it same double =
         let there : IsDoubled X instance it.puts = subst (λ (list : List Put). IsDoubled X instance list) (sym same) double in
         elim there.1 [
-          inl twice ↦ it.distinct there.0 twice
-        | inr other ↦ (
-            let own = put_has_item told instance 0 it.puts there.0 other.0 in
-            let one = (kept_from_nothing told both g events legal).one_item there.0 own.0 other.1.0 (By instance own.1) other.1.1
-                  (it.there (item there.0 own.0 (By instance own.1)) own.2) other.1.2 in
-            itself own.1 other.1.1 one.1 other.1.3)
+          | inl twice ↦ it.distinct there.0 twice
+          | inr other ↦ (
+              let own = put_has_item told instance 0 it.puts there.0 other.0 in
+              let one = (kept_from_nothing told both g events legal).one_item there.0 own.0 other.1.0 (By instance own.1) other.1.1
+              (it.there (item there.0 own.0 (By instance own.1)) own.2) other.1.2 in
+              itself own.1 other.1.1 one.1 other.1.3)
         ]
       where
         itself : (number : ℕ) (by : Producer) → By instance number ≡ by → IsAnother instance by → ⊥
@@ -69,9 +68,9 @@ module _ (told : OneFact) (both : AmongBoth) (once : LookUpEndsOnce) (g : Graph)
     no_faults : (instance : Inst) (kind : FaultKind) → IsPrescribed g X instance → BodyFaults g X instance kind → ⊥
     no_faults instance kind prescribed faults =
         elim (quiet.done_or_blocked instance prescribed) [
-          inl is_done ↦ (let it = (kept_from_nothing told both g events legal).gave instance is_done in
-            gives_faults it.puts (unique instance (Gives it.puts) (Faults kind) it.gives faults))
-        | inr blocked ↦ asks_faults blocked.0 (unique instance (Asks blocked.0) (Faults kind) blocked.1 faults)
+          | inl is_done ↦ (let it = (kept_from_nothing told both g events legal).gave instance is_done in
+              gives_faults it.puts (unique instance (Gives it.puts) (Faults kind) it.gives faults))
+          | inr blocked ↦ asks_faults blocked.0 (unique instance (Asks blocked.0) (Faults kind) blocked.1 faults)
         ]
       where
         gives_faults : (list : List Put) → Gives list ≡ Faults kind → ⊥

@@ -1,5 +1,5 @@
 -- Lists of facts as sets.
-use Rattle.std.proofs.Common.{◌≡◌, ◌⊎◌, ℕ, Bool, true, false, ◌||◌, List, [], ◌∷◌, ◌++◌, inl, inr, refl, sym, ap, subst, ◌∙◌}
+use Rattle.std.proofs.Common.{◌≡◌, ◌⊎◌, Bool, true, false, ◌||◌, List, [], ◌∷◌, ◌++◌, inl, inr, refl, sym, ◌∙◌}
 use Rattle.std.proofs.lemmas.Bool.{false≢true}
 use Rattle.terms.specs.declared.event.Event.{Event}
 use Rattle.terms.specs.declared.event.Event.TheVariants.{EnvItem, EnvTag, Done, Stopped}
@@ -62,6 +62,6 @@ module _ (both : AmongBoth) where
   given_is_stated [] fact holds = holds
   given_is_stated (event ∷ events) fact holds =
       elim (of_both (environment_facts event) (environment events) fact holds) [
-        inl here ↦ in_one (event_facts event) (facts events) fact (given_in_event event fact here)
-      | inr later ↦ in_two (event_facts event) (facts events) fact (given_is_stated events fact later)
+        | inl here ↦ in_one (event_facts event) (facts events) fact (given_in_event event fact here)
+        | inr later ↦ in_two (event_facts event) (facts events) fact (given_is_stated events fact later)
       ]

@@ -1,22 +1,20 @@
 -- The facts of legal events are within each closed set.
-use Rattle.std.proofs.Common.{◌≡◌, ◌⊎◌, ℕ, ℤ, Bool, true, false, List, [], ◌∷◌, ◌++◌, inl, inr, refl, sym, ap, subst, ◌∙◌}
+use Rattle.std.proofs.Common.{◌≡◌, ℤ, true, false, List, [], ◌∷◌, ◌++◌, inl, inr, sym, subst}
 use Rattle.std.proofs.lemmas.Bool.{false≢true}
 use Rattle.std.proofs.lemmas.List.{append_assoc, append-nil}
 use Rattle.terms.specs.declared.name.Addr.{Addr}
 use Rattle.terms.specs.declared.name.Inst.{Inst}
 use Rattle.terms.specs.declared.fault.FaultKind.{FaultKind}
-use Rattle.terms.specs.declared.fault.FaultKind.TheVariants.{DoublePut}
 use Rattle.terms.specs.declared.producer.Producer.{Producer}
 use Rattle.terms.specs.declared.producer.Producer.TheVariants.{Env, By}
 use Rattle.terms.specs.declared.put.Put.{Put}
 use Rattle.terms.specs.declared.event.Event.{Event}
 use Rattle.terms.specs.declared.event.Event.TheVariants.{EnvItem, EnvTag, Done, Stopped}
-use Rattle.terms.specs.Facts.{Fact, tag, item, done, bad, facts, environment, event_facts, environment_facts, put_facts}
+use Rattle.terms.specs.Facts.{Fact, item, done, bad, facts, environment, event_facts, environment_facts, put_facts}
 use Rattle.terms.specs.Sets.{Facts, among, OneFact, AmongBoth}
 use Rattle.graph.specs.Graph.{Graph}
-use Rattle.graph.specs.Fits.{addresses, IsIn, IsTwiceIn}
-use Rattle.machine.specs.Meaning.{BodyGives, IsAnother, IsDoubled, IsClosed, Meaning}
-use Rattle.machine.specs.Legal.{Conflicts, IsAtFault, IsLegal, AreLegal}
+use Rattle.machine.specs.Meaning.{IsAnother, IsDoubled, IsClosed, Meaning}
+use Rattle.machine.specs.Legal.{Conflicts, IsLegal, AreLegal}
 use Rattle.machine.specs.Laws.{stated, put_by_environment}
 use Rattle.machine.proofs.Sets.{Within, of_list, of_both, in_one, in_two, not_both}
 use Rattle.machine.proofs.Grown.{prescribed_within, gives_within, faults_within}
@@ -30,11 +28,13 @@ module _ (told : OneFact) (both : AmongBoth) (g : Graph) (E Y : Facts) (closed :
       λ same. not_both (X (done other)) (producers address value other number there) (subst (λ (i : Inst). X (done i) ≡ false) (sym same) not_done)
 
   doubled : (X : Facts) → Within X Y → ProducersAreDone X → (instance : Inst) → X (done instance) ≡ false → (puts : List Put) → Conflicts X puts → IsDoubled Y instance puts
-  doubled X within producers instance not_done puts conflict =
-      (conflict.0, elim conflict.1 [
-        inl twice ↦ inl twice
+  doubled X within producers instance not_done puts conflict = (
+    conflict.0,
+    elim conflict.1 [
+      | inl twice ↦ inl twice
       | inr it ↦ inr (it.0, (it.1.0, it.1.1, within (item conflict.0 it.1.0 it.1.1) it.1.2, another X producers instance not_done conflict.0 it.1.0 it.1.1 it.1.2))
-      ])
+    ],
+  )
 
   -- a fault that may come is in the set
   pub fault_within : (X : Facts) → Within X Y → ProducersAreDone X → (instance : Inst) (kind : FaultKind) → IsLegal g X (Stopped instance kind) → Y (bad instance kind) ≡ true
@@ -42,9 +42,9 @@ module _ (told : OneFact) (both : AmongBoth) (g : Graph) (E Y : Facts) (closed :
       let it = legal.event_is_legal in
       let prescribed = prescribed_within g X Y within instance it.0 in
       elim it.2 [
-        inl faults ↦ closed.faults instance kind prescribed (faults_within g X Y within instance kind faults)
-      | inr put ↦ subst (λ (k : FaultKind). Y (bad instance k) ≡ true) (sym put.0)
-          (closed.doubled instance put.1.0 prescribed (gives_within g X Y within instance put.1.0 put.1.1) (doubled X within producers instance it.1 put.1.0 put.1.2))
+        | inl faults ↦ closed.faults instance kind prescribed (faults_within g X Y within instance kind faults)
+        | inr put ↦ subst (λ (k : FaultKind). Y (bad instance k) ≡ true) (sym put.0)
+            (closed.doubled instance put.1.0 prescribed (gives_within g X Y within instance put.1.0 put.1.1) (doubled X within producers instance it.1 put.1.0 put.1.2))
       ]
 
   -- and so is what an event states
@@ -56,8 +56,8 @@ module _ (told : OneFact) (both : AmongBoth) (g : Graph) (E Y : Facts) (closed :
       let prescribed = prescribed_within g X Y within instance it.0 in
       let gives = gives_within g X Y within instance puts it.2 in
       elim (of_list told (done instance) (put_facts instance 0 puts) fact there) [
-        inl same ↦ subst (λ (f : Fact). Y f ≡ true) same (closed.done instance puts prescribed gives)
-      | inr of_puts ↦ closed.puts instance puts prescribed gives fact of_puts
+        | inl same ↦ subst (λ (f : Fact). Y f ≡ true) same (closed.done instance puts prescribed gives)
+        | inr of_puts ↦ closed.puts instance puts prescribed gives fact of_puts
       ]
   event_within X within producers (Stopped instance kind) legal environment fact there =
       subst (λ (f : Fact). Y f ≡ true) (only told both (bad instance kind) fact there) (fault_within X within producers instance kind legal)
@@ -70,9 +70,9 @@ module _ (told : OneFact) (both : AmongBoth) (g : Graph) (E Y : Facts) (closed :
   list_within before (event ∷ events) kept within legal given fact there =
       let first = event_within (among before) within kept.producers event legal.0 (λ f it. given f (in_one both (environment_facts event) (environment events) f it)) in
       elim (of_both both (event_facts event) (facts events) fact there) [
-        inl it ↦ first fact it
-      | inr it ↦ list_within (before ++ event_facts event) events (kept_event told both g before event kept legal.0)
-          (both_within before (event_facts event) within first) legal.1 (λ f i. given f (in_two both (environment_facts event) (environment events) f i)) fact it
+        | inl it ↦ first fact it
+        | inr it ↦ list_within (before ++ event_facts event) events (kept_event told both g before event kept legal.0)
+            (both_within before (event_facts event) within first) legal.1 (λ f i. given f (in_two both (environment_facts event) (environment events) f i)) fact it
       ]
 
 module _ (told : OneFact) (both : AmongBoth) (g : Graph) where
@@ -101,4 +101,4 @@ module _ (told : OneFact) (both : AmongBoth) (g : Graph) where
   stopped_is_meant events instance kind legal Y closed =
       let split = parts [] events (Stopped instance kind ∷ []) legal in
       fault_within told both g (put_by_environment events) Y closed (stated events) (λ fact there. stays_within events split.0 fact there Y closed)
-        (kept_from_nothing events split.0).producers instance kind split.1.0
+      (kept_from_nothing events split.0).producers instance kind split.1.0

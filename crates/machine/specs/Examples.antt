@@ -1,18 +1,17 @@
 -- Worked examples of what graphs mean: a graph of Fibonacci numbers, and a step that puts one item twice.
-use Rattle.std.specs.Prelude.{◌≡◌, ◌⊎◌, ℕ, ℤ, pos, Bool, true, false, List, [], ◌∷◌, ◌++◌, codes, Box}
+use Rattle.std.specs.Prelude.{◌≡◌, ℕ, ℤ, pos, true, false, List, [], ◌∷◌, ◌++◌, codes, Box}
 use Rattle.std.specs.declared.alloc.Global.{Global}
 use Rattle.terms.specs.declared.name.Addr.{Addr}
 use Rattle.terms.specs.declared.name.Tag.{Tag}
 use Rattle.terms.specs.declared.name.Inst.{Inst}
 use Rattle.terms.specs.declared.fault.FaultKind.TheVariants.{DoublePut}
-use Rattle.terms.specs.declared.producer.Producer.{Producer}
 use Rattle.terms.specs.declared.producer.Producer.TheVariants.{Env, By}
 use Rattle.terms.specs.declared.put.Put.{Put}
 use Rattle.terms.specs.declared.put.Put.TheVariants as put
 use Rattle.terms.specs.declared.event.Event.{Event}
 use Rattle.terms.specs.declared.event.Event.TheVariants.{EnvItem, EnvTag, Done, Stopped}
-use Rattle.terms.specs.Facts.{Fact, item, facts}
-use Rattle.terms.specs.Sets.{Facts, among}
+use Rattle.terms.specs.Facts.{Fact, item}
+use Rattle.terms.specs.Sets.{among}
 use Rattle.steptree.specs.declared.expression.Operator.TheVariants as operator
 use Rattle.steptree.specs.declared.expression.Expression.{Expression}
 use Rattle.steptree.specs.declared.expression.Expression.TheVariants.{Number, Variable, Operation'}

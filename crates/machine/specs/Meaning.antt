@@ -1,6 +1,6 @@
 -- What a graph means on an environment: the facts that are in every closed set. A set tells of each fact whether it is in it.
 -- Where bodies put two values at one address, the meaning has both, and the fault with them: more than any store holds.
-use Rattle.std.specs.Prelude.{◌≡◌, ◌≢◌, ◌⊎◌, ⊤, ℕ, ℤ, true, List}
+use Rattle.std.specs.Prelude.{◌≡◌, ◌≢◌, ◌⊎◌, ⊤, ℤ, true, List}
 use Rattle.terms.specs.declared.name.Addr.{Addr}
 use Rattle.terms.specs.declared.name.Inst.{Inst}
 use Rattle.terms.specs.declared.fault.FaultKind.{FaultKind}
@@ -13,7 +13,6 @@ use Rattle.terms.specs.Sets.{Facts, among}
 use Rattle.steptree.specs.Bodies.{Gives, Faults}
 use Rattle.graph.specs.Graph.{Graph, BodyMeans}
 use Rattle.graph.specs.Fits.{IsPrescribed, addresses, IsIn, IsTwiceIn}
-
 
 -- the items of a set, as pairs of an address and a value; an address may have several there
 abbrev pub items : Facts → Addr → ℤ → Type 0

@@ -1,19 +1,43 @@
 //! Worked examples of what a graph means. Each is a contract, with nothing to run.
 ghost use Rattle.machine.specs.Examples.{Place, FiveNumbers, OneNumber, Conflict, PutTwice, Refused};
 
+use steptree::ends_once;
+use terms::facts_are_told_apart;
+
 /// Four Fibonacci numbers in two orders; one number alone; and a number that is there before.
 pub fn fibonacci_numbers()
     ensures five_numbers { (place : Place) → FiveNumbers place }
     ensures one_number { (place : Place) → OneNumber place }
     ensures conflict { (place : Place) → Conflict place }
-{}
+{
+    facts_are_told_apart();
+    ends_once();
+}
 
 /// A step that puts one item twice is at fault, and cannot be done.
 pub fn item_put_twice()
     ensures { (place : Place) → PutTwice place }
-{}
+{
+    facts_are_told_apart();
+    ends_once();
+}
 
 /// What the definitions refuse: sets that are not quiet, not closed or not meant, and lists that are not legal.
 pub fn refused_examples()
     ensures { (place : Place) → Refused place }
-{}
+{
+    facts_are_told_apart();
+    ends_once();
+}
+
+#[cfg(test)]
+mod tests {
+    use super::*;
+
+    #[test]
+    fn examples_are_there() {
+        fibonacci_numbers();
+        item_put_twice();
+        refused_examples();
+    }
+}

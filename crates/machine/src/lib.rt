@@ -7,4 +7,8 @@
 mod examples;
 mod laws;
 
-pub use laws::{each_instance_can_go_on, legal_events_fit, legal_lists_go_on, one_end, quiet_is_meaning, stays_within, stopped_is_not_clean};
+pub use examples::{fibonacci_numbers, item_put_twice, refused_examples};
+pub use laws::{
+    each_instance_can_go_on, legal_events_fit, legal_lists_go_on, one_end, quiet_is_meaning,
+    stays_within, stopped_is_not_clean,
+};
