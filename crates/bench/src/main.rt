@@ -2,6 +2,7 @@
 #![tactic(auto)]
 
 mod evaluate;
+mod images;
 
 use anyhow::Error;
 use std::env;
@@ -9,11 +10,15 @@ use std::env;
 fn main(rt: HostRuntime) -> Result<(), Error> {
     let words: Vec<String> = env::args(&rt)?.collect(rt.alloc())?;
     if words.len() == 3
-        && words[1].as_str() == "evaluate"
-        && let Ok(statements) = words[2].parse::<u32>()
+        && let Ok(count) = words[2].parse::<u32>()
     {
-        return evaluate::measure(&rt, statements);
+        match words[1].as_str() {
+            "codec" => return images::measure(&rt, count),
+            "evaluate" => return evaluate::measure(&rt, count),
+            _ => {}
+        }
     }
-    println!(rt; "usage: bench evaluate STATEMENTS")?;
+    println!(rt; "usage: bench codec ITEMS")?;
+    println!(rt; "       bench evaluate STATEMENTS")?;
     Ok(())
 }

@@ -1,5 +1,5 @@
 -- What a command may come to on a store of these cells, and what file A stands for afterwards.
-use Rattle.std.specs.Prelude.{◌≡◌, ◌⊎◌, ◌≤◌, ◌<◌, ◌+◌, ◌*◌, ⊤, ℕ, ℤ, Bool, IsTrue, List, [], ◌∷◌, ◌++◌, length, Option, Some, None, MatchBool}
+use Rattle.std.specs.Prelude.{◌≡◌, ◌⊎◌, ◌≤◌, ◌<◌, ◌↔◌, ◌+◌, ◌*◌, ⊤, ℕ, ℤ, Bool, IsTrue, List, [], ◌∷◌, ◌++◌, length, Option, Some, None, MatchBool}
 use Rattle.std.specs.Io.KnownBytes.{Appends}
 use Rattle.disk.specs.declared.side.Side.{Side}
 use Rattle.disk.specs.declared.side.Side.TheVariants.{A}
@@ -54,7 +54,8 @@ pub record Comes {D : Type 0} (honest : Bool) (files : D → Side → File) (fai
   pub settles : IsTrue honest → Settles command reply (files old A).content (files new A).content
   -- what a reply about cells rests on is on the disk
   pub durable : IsTrue honest → status_of reply ≤ 1 → files new A ≡ at_rest (files new A).content
-  pub device : reply ≡ said.Refused refusal.Device → failures old < failures new
+  -- a failure of the device is told, and no other reply is
+  pub device : (reply ≡ said.Refused refusal.Device) ↔ (failures old < failures new)
 
 -- a crash while a cell is put leaves what it might have left before, or the cells before the put or after it
 abbrev pub PutLeaves : Cells → ℤ → ℤ → (Side → File) → Contents → Type 0

@@ -2,6 +2,7 @@ pub mod Answers
 pub mod Causes
 pub mod Cells
 pub mod Clap
+pub mod Fault
 pub mod Journal
 pub mod Line
 pub mod Maps

@@ -1,4 +1,4 @@
-ghost use Rattle.std.specs.Prelude.{◌≡◌, ◌≢◌, ◌⊎◌, ◌≤◌, ◌<◌, ◌++◌, ◌∷◌, [], ℕ, ℤ, List, IsTrue, MatchOption, Some, ⊤, false};
+ghost use Rattle.std.specs.Prelude.{◌≡◌, ◌≢◌, ◌⊎◌, ◌≤◌, ◌<◌, ◌↔◌, ◌++◌, ◌∷◌, [], ℕ, ℤ, List, IsTrue, MatchOption, Some, ⊤, false};
 ghost use Rattle.std.specs.Io.KnownBytes.{Appends};
 ghost use Rattle.disk.specs.declared.side.Side.TheVariants.{A};
 ghost use Rattle.disk.specs.File.{at_rest};
@@ -48,7 +48,7 @@ pub fn cell<D: Disk, W: Write, E: Write>(
 fn answer<D: Disk>(alloc: Global, command: &Command<'_>, disk: &mut D) -> Reply
     ensures settles { IsTrue D.is_honest → Settles command.now result (D.files disk.old A).content (D.files disk.new A).content }
     ensures durable { IsTrue D.is_honest → status_of result ≤ 1 → D.files disk.new A ≡ at_rest (D.files disk.new A).content }
-    ensures device { result ≡ Refused Device → D.failures disk.old < D.failures disk.new }
+    ensures device { (result ≡ Refused Device) ↔ (D.failures disk.old < D.failures disk.new) }
     ensures other { IsTrue D.is_honest → OtherStays A (D.files disk.old) (D.files disk.new) }
     ensures moments { IsTrue D.is_honest → CommandLeaves D.files D.moment D.left_at command.now disk.old disk.new }
     ensures later { IsTrue D.is_honest → D.moment disk.old ≤ D.moment disk.new }
@@ -74,7 +74,7 @@ fn put<D: Disk>(store: &mut Store, disk: &mut D, key: i64, value: i64) -> Reply
     ensures first_moments { IsTrue D.is_honest → D.files disk.old A ≡ at_rest [] → IsStoreOf store.old [] [] → FirstPutLeaves D.files D.moment D.left_at key value disk.old disk.new }
     ensures earlier { IsTrue D.is_honest → LeavesOnly D.moment D.left_at disk.old disk.new (λ _. ⊤) }
     ensures damaged { (place : ℕ) → result ≡ Refused (Damaged place) → ⊥ }
-    ensures device { result ≡ Refused Device → D.failures disk.old < D.failures disk.new }
+    ensures device { (result ≡ Refused Device) ↔ (D.failures disk.old < D.failures disk.new) }
     ensures failures { D.failures disk.old ≤ D.failures disk.new }
 {
     match store.put(disk, key, value) {

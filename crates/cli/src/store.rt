@@ -51,7 +51,7 @@ impl Store {
 
         ensures already { (there : ℤ) → IsErrOf result (AlreadyPut there) → ⊥ }
         ensures full { IsErrOf result Full → ⊥ }
-        ensures device { IsErrOf result Device → D.failures disk.old < D.failures disk.new }
+        ensures device { IsErrOf result Device ↔ (D.failures disk.old < D.failures disk.new) }
         ensures failures { D.failures disk.old ≤ D.failures disk.new }
     {
         disk.sync(Side::A)?;
@@ -108,7 +108,7 @@ impl Store {
             → IsErrOf result Full → (value_at cells key ≡ None) × (LIMIT ≤ 25 * (length cells + 1)) }
         ensures room { IsTrue D.is_honest → (cells : Cells) → IsStoreOf self.old (D.files disk.old A).content cells → OnOk result (25 * (length cells + 1) < LIMIT) }
         ensures damaged { (place : ℕ) → IsErrOf result (Damaged place) → ⊥ }
-        ensures device { IsErrOf result Device → D.failures disk.old < D.failures disk.new }
+        ensures device { IsErrOf result Device ↔ (D.failures disk.old < D.failures disk.new) }
         ensures failures { D.failures disk.old ≤ D.failures disk.new }
     {
         let cell = Key::new(&[key]);
@@ -151,7 +151,7 @@ fn append<D: Disk>(
     ensures room { IsTrue D.is_honest → (payloads : List (List ℕ)) → IsJournalOf journal.old (D.files disk.old A).content payloads
         → OnOk result (length (records payloads) + 5 + length payload.now < LIMIT) }
     ensures damaged { (place : ℕ) → IsErrOf result (Damaged place) → ⊥ }
-    ensures device { IsErrOf result Device → D.failures disk.old < D.failures disk.new }
+    ensures device { IsErrOf result Device ↔ (D.failures disk.old < D.failures disk.new) }
     ensures failures { D.failures disk.old ≤ D.failures disk.new }
 {
     match journal.take() {
@@ -185,7 +185,7 @@ fn add<D: Disk>(
     ensures room { OnOk result (begun.end + 5 + length payload.now < LIMIT) }
     ensures before_the_disk { IsErrOf result Full → disk.new ≡ disk.old }
     ensures damaged { (place : ℕ) → IsErrOf result (Damaged place) → ⊥ }
-    ensures device { IsErrOf result Device → D.failures disk.old < D.failures disk.new }
+    ensures device { IsErrOf result Device ↔ (D.failures disk.old < D.failures disk.new) }
     ensures failures { D.failures disk.old ≤ D.failures disk.new }
 {
     let appended = begun.append(disk, payload);

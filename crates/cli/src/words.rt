@@ -8,6 +8,7 @@ ghost use Rattle.std.specs.Str.Parse.{digits_value};
 ghost use Rattle.clap.specs.Words.{Text, kind_of, subcommand_rows_of};
 ghost use Rattle.cli.specs.Clap.{Collections, HasApp, HasRule, IsCellAlone, cell_app, line_app};
 ghost use Rattle.cli.specs.Clap.{number_rule, wanted_rule};
+ghost use Rattle.cli.specs.Fault.{fault_text};
 ghost use Rattle.cli.specs.Line.{Asks, IsNumber, IsPlain, Line, Spells, words_of};
 ghost use Rattle.cli.specs.Words.{AreInRange, Finds, IsOkUnlessMemory, IsOwnKind, IsReadBy};
 ghost use Rattle.cli.specs.Words.{Says, SaysPut, SaysGet, directory_in, rows_in, usage_status_of};
@@ -124,6 +125,8 @@ impl Fault<'_> {
 }
 
 impl fmt::Display for Fault<'_> {
+    ghost output = { λ fault. Some (fault_text fault) };
+
     fn fmt<W: fmt::Write>(&self, f: &mut fmt::Formatter<W>) -> fmt::Result {
         match self {
             Fault::Missing(name) => write!(f, "<{name}> is missing"),

@@ -7,7 +7,7 @@ use Rattle.codec.specs.Reading.{Reading, all_used, whole}
 use Rattle.codec.proofs.Agreeing.{Agrees, exactly, same_read}
 
 -- what was read as a whole left nothing
-nothing_left : {V : Type 0} (v value : V) (rest : List ℕ) → all_used v rest ≡ Ok value → (v ≡ value) × (rest ≡ [])
+pub nothing_left : {V : Type 0} (v value : V) (rest : List ℕ) → all_used v rest ≡ Ok value → (v ≡ value) × (rest ≡ [])
 nothing_left v value [] is = (cc, refl)
 nothing_left v value (byte ∷ rest) is = absurd (cc)
 

@@ -1,5 +1,6 @@
-ghost use Rattle.std.specs.Prelude.{◌≡◌, ◌⊎◌, IsErrOf};
+ghost use Rattle.std.specs.Prelude.{◌≡◌, ◌⊎◌, IfOk, IsErrOf};
 ghost use Rattle.codec.specs.Answers.{leaving, ReadsOrRefused};
+ghost use Rattle.codec.specs.Spelling.{SpellsEvent, HasFewPuts, SpellsImage, IsInOrder};
 ghost use Rattle.codec.specs.Reading.{event, counted, one_put, decoded_event, image, decoded_image};
 ghost use Rattle.codec.specs.declared.error.CodecError.TheVariants.{NoMemory};
 
@@ -13,7 +14,10 @@ use terms::{Event, MOST_PUTS, Puts};
 ///
 /// It takes memory for the puts of an instance alone, and never more than the bytes that are there could spell.
 pub fn decode_event(alloc: Global, bytes: &[u8]) -> Result<Event, CodecError>
-    ensures { IsErrOf result NoMemory ⊎ (result ≡ decoded_event bytes.now) }
+    ensures decoded { IsErrOf result NoMemory ⊎ (result ≡ decoded_event bytes.now) }
+    ensures spelled { IfOk result (SpellsEvent bytes.now) }
+    // It can be encoded again.
+    ensures encodable { IfOk result HasFewPuts }
 {
     let mut reader = Reader { rest: bytes };
     let event = read_event(alloc, &mut reader)?;
@@ -25,7 +29,10 @@ pub fn decode_event(alloc: Global, bytes: &[u8]) -> Result<Event, CodecError>
 ///
 /// It takes no more memory than the bytes that are there could spell.
 pub fn decode_image(alloc: Global, bytes: &[u8]) -> Result<Image, CodecError>
-    ensures { IsErrOf result NoMemory ⊎ (result ≡ decoded_image bytes.now) }
+    ensures decoded { IsErrOf result NoMemory ⊎ (result ≡ decoded_image bytes.now) }
+    ensures spelled { IfOk result (SpellsImage bytes.now) }
+    // It can be encoded again.
+    ensures encodable { IfOk result IsInOrder }
 {
     let mut reader = Reader { rest: bytes };
     let image = read_image(alloc, &mut reader)?;

@@ -27,10 +27,6 @@ pub record Elapses (before now : ℕ) (past at : ℕ → Contents → Type 0) : 
   pub by_one : now ≤ before + 1
   pub stays : (t : ℕ) (contents : Contents) → t ≤ before → at t contents ↔ past t contents
 
--- a crash at some moment since this one may have left these bytes
-abbrev pub LeftSince : {D : Type 0} → (D → ℕ) → (D → ℕ → Contents → Type 0) → D → ℕ → Contents → Type 0
-LeftSince moment left_at disk since contents = (t : ℕ) × (since ≤ t) × (t ≤ moment disk) × left_at disk t contents
-
 -- At each moment since old a crash left what has P; and what one at an earlier moment may have left stays what it was.
 pub record LeavesOnly {D : Type 0} (moment : D → ℕ) (left_at : D → ℕ → Contents → Type 0) (old new : D) (P : Contents → Type 0) : Type 0 where
   pub later : moment old ≤ moment new
@@ -48,7 +44,8 @@ AtOnce files moment left_at old new = (t : ℕ) → moment old ≤ t → t ≤ m
     → ((k : ℕ) (contents : Contents) → moment old ≤ k → k ≤ t → MayLeaveNow (files old) contents → left_at new k contents)
     ⊎ ((k : ℕ) (contents : Contents) → t ≤ k → k ≤ moment new → left_at new k contents → MayLeaveNow (files new) contents)
 
--- `Device` is answered only where the count of failures grew
+-- `Device` is answered exactly where the count of failures grew
 pub record HasCause {T : Type 0} (before now : ℕ) (result : Result T DiskError) : Type 0 where
   pub later : before ≤ now
   pub device : IsErrOf result Device → before < now
+  pub told : before < now → IsErrOf result Device

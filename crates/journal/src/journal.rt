@@ -70,7 +70,7 @@ impl Journal {
         ensures full { IsErrOf result Full ↔ (LIMIT ≤ at) }
         ensures before_the_disk { IsErrOf result Full → disk.new ≡ disk.old }
         ensures damaged { (place : ℕ) → IsErrOf result (Damaged place) → ⊥ }
-        ensures device { IsErrOf result Device → D.failures disk.old < D.failures disk.new }
+        ensures device { IsErrOf result Device ↔ (D.failures disk.old < D.failures disk.new) }
         ensures failures { D.failures disk.old ≤ D.failures disk.new }
     {
         if at >= LIMIT {
@@ -93,6 +93,7 @@ impl Journal {
         ensures other { IsTrue D.is_honest → OtherStays self.old.side (D.files disk.old) (D.files disk.new) }
         ensures side { self.new.side ≡ self.old.side }
         ensures end { OnErr result (self.new.end ≡ self.old.end) }
+        ensures moved { OnOk result (self.new.end ≡ self.old.end + length (record_of payload.now)) }
 
         // A crash at any moment of the call, on a file of which all is on the disk, leaves the payloads before it or after it.
         ensures any_moment { IsTrue D.is_honest → (start : ℕ) (payloads : List (List ℕ)) (content : List ℕ) → D.files disk.old self.old.side ≡ at_rest content → IsAt self.old start content payloads
@@ -102,7 +103,7 @@ impl Journal {
         ensures full { IsErrOf result Full ↔ (LIMIT ≤ self.old.end + 5 + length payload.now) }
         ensures before_the_disk { IsErrOf result Full → disk.new ≡ disk.old }
         ensures damaged { (place : ℕ) → IsErrOf result (Damaged place) → ⊥ }
-        ensures device { IsErrOf result Device → D.failures disk.old < D.failures disk.new }
+        ensures device { IsErrOf result Device ↔ (D.failures disk.old < D.failures disk.new) }
         ensures failures { D.failures disk.old ≤ D.failures disk.new }
     {
         if !fits(self.end, payload.len()) {

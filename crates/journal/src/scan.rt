@@ -1,4 +1,4 @@
-ghost use Rattle.std.specs.Prelude.{◌≡◌, ◌≤◌, ◌<◌, ◌+◌, ◌^◌, ℕ, List, drop, vec_len, IsTrue, IfOk, IsErrOf};
+ghost use Rattle.std.specs.Prelude.{◌≡◌, ◌≤◌, ◌<◌, ◌+◌, ◌^◌, ◌↔◌, ℕ, List, drop, vec_len, IsTrue, IfOk, IsErrOf};
 ghost use Rattle.disk.specs.declared.side.Side.{Side};
 ghost use Rattle.disk.specs.Time.{LeavesOnly, MayLeaveNow, HasCause};
 ghost use Rattle.journal.specs.Records.{StandsFor};
@@ -31,7 +31,7 @@ impl Journal {
         ensures damaged { IsTrue D.is_honest → (place : ℕ) → IsErrOf result (Damaged place) → BreaksAt at (D.files disk.old side).content place }
         ensures nothing { IsTrue D.is_honest → (place : ℕ) → IsErrOf result (Damaged place) → (payloads : List (List ℕ)) → StandsFor (drop at (D.files disk.old side).content) payloads → ⊥ }
         ensures full { IsErrOf result Full → ⊥ }
-        ensures device { IsErrOf result Device → D.failures disk.old < D.failures disk.new }
+        ensures device { IsErrOf result Device ↔ (D.failures disk.old < D.failures disk.new) }
         ensures failures { D.failures disk.old ≤ D.failures disk.new }
 
         ensures same { IsTrue D.is_honest → (each : Side) → D.files disk.new each ≡ D.files disk.old each }

@@ -1,0 +1,89 @@
+//! How fast images are encoded and decoded, beside a copy of the same bytes.
+use anyhow::Error;
+use codec::{decode_image, encode_image};
+use std::alloc::{AllocError, Global};
+use std::io::Print;
+use std::num::nearest_usize_to_f64;
+use std::time::{Clock, Instant};
+
+/// So many items are encoded, decoded and copied each time, over as many rounds as that takes.
+const ITEMS: u32 = 4_000_000;
+
+/// Encodes, decodes and copies an image of so many items, one after another, and prints the megabytes of its bytes that each
+/// takes in a second, and the ratios of the times.
+pub(crate) fn measure<R: Clock + Print + AllocGlobal>(rt: &R, items: u32) -> Result<(), Error> {
+    let rounds = ITEMS / items.max(1) + 1;
+    let bytes = image_bytes(rt.alloc(), items)?;
+    let copy = copying(rt, &bytes, rounds)?;
+    let encode = encoding(rt, &bytes, rounds)?;
+    let decode = decoding(rt, &bytes, rounds)?;
+    let megabytes = nearest_usize_to_f64(bytes.len()) * f64::from(rounds) / 1e6;
+    println!(rt; "{items} items, {} bytes, {rounds} rounds", bytes.len())?;
+    println!(rt; "copy {:.0} MB/s", megabytes / copy)?;
+    println!(rt;
+        "encode {:.0} MB/s, {:.1} copies",
+        megabytes / encode,
+        encode / copy
+    )?;
+    println!(rt;
+        "decode {:.0} MB/s, {:.1} copies",
+        megabytes / decode,
+        decode / copy
+    )?;
+    Ok(())
+}
+
+// The seconds that so many copies take, each into room that is there.
+fn copying<R: Clock + AllocGlobal>(rt: &R, bytes: &[u8], rounds: u32) -> Result<f64, Error> {
+    let mut out = Vec::with_capacity(rt.alloc(), bytes.len())?;
+    let start = Instant::now(rt)?;
+    for _ in 0..rounds {
+        out.clear();
+        out.extend_from_slice(bytes)?;
+    }
+    Ok(start.elapsed(rt)?.as_secs_f64())
+}
+
+// The same for the image that the bytes spell, and its spelling.
+fn encoding<R: Clock + AllocGlobal>(rt: &R, bytes: &[u8], rounds: u32) -> Result<f64, Error> {
+    let image = decode_image(rt.alloc(), bytes)?;
+    let mut out = Vec::with_capacity(rt.alloc(), bytes.len())?;
+    let start = Instant::now(rt)?;
+    for _ in 0..rounds {
+        out.clear();
+        encode_image(&mut out, &image)?;
+    }
+    Ok(start.elapsed(rt)?.as_secs_f64())
+}
+
+// And for the bytes, and what they spell.
+fn decoding<R: Clock + AllocGlobal>(rt: &R, bytes: &[u8], rounds: u32) -> Result<f64, Error> {
+    let start = Instant::now(rt)?;
+    for _ in 0..rounds {
+        let _image = decode_image(rt.alloc(), bytes)?;
+    }
+    Ok(start.elapsed(rt)?.as_secs_f64())
+}
+
+// The spelling of an image without a fault, tags and done instances: item k has key k and value k. The environment put those
+// with an even key, an instance the others.
+fn image_bytes(alloc: Global, items: u32) -> Result<Vec<u8>, AllocError> {
+    let mut bytes = Vec::new(alloc);
+    bytes.push(0)?;
+    bytes.extend_from_slice(&items.to_le_bytes())?;
+    for item in 0..items {
+        let number = i64::from(item).to_le_bytes();
+        bytes.extend_from_slice(&[0, 0, 1])?;
+        bytes.extend_from_slice(&number)?;
+        bytes.extend_from_slice(&number)?;
+        if item % 2 == 0 {
+            bytes.push(0)?;
+        } else {
+            bytes.extend_from_slice(&[1, 0, 0, 1])?;
+            bytes.extend_from_slice(&number)?;
+            bytes.extend_from_slice(&[0; 4])?;
+        }
+    }
+    bytes.extend_from_slice(&[0; 8])?;
+    Ok(bytes)
+}
