@@ -28,12 +28,13 @@ pub(crate) enum Frame<'a> {
     },
 }
 
-/// What a statement came to.
+/// What a statement came to. It is small, since each statement hands one on.
+#[derive(Clone, Copy)]
 pub(crate) enum Step {
     /// The next statement is at hand.
     On,
-    /// An item is asked for, and its value is for this variable.
-    Asked(Addr, Slot),
+    /// The machine's item is asked for, and its value is for this variable.
+    Asked(Slot),
     /// The instance is at fault.
     Failed(FaultKind),
     /// Nothing is left to be done.
@@ -48,6 +49,8 @@ pub(crate) struct Machine<'a> {
     pub(crate) puts: Vec<Put>,
     pub(crate) frames: Vec<Frame<'a>>,
     pub(crate) block: &'a Block,
+    /// The item that was asked for last. Before the first it tells nothing.
+    pub(crate) asked: Addr,
 }
 
 impl<'a> Machine<'a> {
@@ -65,6 +68,10 @@ impl<'a> Machine<'a> {
             puts: Vec::new(alloc),
             frames,
             block: &body.read,
+            asked: Addr {
+                collection: ItemCollection(0),
+                key,
+            },
         })
     }
 
@@ -259,7 +266,8 @@ impl<'a> Machine<'a> {
         match evaluate_key(components, &self.variables) {
             Ok(key) => {
                 self.block = rest;
-                Step::Asked(Addr { collection, key }, variable)
+                self.asked = Addr { collection, key };
+                Step::Asked(variable)
             }
             Err(kind) => Step::Failed(kind),
         }
