@@ -1,5 +1,5 @@
 use super::trees::{N, answer, assign, choose, get, negated, put, put_tag, repeat, sum, variable};
-use crate::{Block, Expression, NamedBlock, NamedExpression};
+use crate::{Block, Components, Expression, NamedBlock, NamedExpression};
 use std::alloc::{AllocError, Global};
 use std::test::Fail;
 
@@ -32,84 +32,110 @@ fn write_components(text: &mut String, expressions: &[Expression]) -> Result<(),
     Ok(())
 }
 
-fn write_block(text: &mut String, block: &Block) -> Result<(), Fail> {
+// A key, between its brackets: its collection and its components.
+fn write_key(text: &mut String, collection: u16, components: &Components) -> Result<(), Fail> {
+    write!(text, "{collection}:")?;
+    write_components(text, components.as_slice())
+}
+
+// A statement on an item or a tag.
+fn write_exchange(text: &mut String, block: &Block) -> Result<(), Fail> {
     match block {
-        Block::End => Ok(()),
+        Block::Get {
+            variable,
+            collection,
+            components,
+            ..
+        } => {
+            write!(text, "get v{} = [", variable.place())?;
+            write_key(text, collection.0, components)?;
+            write!(text, "]; ")?;
+        }
+        Block::PutItem {
+            collection,
+            components,
+            value,
+            ..
+        } => {
+            write!(text, "put [")?;
+            write_key(text, collection.0, components)?;
+            write!(text, "] = ")?;
+            write_expression(text, value)?;
+            write!(text, "; ")?;
+        }
+        Block::PutTag {
+            collection,
+            components,
+            ..
+        } => {
+            write!(text, "put <")?;
+            write_key(text, collection.0, components)?;
+            write!(text, ">; ")?;
+        }
+        _ => {}
+    }
+    Ok(())
+}
+
+// What stands in front of the blocks of the first statement, or all of it where it has none.
+fn write_head(text: &mut String, block: &Block) -> Result<(), Fail> {
+    match block {
         Block::Assign {
             variable,
             value,
-            rest,
+            ..
         } => {
             write!(text, "v{} = ", variable.place())?;
             write_expression(text, value)?;
             write!(text, "; ")?;
-            write_block(text, rest)
         }
-        Block::If {
-            condition,
-            first,
-            second,
-            rest,
-        } => {
+        Block::If { condition, .. } => {
             write!(text, "if ")?;
             write_expression(text, condition)?;
             write!(text, " {{ ")?;
-            write_block(text, first)?;
-            write!(text, "}} else {{ ")?;
-            write_block(text, second)?;
-            write!(text, "}} ")?;
-            write_block(text, rest)
         }
         Block::For {
             variable,
             from,
             to,
-            block,
-            rest,
+            ..
         } => {
             write!(text, "for v{} in ", variable.place())?;
             write_expression(text, from)?;
             write!(text, " .. ")?;
             write_expression(text, to)?;
             write!(text, " {{ ")?;
+        }
+        _ => write_exchange(text, block)?,
+    }
+    Ok(())
+}
+
+fn write_block(text: &mut String, block: &Block) -> Result<(), Fail> {
+    write_head(text, block)?;
+    match block {
+        Block::End => Ok(()),
+        Block::Assign { rest, .. } => write_block(text, rest),
+        Block::If {
+            first,
+            second,
+            rest,
+            ..
+        } => {
+            write_block(text, first)?;
+            write!(text, "}} else {{ ")?;
+            write_block(text, second)?;
+            write!(text, "}} ")?;
+            write_block(text, rest)
+        }
+        Block::For { block, rest, .. } => {
             write_block(text, block)?;
             write!(text, "}} ")?;
             write_block(text, rest)
         }
-        Block::Get {
-            variable,
-            collection,
-            components,
-            rest,
-        } => {
-            write!(text, "get v{} = [{}:", variable.place(), collection.0)?;
-            write_components(text, components.as_slice())?;
-            write!(text, "]; ")?;
-            write_block(text, rest)
-        }
-        Block::PutItem {
-            collection,
-            components,
-            value,
-            rest,
-        } => {
-            write!(text, "put [{}:", collection.0)?;
-            write_components(text, components.as_slice())?;
-            write!(text, "] = ")?;
-            write_expression(text, value)?;
-            write!(text, "; ")?;
-            write_block(text, rest)
-        }
-        Block::PutTag {
-            collection,
-            components,
-            rest,
-        } => {
-            write!(text, "put <{}:", collection.0)?;
-            write_components(text, components.as_slice())?;
-            write!(text, ">; ")?;
-            write_block(text, rest)
-        }
+        Block::Get { rest, .. } => write_block(text, rest),
+        Block::PutItem { rest, .. } => write_block(text, rest),
+        Block::PutTag { rest, .. } => write_block(text, rest),
     }
 }
 
