@@ -10,7 +10,7 @@ use Rattle.steplang.specs.Machine.{LeadsFrom}
 module _ (one two : List Read → Outcome) (same : (reads : List Read) → two reads ≡ one reads) (new : Machine) where
   pub leads : (step : Step) → LeadsFrom one step new → LeadsFrom two step new
   leads On on = λ reads. same reads ∙ on reads
-  leads (Asked address variable) asked = (same [] ∙ asked.0, λ value reads. same ((address, value) ∷ reads) ∙ asked.1 value reads)
+  leads (Asked variable) asked = (same [] ∙ asked.0, λ value reads. same ((new.asked, value) ∷ reads) ∙ asked.1 value reads)
   leads (Failed kind) failed = λ reads. same reads ∙ failed reads
   leads Ended ended = λ reads. same reads ∙ ended reads
 

@@ -30,8 +30,8 @@ outcome_from machine reads = unwound machine.frames.items (run machine.block.now
 -- what was to come of it, whatever the reads, comes of it now that a statement was made
 abbrev pub LeadsFrom : (List Read → Outcome) → Step → Machine → Type 0
 LeadsFrom from On new = (reads : List Read) → from reads ≡ outcome_from new reads
-LeadsFrom from (Asked address variable) new = (from [] ≡ asks address)
-    × ((value : ℤ) (reads : List Read) → from ((address, value) ∷ reads) ≡ unwound new.frames.items (run new.block.now (assigned variable value (state_of new reads))))
+LeadsFrom from (Asked variable) new = (from [] ≡ asks new.asked)
+    × ((value : ℤ) (reads : List Read) → from ((new.asked, value) ∷ reads) ≡ unwound new.frames.items (run new.block.now (assigned variable value (state_of new reads))))
 LeadsFrom from (Failed kind) new = (reads : List Read) → from reads ≡ faults kind reads
 LeadsFrom from Ended new = (reads : List Read) → from reads ≡ ends (state_of new reads)
 

@@ -1,4 +1,4 @@
-ghost use Rattle.std.specs.Prelude.{◌≡◌, ◌≢◌, ◌<ℤ◌, List, ℤ, pos, suc, nat_lt, if◌then◌else◌, IfOk, OnOk};
+ghost use Rattle.std.specs.Prelude.{◌≡◌, ◌≢◌, ◌-◌, ◌<ℤ◌, length, slice_get, Some, List, ℤ, pos, suc, nat_lt, if◌then◌else◌, IfOk, OnOk};
 ghost use Rattle.std.specs.Ordering.{int_eq};
 ghost use Rattle.std.specs.Int.{int_gap};
 ghost use Rattle.steptree.specs.declared.body.TheConstants.{BUDGET};
@@ -6,6 +6,7 @@ ghost use Rattle.terms.specs.declared.put.Put.TheVariants as put;
 ghost use Rattle.steptree.specs.Run.{Read, ends, assigned, counting, given, followed, answered, putting, turns, run};
 ghost use Rattle.steptree.specs.Values.{value_of, values_of};
 ghost use Rattle.steptree.specs.Bodies.{outcome_of};
+ghost use Rattle.steplang.specs.declared.machine.Frame.TheVariants.{Turns};
 ghost use Rattle.steplang.specs.declared.machine.Step.TheVariants.{On};
 ghost use Rattle.steplang.specs.Machine.{state_of, unwound, outcome_from, LeadsFrom, Falls, OpensOne};
 
@@ -28,12 +29,13 @@ pub(crate) enum Frame<'a> {
     },
 }
 
-/// What a statement came to.
+/// What a statement came to. It is small, since each statement hands one on.
+#[derive(Clone, Copy)]
 pub(crate) enum Step {
     /// The next statement is at hand.
     On,
-    /// An item is asked for, and its value is for this variable.
-    Asked(Addr, Slot),
+    /// The machine's item is asked for, and its value is for this variable.
+    Asked(Slot),
     /// The instance is at fault.
     Failed(FaultKind),
     /// Nothing is left to be done.
@@ -48,6 +50,8 @@ pub(crate) struct Machine<'a> {
     pub(crate) puts: Vec<Put>,
     pub(crate) frames: Vec<Frame<'a>>,
     pub(crate) block: &'a Block,
+    /// The item that was asked for last. Before the first it tells nothing.
+    pub(crate) asked: Addr,
 }
 
 impl<'a> Machine<'a> {
@@ -65,6 +69,10 @@ impl<'a> Machine<'a> {
             puts: Vec::new(alloc),
             frames,
             block: &body.read,
+            asked: Addr {
+                collection: ItemCollection(0),
+                key,
+            },
         })
     }
 
@@ -216,31 +224,52 @@ impl<'a> Machine<'a> {
         self.turn(variable, from, to, block)
     }
 
+    // Makes one turn more of the loop that was opened last. Its place among the open blocks is written anew, which takes no
+    // memory.
+    fn again(&mut self, variable: Slot, next: i64, to: i64, block: &'a Block) -> Step
+        requires left { next <ℤ to }
+        requires last { slice_get self.old.frames.items (length self.old.frames.items - 1) ≡ Some (Turns variable next to block) }
+        ensures leads { LeadsFrom (λ reads. unwound self.old.frames.items (ends (state_of self.old reads))) result self.new }
+        ensures falls { Falls self.old result self.new }
+    {
+        if !self.count() {
+            return Step::Failed(FaultKind::Budget);
+        }
+        self.variables[variable.place()] = next;
+        let last = self.frames.len() - 1;
+        self.frames[last] = Frame::Turns {
+            variable,
+            next: next + 1,
+            to,
+            block,
+        };
+        self.block = block;
+        Step::On
+    }
+
     // Leaves a block that came to its end, and goes on with what stands behind it.
     #[tactic(auto, using(crate::proofs::Unwound::unwound_last))]
-    fn leave(&mut self) -> Result<Step, AllocError>
-        ensures leads { IfOk result (λ step. LeadsFrom (λ reads. unwound self.old.frames.items (ends (state_of self.old reads))) step self.new) }
-        ensures falls { IfOk result (λ step. Falls self.old step self.new) }
+    fn leave(&mut self) -> Step
+        ensures leads { LeadsFrom (λ reads. unwound self.old.frames.items (ends (state_of self.old reads))) result self.new }
+        ensures falls { Falls self.old result self.new }
     {
-        while let Some(frame) = self.frames.pop() {
-            match frame {
-                Frame::Rest(block) => {
-                    self.block = block;
-                    return Ok(Step::On);
-                }
-                Frame::Turns {
-                    variable,
-                    next,
-                    to,
-                    block,
-                } => {
-                    if next < to {
-                        return self.turn(variable, next, to, block);
-                    }
-                }
+        while let Some(frame) = self.frames.last() {
+            if let Frame::Turns {
+                variable,
+                next,
+                to,
+                block,
+            } = *frame
+                && next < to
+            {
+                return self.again(variable, next, to, block);
+            }
+            if let Some(Frame::Rest(block)) = self.frames.pop() {
+                self.block = block;
+                return Step::On;
             }
         }
-        Ok(Step::Ended)
+        Step::Ended
     }
 
     // Asks for an item, whose value a variable is to get.
@@ -259,7 +288,8 @@ impl<'a> Machine<'a> {
         match evaluate_key(components, &self.variables) {
             Ok(key) => {
                 self.block = rest;
-                Step::Asked(Addr { collection, key }, variable)
+                self.asked = Addr { collection, key };
+                Step::Asked(variable)
             }
             Err(kind) => Step::Failed(kind),
         }
@@ -328,13 +358,13 @@ impl<'a> Machine<'a> {
     {
         let block = self.block;
         if let Block::End = block {
-            return self.leave();
+            return Ok(self.leave());
         }
         if !self.count() {
             return Ok(Step::Failed(FaultKind::Budget));
         }
         match block {
-            Block::End => self.leave(),
+            Block::End => Ok(self.leave()),
             Block::Assign {
                 variable,
                 value,

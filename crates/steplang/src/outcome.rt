@@ -1,8 +1,10 @@
-ghost use Rattle.std.specs.Prelude.{◌≡◌};
+ghost use Rattle.std.specs.Prelude.{◌≡◌, ◌≢◌, ◌≤◌, length};
+ghost use Rattle.terms.specs.declared.fault.FaultKind.TheVariants.{DoublePut};
+ghost use Rattle.terms.specs.declared.put.TheConstants.{MOST_PUTS};
 ghost use Rattle.steptree.specs.Bodies.{Along, Gives, Faults, Asks};
 
 use std::marker::Model;
-use steptree::Checked;
+use steptree::{Checked, ends_within_limits};
 use terms::{Addr, FaultKind, Inst, Puts};
 
 /// The items that an instance read, in order, each an address and its value.
@@ -70,15 +72,19 @@ impl<'a> Given<'a> {
 
     /// What it put, in order.
     pub fn puts(&self) -> &Puts
-        ensures { result.now ≡ self.now.puts }
+        ensures puts { result.now ≡ self.now.puts }
+        ensures few { length result.now ≤ MOST_PUTS }
     {
+        ends_within_limits();
         &self.puts
     }
 
     /// Takes out what it put.
     pub fn into_puts(self) -> Puts
-        ensures { result ≡ self.entry.puts }
+        ensures puts { result ≡ self.entry.puts }
+        ensures few { length result ≤ MOST_PUTS }
     {
+        ends_within_limits();
         self.puts
     }
 }
@@ -117,8 +123,10 @@ impl<'a> Bad<'a> {
 
     /// The fault.
     pub fn kind(&self) -> FaultKind
-        ensures { result ≡ self.now.kind }
+        ensures kind { result ≡ self.now.kind }
+        ensures of_the_body { result ≢ DoublePut }
     {
+        ends_within_limits();
         self.kind
     }
 }

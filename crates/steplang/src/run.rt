@@ -104,8 +104,9 @@ impl<'a> Run<'a> {
         self.stage = Stage::Refused;
         match self.machine.go()? {
             Step::On => unreachable!(),
-            Step::Asked(address, variable) => {
-                let asked = address;
+            Step::Asked(variable) => {
+                let asked = self.machine.asked;
+                let address = asked;
                 self.stage = Stage::Waits(address, variable);
                 Ok(Turn::Need(asked))
             }

@@ -7,3 +7,4 @@ mod Resolving
 mod Statements
 mod TreeLaws
 mod Trees
+mod Within

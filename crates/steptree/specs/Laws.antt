@@ -1,10 +1,14 @@
 -- The laws of the meaning of bodies.
-use Rattle.std.specs.Prelude.{◌≡◌, ◌≢◌, ℤ, true, Bool, List, [], ◌∷◌, ◌++◌, Option, Some}
+use Rattle.std.specs.Prelude.{◌≡◌, ◌≢◌, ◌≤◌, ℤ, true, Bool, List, [], ◌∷◌, ◌++◌, length, Option, Some}
 use Rattle.std.specs.List.{AllByRecursion}
 use Rattle.terms.specs.declared.name.Addr.{Addr}
+use Rattle.terms.specs.declared.fault.FaultKind.{FaultKind}
+use Rattle.terms.specs.declared.fault.FaultKind.TheVariants.{DoublePut}
+use Rattle.terms.specs.declared.put.Put.{Put}
+use Rattle.terms.specs.declared.put.TheConstants.{MOST_PUTS}
 use Rattle.steptree.specs.declared.body.Body.{Body}
 use Rattle.steptree.specs.Run.{Read}
-use Rattle.steptree.specs.Bodies.{Ending, Asks, Along, Means}
+use Rattle.steptree.specs.Bodies.{Ending, Gives, Faults, Asks, Along, Means}
 
 -- along one list of reads a body ends in one way at most
 abbrev pub OneEnding : Type 0
@@ -13,6 +17,14 @@ OneEnding = (body : Body) (key : List ℤ) (reads : List Read) (one two : Ending
 -- a body asks for its reads one after another: along those before any of them it asks for that one
 abbrev pub AsksInOrder : Type 0
 AsksInOrder = (body : Body) (key : List ℤ) (before behind : List Read) (read : Read) (ending : Ending) → Along body key (before ++ read ∷ behind) ending → Along body key before (Asks read.0)
+
+-- a body gives no more puts than one instance may make
+abbrev pub FewPuts : Type 0
+FewPuts = (body : Body) (key : List ℤ) (reads : List Read) (puts : List Put) → Along body key reads (Gives puts) → length puts ≤ MOST_PUTS
+
+-- a body's fault is no double put: that one is for the store to find, behind the body
+abbrev pub NoDoublePut : Type 0
+NoDoublePut = (body : Body) (key : List ℤ) (reads : List Read) (kind : FaultKind) → Along body key reads (Faults kind) → kind ≢ DoublePut
 
 -- what a body gives over some pairs, it gives over more of them; and so with its faults
 abbrev pub GrowthKeeps : Type 0

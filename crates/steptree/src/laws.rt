@@ -6,7 +6,7 @@ ghost use Rattle.steptree.specs.declared.body.TheConstants.{BUDGET};
 ghost use Rattle.steptree.specs.declared.sheet.TheConstants.{MOST_COLLECTIONS};
 ghost use Rattle.steptree.specs.declared.slot.TheConstants.{MOST_NAMES};
 ghost use Rattle.steptree.specs.Sheet.{KeepsAtAnyReads};
-ghost use Rattle.steptree.specs.Laws.{OneEnding, AsksInOrder, GrowthKeeps, LookUpGrowthKeeps, LookUpEnds, LookUpEndsOnce};
+ghost use Rattle.steptree.specs.Laws.{OneEnding, AsksInOrder, GrowthKeeps, LookUpGrowthKeeps, LookUpEnds, LookUpEndsOnce, FewPuts, NoDoublePut};
 
 /// The limits of steps, as numbers.
 pub fn limits()
@@ -21,6 +21,12 @@ pub fn limits()
 pub fn along_one_list()
     ensures one { OneEnding }
     ensures in_order { AsksInOrder }
+{}
+
+/// A body gives 4,096 puts at most, and its fault is never a double put.
+pub fn ends_within_limits()
+    ensures puts { FewPuts }
+    ensures fault { NoDoublePut }
 {}
 
 /// A body that gets and puts only what a sheet allows reads and puts nothing else, at any reads.
@@ -46,7 +52,9 @@ mod tests {
 
     #[test]
     fn laws_are_there() {
+        limits();
         along_one_list();
+        ends_within_limits();
         keeps_to_its_sheet();
         growth_keeps();
         ends_once();

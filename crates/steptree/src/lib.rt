@@ -21,7 +21,9 @@ pub use checked::Checked;
 pub use checker::{CheckError, CheckFault, check};
 pub use components::Components;
 pub use expression::{Expression, Operator};
-pub use laws::{along_one_list, ends_once, growth_keeps, keeps_to_its_sheet, limits};
+pub use laws::{
+    along_one_list, ends_once, ends_within_limits, growth_keeps, keeps_to_its_sheet, limits,
+};
 pub use sheet::{Declared, MOST_COLLECTIONS, Sheet};
 pub use slot::{MOST_NAMES, Slot};
 pub use step::{Name, NamedBlock, NamedExpression, NamedKey, Step};
