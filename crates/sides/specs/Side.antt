@@ -26,6 +26,14 @@ counted bytes = little_bytes 4 (length bytes) ++ bytes
 abbrev pub behind_gate : ℕ → List ℕ → List ℕ → List ℕ → List ℕ
 behind_gate generation text image journal = FORMAT ∷ little_bytes 8 generation ++ counted text ++ counted image ++ journal
 
+-- the side's gate is open
+abbrev pub IsOpen : List ℕ → Type 0
+IsOpen bytes = (rest : List ℕ) × (bytes ≡ 1 ∷ rest)
+
+-- it is open, and so long that it has a generation, whatever its format
+abbrev pub HasGeneration : List ℕ → ℕ → Type 0
+HasGeneration bytes generation = (generation < 2 ^ 64) × ((format : ℕ) × (rest : List ℕ) × (bytes ≡ 1 ∷ format ∷ little_bytes 8 generation ++ rest))
+
 -- The open side of this generation stands for a graph and the facts X, of which the environment put E: those of its image,
 -- and of the events in its journal, one a record, each of which fits. The bodies of steps play no part.
 pub record IsSide (bytes : List ℕ) (g : Graph) (generation : ℕ) (E X : Facts) : Type 0 where
@@ -33,6 +41,7 @@ pub record IsSide (bytes : List ℕ) (g : Graph) (generation : ℕ) (E X : Facts
   pub reads : Reads (canonical g) g
   pub image : Image
   pub is_image : IsImage image
+  pub counted_image : length (image_bytes image) < 2 ^ 32
   pub events : List Event
   pub are_events : AllByRecursion IsEvent events
   pub journal : List ℕ
@@ -42,3 +51,27 @@ pub record IsSide (bytes : List ℕ) (g : Graph) (generation : ℕ) (E X : Facts
   pub events_fit : AllFit g (image_facts image) events
   pub environment : (fact : Fact) → E fact ≡ among (image_environment image ++ environment events) fact
   pub facts : (fact : Fact) → X fact ≡ among (image_facts image ++ facts events) fact
+
+-- ---- laws
+
+-- the bytes of a side stand for one generation, one graph's text and one set of facts at most
+pub record SameSide (g h : Graph) (m n : ℕ) (E F X Y : Facts) : Type 0 where
+  pub generation : m ≡ n
+  pub text : canonical g ≡ canonical h
+  pub environment : (fact : Fact) → E fact ≡ F fact
+  pub facts : (fact : Fact) → X fact ≡ Y fact
+
+abbrev pub OneMeaning : Type 0
+OneMeaning = (bytes : List ℕ) (g h : Graph) (m n : ℕ) (E F X Y : Facts) → IsSide bytes g m E X → IsSide bytes h n F Y → SameSide g h m n E F X Y
+
+-- a side that stands for something has its generation, and bytes have one at most
+abbrev pub StandsWithGeneration : Type 0
+StandsWithGeneration = (bytes : List ℕ) (g : Graph) (n : ℕ) (E X : Facts) → IsSide bytes g n E X → HasGeneration bytes n
+
+abbrev pub OneGeneration : Type 0
+OneGeneration = (bytes : List ℕ) (m n : ℕ) → HasGeneration bytes m → HasGeneration bytes n → m ≡ n
+
+-- behind the closed gate that ends its journal a side may have any bytes
+abbrev pub AnyRest : Type 0
+AnyRest = (bytes : List ℕ) (g : Graph) (n : ℕ) (E X : Facts) → IsSide bytes g n E X
+    → (front : List ℕ) × (rest : List ℕ) × (bytes ≡ front ++ rest) × ((other : List ℕ) → IsSide (front ++ other) g n E X)

@@ -2,3 +2,7 @@
 //!
 //! A side is a gate, a head, the canonical text of its graph, an image and a journal (`IsSide` of `specs/Side.antt`).
 #![tactic(auto)]
+
+mod law;
+
+pub use law::one_meaning_of_a_side;

@@ -2,3 +2,7 @@
 //!
 //! The files stand for a graph and a set of facts (`Stands` of `specs/Stands.antt`).
 #![tactic(auto)]
+
+mod law;
+
+pub use law::one_store;
