@@ -12,8 +12,8 @@ use Rattle.terms.specs.declared.put.Put.{Put}
 use Rattle.terms.specs.declared.put.Put.TheVariants as put
 use Rattle.terms.specs.declared.event.Event.{Event}
 use Rattle.terms.specs.declared.event.Event.TheVariants.{EnvItem, EnvTag, Done, Stopped}
-use Rattle.terms.specs.Facts.{Fact, tag, item, done, bad}
-use Rattle.terms.specs.Sets.{Facts}
+use Rattle.terms.specs.Facts.{Fact, tag, item, done, bad, event_facts}
+use Rattle.terms.specs.Sets.{Facts, among}
 use Rattle.graph.specs.Graph.{Graph, Step, IsStep, IsOf, Prescribes, EnvironmentMayPutItem, EnvironmentMayPutTag}
 
 -- ---- sets of facts
@@ -84,6 +84,11 @@ FitsAs g X (Stopped instance kind) = MayEnd g X instance
 pub record Fits (g : Graph) (X : Facts) (event : Event) : Type 0 where
   pub working : HasNoFault X
   pub event_fits : FitsAs g X event
+
+-- each event of the list fits behind these facts and those of the events before it
+abbrev pub AllFit : Graph → List Fact → List Event → Type 0
+AllFit g before [] = ⊤
+AllFit g before (event ∷ events) = Fits g (among before) event × AllFit g (before ++ event_facts event) events
 
 -- ---- states
 

@@ -70,10 +70,14 @@ EnvironmentMayPutTag g tag = IsOf g.tags tag.collection.0 (length tag.key) × (g
 
 -- ---- what is kept of a graph
 
+-- the collections that a sheet declares
+abbrev pub declared_collections : List Declared → List Collection
+declared_collections declared = map (λ it. record { name = it.name.now; components = it.components }) declared
+
 -- the sheet is what the graph lets the step name
 pub record IsSheet (g : Graph) (step : Step) (sheet : Sheet) : Type 0 where
-  pub items : map (λ (declared : Declared). record { name = declared.name.now; components = declared.components }) sheet.items.now ≡ g.items
-  pub tags : map (λ (declared : Declared). record { name = declared.name.now; components = declared.components }) sheet.tags.now ≡ g.tags
+  pub items : declared_collections sheet.items.now ≡ g.items
+  pub tags : declared_collections sheet.tags.now ≡ g.tags
   pub reads : sheet.reads.now ≡ step.reads
   pub item_puts : sheet.item_puts.now ≡ step.item_puts
   pub tag_puts : sheet.tag_puts.now ≡ step.tag_puts

@@ -1,2 +1,6 @@
+pub mod Canonical
+pub mod Faults
 pub mod Fits
 pub mod Graph
+pub mod Reads
+pub mod Tree

@@ -18,9 +18,9 @@ use Rattle.steptree.specs.declared.sheet.Declared.{Declared}
 use Rattle.steptree.specs.Sheet.{PutIsAllowed, KeepsAtAnyReads}
 use Rattle.steptree.specs.Bodies.{Gives}
 use Rattle.graph.specs.Graph.{Graph, Collection, Step, IsOf, IsGraph, IsOfGraph, EnvironmentMayPutItem, EnvironmentMayPutTag}
-use Rattle.graph.specs.Fits.{IsPrescribed, TagIsOf, InstanceIsOf, PutIsOf, FactIsOf, IsOfEnvironment, Fits, FitsState, HasOneItemEach}
+use Rattle.graph.specs.Fits.{AllFit, IsPrescribed, TagIsOf, InstanceIsOf, PutIsOf, FactIsOf, IsOfEnvironment, Fits, FitsState, HasOneItemEach}
 use Rattle.machine.specs.Meaning.{BodyGives}
-use Rattle.machine.specs.Legal.{IsLegal, AreLegal, AllFit}
+use Rattle.machine.specs.Legal.{IsLegal, AreLegal}
 use Rattle.machine.proofs.Sets.{Within, given_in_event, of_list, of_both, in_one, in_two, not_both}
 use Rattle.machine.proofs.Grown.{prescribed_within}
 use Rattle.machine.proofs.PutFacts.{item_is_put, no_done}

@@ -8,9 +8,9 @@ use Rattle.terms.specs.Facts.{Fact, done, bad, facts, environment, event_facts, 
 use Rattle.terms.specs.Sets.{Facts, among}
 use Rattle.graph.specs.Graph.{Graph, IsGraph}
 use Rattle.terms.specs.declared.put.Put.{Put}
-use Rattle.graph.specs.Fits.{IsPrescribed, HasNoFault, AreNew, Fits, FitsState, HasOneItemEach}
+use Rattle.graph.specs.Fits.{AllFit, IsPrescribed, HasNoFault, AreNew, Fits, FitsState, HasOneItemEach}
 use Rattle.machine.specs.Meaning.{Meaning, IsClean}
-use Rattle.machine.specs.Legal.{Conflicts, IsMeant, IsLegal, AreLegal, AllFit, IsBlocked, IsQuiet}
+use Rattle.machine.specs.Legal.{Conflicts, IsMeant, IsLegal, AreLegal, IsBlocked, IsQuiet}
 
 -- what the events of a list state, and what of it the environment put
 abbrev pub stated : List Event → Facts

@@ -47,11 +47,6 @@ abbrev pub AreLegal : Graph → List Fact → List Event → Type 0
 AreLegal g before [] = ⊤
 AreLegal g before (event ∷ events) = IsLegal g (among before) event × AreLegal g (before ++ event_facts event) events
 
--- and the same of events that fit
-abbrev pub AllFit : Graph → List Fact → List Event → Type 0
-AllFit g before [] = ⊤
-AllFit g before (event ∷ events) = Fits g (among before) event × AllFit g (before ++ event_facts event) events
-
 -- over the items of the set the instance needs one that is not there: it asks for it, and is not answered
 abbrev pub IsBlocked : Graph → Facts → Inst → Type 0
 IsBlocked g X instance = (address : Addr) × BodyMeans g instance (items X) (Asks address)

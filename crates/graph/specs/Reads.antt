@@ -1,0 +1,79 @@
+-- Which graph a text reads as, and the cause of each fault.
+use Rattle.std.specs.Prelude.{◌≡◌, ◌≤◌, ◌<◌, ◌⊎◌, ℕ, suc, List, [], ◌∷◌, ◌++◌, map, length, take, Some, slice_get, ◌==◌, if◌then◌else◌}
+use Rattle.std.specs.List.{AllByRecursion}
+use Rattle.steptree.specs.declared.checker.CheckFault.{CheckFault}
+use Rattle.steptree.specs.declared.sheet.Sheet.{Sheet}
+use Rattle.steptree.specs.declared.step.Step.{Step as NamedStep}
+use Rattle.steptree.specs.CheckFaults.{faults_of}
+use Rattle.syntax.specs.declared.tree.Tree.{Tree}
+use Rattle.syntax.specs.Reading.{IsRead, IsSyntaxFault, IsLimitFault}
+use Rattle.graph.specs.declared.fault.GraphError.{GraphError}
+use Rattle.graph.specs.declared.fault.GraphError.TheVariants as error
+use Rattle.graph.specs.declared.fault.GraphFault.{GraphFault}
+use Rattle.graph.specs.declared.limits.TheConstants.{MOST_TEXT}
+use Rattle.graph.specs.Graph.{Graph}
+use Rattle.graph.specs.Tree.{IsSheetOf, IsGraphOf}
+use Rattle.graph.specs.Faults.{tree_faults, body_fault}
+use Rattle.graph.specs.Canonical.{canonical}
+
+-- the text is in the grammar, within the limits and without a fault, and is this graph
+pub record Reads (text : List ℕ) (g : Graph) : Type 0 where
+  pub short : length text ≤ MOST_TEXT
+  pub ascii : AllByRecursion (λ byte. byte < 128) text
+  pub tree : Tree
+  pub read : IsRead text tree
+  pub no_fault : tree_faults tree ≡ []
+  pub graph : IsGraphOf tree g
+  pub canonical : length (canonical g) ≤ MOST_TEXT
+
+-- ---- faults
+
+-- the line and the column behind these bytes, from this place on; a line feed alone begins a line
+abbrev pub walked : ℕ → ℕ → List ℕ → ℕ × ℕ
+walked line column [] = (line, column)
+walked line column (byte ∷ bytes) = if byte == 10 then walked (suc line) 1 bytes else walked line (suc column) bytes
+
+-- a byte of 128 or more, and none before it
+pub record IsNotAscii (text : List ℕ) (position : ℕ) : Type 0 where
+  pub short : length text ≤ MOST_TEXT
+  pub before : AllByRecursion (λ byte. byte < 128) (take position text)
+  pub byte : ℕ
+  pub there : slice_get text position ≡ Some byte
+  pub large : 128 ≤ byte
+
+-- the faults of the bodies of these steps, from the left
+abbrev pub AreBodyFaults : Tree → List NamedStep → List CheckFault → Type 0
+AreBodyFaults tree [] faults = faults ≡ []
+AreBodyFaults tree (step ∷ steps) faults = (sheet : Sheet) × IsSheetOf tree step sheet × ((more : List CheckFault) × (faults ≡ faults_of sheet step ++ more) × AreBodyFaults tree steps more)
+
+-- the first fault of a text that is in the grammar and within the limits
+pub record IsFirstFault (text : List ℕ) (error : GraphError) (position : ℕ) : Type 0 where
+  pub tree : Tree
+  pub read : IsRead text tree
+  pub bodies : List CheckFault
+  pub are_bodies : AreBodyFaults tree tree.steps.items bodies
+  pub first : slice_get (tree_faults tree ++ map body_fault bodies) 0 ≡ Some (error, position)
+
+-- a graph whose canonical text is too long
+pub record HasLongText (text : List ℕ) : Type 0 where
+  pub tree : Tree
+  pub read : IsRead text tree
+  pub no_fault : tree_faults tree ≡ []
+  pub g : Graph
+  pub graph : IsGraphOf tree g
+  pub long : MOST_TEXT < length (canonical g)
+
+-- the cause of a fault at a position
+abbrev pub IsCause : List ℕ → GraphError → ℕ → Type 0
+IsCause text error.NotAscii position = IsNotAscii text position
+IsCause text error.Syntax position = IsSyntaxFault text position
+IsCause text error.TooLarge position = ((position ≡ 0) × ((MOST_TEXT < length text) ⊎ HasLongText text)) ⊎ IsLimitFault text position
+IsCause text error.NoMemory position = ⊥
+IsCause text other position = IsFirstFault text other position
+
+abbrev pub no_memory : GraphFault
+no_memory = record { error = error.NoMemory; line = 0; column = 0 }
+
+-- the fault has its cause at its place; want of memory has none
+abbrev pub HasCause : List ℕ → GraphFault → Type 0
+HasCause text fault = (fault ≡ no_memory) ⊎ ((position : ℕ) × (walked 1 1 (take position text) ≡ (fault.line, fault.column)) × IsCause text fault.error position)

@@ -1,0 +1,77 @@
+-- What the bytes of one side stand for.
+use Rattle.std.specs.Prelude.{◌≡◌, ◌≢◌, ◌<◌, ◌^◌, ⊤, ℕ, List, [], ◌∷◌, ◌++◌, length, map}
+use Rattle.std.specs.List.{AllByRecursion}
+use Rattle.byteorder.specs.Endian.{little_bytes}
+use Rattle.terms.specs.declared.event.Event.{Event}
+use Rattle.terms.specs.Facts.{Fact, facts, environment}
+use Rattle.terms.specs.Sets.{Facts, among}
+use Rattle.codec.specs.declared.image.Image.{Image}
+use Rattle.codec.specs.Spelling.{image_bytes, event_bytes, IsImage, IsEvent}
+use Rattle.journal.specs.Records.{StandsFor}
+use Rattle.graph.specs.Graph.{Graph}
+use Rattle.graph.specs.Canonical.{canonical}
+use Rattle.graph.specs.Reads.{Reads}
+use Rattle.graph.specs.Fits.{FitsState, AllFit}
+use Rattle.sides.specs.Image.{image_facts, image_environment}
+
+-- the byte of the format
+abbrev pub FORMAT : ℕ
+FORMAT = 1
+
+-- bytes behind their number in four
+abbrev pub counted : List ℕ → List ℕ
+counted bytes = little_bytes 4 (length bytes) ++ bytes
+
+-- a side behind its gate: the format, the generation, the canonical text of its graph, its image and its journal
+abbrev pub behind_gate : ℕ → List ℕ → List ℕ → List ℕ → List ℕ
+behind_gate generation text image journal = FORMAT ∷ little_bytes 8 generation ++ counted text ++ counted image ++ journal
+
+-- the side's gate is open
+abbrev pub IsOpen : List ℕ → Type 0
+IsOpen bytes = (rest : List ℕ) × (bytes ≡ 1 ∷ rest)
+
+-- it is open, and so long that it has a generation, whatever its format
+abbrev pub HasGeneration : List ℕ → ℕ → Type 0
+HasGeneration bytes generation = (generation < 2 ^ 64) × ((format : ℕ) × (rest : List ℕ) × (bytes ≡ 1 ∷ format ∷ little_bytes 8 generation ++ rest))
+
+-- The open side of this generation stands for a graph and the facts X, of which the environment put E: those of its image,
+-- and of the events in its journal, one a record, each of which fits. The bodies of steps play no part.
+pub record IsSide (bytes : List ℕ) (g : Graph) (generation : ℕ) (E X : Facts) : Type 0 where
+  pub small : generation < 2 ^ 64
+  pub reads : Reads (canonical g) g
+  pub image : Image
+  pub is_image : IsImage image
+  pub counted_image : length (image_bytes image) < 2 ^ 32
+  pub events : List Event
+  pub are_events : AllByRecursion IsEvent events
+  pub journal : List ℕ
+  pub records : StandsFor journal (map event_bytes events)
+  pub spelled : bytes ≡ 1 ∷ behind_gate generation (canonical g) (image_bytes image) journal
+  pub image_fits : FitsState g (among (image_environment image)) (among (image_facts image))
+  pub events_fit : AllFit g (image_facts image) events
+  pub environment : (fact : Fact) → E fact ≡ among (image_environment image ++ environment events) fact
+  pub facts : (fact : Fact) → X fact ≡ among (image_facts image ++ facts events) fact
+
+-- ---- laws
+
+-- the bytes of a side stand for one generation, one graph's text and one set of facts at most
+pub record SameSide (g h : Graph) (m n : ℕ) (E F X Y : Facts) : Type 0 where
+  pub generation : m ≡ n
+  pub text : canonical g ≡ canonical h
+  pub environment : (fact : Fact) → E fact ≡ F fact
+  pub facts : (fact : Fact) → X fact ≡ Y fact
+
+abbrev pub OneMeaning : Type 0
+OneMeaning = (bytes : List ℕ) (g h : Graph) (m n : ℕ) (E F X Y : Facts) → IsSide bytes g m E X → IsSide bytes h n F Y → SameSide g h m n E F X Y
+
+-- a side that stands for something has its generation, and bytes have one at most
+abbrev pub StandsWithGeneration : Type 0
+StandsWithGeneration = (bytes : List ℕ) (g : Graph) (n : ℕ) (E X : Facts) → IsSide bytes g n E X → HasGeneration bytes n
+
+abbrev pub OneGeneration : Type 0
+OneGeneration = (bytes : List ℕ) (m n : ℕ) → HasGeneration bytes m → HasGeneration bytes n → m ≡ n
+
+-- behind the closed gate that ends its journal a side may have any bytes
+abbrev pub AnyRest : Type 0
+AnyRest = (bytes : List ℕ) (g : Graph) (n : ℕ) (E X : Facts) → IsSide bytes g n E X
+    → (front : List ℕ) × (rest : List ℕ) × (bytes ≡ front ++ rest) × ((other : List ℕ) → IsSide (front ++ other) g n E X)

@@ -1,0 +1,34 @@
+-- What the two files of a store stand for.
+use Rattle.std.specs.Prelude.{◌≡◌, ◌⊎◌, ◌<◌, ℕ, List}
+use Rattle.disk.specs.declared.side.Side.{Side}
+use Rattle.disk.specs.declared.side.Side.TheVariants.{A, B}
+use Rattle.disk.specs.Time.{Contents}
+use Rattle.terms.specs.Sets.{Facts}
+use Rattle.graph.specs.Graph.{Graph}
+use Rattle.graph.specs.Canonical.{canonical}
+use Rattle.terms.specs.Facts.{Fact}
+use Rattle.sides.specs.Side.{IsSide, IsOpen, HasGeneration}
+
+abbrev pub other_side : Side → Side
+other_side A = B
+other_side B = A
+
+-- the side is closed, or open with a smaller generation
+abbrev pub IsBehind : List ℕ → ℕ → Type 0
+IsBehind bytes generation = (IsOpen bytes → ⊥) ⊎ ((smaller : ℕ) × HasGeneration bytes smaller × (smaller < generation))
+
+-- the live side, of this generation, stands for a graph and facts, and the other one is behind it
+pub record IsLive (contents : Contents) (live : Side) (generation : ℕ) (g : Graph) (E X : Facts) : Type 0 where
+  pub is_side : IsSide (contents live) g generation E X
+  pub behind : IsBehind (contents (other_side live)) generation
+
+-- the two files stand for a graph and the facts X, of which the environment put E
+abbrev pub Stands : Contents → Graph → Facts → Facts → Type 0
+Stands contents g E X = (live : Side) × (generation : ℕ) × IsLive contents live generation g E X
+
+-- ---- laws
+
+-- two files stand for one graph's text and one set of facts at most
+abbrev pub OneStore : Type 0
+OneStore = (contents : Contents) (g h : Graph) (E F X Y : Facts) → Stands contents g E X → Stands contents h F Y
+    → (canonical g ≡ canonical h) × ((fact : Fact) → E fact ≡ F fact) × ((fact : Fact) → X fact ≡ Y fact)

@@ -1,0 +1,21 @@
+//! The law of what a store stands for. It is a contract, with nothing to run.
+ghost use Rattle.vault.specs.Stands.{OneStore};
+
+use sides::one_meaning_of_a_side;
+
+/// Two files stand for one graph text and one set of facts at most.
+pub fn one_store()
+    ensures { OneStore }
+{
+    one_meaning_of_a_side();
+}
+
+#[cfg(test)]
+mod tests {
+    use super::*;
+
+    #[test]
+    fn law_is_there() {
+        one_store();
+    }
+}
