@@ -12,7 +12,7 @@ use Rattle.terms.specs.Facts.{Fact, tag, item, done, event_facts}
 use Rattle.terms.specs.Sets.{Facts, among}
 use Rattle.steptree.specs.Bodies.{Asks}
 use Rattle.graph.specs.Graph.{Graph, BodyMeans, EnvironmentMayPutItem, EnvironmentMayPutTag}
-use Rattle.graph.specs.Fits.{IsAbsent, IsPrescribed, HasNoFault, addresses, IsIn, IsTwiceIn, AreNew, Fits}
+use Rattle.graph.specs.Fits.{IsAbsent, IsPrescribed, HasNoFault, addresses, IsIn, IsTwiceIn, AreNew}
 use Rattle.machine.specs.Meaning.{items, BodyGives, BodyFaults}
 
 -- An item of these puts is there, or stands twice among them. Whoever put it: an instance that is not done has put none.

@@ -1,28 +1,27 @@
 -- The bytes of a side stand for one thing at most.
-use Rattle.std.proofs.Common.{◌≡◌, ◌<◌, ◌^◌, ◌≤◌, ◌+◌, ℕ, List, [], ◌∷◌, ◌++◌, length, take, drop, map, refl, sym, ap, subst, ◌∙◌, arith}
+use Rattle.std.proofs.Common.{◌≡◌, ◌<◌, ◌^◌, ℕ, List, [], ◌∷◌, ◌++◌, length, take, drop, map, refl, sym, ap, subst, ◌∙◌, arith}
 use Rattle.std.specs.List.{AllByRecursion}
-use Rattle.std.proofs.lemmas.List.{append_assoc, length-append}
+use Rattle.std.proofs.lemmas.List.{append_assoc}
 use Rattle.std.proofs.Math.Seq.{drop-append_seam, take-append_seam}
 use Rattle.byteorder.specs.Endian.{little_bytes, little_from}
 use Rattle.byteorder.specs.Numbers.{little_number-reads_back, length-bytes_low_first}
 use Rattle.terms.specs.declared.event.Event.{Event}
 use Rattle.terms.specs.Facts.{Fact, facts, environment}
 use Rattle.terms.specs.Sets.{Facts, among}
-use Rattle.codec.specs.declared.image.Image.{Image}
 use Rattle.codec.specs.Laws.{SpellsOne}
-use Rattle.codec.specs.Spelling.{image_bytes, event_bytes, IsImage, IsEvent, SpellsEvent, SpellsImage}
+use Rattle.codec.specs.Spelling.{image_bytes, event_bytes, IsEvent, SpellsEvent, SpellsImage}
 use Rattle.journal.specs.Records.{StandsFor, records}
 use Rattle.graph.specs.Graph.{Graph}
 use Rattle.graph.specs.Canonical.{canonical}
-use Rattle.graph.specs.declared.limits.TheConstants.{MOST_TEXT}
 use Rattle.sides.specs.Image.{image_facts, image_environment}
 use Rattle.sides.specs.Side.{FORMAT, counted, behind_gate, HasGeneration, IsSide, SameSide}
 
 -- two strings with fronts of one length
 split : (a b x y : List ℕ) → length a ≡ length b → a ++ x ≡ b ++ y → (a ≡ b) × (x ≡ y)
-split a b x y same whole =
-    (sym (take-append_seam a x) ∙ ap (take (length a)) whole ∙ ap (λ (n : ℕ). take n (b ++ y)) same ∙ take-append_seam b y,
-     sym (drop-append_seam a x) ∙ ap (drop (length a)) whole ∙ ap (λ (n : ℕ). drop n (b ++ y)) same ∙ drop-append_seam b y)
+split a b x y same whole = (
+  sym (take-append_seam a x) ∙ ap (take (length a)) whole ∙ ap (λ (n : ℕ). take n (b ++ y)) same ∙ take-append_seam b y,
+  sym (drop-append_seam a x) ∙ ap (drop (length a)) whole ∙ ap (λ (n : ℕ). drop n (b ++ y)) same ∙ drop-append_seam b y,
+)
 
 number_once : (width m n : ℕ) → m < 256 ^ width → n < 256 ^ width → little_bytes width m ≡ little_bytes width n → m ≡ n
 number_once width m n small also same =
@@ -72,7 +71,7 @@ module _ (one_event : SpellsOne SpellsEvent) (one_image : SpellsOne SpellsImage)
       numbers : (m ≡ n) × (counted (canonical g) ++ (counted (image_bytes one.image) ++ one.journal) ≡ counted (canonical h) ++ (counted (image_bytes two.image) ++ two.journal))
       numbers = numbered_once 8 m n _ _ one.small two.small
           (sym (parts_of (little_bytes 8 m) (counted (canonical g)) (counted (image_bytes one.image)) one.journal) ∙ whole
-           ∙ parts_of (little_bytes 8 n) (counted (canonical h)) (counted (image_bytes two.image)) two.journal)
+          ∙ parts_of (little_bytes 8 n) (counted (canonical h)) (counted (image_bytes two.image)) two.journal)
 
       texts : (canonical g ≡ canonical h) × (counted (image_bytes one.image) ++ one.journal ≡ counted (image_bytes two.image) ++ two.journal)
       texts = counted_once (canonical g) (canonical h) _ _ (omega (arith, one.reads.short)) (omega (arith, two.reads.short)) numbers.1
@@ -86,7 +85,7 @@ module _ (one_event : SpellsOne SpellsEvent) (one_image : SpellsOne SpellsImage)
       events : one.events ≡ two.events
       events = events_once one_event one.events two.events one.are_events two.are_events
           (one_list one.journal (map event_bytes one.events) (map event_bytes two.events) one.records
-            (subst (λ (journal : List ℕ). StandsFor journal (map event_bytes two.events)) (sym images.1) two.records))
+          (subst (λ (journal : List ℕ). StandsFor journal (map event_bytes two.events)) (sym images.1) two.records))
 
       given : image_environment one.image ++ environment one.events ≡ image_environment two.image ++ environment two.events
       given = λ i. image_environment (image i) ++ environment (events i)
@@ -130,9 +129,14 @@ any_rest bytes g n E X side =
     }
 
 pub has_generation : (bytes : List ℕ) (g : Graph) (n : ℕ) (E X : Facts) → IsSide bytes g n E X → HasGeneration bytes n
-has_generation bytes g n E X side =
-    (side.small, (FORMAT, counted (canonical g) ++ (counted (image_bytes side.image) ++ side.journal),
-      side.spelled ∙ ap (λ (bytes : List ℕ). 1 ∷ FORMAT ∷ bytes) (parts_of (little_bytes 8 n) (counted (canonical g)) (counted (image_bytes side.image)) side.journal)))
+has_generation bytes g n E X side = (
+  side.small,
+  (
+    FORMAT,
+    counted (canonical g) ++ (counted (image_bytes side.image) ++ side.journal),
+    side.spelled ∙ ap (λ (bytes : List ℕ). 1 ∷ FORMAT ∷ bytes) (parts_of (little_bytes 8 n) (counted (canonical g)) (counted (image_bytes side.image)) side.journal),
+  ),
+)
 
 pub one_generation : (bytes : List ℕ) (m n : ℕ) → HasGeneration bytes m → HasGeneration bytes n → m ≡ n
 one_generation bytes m n one two =

@@ -1,5 +1,5 @@
 -- What an image says: facts, and which of them the environment put.
-use Rattle.std.specs.Prelude.{ℕ, ℤ, Bool, true, false, List, [], ◌∷◌, ◌++◌, map, Option, Some, None}
+use Rattle.std.specs.Prelude.{ℤ, true, false, List, [], ◌∷◌, ◌++◌, map, Option, Some, None}
 use Rattle.std.specs.List.{flat_map}
 use Rattle.terms.specs.declared.name.Addr.{Addr}
 use Rattle.terms.specs.declared.name.Inst.{Inst}
@@ -8,7 +8,7 @@ use Rattle.terms.specs.declared.producer.Producer.{Producer}
 use Rattle.terms.specs.declared.producer.Producer.TheVariants.{Env, By}
 use Rattle.terms.specs.Facts.{Fact, tag, item, done, bad}
 use Rattle.codec.specs.declared.image.Image.{Image}
-use Rattle.codec.specs.Entries.{Item, MarkedTag}
+use Rattle.codec.specs.Entries.{MarkedTag}
 
 abbrev pub fault_facts : Option (Inst × FaultKind) → List Fact
 fault_facts None = []

@@ -1,5 +1,5 @@
 -- One side is live, and it stands for one thing.
-use Rattle.std.proofs.Common.{◌≡◌, ◌⊎◌, ◌<◌, ℕ, List, inl, inr, refl, sym, ap, subst, ◌∙◌, arith}
+use Rattle.std.proofs.Common.{◌≡◌, ◌<◌, ℕ, List, inl, inr, subst, arith}
 use Rattle.disk.specs.declared.side.Side.{Side}
 use Rattle.disk.specs.declared.side.Side.TheVariants.{A, B}
 use Rattle.disk.specs.Time.{Contents}
@@ -7,7 +7,7 @@ use Rattle.terms.specs.Facts.{Fact}
 use Rattle.terms.specs.Sets.{Facts}
 use Rattle.graph.specs.Graph.{Graph}
 use Rattle.graph.specs.Canonical.{canonical}
-use Rattle.sides.specs.Side.{IsSide, IsOpen, HasGeneration, OneMeaning, StandsWithGeneration, OneGeneration}
+use Rattle.sides.specs.Side.{IsSide, IsOpen, OneMeaning, StandsWithGeneration, OneGeneration}
 use Rattle.vault.specs.Stands.{IsBehind, IsLive, Stands}
 
 module _ (one_meaning : OneMeaning) (generation : StandsWithGeneration) (one_generation : OneGeneration) where
