@@ -1,5 +1,5 @@
--- What is at fault in a tree, in the order of the places: the declarations, the relations, the steps, and behind them their
--- bodies. One fault at a place.
+-- What is at fault in a tree, in the order of the places: the declarations, the relations, the steps. Of those one fault at a
+-- place. The faults of the bodies come behind them.
 use Rattle.std.specs.Prelude.{ℕ, Bool, true, false, not, ◌&&◌, ◌==◌, is_some, if◌then◌else◌, List, [], ◌∷◌, ◌++◌, length, Option, Some, None}
 use Rattle.std.specs.List.{list_any}
 use Rattle.steptree.specs.declared.checker.CheckFault.{CheckFault}

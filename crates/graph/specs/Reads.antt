@@ -63,13 +63,17 @@ pub record HasLongText (text : List ℕ) : Type 0 where
   pub graph : IsGraphOf tree g
   pub long : MOST_TEXT < length (canonical g)
 
+-- a text that is looked at token by token
+abbrev pub IsPlain : List ℕ → Type 0
+IsPlain text = (length text ≤ MOST_TEXT) × AllByRecursion (λ byte. byte < 128) text
+
 -- the cause of a fault at a position
 abbrev pub IsCause : List ℕ → GraphError → ℕ → Type 0
 IsCause text error.NotAscii position = IsNotAscii text position
-IsCause text error.Syntax position = IsSyntaxFault text position
-IsCause text error.TooLarge position = ((position ≡ 0) × ((MOST_TEXT < length text) ⊎ HasLongText text)) ⊎ IsLimitFault text position
+IsCause text error.Syntax position = IsPlain text × IsSyntaxFault text position
+IsCause text error.TooLarge position = ((position ≡ 0) × ((MOST_TEXT < length text) ⊎ (IsPlain text × HasLongText text))) ⊎ (IsPlain text × IsLimitFault text position)
 IsCause text error.NoMemory position = ⊥
-IsCause text other position = IsFirstFault text other position
+IsCause text other position = IsPlain text × IsFirstFault text other position
 
 abbrev pub no_memory : GraphFault
 no_memory = record { error = error.NoMemory; line = 0; column = 0 }
