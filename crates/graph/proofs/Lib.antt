@@ -1,1 +1,4 @@
+pub mod PrintedExpressions
+pub mod PrintedNames
 pub mod PrintedTokens
+pub mod PrintedValues

@@ -90,6 +90,22 @@ blanks_first place blanks rest (spot ∷ more) blank next = (
 pub blank : (place : ℕ) (blanks : List ℕ) → AreBlank blanks → Printed never place blanks []
 blank place blanks are_blank = record { spots = []; lexes = λ rest more may next. blanks_first place blanks rest more are_blank next; are = tt }
 
+no_more_pieces : (p : List Piece) → p ++ [] ≡ p
+no_more_pieces [] = refl
+no_more_pieces (piece ∷ p) = ap (λ (q : List Piece). piece ∷ q) (no_more_pieces p)
+
+-- a text and blanks
+pub and_blanks : {stop : ℕ → Bool} {place : ℕ} {a : List ℕ} {p : List Piece} → Printed stop place a p → (blanks : List ℕ) → AreBlank blanks
+    → ((rest : List ℕ) → BeginsWithout never rest → BeginsWithout stop (blanks ++ rest)) → Printed never place (a ++ blanks) p
+and_blanks {stop} {place} {a} {p} one blanks are_blank border =
+    subst (λ (q : List Piece). Printed never place (a ++ blanks) q) (no_more_pieces p) (behind one (blank (place + length a) blanks are_blank) border)
+
+pub and_space : {place : ℕ} {a : List ℕ} {p : List Piece} → Printed after_word place a p → Printed never place (a ++ codes " ") p
+and_space one = and_blanks one (codes " ") (refl, tt) (λ rest may. refl)
+
+pub sign_and_space : {place : ℕ} {a : List ℕ} {p : List Piece} → Printed after_sign place a p → Printed never place (a ++ codes " ") p
+sign_and_space one = and_blanks one (codes " ") (refl, tt) (λ rest may. refl)
+
 pub space : (place : ℕ) → Printed never place (codes " ") []
 space place = blank place (codes " ") (refl, tt)
 
