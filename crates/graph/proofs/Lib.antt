@@ -1,4 +1,5 @@
 pub mod PrintedExpressions
+pub mod PrintedKeys
 pub mod PrintedLists
 pub mod PrintedNames
 pub mod PrintedTokens

@@ -120,7 +120,7 @@ some_depth (Variable slot) = omega arith
 some_depth (Negation' _ operand) = omega arith
 some_depth (Operation' op _ left _ right) = omega arith
 
-no_both : (a b : List Position) → a ≡ [] → b ≡ [] → a ++ b ≡ []
+pub no_both : (a b : List Position) → a ≡ [] → b ≡ [] → a ++ b ≡ []
 no_both a b x y = ap (λ (l : List Position). l ++ b) x ∙ y
 
 module _ (g : Graph) (names : List Text) (are : AreNames names) where
