@@ -101,6 +101,11 @@ pub rounded : {place : ℕ} {text : List ℕ} {pieces : List Piece} → Printed 
 rounded {place} {text} one =
     and (closed_sign place 40 sign.OpenRound _ (refl, refl) refl refl) (behind one (closed_sign (place + 1 + length text) 41 sign.CloseRound _ refl refl refl) (λ rest may. refl))
 
+-- at no position in particular
+pub rounded_anywhere : {place : ℕ} {text : List ℕ} {pieces : List Piece} → Printed after_word (place + 1) text pieces → Printed never place (in_rounds text) (a_sign sign.OpenRound ++ pieces ++ a_sign sign.CloseRound)
+rounded_anywhere {place} {text} one =
+    and (closed_sign place 40 sign.OpenRound _ refl refl refl) (behind one (closed_sign (place + 1 + length text) 41 sign.CloseRound _ refl refl refl) (λ rest may. refl))
+
 -- ---- expressions
 
 -- what a printed expression is; its own brackets stand around it
