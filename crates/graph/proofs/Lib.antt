@@ -1,3 +1,5 @@
+pub mod PrintedBlocks
+pub mod PrintedCollections
 pub mod PrintedExpressions
 pub mod PrintedKeys
 pub mod PrintedLines
