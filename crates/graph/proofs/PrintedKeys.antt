@@ -82,7 +82,7 @@ pub record KeyPrinted (g : Graph) (names : List Text) (place : ℕ) (collection 
   pub is_of : value.collection.text.now ≡ collection
   pub resolve : AreExpressions names value.components.items components
 
-colon : (place : ℕ) → Printed never place (codes ": ") (a_sign sign.Colon)
+pub colon : (place : ℕ) → Printed never place (codes ": ") (a_sign sign.Colon)
 colon place = sign_and_space (open_sign place 58 sign.Colon _ refl refl (λ e. omega (arith, e)))
 
 module _ (g : Graph) (names : List Text) (are : AreNames names) (collection : Text) (is_name : IsGraphName collection) where
