@@ -3,4 +3,5 @@ pub mod Faults
 pub mod Fits
 pub mod Graph
 pub mod Reads
+pub mod Textual
 pub mod Tree

@@ -1,0 +1,12 @@
+pub mod PrintedBlocks
+pub mod PrintedCollections
+pub mod PrintedDeclarations
+pub mod PrintedExpressions
+pub mod PrintedKeys
+pub mod PrintedLines
+pub mod PrintedLists
+pub mod PrintedNameLists
+pub mod PrintedNames
+pub mod PrintedStatements
+pub mod PrintedTokens
+pub mod PrintedValues

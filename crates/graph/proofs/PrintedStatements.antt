@@ -1,0 +1,148 @@
+-- The statements that both blocks of a step have, as they are printed.
+use Rattle.std.proofs.Common.{◌≡◌, ℕ, zero, suc, ◌+◌, ◌<◌, ◌≤◌, List, [], ◌∷◌, ◌++◌, length, get_or, codes, Some, refl, sym, ap, subst, ◌∙◌, arith, append_assoc}
+use Rattle.std.specs.Prelude.{Box}
+use Rattle.std.specs.declared.alloc.Global.{Global}
+use Rattle.steptree.specs.declared.expression.Expression.{Expression}
+use Rattle.steptree.specs.declared.block.Block.{Block}
+use Rattle.steptree.specs.declared.block.Block.TheVariants.{End, Assign', If', For'}
+use Rattle.steptree.specs.declared.sheet.Sheet.{Sheet}
+use Rattle.steptree.specs.declared.step.NamedBlock.{NamedBlock}
+use Rattle.steptree.specs.declared.step.NamedBlock.TheVariants as tree
+use Rattle.steptree.specs.Names.{Text}
+use Rattle.steptree.specs.Resolved.{IsBlock}
+use Rattle.syntax.specs.declared.limits.TheConstants.{MOST_BRACES}
+use Rattle.syntax.specs.declared.token.Word.TheVariants as kept
+use Rattle.syntax.specs.declared.token.Symbol.TheVariants as sign
+use Rattle.syntax.specs.Tokens.{name, symbol, word}
+use Rattle.syntax.specs.Grammar.{Position, sum_alone, prod_alone, unary_alone, Expr, Statement, own, assigned, if_else, for, Statements, no_more, and_then}
+use Rattle.syntax.specs.Spelled.{Piece, plain, at, a_sign, sign_at, a_word, expr_pieces, condition_pieces, in_braces_at, statement_pieces, statements_pieces}
+use Rattle.syntax.specs.Limits.{one_more, expr_limits, statement_limits, statements_limits}
+use Rattle.syntax.specs.Tree.{IsExpr, IsStatement, AreStatements}
+use Rattle.graph.specs.Graph.{Graph}
+use Rattle.graph.specs.Textual.{IsTextExpression, IsGraphName, AreNames}
+use Rattle.graph.specs.Canonical.{in_rounds, expression_text, block_text, line}
+use Rattle.graph.proofs.PrintedTokens.{after_word, never, anything, Printed, behind, and, nothing}
+use Rattle.graph.proofs.PrintedNames.{printed_name, name_at, found_at, no_name_limit, no_more_limit}
+use Rattle.graph.proofs.PrintedExpressions.{IsPrinted, no_both, rounded_anywhere, expression_printed}
+use Rattle.graph.proofs.PrintedKeys.{no_limits}
+use Rattle.graph.proofs.PrintedLines.{inside, lined, word_first, semicolon, close_brace, open_brace, equals, dots, among, otherwise}
+use Rattle.graph.proofs.PrintedValues.{name_of}
+
+-- what stands in braces, with the braces in the lines around it
+in_order : (front inner rest : List Piece) (begin end : Piece) → front ++ (begin ∷ []) ++ inner ++ (end ∷ []) ++ rest ≡ front ++ (begin ∷ (inner ++ (end ∷ []))) ++ rest
+in_order front inner rest begin end = simp append_assoc
+
+both_in_order : (front first second rest : List Piece) (begin end other_word other_open other_close : Piece)
+    → front ++ (begin ∷ []) ++ first ++ (end ∷ other_word ∷ other_open ∷ []) ++ second ++ (other_close ∷ []) ++ rest
+    ≡ front ++ (begin ∷ (first ++ (end ∷ []))) ++ (other_word ∷ []) ++ (other_open ∷ (second ++ (other_close ∷ []))) ++ rest
+both_in_order front first second rest begin end other_word other_open other_close = simp append_assoc
+
+module _ {B : Type 0} (own_pieces : B → List Piece) (own_limits : B → List Position) (IsOwn : B → NamedBlock → (NamedBlock → Type 0) → Type 0) (g : Graph) (names : List Text) (sheet : Sheet) where
+  -- what a printed block is, with so many braces around it
+  pub record BlockPrinted (level around place : ℕ) (block : Block) : Type 0 where
+    pub statements : Statements B
+    pub printed : Printed never place (block_text g names level block) (statements_pieces own_pieces statements)
+    pub limits : statements_limits own_limits around statements ≡ []
+    pub value : NamedBlock
+    pub is : AreStatements IsOwn statements value
+    pub resolves : IsBlock names sheet value block
+
+  pub end_printed : (level around place : ℕ) → BlockPrinted level around place End
+  end_printed level around place = record { statements = no_more; printed = nothing place; limits = refl; value = tree.End; is = refl; resolves = tt }
+
+  module _ (are : AreNames names) where
+    -- an assignment
+    abbrev assign_line : ℕ → ℕ → Expression → Text
+    assign_line level slot value = line level (get_or names slot [] ++ codes " = " ++ expression_text g names value ++ codes ";")
+
+    pub assign_printed : (level around place slot : ℕ) (value : Expression) (box : Box (Unit {0}) Global) (rest : Block) → slot < length names → IsTextExpression (length names) value
+        → BlockPrinted level around (place + length (assign_line level slot value)) rest → BlockPrinted level around place (Assign' slot value box rest)
+    assign_printed level around place slot value box rest within is later =
+        let start : ℕ = inside level place in
+        let variable : Text = get_or names slot [] in
+        let good : IsGraphName variable = name_at names slot are.each within in
+        let it = expression_printed g names are value (start + length (variable ++ codes " = ")) is.0 in
+        let head = behind (printed_name start variable good) (equals (start + length variable)) (λ more may. refl) in
+        let all = behind (and head it.printed) (semicolon (start + length (variable ++ codes " = " ++ expression_text g names value))) (λ more may. refl) in record {
+      statements = and_then (assigned (variable, start) (sum_alone (prod_alone (unary_alone it.unary)))) later.statements;
+      printed = and (lined level place all) later.printed;
+      limits = no_both _ _ (no_both _ _ (no_name_limit variable start good) (no_limits it is.1)) later.limits;
+      value = tree.Assign' (name_of (variable, start)) it.value box later.value;
+      is = ((refl, refl), it.is, later.is);
+      resolves = (found_at names slot are.distinct within, it.resolves, later.resolves);
+    }
+
+    -- a choice
+    abbrev if_line : ℕ → Expression → Text
+    if_line level condition = line level (codes "if " ++ in_rounds (expression_text g names condition) ++ codes " {")
+
+    abbrev if_front : ℕ → Expression → Block → Text
+    if_front level condition first = if_line level condition ++ block_text g names (suc level) first
+
+    abbrev if_middle : ℕ → Expression → Block → Block → Text
+    if_middle level condition first second = if_front level condition first ++ line level (codes "} else {") ++ block_text g names (suc level) second
+
+    pub if_printed : (level around place : ℕ) (condition : Expression) (box : Box (Unit {0}) Global) (first : Block) (box2 : Box (Unit {0}) Global) (second : Block) (box3 : Box (Unit {0}) Global) (rest : Block)
+        → IsTextExpression (length names) condition → around < MOST_BRACES
+        → BlockPrinted (suc level) (suc around) (place + length (if_line level condition)) first
+        → BlockPrinted (suc level) (suc around) (place + length (if_front level condition first ++ line level (codes "} else {"))) second
+        → BlockPrinted level around (place + length (if_middle level condition first second ++ line level (codes "}"))) rest
+        → BlockPrinted level around place (If' condition box first box2 second box3 rest)
+    if_printed level around place condition box first box2 second box3 rest is few one two later =
+        let start : ℕ = inside level place in
+        let it = expression_printed g names are condition (start + 3 + 1) is.0 in
+        let brace : ℕ = start + length (codes "if " ++ in_rounds (expression_text g names condition)) in
+        let middle : ℕ = inside level (place + length (if_front level condition first)) in
+        let other : ℕ = middle + 1 + 1 + 4 + 1 in
+        let expr : Expr = sum_alone (prod_alone (unary_alone it.unary)) in
+        let head = lined level place (and (and (word_first start kept.If) (rounded_anywhere it.printed)) (open_brace brace)) in
+        let front = and (and head one.printed) (lined level (place + length (if_front level condition first)) (otherwise middle)) in
+        let end = lined level (place + length (if_middle level condition first second)) (close_brace (inside level (place + length (if_middle level condition first second)))) in
+        let all = and (and (and front two.printed) end) later.printed in record {
+      statements = and_then (if_else expr (brace + 1) one.statements other two.statements) later.statements;
+      printed = subst (λ (p : List Piece). Printed never place (block_text g names level (If' condition box first box2 second box3 rest)) p)
+          (both_in_order (condition_pieces expr) (statements_pieces own_pieces one.statements) (statements_pieces own_pieces two.statements) (statements_pieces own_pieces later.statements)
+          (at (brace + 1) (symbol sign.OpenBrace)) (plain (symbol sign.CloseBrace)) (plain (word kept.Else)) (at other (symbol sign.OpenBrace)) (plain (symbol sign.CloseBrace))) all;
+      limits = no_both _ _ (no_both _ _ (no_both _ _ (no_both _ _ (no_both _ _ (no_limits it is.1) (no_more_limit MOST_BRACES around (brace + 1) few)) one.limits) (no_more_limit MOST_BRACES around other few)) two.limits) later.limits;
+      value = tree.If' it.value box one.value box2 two.value box3 later.value;
+      is = (it.is, one.is, two.is, later.is);
+      resolves = (it.resolves, one.resolves, two.resolves, later.resolves);
+    }
+
+    -- a loop
+    abbrev for_text : ℕ → Expression → Expression → Text
+    for_text slot from to = codes "for " ++ get_or names slot [] ++ codes " in " ++ expression_text g names from ++ codes " .. " ++ expression_text g names to
+
+    abbrev for_line : ℕ → ℕ → Expression → Expression → Text
+    for_line level slot from to = line level (for_text slot from to ++ codes " {")
+
+    pub for_printed : (level around place slot : ℕ) (from to : Expression) (box : Box (Unit {0}) Global) (block : Block) (box2 : Box (Unit {0}) Global) (rest : Block)
+        → slot < length names → IsTextExpression (length names) from → IsTextExpression (length names) to → around < MOST_BRACES
+        → BlockPrinted (suc level) (suc around) (place + length (for_line level slot from to)) block
+        → BlockPrinted level around (place + length (for_line level slot from to ++ block_text g names (suc level) block ++ line level (codes "}"))) rest
+        → BlockPrinted level around place (For' slot from to box block box2 rest)
+    for_printed level around place slot from to box block box2 rest within is is2 few one later =
+        let start : ℕ = inside level place in
+        let variable : Text = get_or names slot [] in
+        let good : IsGraphName variable = name_at names slot are.each within in
+        let first : ℕ = start + length (codes "for " ++ variable ++ codes " in ") in
+        let it = expression_printed g names are from first is.0 in
+        let second : ℕ = start + length (codes "for " ++ variable ++ codes " in " ++ expression_text g names from ++ codes " .. ") in
+        let it2 = expression_printed g names are to second is2.0 in
+        let brace : ℕ = start + length (for_text slot from to) in
+        let low : Expr = sum_alone (prod_alone (unary_alone it.unary)) in
+        let high : Expr = sum_alone (prod_alone (unary_alone it2.unary)) in
+        let named_variable = behind (and (word_first start kept.For) (printed_name (start + 4) variable good)) (among (start + length (codes "for " ++ variable))) (λ more may. refl) in
+        let lower = behind (and named_variable it.printed) (dots (start + length (codes "for " ++ variable ++ codes " in " ++ expression_text g names from))) (λ more may. refl) in
+        let head = lined level place (behind (and lower it2.printed) (open_brace brace) (λ more may. refl)) in
+        let end = lined level (place + length (for_line level slot from to ++ block_text g names (suc level) block)) (close_brace (inside level (place + length (for_line level slot from to ++ block_text g names (suc level) block)))) in
+        let all = and (and (and head one.printed) end) later.printed in record {
+      statements = and_then (for (variable, start + 4) low high (brace + 1) one.statements) later.statements;
+      printed = subst (λ (p : List Piece). Printed never place (block_text g names level (For' slot from to box block box2 rest)) p)
+          (in_order (a_word kept.For ++ (at (start + 4) (name variable) ∷ a_word kept.In) ++ expr_pieces low ++ a_sign sign.DoubleDot ++ expr_pieces high) (statements_pieces own_pieces one.statements)
+          (statements_pieces own_pieces later.statements) (at (brace + 1) (symbol sign.OpenBrace)) (plain (symbol sign.CloseBrace))) all;
+      limits = no_both _ _ (no_both _ _ (no_both _ _ (no_both _ _ (no_both _ _ (no_name_limit variable (start + 4) good) (no_limits it is.1)) (no_limits it2 is2.1)) (no_more_limit MOST_BRACES around (brace + 1) few)) one.limits) later.limits;
+      value = tree.For' (name_of (variable, start + 4)) it.value it2.value box one.value box2 later.value;
+      is = ((refl, refl), it.is, it2.is, one.is, later.is);
+      resolves = (found_at names slot are.distinct within, it.resolves, it2.resolves, one.resolves, later.resolves);
+    }

@@ -1,0 +1,198 @@
+-- A text that is printed token by token: which tokens it is, wherever it stands and whatever is printed behind it.
+use Rattle.std.proofs.Common.{◌≡◌, ◌≢◌, ℕ, ◌+◌, ◌-◌, ◌<◌, ◌≤◌, Bool, true, false, ◌||◌, ◌==◌, List, [], ◌∷◌, ◌++◌, length, codes, refl, sym, ap, subst, ◌∙◌, arith, lit≤, append_assoc, length-append}
+use Rattle.std.specs.List.{AllByRecursion}
+use Rattle.std.proofs.lemmas.Bool.{false≢true}
+use Rattle.std.proofs.lemmas.Bool.Decides.{nat_tests}
+use Rattle.syntax.specs.declared.token.Word.{Word}
+use Rattle.syntax.specs.declared.token.Symbol.{Symbol}
+use Rattle.syntax.specs.declared.token.Symbol.TheVariants.{DoubleColon, Arrow, DoubleDot, Equal, NotEqual, LessOrEqual, GreaterOrEqual}
+use Rattle.syntax.specs.Tokens.{AreBlank, AreTokens, Begins, BeginsWithout, Lexeme, symbol, Spot, Stands, is_blank, is_letter, is_digit, symbol_text}
+use Rattle.syntax.specs.Spelled.{Piece, plain, at, IsPiece, ArePieces}
+
+-- ---- what may not stand behind a token
+
+-- behind a name, a number or a word no letter or digit
+abbrev pub after_word : ℕ → Bool
+after_word byte = is_letter byte || is_digit byte
+
+-- behind a sign that could be the first half of a longer one no `:`, `=` or `>`
+abbrev pub after_sign : ℕ → Bool
+after_sign byte = (byte == 58) || ((byte == 61) || (byte == 62))
+
+-- behind a blank, and behind a sign that begins no longer one, anything
+abbrev pub never : ℕ → Bool
+never byte = false
+
+pub anything : (bytes : List ℕ) → BeginsWithout never bytes
+anything [] = tt
+anything (first ∷ rest) = refl
+
+-- ---- printed texts
+
+-- at this place the text is these pieces, where what is behind it does not begin with such a byte
+pub record Printed (stop : ℕ → Bool) (place : ℕ) (text : List ℕ) (pieces : List Piece) : Type 0 where
+  pub spots : List Spot
+  pub lexes : (rest : List ℕ) (more : List Spot) → BeginsWithout stop rest → AreTokens (place + length text) rest more → AreTokens place (text ++ rest) (spots ++ more)
+  pub are : ArePieces pieces spots
+
+both_pieces : (p q : List Piece) (s r : List Spot) → ArePieces p s → ArePieces q r → ArePieces (p ++ q) (s ++ r)
+both_pieces [] q [] r one two = two
+both_pieces [] q (spot ∷ s) r one two = absurd one
+both_pieces (piece ∷ p) q [] r one two = absurd one
+both_pieces (piece ∷ p) q (spot ∷ s) r one two = (one.0, both_pieces p q s r one.1 two)
+
+-- one behind the other
+pub behind : {stop other : ℕ → Bool} {place : ℕ} {a b : List ℕ} {p q : List Piece} → Printed stop place a p → Printed other (place + length a) b q
+    → ((rest : List ℕ) → BeginsWithout other rest → BeginsWithout stop (b ++ rest)) → Printed other place (a ++ b) (p ++ q)
+behind {stop} {other} {place} {a} {b} {p} {q} one two border = record {
+  spots = one.spots ++ two.spots;
+  lexes = λ rest more may next.
+      let moved : place + length (a ++ b) ≡ (place + length a) + length b = omega (arith, length-append a b) in
+      let later = two.lexes rest more may (subst (λ (k : ℕ). AreTokens k rest more) moved next) in
+      let whole = one.lexes (b ++ rest) (two.spots ++ more) (border rest may) later in
+      subst (λ (t : List ℕ). AreTokens place t ((one.spots ++ two.spots) ++ more)) (sym (append_assoc a b rest))
+      (subst (λ (s : List Spot). AreTokens place (a ++ (b ++ rest)) s) (sym (append_assoc one.spots two.spots more)) whole);
+  are = both_pieces p q one.spots two.spots one.are two.are;
+}
+
+-- behind what anything may stand behind
+pub and : {other : ℕ → Bool} {place : ℕ} {a b : List ℕ} {p q : List Piece} → Printed never place a p → Printed other (place + length a) b q → Printed other place (a ++ b) (p ++ q)
+and {other} {place} {a} {b} one two = behind one two (λ rest may. anything (b ++ rest))
+
+-- what may stand behind it is less
+pub narrowed : {stop other : ℕ → Bool} {place : ℕ} {a : List ℕ} {p : List Piece} → ((rest : List ℕ) → BeginsWithout other rest → BeginsWithout stop rest) → Printed stop place a p → Printed other place a p
+narrowed border one = record { spots = one.spots; lexes = λ rest more may next. one.lexes rest more (border rest may) next; are = one.are }
+
+-- the tokens of a whole text
+pub whole : {stop : ℕ → Bool} {text : List ℕ} {pieces : List Piece} → (text ++ [] ≡ text) → (one : Printed stop 0 text pieces) → (one.spots ++ [] ≡ one.spots) → AreTokens 0 text one.spots
+whole {stop} {text} same one same_spots =
+    subst (λ (t : List ℕ). AreTokens 0 t one.spots) same (subst (λ (s : List Spot). AreTokens 0 (text ++ []) s) same_spots (one.lexes [] [] tt tt))
+
+-- ---- blanks
+
+both_blank : (a b : List ℕ) → AreBlank a → AreBlank b → AreBlank (a ++ b)
+both_blank [] b one two = two
+both_blank (first ∷ a) b one two = (one.0, both_blank a b one.1 two)
+
+blanks_first : (place : ℕ) (blanks rest : List ℕ) (more : List Spot) → AreBlank blanks → AreTokens (place + length blanks) rest more → AreTokens place (blanks ++ rest) more
+blanks_first place blanks rest [] blank next = both_blank blanks rest blank next
+blanks_first place blanks rest (spot ∷ more) blank next = (
+  blanks ++ next.0,
+  next.1,
+  next.2,
+  ap (λ (r : List ℕ). blanks ++ r) next.3 ∙ sym (append_assoc blanks next.0 next.1),
+  both_blank blanks next.0 blank next.4,
+  omega (arith, next.5, length-append blanks next.0),
+  next.6,
+  next.7,
+)
+
+pub blank : (place : ℕ) (blanks : List ℕ) → AreBlank blanks → Printed never place blanks []
+blank place blanks are_blank = record { spots = []; lexes = λ rest more may next. blanks_first place blanks rest more are_blank next; are = tt }
+
+no_more_pieces : (p : List Piece) → p ++ [] ≡ p
+no_more_pieces [] = refl
+no_more_pieces (piece ∷ p) = ap (λ (q : List Piece). piece ∷ q) (no_more_pieces p)
+
+-- a text and blanks
+pub and_blanks : {stop : ℕ → Bool} {place : ℕ} {a : List ℕ} {p : List Piece} → Printed stop place a p → (blanks : List ℕ) → AreBlank blanks
+    → ((rest : List ℕ) → BeginsWithout never rest → BeginsWithout stop (blanks ++ rest)) → Printed never place (a ++ blanks) p
+and_blanks {stop} {place} {a} {p} one blanks are_blank border =
+    subst (λ (q : List Piece). Printed never place (a ++ blanks) q) (no_more_pieces p) (behind one (blank (place + length a) blanks are_blank) border)
+
+pub and_space : {place : ℕ} {a : List ℕ} {p : List Piece} → Printed after_word place a p → Printed never place (a ++ codes " ") p
+and_space one = and_blanks one (codes " ") (refl, tt) (λ rest may. refl)
+
+pub sign_and_space : {place : ℕ} {a : List ℕ} {p : List Piece} → Printed after_sign place a p → Printed never place (a ++ codes " ") p
+sign_and_space one = and_blanks one (codes " ") (refl, tt) (λ rest may. refl)
+
+pub space : (place : ℕ) → Printed never place (codes " ") []
+space place = blank place (codes " ") (refl, tt)
+
+pub nothing : (place : ℕ) → Printed never place [] []
+nothing place = blank place [] tt
+
+-- ---- one token
+
+pub one_token : (stop : ℕ → Bool) (place : ℕ) (text : List ℕ) (lexeme : Lexeme) (piece : Piece) → IsPiece piece (lexeme, place)
+    → ((rest : List ℕ) → BeginsWithout stop rest → Stands lexeme (text ++ rest) rest) → Printed stop place text (piece ∷ [])
+one_token stop place text lexeme piece is stands = record {
+  spots = (lexeme, place) ∷ [];
+  lexes = λ rest more may next.
+      let moved : place + length text ≡ place + (length (text ++ rest) - length rest) = omega (arith, length-append text rest) in (
+        [],
+        text ++ rest,
+        rest,
+        refl,
+        tt,
+        omega arith,
+        stands rest may,
+        subst (λ (k : ℕ). AreTokens k rest more) moved next,
+      );
+  are = (is, tt);
+}
+
+-- ---- signs
+
+-- the first half of a sign of two characters
+abbrev pub leads : ℕ → Bool
+leads first = ((first == 58) || ((first == 45) || (first == 46))) || (((first == 61) || (first == 33)) || ((first == 60) || (first == 62)))
+
+heads : {c d : ℕ} {r s : List ℕ} → c ∷ r ≡ d ∷ s → c ≡ d
+heads e = cc
+
+never_leads : (first second half : ℕ) (rest more : List ℕ) → leads first ≡ false → leads half ≡ true → first ∷ rest ≡ half ∷ second ∷ more → ⊥
+never_leads first second half rest more h k e = let same : first ≡ half = heads e in false≢true (sym h ∙ (ap leads same ∙ k))
+
+never_follows : (first second half : ℕ) (rest more : List ℕ) → BeginsWithout after_sign rest → after_sign second ≡ true → first ∷ rest ≡ half ∷ second ∷ more → ⊥
+never_follows first second half [] more h k e = absurd (cc)
+never_follows first second half (next ∷ rest) more h k e = let same : next ≡ second = cc in false≢true (sym h ∙ (ap after_sign same ∙ k))
+
+closed_longest : (first : ℕ) (rest : List ℕ) → leads first ≡ false → (other : Symbol) → Begins (symbol_text other) (first ∷ rest) → length (symbol_text other) ≤ 1
+closed_longest first rest h DoubleColon b = absurd (never_leads first 58 58 rest b.0 h refl b.1)
+closed_longest first rest h Arrow b = absurd (never_leads first 62 45 rest b.0 h refl b.1)
+closed_longest first rest h DoubleDot b = absurd (never_leads first 46 46 rest b.0 h refl b.1)
+closed_longest first rest h Equal b = absurd (never_leads first 61 61 rest b.0 h refl b.1)
+closed_longest first rest h NotEqual b = absurd (never_leads first 61 33 rest b.0 h refl b.1)
+closed_longest first rest h LessOrEqual b = absurd (never_leads first 61 60 rest b.0 h refl b.1)
+closed_longest first rest h GreaterOrEqual b = absurd (never_leads first 61 62 rest b.0 h refl b.1)
+closed_longest first rest h _ b = lit≤ tt
+
+open_longest : (first : ℕ) (rest : List ℕ) → first ≢ 46 → BeginsWithout after_sign rest → (other : Symbol) → Begins (symbol_text other) (first ∷ rest) → length (symbol_text other) ≤ 1
+open_longest first rest dot h DoubleColon b = absurd (never_follows first 58 58 rest b.0 h refl b.1)
+open_longest first rest dot h Arrow b = absurd (never_follows first 62 45 rest b.0 h refl b.1)
+open_longest first rest dot h DoubleDot b = absurd (dot (heads b.1))
+open_longest first rest dot h Equal b = absurd (never_follows first 61 61 rest b.0 h refl b.1)
+open_longest first rest dot h NotEqual b = absurd (never_follows first 61 33 rest b.0 h refl b.1)
+open_longest first rest dot h LessOrEqual b = absurd (never_follows first 61 60 rest b.0 h refl b.1)
+open_longest first rest dot h GreaterOrEqual b = absurd (never_follows first 61 62 rest b.0 h refl b.1)
+open_longest first rest dot h _ b = lit≤ tt
+
+double_longest : (other : Symbol) → length (symbol_text other) ≤ 2
+double_longest DoubleColon = lit≤ tt
+double_longest _ = lit≤ tt
+
+-- a sign of one character that begins no longer one
+pub closed_sign : (place first : ℕ) (sign : Symbol) (piece : Piece) → IsPiece piece (symbol sign, place) → symbol_text sign ≡ first ∷ [] → leads first ≡ false → Printed never place (first ∷ []) (piece ∷ [])
+closed_sign place first sign piece is same h =
+    one_token never place (first ∷ []) (symbol sign) piece is (λ rest may. (
+      ap (λ (t : List ℕ). t ++ rest) (sym same),
+      λ other begins. subst (λ (t : List ℕ). length (symbol_text other) ≤ length t) (sym same) (closed_longest first rest h other begins),
+    ))
+
+-- one that begins a longer one
+pub open_sign : (place first : ℕ) (sign : Symbol) (piece : Piece) → IsPiece piece (symbol sign, place) → symbol_text sign ≡ first ∷ [] → first ≢ 46 → Printed after_sign place (first ∷ []) (piece ∷ [])
+open_sign place first sign piece is same dot =
+    one_token after_sign place (first ∷ []) (symbol sign) piece is (λ rest may. (
+      ap (λ (t : List ℕ). t ++ rest) (sym same),
+      λ other begins. subst (λ (t : List ℕ). length (symbol_text other) ≤ length t) (sym same) (open_longest first rest dot may other begins),
+    ))
+
+-- a sign of two characters
+pub double_sign : (place first second : ℕ) (sign : Symbol) (piece : Piece) → IsPiece piece (symbol sign, place) → symbol_text sign ≡ first ∷ second ∷ []
+    → Printed never place (first ∷ second ∷ []) (piece ∷ [])
+double_sign place first second sign piece is same =
+    one_token never place (first ∷ second ∷ []) (symbol sign) piece is (λ rest may. (
+      ap (λ (t : List ℕ). t ++ rest) (sym same),
+      λ other begins. subst (λ (t : List ℕ). length (symbol_text other) ≤ length t) (sym same) (double_longest other),
+    ))

@@ -1,0 +1,112 @@
+-- The graphs that a text can give, and the laws between texts and graphs.
+use Rattle.std.specs.Prelude.{◌≡◌, ◌≢◌, ◌≤◌, ◌<◌, ⊤, ℕ, zero, suc, ℤ, pos, max, List, [], ◌∷◌, ◌++◌, length, get_or, All}
+use Rattle.std.specs.List.{AllByRecursion}
+use Rattle.terms.specs.declared.key.TheConstants.{MAX_COMPONENTS}
+use Rattle.steptree.specs.declared.expression.Expression.{Expression}
+use Rattle.steptree.specs.declared.expression.Expression.TheVariants.{Number, Variable, Negation', Operation'}
+use Rattle.steptree.specs.declared.block.Block.{Block}
+use Rattle.steptree.specs.declared.block.Block.TheVariants.{End, Assign', If', For', Get', PutItem', PutTag'}
+use Rattle.steptree.specs.declared.slot.TheConstants.{MOST_NAMES}
+use Rattle.steptree.specs.Names.{Text}
+use Rattle.syntax.specs.declared.token.Word.{Word}
+use Rattle.syntax.specs.declared.limits.TheConstants.{MOST_NAME_BYTES, MOST_DEPTH, MOST_BRACES}
+use Rattle.syntax.specs.Tokens.{GREATEST, IsWordText, word_text}
+use Rattle.graph.specs.declared.limits.TheConstants.{MOST_TEXT}
+use Rattle.graph.specs.Graph.{Collection, Step, Graph, IsGraph}
+use Rattle.graph.specs.Tree.{names_in}
+use Rattle.graph.specs.Reads.{Reads}
+use Rattle.graph.specs.Canonical.{canonical}
+
+-- ---- names
+
+-- a text that is a name: letters and digits, the first a letter, not reserved and not too long
+pub record IsGraphName (text : Text) : Type 0 where
+  pub word : IsWordText text
+  pub not_reserved : (kept : Word) → text ≢ word_text kept
+  pub short : length text ≤ MOST_NAME_BYTES
+
+-- names, no two of them one
+pub record AreNames (names : List Text) : Type 0 where
+  pub each : AllByRecursion IsGraphName names
+  pub distinct : (one two : ℕ) → one < length names → two < length names → get_or names one [] ≡ get_or names two [] → one ≡ two
+
+-- ---- bodies
+
+-- a number or a variable has the depth 1
+abbrev pub depth_of : Expression → ℕ
+depth_of (Number number) = 1
+depth_of (Variable slot) = 1
+depth_of (Negation' _ operand) = suc (depth_of operand)
+depth_of (Operation' between _ left _ right) = suc (max (depth_of left) (depth_of right))
+
+-- numbers that a text can have, and variables among so many names
+abbrev pub IsSpelled : ℕ → Expression → Type 0
+IsSpelled names (Number number) = (value : ℕ) × (number ≡ pos value) × (value ≤ GREATEST)
+IsSpelled names (Variable slot) = slot < names
+IsSpelled names (Negation' _ operand) = IsSpelled names operand
+IsSpelled names (Operation' between _ left _ right) = IsSpelled names left × IsSpelled names right
+
+abbrev pub IsTextExpression : ℕ → Expression → Type 0
+IsTextExpression names expression = IsSpelled names expression × (depth_of expression ≤ MOST_DEPTH)
+
+abbrev pub AreComponents : ℕ → List Expression → Type 0
+AreComponents names components = AllByRecursion (IsTextExpression names) components
+
+-- a read block, with so many braces around it
+abbrev pub IsReadBlock : ℕ → ℕ → Block → Type 0
+IsReadBlock names around End = ⊤
+IsReadBlock names around (Assign' slot value _ rest) = (slot < names) × IsTextExpression names value × IsReadBlock names around rest
+IsReadBlock names around (If' condition _ first _ second _ rest) =
+    IsTextExpression names condition × (around < MOST_BRACES) × IsReadBlock names (suc around) first × IsReadBlock names (suc around) second × IsReadBlock names around rest
+IsReadBlock names around (For' slot from to _ block _ rest) =
+    (slot < names) × IsTextExpression names from × IsTextExpression names to × (around < MOST_BRACES) × IsReadBlock names (suc around) block × IsReadBlock names around rest
+IsReadBlock names around (Get' slot collection components _ rest) = (slot < names) × AreComponents names components × IsReadBlock names around rest
+IsReadBlock names around (PutItem' collection components value _ rest) = ⊥
+IsReadBlock names around (PutTag' collection components _ rest) = ⊥
+
+-- a write block
+abbrev pub IsWriteBlock : ℕ → ℕ → Block → Type 0
+IsWriteBlock names around End = ⊤
+IsWriteBlock names around (Assign' slot value _ rest) = (slot < names) × IsTextExpression names value × IsWriteBlock names around rest
+IsWriteBlock names around (If' condition _ first _ second _ rest) =
+    IsTextExpression names condition × (around < MOST_BRACES) × IsWriteBlock names (suc around) first × IsWriteBlock names (suc around) second × IsWriteBlock names around rest
+IsWriteBlock names around (For' slot from to _ block _ rest) =
+    (slot < names) × IsTextExpression names from × IsTextExpression names to × (around < MOST_BRACES) × IsWriteBlock names (suc around) block × IsWriteBlock names around rest
+IsWriteBlock names around (Get' slot collection components _ rest) = ⊥
+IsWriteBlock names around (PutItem' collection components value _ rest) = AreComponents names components × IsTextExpression names value × IsWriteBlock names around rest
+IsWriteBlock names around (PutTag' collection components _ rest) = AreComponents names components × IsWriteBlock names around rest
+
+-- ---- graphs
+
+pub record IsTextStep (step : Step) : Type 0 where
+  pub name : IsGraphName step.name
+  pub names : AreNames step.names
+  pub few : step.parameters ≤ MAX_COMPONENTS
+  pub read : IsReadBlock (length step.names) 0 step.body.read
+  pub write : IsWriteBlock (length step.names) 0 step.body.write
+
+abbrev pub names_of_steps : List Step → List Text
+names_of_steps [] = []
+names_of_steps (step ∷ steps) = step.name ∷ names_of_steps steps
+
+-- a graph that a text can give, but for the text's length
+pub record IsTextual (g : Graph) : Type 0 where
+  pub graph : IsGraph g
+  pub items : AreNames (names_in g.items)
+  pub tags : AreNames (names_in g.tags)
+  pub step_names : AreNames (names_of_steps g.steps)
+  pub steps : AllByRecursion IsTextStep g.steps
+
+-- ---- laws
+
+-- what a text reads as can be written
+abbrev pub ReadsTextual : Type 0
+ReadsTextual = (text : List ℕ) (g : Graph) → Reads text g → IsTextual g
+
+-- the canonical text of a graph reads as that graph
+abbrev pub CanonicalReads : Type 0
+CanonicalReads = (g : Graph) → IsTextual g → length (canonical g) ≤ MOST_TEXT → Reads (canonical g) g
+
+-- all that one text reads as has one canonical text
+abbrev pub OneCanonical : Type 0
+OneCanonical = (text : List ℕ) (g h : Graph) → Reads text g → Reads text h → canonical g ≡ canonical h
