@@ -1,3 +1,4 @@
+pub mod ExampleText
 pub mod PrintedBlocks
 pub mod PrintedCollections
 pub mod PrintedDeclarations

@@ -1,4 +1,5 @@
 pub mod Canonical
+pub mod Examples
 pub mod Faults
 pub mod Fits
 pub mod Graph

@@ -13,8 +13,12 @@ use Rattle.syntax.specs.declared.limits.TheConstants.{MOST_NAME_BYTES, MOST_DEPT
 use Rattle.syntax.specs.Tokens.{GREATEST, IsWordText, word_text}
 use Rattle.graph.specs.declared.limits.TheConstants.{MOST_TEXT}
 use Rattle.graph.specs.Graph.{Collection, Step, Graph, IsGraph}
-use Rattle.graph.specs.Tree.{names_in}
-use Rattle.graph.specs.Reads.{Reads}
+use Rattle.syntax.specs.declared.tree.Tree.{Tree}
+use Rattle.syntax.specs.Reading.{IsRead}
+use Rattle.syntax.specs.Tree.{AreAll}
+use Rattle.graph.specs.declared.fault.GraphFault.{GraphFault}
+use Rattle.graph.specs.Tree.{names_in, IsGraphOf}
+use Rattle.graph.specs.Reads.{Reads, HasCause, no_memory}
 use Rattle.graph.specs.Canonical.{canonical}
 
 -- ---- names
@@ -103,10 +107,58 @@ pub record IsTextual (g : Graph) : Type 0 where
 abbrev pub ReadsTextual : Type 0
 ReadsTextual = (text : List ℕ) (g : Graph) → Reads text g → IsTextual g
 
--- the canonical text of a graph reads as that graph
+-- the canonical text of a graph that a text can give reads as that graph, where it is not too long
 abbrev pub CanonicalReads : Type 0
 CanonicalReads = (g : Graph) → IsTextual g → length (canonical g) ≤ MOST_TEXT → Reads (canonical g) g
 
--- all that one text reads as has one canonical text
+-- ---- one text, one graph
+
+-- two bodies that differ in nothing but where their parts lie in memory
+abbrev pub SameExpression : Expression → Expression → Type 0
+SameExpression (Number m) (Number n) = m ≡ n
+SameExpression (Variable a) (Variable b) = a ≡ b
+SameExpression (Negation' _ e) (Negation' _ f) = SameExpression e f
+SameExpression (Operation' how _ e1 _ e2) (Operation' same _ f1 _ f2) = (how ≡ same) × SameExpression e1 f1 × SameExpression e2 f2
+SameExpression e f = ⊥
+
+abbrev pub SameBlock : Block → Block → Type 0
+SameBlock End End = ⊤
+SameBlock (Assign' a e _ rest) (Assign' b f _ more) = (a ≡ b) × SameExpression e f × SameBlock rest more
+SameBlock (If' e _ a _ b _ rest) (If' f _ c _ d _ more) = SameExpression e f × SameBlock a c × SameBlock b d × SameBlock rest more
+SameBlock (For' a e1 e2 _ inner _ rest) (For' b f1 f2 _ other _ more) = (a ≡ b) × SameExpression e1 f1 × SameExpression e2 f2 × SameBlock inner other × SameBlock rest more
+SameBlock (Get' a c es _ rest) (Get' b d fs _ more) = (a ≡ b) × (c ≡ d) × AreAll SameExpression es fs × SameBlock rest more
+SameBlock (PutItem' c es e _ rest) (PutItem' d fs f _ more) = (c ≡ d) × AreAll SameExpression es fs × SameExpression e f × SameBlock rest more
+SameBlock (PutTag' c es _ rest) (PutTag' d fs _ more) = (c ≡ d) × AreAll SameExpression es fs × SameBlock rest more
+SameBlock block other = ⊥
+
+pub record SameStep (one two : Step) : Type 0 where
+  pub name : one.name ≡ two.name
+  pub prescriber : one.prescriber ≡ two.prescriber
+  pub names : one.names ≡ two.names
+  pub parameters : one.parameters ≡ two.parameters
+  pub reads : one.reads ≡ two.reads
+  pub item_puts : one.item_puts ≡ two.item_puts
+  pub tag_puts : one.tag_puts ≡ two.tag_puts
+  pub read : SameBlock one.body.read two.body.read
+  pub write : SameBlock one.body.write two.body.write
+
+-- one graph, twice
+pub record SameGraph (g h : Graph) : Type 0 where
+  pub items : g.items ≡ h.items
+  pub tags : g.tags ≡ h.tags
+  pub steps : AreAll SameStep g.steps h.steps
+  pub environment_item_puts : g.environment_item_puts ≡ h.environment_item_puts
+  pub environment_tag_puts : g.environment_tag_puts ≡ h.environment_tag_puts
+  pub environment_gets : g.environment_gets ≡ h.environment_gets
+
+-- all that one text is as a graph is one graph
+abbrev pub OneGraph : Type 0
+OneGraph = (text : List ℕ) (t u : Tree) (g h : Graph) → IsRead text t → IsRead text u → IsGraphOf t g → IsGraphOf u h → SameGraph g h
+
+-- and that has one canonical text
 abbrev pub OneCanonical : Type 0
-OneCanonical = (text : List ℕ) (g h : Graph) → Reads text g → Reads text h → canonical g ≡ canonical h
+OneCanonical = (g h : Graph) → SameGraph g h → canonical g ≡ canonical h
+
+-- a text that reads as a graph has no fault but want of memory
+abbrev pub ReadsWithoutFault : Type 0
+ReadsWithoutFault = (text : List ℕ) (g : Graph) (fault : GraphFault) → Reads text g → HasCause text fault → fault ≡ no_memory

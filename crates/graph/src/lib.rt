@@ -4,8 +4,10 @@
 //! and facts, without a look at the bodies of steps.
 #![tactic(auto)]
 
+mod examples;
 mod fault;
 mod limits;
 
+pub use examples::canonical_example;
 pub use fault::{GraphError, GraphFault};
 pub use limits::MOST_TEXT;

@@ -25,7 +25,8 @@ use Rattle.machine.specs.Laws.{stated, IsThere}
 use Rattle.steptree.specs.declared.expression.Operator.TheVariants as operator
 use Rattle.steptree.specs.declared.expression.Expression.TheVariants.{Variable, Operation'}
 use Rattle.steptree.specs.declared.block.Block.TheVariants.{End, Get', PutItem'}
-use Rattle.machine.specs.Examples.{Place, behind, fibonacci, twice, fib, n, add, put_fib, added, in_two_parts, one_by_one, one_number, conflict, enabled, FiveNumbers, OneNumber, Conflict, PutTwice, Refused}
+use Rattle.graph.specs.Examples.{Place, behind, fibonacci}
+use Rattle.machine.specs.Examples.{twice, fib, n, add, put_fib, added, in_two_parts, one_by_one, one_number, conflict, enabled, FiveNumbers, OneNumber, Conflict, PutTwice, Refused}
 use Rattle.machine.proofs.Sets.{either, not_both, the_first, Within, of_list}
 use Rattle.machine.proofs.Grown.{one_ending}
 use Rattle.machine.proofs.Within.{kept_from_nothing, stays_within}

@@ -19,43 +19,10 @@ use Rattle.steptree.specs.declared.block.Block.{Block}
 use Rattle.steptree.specs.declared.block.Block.TheVariants.{End, Get', PutItem'}
 use Rattle.steptree.specs.Bodies.{Asks}
 use Rattle.graph.specs.Graph.{Graph, BodyMeans}
+use Rattle.graph.specs.Examples.{Place, fibonacci}
 use Rattle.machine.specs.Meaning.{items, IsClosed, Meaning}
 use Rattle.machine.specs.Legal.{IsLegal, AreLegal, IsQuiet}
 use Rattle.machine.specs.Laws.{stated, put_by_environment, IsThere}
-
--- where a part of a tree lies in memory; it plays no part
-abbrev pub Place : Type 0
-Place = Box (Unit {0}) Global
-
--- ---- Fibonacci numbers
-
--- [fib: i]; <n: i>; <n> :: (add); [fib] -> (add); (add) -> [fib]; env -> [fib]; env -> <n>; [fib] -> env;
--- step add(i) { var a, b; read { get a = [fib: i - 1]; get b = [fib: i - 2]; } write { put [fib: i] = a + b; } }
-module _ (place : Place) where
-  abbrev pub behind : ℕ → Expression
-  behind number = Operation' operator.Subtract place (Variable 0) place (Number (pos number))
-
-  abbrev pub fibonacci : Graph
-  fibonacci = record {
-    items = record { name = codes "fib"; components = 1 } ∷ [];
-    tags = record { name = codes "n"; components = 1 } ∷ [];
-    steps = record {
-      name = codes "add";
-      prescriber = 0;
-      names = codes "i" ∷ codes "a" ∷ codes "b" ∷ [];
-      parameters = 1;
-      reads = true ∷ [];
-      item_puts = true ∷ [];
-      tag_puts = false ∷ [];
-      body = record {
-        read = Get' 1 (record { 0 = 0 }) (behind 1 ∷ []) place (Get' 2 (record { 0 = 0 }) (behind 2 ∷ []) place End);
-        write = PutItem' (record { 0 = 0 }) (Variable 0 ∷ []) (Operation' operator.Add place (Variable 1) place (Variable 2)) place End;
-      };
-    } ∷ [];
-    environment_item_puts = true ∷ [];
-    environment_tag_puts = true ∷ [];
-    environment_gets = true ∷ [];
-  }
 
 abbrev pub fib : ℕ → Addr
 fib number = record { collection = record { 0 = 0 }; key = pos number ∷ [] }

@@ -1,5 +1,6 @@
 //! Worked examples of what a graph means. Each is a contract, with nothing to run.
-ghost use Rattle.machine.specs.Examples.{Place, FiveNumbers, OneNumber, Conflict, PutTwice, Refused};
+ghost use Rattle.graph.specs.Examples.{Place};
+ghost use Rattle.machine.specs.Examples.{FiveNumbers, OneNumber, Conflict, PutTwice, Refused};
 
 use steptree::ends_once;
 use terms::facts_are_told_apart;

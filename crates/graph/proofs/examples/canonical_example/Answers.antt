@@ -1,0 +1,5 @@
+use Rattle.graph.proofs.ExampleText.{canonical_example}
+use Rattle.graph.proofs.examples.canonical_example.Goals as goal
+
+pub returns : goal.returns
+returns c = canonical_example
