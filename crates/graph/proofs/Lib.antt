@@ -11,3 +11,4 @@ pub mod PrintedNames
 pub mod PrintedStatements
 pub mod PrintedTokens
 pub mod PrintedValues
+pub mod SameText

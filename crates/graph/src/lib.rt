@@ -6,8 +6,10 @@
 
 mod examples;
 mod fault;
+mod law;
 mod limits;
 
 pub use examples::canonical_example;
 pub use fault::{GraphError, GraphFault};
+pub use law::one_canonical_text;
 pub use limits::MOST_TEXT;
