@@ -1,9 +1,13 @@
--- The grammar of graph texts: its derivations, one constructor a production.
+-- The grammar of graph texts: its derivations, one constructor a production. Tokens whose positions matter have theirs.
 use Rattle.std.specs.Prelude.{ℕ, List, Option}
+
+-- the position of a token in its text
+abbrev pub Position : Type 0
+Position = ℕ
 
 -- a name and its position
 abbrev pub Named : Type 0
-Named = List ℕ × ℕ
+Named = List ℕ × Position
 
 -- ---- expressions
 
@@ -40,12 +44,12 @@ mutual
     unary_alone : Unary → Prod
     multiplied : Prod → Multiplication → Unary → Prod
 
-  -- unary = "-" unary | number | name | "(" expr ")"
+  -- unary = "-" unary | number | name | "(" expr ")", each with the position of its first token
   pub data Unary : Type 0 where
-    negated : Unary → Unary
-    literal : ℕ → Unary
+    negated : Position → Unary → Unary
+    literal : Position → ℕ → Unary
     variable : Named → Unary
-    bracketed : Expr → Unary
+    bracketed : Position → Expr → Unary
 
 -- [ ":" sum { "," sum } ]
 pub data Sums : Type 0 where
@@ -62,12 +66,13 @@ pub record Key : Type 0 where
 mutual
   -- a statement of a block whose own statements are of B:
   -- own | name "=" expr ";" | "if" "(" expr ")" "{" .. "}" [ "else" "{" .. "}" ] | "for" name "in" expr ".." expr "{" .. "}"
+  -- each opening brace with its position
   pub data Statement (B : Type 0) : Type 0 where
     own : B → Statement B
     assigned : Named → Expr → Statement B
-    if_alone : Expr → Statements B → Statement B
-    if_else : Expr → Statements B → Statements B → Statement B
-    for : Named → Expr → Expr → Statements B → Statement B
+    if_alone : Expr → Position → Statements B → Statement B
+    if_else : Expr → Position → Statements B → Position → Statements B → Statement B
+    for : Named → Expr → Expr → Position → Statements B → Statement B
 
   pub data Statements (B : Type 0) : Type 0 where
     no_more : Statements B
@@ -95,19 +100,20 @@ pub data Declaration : Type 0 where
   item_declared : Named → Option Names → Declaration
   tag_declared : Named → Option Names → Declaration
 
+-- all but a prescription with the position of the first token
 pub data Relation : Type 0 where
   -- "<" name ">" "::" "(" name ")" ";"
   prescribes : Named → Named → Relation
   -- "[" name "]" "->" "(" name ")" ";"
-  reads : Named → Named → Relation
+  reads : Position → Named → Named → Relation
   -- "(" name ")" "->" "[" name "]" ";" and "(" name ")" "->" "<" name ">" ";"
-  puts_item : Named → Named → Relation
-  puts_tag : Named → Named → Relation
+  puts_item : Position → Named → Named → Relation
+  puts_tag : Position → Named → Named → Relation
   -- "env" "->" "[" name "]" ";" and "env" "->" "<" name ">" ";"
-  environment_puts_item : Named → Relation
-  environment_puts_tag : Named → Relation
+  environment_puts_item : Position → Named → Relation
+  environment_puts_tag : Position → Named → Relation
   -- "[" name "]" "->" "env" ";"
-  environment_gets : Named → Relation
+  environment_gets : Position → Named → Relation
 
 -- "step" name "(" [ names ] ")" "{" [ "var" names ";" ] "read" "{" .. "}" "write" "{" .. "}" "}"
 pub record StepText : Type 0 where

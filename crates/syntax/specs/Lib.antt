@@ -1,3 +1,6 @@
 pub mod Grammar
-pub mod Tokens
+pub mod Limits
+pub mod Reading
 pub mod Spelled
+pub mod Tokens
+pub mod Tree

@@ -6,18 +6,24 @@ use Rattle.syntax.specs.declared.token.Word.TheVariants as kept
 use Rattle.syntax.specs.declared.token.Symbol.{Symbol}
 use Rattle.syntax.specs.declared.token.Symbol.TheVariants as sign
 use Rattle.syntax.specs.Tokens.{Lexeme, name, number, word, symbol, Spot}
-use Rattle.syntax.specs.Grammar.{Named, Comparison, equal, not_equal, less, less_or_equal, greater, greater_or_equal, Addition, plus, minus, Multiplication, times, over, modulo}
+use Rattle.syntax.specs.Grammar.{Position, Named, Comparison, equal, not_equal, less, less_or_equal, greater, greater_or_equal, Addition, plus, minus, Multiplication, times, over, modulo}
 use Rattle.syntax.specs.Grammar.{Expr, sum_alone, compared, Sum, prod_alone, added, Prod, unary_alone, multiplied, Unary, negated, literal, variable, bracketed, Sums, no_sums, sums, Key}
 use Rattle.syntax.specs.Grammar.{Statement, own, assigned, if_alone, if_else, for, Statements, no_more, and_then, Get, Put, put_item, put_tag}
 use Rattle.syntax.specs.Grammar.{Names, Declaration, item_declared, tag_declared, Relation, prescribes, reads, puts_item, puts_tag, environment_puts_item, environment_puts_tag, environment_gets, StepText, GraphText}
 
--- a token that a derivation spells: anywhere, or a name at its position
+-- a token that a derivation spells: anywhere, or at a position
 pub data Piece : Type 0 where
   plain : Lexeme → Piece
-  named : Named → Piece
+  at : Position → Lexeme → Piece
+
+abbrev pub named : Named → Piece
+named it = at it.1 (name it.0)
 
 abbrev pub a_sign : Symbol → List Piece
 a_sign it = plain (symbol it) ∷ []
+
+abbrev pub sign_at : Position → Symbol → List Piece
+sign_at position it = at position (symbol it) ∷ []
 
 abbrev pub a_word : Word → List Piece
 a_word it = plain (word it) ∷ []
@@ -55,10 +61,10 @@ abbrev mutual
   prod_pieces (multiplied left how right) = prod_pieces left ++ a_sign (multiplication_sign how) ++ unary_pieces right
 
   pub unary_pieces : Unary → List Piece
-  unary_pieces (negated unary) = a_sign sign.Minus ++ unary_pieces unary
-  unary_pieces (literal value) = plain (number value) ∷ []
+  unary_pieces (negated position unary) = sign_at position sign.Minus ++ unary_pieces unary
+  unary_pieces (literal position value) = at position (number value) ∷ []
   unary_pieces (variable it) = named it ∷ []
-  unary_pieces (bracketed expr) = a_sign sign.OpenRound ++ expr_pieces expr ++ a_sign sign.CloseRound
+  unary_pieces (bracketed position expr) = sign_at position sign.OpenRound ++ expr_pieces expr ++ a_sign sign.CloseRound
 
 abbrev pub sums_pieces : Sums → List Piece
 sums_pieces no_sums = []
@@ -75,18 +81,22 @@ tag_pieces key = a_sign sign.Less ++ named key.collection ∷ sums_pieces key.co
 abbrev pub in_braces : List Piece → List Piece
 in_braces pieces = a_sign sign.OpenBrace ++ pieces ++ a_sign sign.CloseBrace
 
+abbrev pub in_braces_at : Position → List Piece → List Piece
+in_braces_at position pieces = sign_at position sign.OpenBrace ++ pieces ++ a_sign sign.CloseBrace
+
+abbrev pub condition_pieces : Expr → List Piece
+condition_pieces condition = a_word kept.If ++ a_sign sign.OpenRound ++ expr_pieces condition ++ a_sign sign.CloseRound
+
 module _ {B : Type 0} (own_pieces : B → List Piece) where
   abbrev mutual
     pub statement_pieces : Statement B → List Piece
     statement_pieces (own it) = own_pieces it
     statement_pieces (assigned it expr) = named it ∷ a_sign sign.Assign ++ expr_pieces expr ++ a_sign sign.Semicolon
-    statement_pieces (if_alone condition first) =
-        a_word kept.If ++ a_sign sign.OpenRound ++ expr_pieces condition ++ a_sign sign.CloseRound ++ in_braces (statements_pieces first)
-    statement_pieces (if_else condition first second) =
-        a_word kept.If ++ a_sign sign.OpenRound ++ expr_pieces condition ++ a_sign sign.CloseRound ++ in_braces (statements_pieces first)
-        ++ a_word kept.Else ++ in_braces (statements_pieces second)
-    statement_pieces (for it from to block) =
-        a_word kept.For ++ named it ∷ a_word kept.In ++ expr_pieces from ++ a_sign sign.DoubleDot ++ expr_pieces to ++ in_braces (statements_pieces block)
+    statement_pieces (if_alone condition brace first) = condition_pieces condition ++ in_braces_at brace (statements_pieces first)
+    statement_pieces (if_else condition brace first other second) =
+        condition_pieces condition ++ in_braces_at brace (statements_pieces first) ++ a_word kept.Else ++ in_braces_at other (statements_pieces second)
+    statement_pieces (for it from to brace block) =
+        a_word kept.For ++ named it ∷ a_word kept.In ++ expr_pieces from ++ a_sign sign.DoubleDot ++ expr_pieces to ++ in_braces_at brace (statements_pieces block)
 
     pub statements_pieces : Statements B → List Piece
     statements_pieces no_more = []
@@ -122,18 +132,27 @@ abbrev pub declaration_pieces : Declaration → List Piece
 declaration_pieces (item_declared it components) = a_sign sign.OpenBracket ++ named it ∷ after_colon components ++ a_sign sign.CloseBracket ++ a_sign sign.Semicolon
 declaration_pieces (tag_declared it components) = a_sign sign.Less ++ named it ∷ after_colon components ++ a_sign sign.Greater ++ a_sign sign.Semicolon
 
+abbrev pub item_at : Position → Named → List Piece
+item_at position it = sign_at position sign.OpenBracket ++ named it ∷ a_sign sign.CloseBracket
+
+abbrev pub step_at : Position → Named → List Piece
+step_at position it = sign_at position sign.OpenRound ++ named it ∷ a_sign sign.CloseRound
+
+abbrev pub environment_at : Position → List Piece
+environment_at position = at position (word kept.Env) ∷ []
+
 -- one side, an arrow, the other side
 abbrev pub arrow : List Piece → List Piece → List Piece
 arrow from to = from ++ a_sign sign.Arrow ++ to ++ a_sign sign.Semicolon
 
 abbrev pub relation_pieces : Relation → List Piece
 relation_pieces (prescribes tag step) = angled_name tag ++ a_sign sign.DoubleColon ++ round_name step ++ a_sign sign.Semicolon
-relation_pieces (reads item step) = arrow (bracketed_name item) (round_name step)
-relation_pieces (puts_item step item) = arrow (round_name step) (bracketed_name item)
-relation_pieces (puts_tag step tag) = arrow (round_name step) (angled_name tag)
-relation_pieces (environment_puts_item item) = arrow (a_word kept.Env) (bracketed_name item)
-relation_pieces (environment_puts_tag tag) = arrow (a_word kept.Env) (angled_name tag)
-relation_pieces (environment_gets item) = arrow (bracketed_name item) (a_word kept.Env)
+relation_pieces (reads position item step) = arrow (item_at position item) (round_name step)
+relation_pieces (puts_item position step item) = arrow (step_at position step) (bracketed_name item)
+relation_pieces (puts_tag position step tag) = arrow (step_at position step) (angled_name tag)
+relation_pieces (environment_puts_item position item) = arrow (environment_at position) (bracketed_name item)
+relation_pieces (environment_puts_tag position tag) = arrow (environment_at position) (angled_name tag)
+relation_pieces (environment_gets position item) = arrow (item_at position item) (a_word kept.Env)
 
 abbrev pub parameters_pieces : Option Names → List Piece
 parameters_pieces None = []
@@ -154,10 +173,10 @@ graph_pieces graph = flat_map declaration_pieces graph.declarations ++ flat_map 
 
 -- ---- the tokens of a text
 
--- the token is this piece: a name stands at its position
+-- the token is this piece
 abbrev pub IsPiece : Piece → Spot → Type 0
 IsPiece (plain lexeme) spot = spot.0 ≡ lexeme
-IsPiece (named it) spot = (spot.0 ≡ name it.0) × (spot.1 ≡ it.1)
+IsPiece (at position lexeme) spot = (spot.0 ≡ lexeme) × (spot.1 ≡ position)
 
 -- the whole list of tokens is these pieces, one for one
 abbrev pub ArePieces : List Piece → List Spot → Type 0

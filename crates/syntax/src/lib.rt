@@ -5,17 +5,23 @@
 #![tactic(auto)]
 
 mod characters;
+mod fault;
 mod grammar;
 mod law;
 mod lexer;
+mod limits;
 mod numbers;
 mod symbols;
 #[cfg(test)]
 mod tests;
 mod token;
+mod tree;
 mod words;
 
+pub use fault::{TreeError, TreeFault};
 pub use grammar::grammar_example;
 pub use law::tokens_once;
 pub use lexer::tokens;
+pub use limits::{MOST_BRACES, MOST_BRACKETS, MOST_DEPTH, MOST_NAME_BYTES};
 pub use token::{Placed, Symbol, Token, Word};
+pub use tree::{Declaration, Relation, Tree};

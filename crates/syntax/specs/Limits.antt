@@ -1,0 +1,173 @@
+-- The places of a graph text at which a limit is passed, as its derivation has them.
+use Rattle.std.specs.Prelude.{◌≡◌, ℕ, suc, max, nat_lt, if◌then◌else◌, List, [], ◌∷◌, ◌++◌, length, map, drop, Option, Some, None}
+use Rattle.std.specs.List.{flat_map}
+use Rattle.terms.specs.declared.key.TheConstants.{MAX_COMPONENTS}
+use Rattle.steptree.specs.declared.slot.TheConstants.{MOST_NAMES}
+use Rattle.steptree.specs.declared.sheet.TheConstants.{MOST_COLLECTIONS}
+use Rattle.syntax.specs.declared.limits.TheConstants.{MOST_NAME_BYTES, MOST_DEPTH, MOST_BRACKETS, MOST_BRACES}
+use Rattle.syntax.specs.Grammar.{Position, Named, Expr, sum_alone, compared, Sum, prod_alone, added, Prod, unary_alone, multiplied, Unary, negated, literal, variable, bracketed, Sums, no_sums, sums, Key}
+use Rattle.syntax.specs.Grammar.{Statement, own, assigned, if_alone, if_else, for, Statements, no_more, and_then, Get, Put, put_item, put_tag}
+use Rattle.syntax.specs.Grammar.{Names, Declaration, item_declared, tag_declared, Relation, prescribes, reads, puts_item, puts_tag, environment_puts_item, environment_puts_tag, environment_gets, StepText, GraphText}
+
+-- one more at this place, with so many there before, where so many may be
+abbrev pub one_more : ℕ → ℕ → Position → List Position
+one_more most before place = if nat_lt before most then [] else place ∷ []
+
+-- a name of too many bytes
+abbrev pub name_limits : Named → List Position
+name_limits it = if nat_lt MOST_NAME_BYTES (length it.0) then it.1 ∷ [] else []
+
+-- the names behind so many
+abbrev pub names_behind : ℕ → List Named → List Position
+names_behind most names = map (λ it. it.1) (drop most names)
+
+-- ---- expressions
+
+-- a number or a name has the depth 1, an operation one more than the deeper of its operands; brackets add none
+abbrev mutual
+  pub expr_depth : Expr → ℕ
+  expr_depth (sum_alone sum) = sum_depth sum
+  expr_depth (compared left how right) = suc (max (sum_depth left) (sum_depth right))
+
+  pub sum_depth : Sum → ℕ
+  sum_depth (prod_alone prod) = prod_depth prod
+  sum_depth (added left how right) = suc (max (sum_depth left) (prod_depth right))
+
+  pub prod_depth : Prod → ℕ
+  prod_depth (unary_alone unary) = unary_depth unary
+  prod_depth (multiplied left how right) = suc (max (prod_depth left) (unary_depth right))
+
+  pub unary_depth : Unary → ℕ
+  unary_depth (negated position unary) = suc (unary_depth unary)
+  unary_depth (literal position value) = 1
+  unary_depth (variable it) = 1
+  unary_depth (bracketed position expr) = expr_depth expr
+
+-- the position of the first token
+abbrev pub unary_first : Unary → Position
+unary_first (negated position unary) = position
+unary_first (literal position value) = position
+unary_first (variable it) = it.1
+unary_first (bracketed position expr) = position
+
+abbrev pub prod_first : Prod → Position
+prod_first (unary_alone unary) = unary_first unary
+prod_first (multiplied left how right) = prod_first left
+
+abbrev pub sum_first : Sum → Position
+sum_first (prod_alone prod) = prod_first prod
+sum_first (added left how right) = sum_first left
+
+abbrev pub expr_first : Expr → Position
+expr_first (sum_alone sum) = sum_first sum
+expr_first (compared left how right) = sum_first left
+
+-- names, and brackets where so many are open around
+abbrev mutual
+  pub expr_within : ℕ → Expr → List Position
+  expr_within around (sum_alone sum) = sum_within around sum
+  expr_within around (compared left how right) = sum_within around left ++ sum_within around right
+
+  pub sum_within : ℕ → Sum → List Position
+  sum_within around (prod_alone prod) = prod_within around prod
+  sum_within around (added left how right) = sum_within around left ++ prod_within around right
+
+  pub prod_within : ℕ → Prod → List Position
+  prod_within around (unary_alone unary) = unary_within around unary
+  prod_within around (multiplied left how right) = prod_within around left ++ unary_within around right
+
+  pub unary_within : ℕ → Unary → List Position
+  unary_within around (negated position unary) = unary_within around unary
+  unary_within around (literal position value) = []
+  unary_within around (variable it) = name_limits it
+  unary_within around (bracketed position expr) = one_more MOST_BRACKETS around position ++ expr_within (suc around) expr
+
+-- an expression that is too deep, at its first token
+abbrev pub depth_limits : ℕ → Position → List Position
+depth_limits depth first = if nat_lt MOST_DEPTH depth then first ∷ [] else []
+
+-- a whole expression: that of a statement, and each component of a key
+abbrev pub expr_limits : Expr → List Position
+expr_limits expr = depth_limits (expr_depth expr) (expr_first expr) ++ expr_within 0 expr
+
+abbrev pub sum_limits : Sum → List Position
+sum_limits sum = depth_limits (sum_depth sum) (sum_first sum) ++ sum_within 0 sum
+
+abbrev pub sums_limits : Sums → List Position
+sums_limits no_sums = []
+sums_limits (sums first more) = sum_limits first ++ flat_map sum_limits more
+
+abbrev pub key_limits : Key → List Position
+key_limits key = name_limits key.collection ++ sums_limits key.components
+
+-- ---- statements
+
+module _ {B : Type 0} (own_limits : B → List Position) where
+  -- with so many braces open around them within the block of the step
+  abbrev mutual
+    pub statement_limits : ℕ → Statement B → List Position
+    statement_limits around (own it) = own_limits it
+    statement_limits around (assigned it expr) = name_limits it ++ expr_limits expr
+    statement_limits around (if_alone condition brace first) = expr_limits condition ++ one_more MOST_BRACES around brace ++ statements_limits (suc around) first
+    statement_limits around (if_else condition brace first other second) =
+        expr_limits condition ++ one_more MOST_BRACES around brace ++ statements_limits (suc around) first
+        ++ one_more MOST_BRACES around other ++ statements_limits (suc around) second
+    statement_limits around (for it from to brace block) =
+        name_limits it ++ expr_limits from ++ expr_limits to ++ one_more MOST_BRACES around brace ++ statements_limits (suc around) block
+
+    pub statements_limits : ℕ → Statements B → List Position
+    statements_limits around no_more = []
+    statements_limits around (and_then first rest) = statement_limits around first ++ statements_limits around rest
+
+abbrev pub get_limits : Get → List Position
+get_limits get = name_limits get.variable ++ key_limits get.item
+
+abbrev pub put_limits : Put → List Position
+put_limits (put_item item value) = key_limits item ++ expr_limits value
+put_limits (put_tag tag) = key_limits tag
+
+-- ---- graphs
+
+abbrev pub all_names : Option Names → List Named
+all_names None = []
+all_names (Some names) = names.first ∷ names.more
+
+-- a name in front of components
+abbrev pub declared_limits : Named → Option Names → List Position
+declared_limits it components = name_limits it ++ flat_map name_limits (all_names components) ++ names_behind MAX_COMPONENTS (all_names components)
+
+-- with so many collections of items and of tags before
+abbrev pub declarations_limits : ℕ → ℕ → List Declaration → List Position
+declarations_limits items tags [] = []
+declarations_limits items tags (item_declared it components ∷ more) =
+    one_more MOST_COLLECTIONS items it.1 ++ declared_limits it components ++ declarations_limits (suc items) tags more
+declarations_limits items tags (tag_declared it components ∷ more) =
+    one_more MOST_COLLECTIONS tags it.1 ++ declared_limits it components ++ declarations_limits items (suc tags) more
+
+abbrev pub relation_limits : Relation → List Position
+relation_limits (prescribes tag step) = name_limits tag ++ name_limits step
+relation_limits (reads position item step) = name_limits item ++ name_limits step
+relation_limits (puts_item position step item) = name_limits step ++ name_limits item
+relation_limits (puts_tag position step tag) = name_limits step ++ name_limits tag
+relation_limits (environment_puts_item position item) = name_limits item
+relation_limits (environment_puts_tag position tag) = name_limits tag
+relation_limits (environment_gets position item) = name_limits item
+
+abbrev pub step_names : StepText → List Named
+step_names step = all_names step.parameters ++ all_names step.variables
+
+abbrev pub step_limits : StepText → List Position
+step_limits step = name_limits step.name ++ flat_map name_limits (step_names step) ++ names_behind MAX_COMPONENTS (all_names step.parameters)
+    ++ names_behind MOST_NAMES (step_names step) ++ statements_limits get_limits 0 step.read ++ statements_limits put_limits 0 step.write
+
+-- with so many steps before
+abbrev pub steps_limits : ℕ → List StepText → List Position
+steps_limits before [] = []
+steps_limits before (step ∷ more) = one_more MOST_COLLECTIONS before step.name.1 ++ step_limits step ++ steps_limits (suc before) more
+
+-- all places at which a limit is passed
+abbrev pub graph_limits : GraphText → List Position
+graph_limits graph = declarations_limits 0 0 graph.declarations ++ flat_map relation_limits graph.relations ++ steps_limits 0 graph.steps
+
+abbrev pub IsWithin : GraphText → Type 0
+IsWithin graph = graph_limits graph ≡ []

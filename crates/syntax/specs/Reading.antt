@@ -1,0 +1,43 @@
+-- What a text is read as, and the cause of each fault.
+use Rattle.std.specs.Prelude.{◌≡◌, ◌≤◌, ℕ, suc, List, length, map, take, get_or, slice_get, Some}
+use Rattle.syntax.specs.declared.tree.Tree.{Tree}
+use Rattle.syntax.specs.Tokens.{Spot, AreTokens}
+use Rattle.syntax.specs.Grammar.{Position, GraphText}
+use Rattle.syntax.specs.Spelled.{Derives}
+use Rattle.syntax.specs.Limits.{IsWithin, graph_limits}
+use Rattle.syntax.specs.Tree.{IsTree}
+
+-- the text is in the grammar and within the limits, and is this tree
+pub record IsRead (text : List ℕ) (tree : Tree) : Type 0 where
+  pub spots : List Spot
+  pub tokens : AreTokens 0 text spots
+  pub graph : GraphText
+  pub derives : Derives graph spots
+  pub within : IsWithin graph
+  pub is : IsTree graph tree
+
+-- the tokens of this graph text are the same as these, so many of them and the next one; and where there is no next one,
+-- they end too
+abbrev pub GoesOn : List Spot → ℕ → GraphText → Type 0
+GoesOn spots count graph = (others : List Spot) × Derives graph others × (take (suc count) others ≡ take (suc count) spots)
+
+-- the position of the token behind so many, or the end of the text
+abbrev pub position_behind : List ℕ → List Spot → ℕ → Position
+position_behind text spots count = get_or (map (λ spot. spot.1) spots) count (length text)
+
+-- no graph text goes on with the token at this place, or ends there
+pub record IsSyntaxFault (text : List ℕ) (place : Position) : Type 0 where
+  pub spots : List Spot
+  pub tokens : AreTokens 0 text spots
+  pub count : ℕ
+  pub counted : count ≤ length spots
+  pub there : place ≡ position_behind text spots count
+  pub none : (graph : GraphText) → GoesOn spots count graph → ⊥
+
+-- each graph text that goes on as this one passes a limit at this place
+pub record IsLimitFault (text : List ℕ) (place : Position) : Type 0 where
+  pub spots : List Spot
+  pub tokens : AreTokens 0 text spots
+  pub count : ℕ
+  pub counted : count ≤ length spots
+  pub passed : (graph : GraphText) → GoesOn spots count graph → (i : ℕ) × (slice_get (graph_limits graph) i ≡ Some place)

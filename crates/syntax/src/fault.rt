@@ -1,0 +1,24 @@
+use std::alloc::{AllocError, AllocFailed};
+use thiserror::Error;
+
+/// Why a text is no graph text.
+#[derive(Clone, Copy, Debug, PartialEq, Eq, Error)]
+pub enum TreeError {
+    /// No graph text goes on with the token at the place, or ends there.
+    #[error("syntax")]
+    Syntax,
+    /// A limit is passed at the place.
+    #[error("too large")]
+    TooLarge,
+    /// A growth was refused.
+    #[error("no memory")]
+    NoMemory,
+}
+
+/// A fault of a text, and its position: that of the token at fault, or the text's length where it ends too early; 0 where
+/// memory was refused.
+#[derive(Clone, Copy, Debug, PartialEq, Eq)]
+pub struct TreeFault {
+    pub error: TreeError,
+    pub place: usize,
+}

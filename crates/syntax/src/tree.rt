@@ -1,0 +1,36 @@
+use steptree::{Name, Step};
+
+/// A collection as it is declared, and how many components its keys have.
+#[derive(Clone, Copy, Debug)]
+pub enum Declaration<'a> {
+    Item { name: Name<'a>, components: usize },
+    Tag { name: Name<'a>, components: usize },
+}
+
+/// A relation between two collections, or between the environment and one. All but a prescription have the position of
+/// their first token.
+#[derive(Clone, Copy, Debug)]
+pub enum Relation<'a> {
+    /// `<tag> :: (step);`
+    Prescribes { tag: Name<'a>, step: Name<'a> },
+    /// `[item] -> (step);`
+    Reads { place: usize, item: Name<'a>, step: Name<'a> },
+    /// `(step) -> [item];`
+    PutsItem { place: usize, step: Name<'a>, item: Name<'a> },
+    /// `(step) -> <tag>;`
+    PutsTag { place: usize, step: Name<'a>, tag: Name<'a> },
+    /// `env -> [item];`
+    EnvironmentPutsItem { place: usize, item: Name<'a> },
+    /// `env -> <tag>;`
+    EnvironmentPutsTag { place: usize, tag: Name<'a> },
+    /// `[item] -> env;`
+    EnvironmentGets { place: usize, item: Name<'a> },
+}
+
+/// A graph as its text has it.
+#[derive(Drop)]
+pub struct Tree<'a> {
+    pub declarations: Vec<Declaration<'a>>,
+    pub relations: Vec<Relation<'a>>,
+    pub steps: Vec<Step<'a>>,
+}
