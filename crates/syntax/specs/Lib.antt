@@ -1,3 +1,4 @@
+pub mod Expected
 pub mod Grammar
 pub mod Limits
 pub mod Reading
