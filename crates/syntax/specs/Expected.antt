@@ -1,16 +1,17 @@
 -- What a graph text may go on with: a machine that reads tokens from the left, one for each step, and never looks back.
-use Rattle.std.specs.Prelude.{◌≡◌, ℕ, suc, max, nat_lt, ◌+◌, ◌==◌, Bool, if◌then◌else◌, codes, List, [], ◌∷◌, ◌++◌, length, Option, Some, None}
+use Rattle.std.specs.Prelude.{◌≡◌, ℕ, suc, ◌==◌, Bool, if◌then◌else◌, codes, List, [], ◌∷◌, ◌++◌, length, Option, Some, None}
 use Rattle.terms.specs.declared.key.TheConstants.{MAX_COMPONENTS}
 use Rattle.steptree.specs.declared.slot.TheConstants.{MOST_NAMES}
 use Rattle.steptree.specs.declared.sheet.TheConstants.{MOST_COLLECTIONS}
-use Rattle.syntax.specs.declared.limits.TheConstants.{MOST_DEPTH, MOST_BRACKETS, MOST_BRACES}
+use Rattle.syntax.specs.declared.limits.TheConstants.{MOST_BRACKETS, MOST_BRACES}
 use Rattle.syntax.specs.declared.token.Word.{Word}
 use Rattle.syntax.specs.declared.token.Word.TheVariants as kept
 use Rattle.syntax.specs.declared.token.Symbol.{Symbol}
 use Rattle.syntax.specs.declared.token.Symbol.TheVariants as sign
 use Rattle.syntax.specs.Tokens.{Lexeme, name, number, word, symbol, unknown, Spot}
 use Rattle.syntax.specs.Grammar.{Position, Comparison, equal, not_equal, less, less_or_equal, greater, greater_or_equal, Addition, plus, minus, Multiplication, times, over, modulo}
-use Rattle.syntax.specs.Limits.{one_more, name_limits, depth_limits}
+use Rattle.syntax.specs.Grammar.{Expr, sum_alone, compared, Sum, prod_alone, added, Prod, unary_alone, multiplied, Unary, negated, literal, variable, bracketed}
+use Rattle.syntax.specs.Limits.{one_more, name_limits, depth_limits, expr_depth}
 
 -- ---- expressions
 
@@ -45,7 +46,7 @@ joint _ = ends
 pub data Head : Type 0 where
   minus_sign : Head
   open_bracket : Head
-  a_number : Head
+  a_number : ℕ → Head
   a_variable : List ℕ → Head
   no_head : Head
 
@@ -56,47 +57,54 @@ sign_head _ = no_head
 
 abbrev pub head : Lexeme → Head
 head (symbol it) = sign_head it
-head (number value) = a_number
+head (number value) = a_number value
 head (name text) = a_variable text
 head (word it) = no_head
 head unknown = no_head
 
--- whether a comparison may come: never in a key's component outside of brackets; else one, and behind its sign its left
--- operand has a depth
+-- whether a comparison may come: never in a key's component outside of brackets; else one, behind whose sign its left
+-- operand waits
 pub data Comparing : Type 0 where
   never : Comparing
   possible : Comparing
-  behind_left : ℕ → Comparing
+  behind_left : Sum → Comparison → Comparing
 
--- the expression within one bracket, or outside of all: the depths of the left operands that wait for their right ones,
--- of the comparison, the sum and the product, and how many minus signs stand in front of the operand
+-- the expression within one bracket, or outside of all: the left operands that wait for their right ones, of the
+-- comparison, the sum and the product, and the minus signs in front of the operand, the last one first
 pub record Level : Type 0 where
   pub comparing : Comparing
-  pub sum : Option ℕ
-  pub product : Option ℕ
-  pub negations : ℕ
+  pub sum : Option (Sum × Addition)
+  pub product : Option (Prod × Multiplication)
+  pub negations : List Position
 
--- a whole expression so far: the position of its first token, the first limit that is passed within it, and its levels from
--- the innermost
+-- an expression so far: the position of its first token, the first limit that is passed within it, its innermost level, and
+-- those around it from the inside, each with the position of the bracket that is open in it
 pub record Expression : Type 0 where
   pub first : Position
   pub passed : Option Position
   pub level : Level
-  pub outer : List Level
+  pub outer : List (Level × Position)
 
--- the depth of an operand with the one that waits for it
-abbrev pub combined : Option ℕ → ℕ → ℕ
-combined None depth = depth
-combined (Some left) depth = suc (max left depth)
+abbrev pub negated_by : List Position → Unary → Unary
+negated_by [] unary = unary
+negated_by (position ∷ positions) unary = negated_by positions (negated position unary)
 
-abbrev pub compared_depth : Comparing → ℕ → ℕ
-compared_depth never depth = depth
-compared_depth possible depth = depth
-compared_depth (behind_left left) depth = suc (max left depth)
+abbrev pub product_of : Option (Prod × Multiplication) → Unary → Prod
+product_of None unary = unary_alone unary
+product_of (Some waits) unary = multiplied waits.0 waits.1 unary
 
--- the depth of a level whose last product has this one
-abbrev pub level_depth : Level → ℕ → ℕ
-level_depth level depth = compared_depth level.comparing (combined level.sum depth)
+abbrev pub sum_of : Option (Sum × Addition) → Prod → Sum
+sum_of None prod = prod_alone prod
+sum_of (Some waits) prod = added waits.0 waits.1 prod
+
+abbrev pub compared_of : Comparing → Sum → Expr
+compared_of never sum = sum_alone sum
+compared_of possible sum = sum_alone sum
+compared_of (behind_left left how) sum = compared left how sum
+
+-- a level whose last product is this one
+abbrev pub level_expr : Level → Prod → Expr
+level_expr level prod = compared_of level.comparing (sum_of level.sum prod)
 
 -- the first of a place that was and of these
 abbrev pub earlier : Option Position → List Position → Option Position
@@ -105,7 +113,7 @@ earlier None [] = None
 earlier None (place ∷ places) = Some place
 
 abbrev pub opened : Comparing → Level
-opened comparing = record { comparing = comparing; sum = None; product = None; negations = 0 }
+opened comparing = record { comparing = comparing; sum = None; product = None; negations = [] }
 
 -- before the first token of an expression
 abbrev pub begun : Comparing → Position → Expression
@@ -128,9 +136,9 @@ pub data Expected : Type 0 where
   a_name : Expected
   -- an expression from its first token on
   whole : Comparing → Expected
-  -- an operand, and what may stand behind one: the product so far has this depth
+  -- an operand, and what may stand behind one, with the product that ends in it
   operand : Expression → Expected
-  behind_operand : Expression → ℕ → Expected
+  behind_operand : Expression → Prod → Expected
   -- [ ":" sum { "," sum } ], and { "," sum }
   components : Expected
   more_components : Expected
@@ -188,45 +196,53 @@ broken_off (Some place) = passed place
 broken_off None = wrong
 
 -- an expression that is whole: its depth, or else the first limit within it
-abbrev pub finished : Expression → ℕ → Move
-finished state depth = within (depth_limits depth state.first) (elim state.passed [ None ↦ left_out | Some place ↦ passed place ])
+abbrev pub finished : Expression → Expr → Move
+finished state expr = within (depth_limits (expr_depth expr) state.first) (elim state.passed [ None ↦ left_out | Some place ↦ passed place ])
 
--- behind a number, a name or a bracket of this depth
-abbrev pub read_operand : Expression → ℕ → Expected
-read_operand state depth = behind_operand (record state { level = record state.level { product = None; negations = 0 } }) (combined state.level.product (state.level.negations + depth))
+-- behind a number, a name or a bracket
+abbrev pub read_operand : Expression → Unary → Expected
+read_operand state unary = behind_operand (record state { level = record state.level { product = None; negations = [] } })
+    (product_of state.level.product (negated_by state.level.negations unary))
+
+-- before the operand behind a sign
+abbrev pub awaiting : Expression → Level → Move
+awaiting state level = taken (operand (record state { level = level }) ∷ [])
 
 abbrev pub look_operand : Expression → Position → Head → Move
-look_operand state place minus_sign = taken (operand (record state { level = record state.level { negations = suc state.level.negations } }) ∷ [])
+look_operand state place minus_sign = awaiting state (record state.level { negations = place ∷ state.level.negations })
 look_operand state place open_bracket = taken (operand (record {
   first = state.first;
   passed = earlier state.passed (one_more MOST_BRACKETS (length state.outer) place);
   level = opened possible;
-  outer = state.level ∷ state.outer;
+  outer = (state.level, place) ∷ state.outer;
 }) ∷ [])
-look_operand state place a_number = taken (read_operand state 1 ∷ [])
-look_operand state place (a_variable text) = taken (read_operand (record state { passed = earlier state.passed (name_limits (text, place)) }) 1 ∷ [])
+look_operand state place (a_number value) = taken (read_operand state (literal place value) ∷ [])
+look_operand state place (a_variable text) =
+    taken (read_operand (record state { passed = earlier state.passed (name_limits (text, place)) }) (variable (text, place)) ∷ [])
 look_operand state place no_head = broken_off state.passed
 
--- behind the last operand that belongs to this level
-abbrev pub look_end : Expression → List Level → ℕ → Move
-look_end state [] depth = finished state (level_depth state.level depth)
-look_end state (level ∷ outer) depth = broken_off state.passed
+-- behind the last operand of its level
+abbrev pub look_end : Expression → List (Level × Position) → Prod → Move
+look_end state [] prod = finished state (level_expr state.level prod)
+look_end state (around ∷ outer) prod = broken_off state.passed
 
-abbrev pub look_close : Expression → List Level → ℕ → Move
-look_close state [] depth = finished state (level_depth state.level depth)
-look_close state (level ∷ outer) depth = taken (read_operand (record state { level = level; outer = outer }) (level_depth state.level depth) ∷ [])
+abbrev pub look_close : Expression → List (Level × Position) → Prod → Move
+look_close state [] prod = finished state (level_expr state.level prod)
+look_close state (around ∷ outer) prod =
+    taken (read_operand (record state { level = around.0; outer = outer }) (bracketed around.1 (level_expr state.level prod)) ∷ [])
 
-abbrev pub look_comparison : Expression → Comparing → ℕ → Move
-look_comparison state possible depth = taken (operand (record state { level = record state.level { comparing = behind_left (combined state.level.sum depth); sum = None } }) ∷ [])
-look_comparison state never depth = look_end state state.outer depth
-look_comparison state (behind_left left) depth = look_end state state.outer depth
+abbrev pub look_comparison : Expression → Comparing → Prod → Comparison → Move
+look_comparison state possible prod how =
+    awaiting state (record state.level { comparing = behind_left (sum_of state.level.sum prod) how; sum = None })
+look_comparison state never prod how = look_end state state.outer prod
+look_comparison state (behind_left left other) prod how = look_end state state.outer prod
 
-abbrev pub look_behind : Expression → ℕ → Joint → Move
-look_behind state depth (by_product how) = taken (operand (record state { level = record state.level { product = Some depth } }) ∷ [])
-look_behind state depth (by_sum how) = taken (operand (record state { level = record state.level { sum = Some (combined state.level.sum depth) } }) ∷ [])
-look_behind state depth (by_comparison how) = look_comparison state state.level.comparing depth
-look_behind state depth closes = look_close state state.outer depth
-look_behind state depth ends = look_end state state.outer depth
+abbrev pub look_behind : Expression → Prod → Joint → Move
+look_behind state prod (by_product how) = awaiting state (record state.level { product = Some (prod, how) })
+look_behind state prod (by_sum how) = awaiting state (record state.level { sum = Some (sum_of state.level.sum prod, how) })
+look_behind state prod (by_comparison how) = look_comparison state state.level.comparing prod how
+look_behind state prod closes = look_close state state.outer prod
+look_behind state prod ends = look_end state state.outer prod
 
 -- ---- the tables
 
@@ -426,7 +442,7 @@ look (keyword it) lexeme place = look_word it lexeme
 look a_name lexeme place = look_name lexeme place [] []
 look (whole comparing) lexeme place = look_operand (begun comparing place) place (head lexeme)
 look (operand state) lexeme place = look_operand state place (head lexeme)
-look (behind_operand state depth) lexeme place = look_behind state depth (joint lexeme)
+look (behind_operand state prod) lexeme place = look_behind state prod (joint lexeme)
 look components lexeme place = look_if sign.Colon lexeme (whole never ∷ more_components ∷ [])
 look more_components lexeme place = look_if sign.Comma lexeme (whole never ∷ more_components ∷ [])
 look (statements part around) lexeme place = look_statement part around lexeme place
