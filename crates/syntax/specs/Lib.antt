@@ -1,6 +1,7 @@
 pub mod Expected
 pub mod Grammar
 pub mod Limits
+pub mod Parsed
 pub mod Reading
 pub mod Spelled
 pub mod Tokens

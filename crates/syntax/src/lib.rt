@@ -5,12 +5,14 @@
 #![tactic(auto)]
 
 mod characters;
+mod cursor;
 mod fault;
 mod grammar;
 mod law;
 mod lexer;
 mod limits;
 mod numbers;
+mod stop;
 mod symbols;
 #[cfg(test)]
 mod tests;
