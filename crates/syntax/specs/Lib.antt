@@ -2,6 +2,7 @@ pub mod Expected
 pub mod Grammar
 pub mod Limits
 pub mod Parsed
+pub mod Partial
 pub mod Reading
 pub mod Spelled
 pub mod Tokens

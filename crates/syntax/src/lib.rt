@@ -12,6 +12,8 @@ mod law;
 mod lexer;
 mod limits;
 mod numbers;
+mod operand;
+mod partial;
 mod stop;
 mod symbols;
 #[cfg(test)]
