@@ -3,6 +3,7 @@ pub mod Example
 pub mod Fronts
 pub mod Moves
 pub mod Once
+pub mod Onward
 pub mod Operands
 pub mod Runs
 pub mod Signs

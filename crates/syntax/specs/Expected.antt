@@ -199,26 +199,52 @@ broken_off None = wrong
 abbrev pub finished : Expression → Expr → Move
 finished state expr = within (depth_limits (expr_depth expr) state.first) (elim state.passed [ None ↦ left_out | Some place ↦ passed place ])
 
--- behind a number, a name or a bracket
-abbrev pub read_operand : Expression → Unary → Expected
-read_operand state unary = behind_operand (record state { level = record state.level { product = None; negations = [] } })
-    (product_of state.level.product (negated_by state.level.negations unary))
+-- the expression behind a minus sign, behind an opening bracket, and with these limits passed within it
+abbrev pub negating : Expression → Position → Expression
+negating state place = record state { level = record state.level { negations = place ∷ state.level.negations } }
 
--- before the operand behind a sign
-abbrev pub awaiting : Expression → Level → Move
-awaiting state level = taken (operand (record state { level = level }) ∷ [])
-
-abbrev pub look_operand : Expression → Position → Head → Move
-look_operand state place minus_sign = awaiting state (record state.level { negations = place ∷ state.level.negations })
-look_operand state place open_bracket = taken (operand (record {
+abbrev pub bracketing : Expression → Position → Expression
+bracketing state place = record {
   first = state.first;
   passed = earlier state.passed (one_more MOST_BRACKETS (length state.outer) place);
   level = opened possible;
   outer = (state.level, place) ∷ state.outer;
-}) ∷ [])
-look_operand state place (a_number value) = taken (read_operand state (literal place value) ∷ [])
-look_operand state place (a_variable text) =
-    taken (read_operand (record state { passed = earlier state.passed (name_limits (text, place)) }) (variable (text, place)) ∷ [])
+}
+
+abbrev pub passing : Expression → List Position → Expression
+passing state places = record state { passed = earlier state.passed places }
+
+-- behind the operands of a product, of a sum and of a comparison, and outside of its innermost bracket
+abbrev pub without_product : Expression → Expression
+without_product state = record state { level = record state.level { product = None; negations = [] } }
+
+abbrev pub awaiting_product : Expression → Prod → Multiplication → Expression
+awaiting_product state prod how = record state { level = record state.level { product = Some (prod, how) } }
+
+abbrev pub awaiting_sum : Expression → Prod → Addition → Expression
+awaiting_sum state prod how = record state { level = record state.level { sum = Some (sum_of state.level.sum prod, how) } }
+
+abbrev pub awaiting_comparison : Expression → Prod → Comparison → Expression
+awaiting_comparison state prod how = record state { level = record state.level { comparing = behind_left (sum_of state.level.sum prod) how; sum = None } }
+
+abbrev pub closed : Expression → Level → List (Level × Position) → Expression
+closed state level outer = record state { level = level; outer = outer }
+
+-- behind a number, a name or a bracket
+abbrev pub product_behind : Expression → Unary → Prod
+product_behind state unary = product_of state.level.product (negated_by state.level.negations unary)
+
+abbrev pub read_operand : Expression → Unary → Move
+read_operand state unary = taken (behind_operand (without_product state) (product_behind state unary) ∷ [])
+
+abbrev pub awaits : Expression → Move
+awaits state = taken (operand state ∷ [])
+
+abbrev pub look_operand : Expression → Position → Head → Move
+look_operand state place minus_sign = awaits (negating state place)
+look_operand state place open_bracket = awaits (bracketing state place)
+look_operand state place (a_number value) = read_operand state (literal place value)
+look_operand state place (a_variable text) = read_operand (passing state (name_limits (text, place))) (variable (text, place))
 look_operand state place no_head = broken_off state.passed
 
 -- behind the last operand of its level
@@ -228,18 +254,16 @@ look_end state (around ∷ outer) prod = broken_off state.passed
 
 abbrev pub look_close : Expression → List (Level × Position) → Prod → Move
 look_close state [] prod = finished state (level_expr state.level prod)
-look_close state (around ∷ outer) prod =
-    taken (read_operand (record state { level = around.0; outer = outer }) (bracketed around.1 (level_expr state.level prod)) ∷ [])
+look_close state (around ∷ outer) prod = read_operand (closed state around.0 outer) (bracketed around.1 (level_expr state.level prod))
 
 abbrev pub look_comparison : Expression → Comparing → Prod → Comparison → Move
-look_comparison state possible prod how =
-    awaiting state (record state.level { comparing = behind_left (sum_of state.level.sum prod) how; sum = None })
+look_comparison state possible prod how = awaits (awaiting_comparison state prod how)
 look_comparison state never prod how = look_end state state.outer prod
 look_comparison state (behind_left left other) prod how = look_end state state.outer prod
 
 abbrev pub look_behind : Expression → Prod → Joint → Move
-look_behind state prod (by_product how) = awaiting state (record state.level { product = Some (prod, how) })
-look_behind state prod (by_sum how) = awaiting state (record state.level { sum = Some (sum_of state.level.sum prod, how) })
+look_behind state prod (by_product how) = awaits (awaiting_product state prod how)
+look_behind state prod (by_sum how) = awaits (awaiting_sum state prod how)
 look_behind state prod (by_comparison how) = look_comparison state state.level.comparing prod how
 look_behind state prod closes = look_close state state.outer prod
 look_behind state prod ends = look_end state state.outer prod
