@@ -7,7 +7,8 @@ use Rattle.syntax.specs.Tokens.{Lexeme, Spot, unknown, lexeme_of, spots_of}
 use Rattle.syntax.specs.Grammar.{Position}
 use Rattle.syntax.specs.Spelled.{Piece, IsPiece}
 use Rattle.syntax.specs.Expected.{Expected, Move, taken, left_out, wrong, passed, look, next, met, Next, ended, followed, Verdict, syntax, too_large, run}
-use Rattle.syntax.specs.Parsed.{front_of, behind_front, Spells, Goes, Reads, Tells, Stops}
+use Rattle.syntax.specs.Parsed.{Spells, Goes, Reads, Tells, Stops}
+use Rattle.syntax.specs.Front.{front_of, behind_front}
 
 -- what may come first takes the token in front
 pub took : (first : Expected) (more behind : List Expected) (spots : List Spot) → (front_of spots).0 ≢ unknown → look first (front_of spots).0 (front_of spots).1 ≡ taken more

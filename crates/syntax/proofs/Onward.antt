@@ -9,7 +9,8 @@ use Rattle.syntax.specs.Spelled.{Piece, IsPiece, a_sign, sign_at, expr_pieces, s
 use Rattle.syntax.specs.Limits.{one_more, expr_within, sum_within, prod_within, unary_within}
 use Rattle.syntax.specs.Expected.{Comparing, never, possible, behind_left, Level, Expression, Expected, operand, behind_operand, taken, look, run, earlier, negated_by, product_of, sum_of, compared_of, level_expr, product_behind}
 use Rattle.syntax.specs.Expected.{negating, bracketing, passing, without_product, awaiting_product, awaiting_sum, awaiting_comparison, closed}
-use Rattle.syntax.specs.Parsed.{front_of, behind_front, Spells}
+use Rattle.syntax.specs.Parsed.{Spells}
+use Rattle.syntax.specs.Front.{front_of, behind_front}
 use Rattle.syntax.specs.Partial.{read_so_far, IsClear, IsSumAlone, Onward, outermost, state_pieces, state_limits, level_pieces, level_limits, sum_limits_before, product_limits_before, comparison_limits_before, minus_pieces, sum_waiting, product_waiting, comparison_waiting, around_pieces}
 use Rattle.syntax.proofs.Moves.{took, spelled_one, spelled_on}
 
@@ -151,4 +152,6 @@ same_outermost one two (around ∷ outer) e = refl
 pub alone_comparison : (state : Expression) (prod : Prod) (how : Comparison) → state.level.comparing ≡ possible → outermost state.level state.outer ≡ never
     → outermost (awaiting_comparison state prod how).level state.outer ≡ never
 alone_comparison state prod how may alone = elim state.outer as (λ outer. outermost state.level outer ≡ never → outermost (awaiting_comparison state prod how).level outer ≡ never) [
-    [] ↦ λ one. absurd (not_possible (sym may ∙ one)) | around ∷ outer ↦ λ one. one ] alone
+  | [] ↦ λ one. absurd (not_possible (sym may ∙ one))
+  | around ∷ outer ↦ λ one. one
+] alone

@@ -7,13 +7,16 @@ use Rattle.syntax.specs.declared.operand.Operand.TheVariants.{Kept, TooDeep}
 use Rattle.syntax.specs.declared.operand.Pending.{Pending}
 use Rattle.syntax.specs.declared.partial.Level.{Level as Kept_level}
 use Rattle.syntax.specs.declared.partial.Partial.{Partial}
+use Rattle.syntax.specs.declared.partial.After.{After}
+use Rattle.syntax.specs.declared.partial.After.TheVariants.{AwaitsOperand, HasProduct, Whole}
 use Rattle.syntax.specs.declared.token.Symbol.TheVariants as sign
 use Rattle.syntax.specs.Tokens.{Spot}
 use Rattle.syntax.specs.Grammar.{Position, Expr, Comparison, Sum, Addition, Prod, Multiplication, Unary}
-use Rattle.syntax.specs.Limits.{sum_depth, prod_depth, unary_depth, sum_within, prod_within, one_more}
+use Rattle.syntax.specs.Limits.{expr_depth, sum_depth, prod_depth, unary_depth, sum_within, prod_within, one_more}
 use Rattle.syntax.specs.Spelled.{Piece, a_sign, sign_at, sum_pieces, prod_pieces, comparison_sign, addition_sign, multiplication_sign}
-use Rattle.syntax.specs.Tree.{IsSum, IsProd, IsUnary, AreAll, comparison_operator, addition_operator, multiplication_operator}
-use Rattle.syntax.specs.Expected.{Comparing, never, possible, behind_left, Level, Expression, Expected, operand, behind_operand}
+use Rattle.syntax.specs.Tree.{IsExpr, IsSum, IsProd, IsUnary, AreAll, comparison_operator, addition_operator, multiplication_operator}
+use Rattle.syntax.specs.Expected.{Comparing, never, possible, behind_left, Level, Expression, Expected, operand, behind_operand, level_expr, look, finished}
+use Rattle.syntax.specs.Front.{front_of}
 use Rattle.syntax.specs.Parsed.{Spells, Goes}
 
 -- ---- operands
@@ -22,6 +25,9 @@ use Rattle.syntax.specs.Parsed.{Spells, Goes}
 abbrev pub Holds : (NamedExpression → Type 0) → ℕ → Operand → Type 0
 Holds Is depth (Kept tree kept) = (kept ≡ depth) × (depth ≤ MOST_DEPTH) × Is tree
 Holds Is depth TooDeep = MOST_DEPTH < depth
+
+abbrev pub HoldsExpr : Expr → Operand → Type 0
+HoldsExpr expr = Holds (IsExpr expr) (expr_depth expr)
 
 abbrev pub HoldsSum : Sum → Operand → Type 0
 HoldsSum sum = Holds (IsSum sum) (sum_depth sum)
@@ -59,6 +65,12 @@ abbrev pub comparison_may_come : Comparing → Bool
 comparison_may_come never = false
 comparison_may_come possible = true
 comparison_may_come (behind_left left how) = false
+
+-- no operand is read yet
+abbrev pub IsFresh : Comparing → Type 0
+IsFresh never = ⊤
+IsFresh possible = ⊤
+IsFresh (behind_left left how) = ⊥
 
 pub record IsLevel (level : Level) (kept : Kept_level) : Type 0 where
   pub may_compare : kept.may_compare ≡ comparison_may_come level.comparing
@@ -168,3 +180,34 @@ abbrev pub Follows : Expected → List Spot → List Spot → Option Operand →
 Follows from before after None kept = (state : Expression) × IsPartial state kept × Onward from (operand state) before after
 Follows from before after (Some product) kept =
     (state : Expression) × (prod : Prod) × IsPartial state kept × IsBehind state × HoldsProd prod product × Onward from (behind_operand state prod) before after
+
+-- the expression is whole in front of a token that is not taken
+pub record IsWhole (state : Expression) (prod : Prod) (expression : Operand) (kept : Partial) (before after : List Spot) : Type 0 where
+  pub same : after ≡ before
+  pub first : kept.first ≡ state.first
+  pub passed : kept.passed ≡ state.passed
+  pub outer : state.outer ≡ []
+  pub holds : HoldsExpr (level_expr state.level prod) expression
+  pub looks : look (behind_operand state prod) (front_of before).0 (front_of before).1 ≡ finished state (level_expr state.level prod)
+
+abbrev pub GoesOn : Expression → Prod → List Spot → List Spot → After → Partial → Type 0
+GoesOn state prod before after AwaitsOperand kept = Follows (behind_operand state prod) before after None kept
+GoesOn state prod before after (HasProduct product) kept = Follows (behind_operand state prod) before after (Some product) kept
+GoesOn state prod before after (Whole expression) kept = IsWhole state prod expression kept before after
+
+-- a token is taken unless the expression is whole
+abbrev pub Fewer : After → ℕ → ℕ → Type 0
+Fewer (Whole expression) before after = after ≤ before
+Fewer other before after = after < before
+
+-- the expression ends behind this product, within no bracket
+abbrev pub EndsAs : Expression → Prod → Operand → Partial → Type 0
+EndsAs state prod expression kept = (kept.first ≡ state.first) × (kept.passed ≡ state.passed) × (state.outer ≡ []) × HoldsExpr (level_expr state.level prod) expression
+
+-- the expression without the level around its innermost one, which this one is
+pub record IsAround (state : Expression) (kept : Partial) (level : Level) (outer : List (Level × Position)) (around : Kept_level) : Type 0 where
+  pub first : kept.first ≡ state.first
+  pub passed : kept.passed ≡ state.passed
+  pub inner : IsLevel state.level kept.level
+  pub outside : IsLevel level around
+  pub others : AreAll (λ (one : Level × Position). IsLevel one.0) outer (reverse kept.outer.items)

@@ -6,13 +6,17 @@
 
 mod characters;
 mod cursor;
+mod expressions;
 mod fault;
 mod grammar;
+mod joints;
+mod keys;
 mod law;
 mod lexer;
 mod limits;
 mod numbers;
 mod operand;
+mod own_statements;
 mod partial;
 mod stop;
 mod symbols;

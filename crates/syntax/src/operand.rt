@@ -1,10 +1,9 @@
 //! Operands of expressions, and what operators make of them.
-ghost use Rattle.std.specs.Prelude.{◌≡◌, List, length, IfOk};
+ghost use Rattle.std.specs.Prelude.{◌≡◌, List, length, Option, IfOk};
 ghost use Rattle.syntax.specs.Grammar.{Position, Sum, Prod, Unary, Multiplication, multiplied, Addition, added, Comparison, compared};
-ghost use Rattle.syntax.specs.Limits.{expr_depth};
-ghost use Rattle.syntax.specs.Tree.{IsUnary, IsExpr, multiplication_operator, addition_operator, comparison_operator};
-ghost use Rattle.syntax.specs.Expected.{negated_by};
-ghost use Rattle.syntax.specs.Partial.{Holds, HoldsSum, HoldsProd, HoldsUnary, Counts};
+ghost use Rattle.syntax.specs.Tree.{IsUnary, multiplication_operator, addition_operator, comparison_operator};
+ghost use Rattle.syntax.specs.Expected.{Comparing, negated_by, product_of, sum_of, compared_of};
+ghost use Rattle.syntax.specs.Partial.{HoldsExpr, HoldsSum, HoldsProd, HoldsUnary, Counts, WaitsInProduct, WaitsInSum, WaitsInComparison};
 
 use crate::MOST_DEPTH;
 use std::alloc::{AllocError, Global};
@@ -69,7 +68,7 @@ impl<'a> Pending<'a> {
         ensures sums { IfOk result (λ new. (left : Sum) (how : Addition) (prod : Prod) → self.entry.operator ≡ addition_operator how
             → HoldsSum left self.entry.left → HoldsProd prod right.entry → HoldsSum (added left how prod) new) }
         ensures comparisons { IfOk result (λ new. (left : Sum) (how : Comparison) (sum : Sum) → self.entry.operator ≡ comparison_operator how
-            → HoldsSum left self.entry.left → HoldsSum sum right.entry → Holds (IsExpr (compared left how sum)) (expr_depth (compared left how sum)) new) }
+            → HoldsSum left self.entry.left → HoldsSum sum right.entry → HoldsExpr (compared left how sum) new) }
     {
         let Pending { left, operator } = self;
         let Operand::Kept { tree: one, depth } = left else {
@@ -90,5 +89,47 @@ impl<'a> Pending<'a> {
         let tree = NamedExpression::Operation(operator, one, two);
         let depth = depth.max(other) + 1;
         Ok(Operand::Kept { tree, depth })
+    }
+}
+
+/// The product of one that may wait and an operand.
+pub(crate) fn product<'a>(
+    alloc: Global,
+    waiting: Option<Pending<'a>>,
+    operand: Operand<'a>,
+) -> Result<Operand<'a>, AllocError>
+    ensures { IfOk result (λ product. (waits : Option (Prod × Multiplication)) (unary : Unary) → WaitsInProduct waits waiting.entry → HoldsUnary unary operand.entry → HoldsProd (product_of waits unary) product) }
+{
+    match waiting {
+        Some(pending) => pending.with(alloc, operand),
+        None => Ok(operand),
+    }
+}
+
+/// The sum of one that may wait and a product.
+pub(crate) fn sum<'a>(
+    alloc: Global,
+    waiting: Option<Pending<'a>>,
+    product: Operand<'a>,
+) -> Result<Operand<'a>, AllocError>
+    ensures { IfOk result (λ sum. (waits : Option (Sum × Addition)) (prod : Prod) → WaitsInSum waits waiting.entry → HoldsProd prod product.entry → HoldsSum (sum_of waits prod) sum) }
+{
+    match waiting {
+        Some(pending) => pending.with(alloc, product),
+        None => Ok(product),
+    }
+}
+
+/// The comparison of one that may wait and a sum.
+pub(crate) fn comparison<'a>(
+    alloc: Global,
+    waiting: Option<Pending<'a>>,
+    sum: Operand<'a>,
+) -> Result<Operand<'a>, AllocError>
+    ensures { IfOk result (λ expression. (comparing : Comparing) (it : Sum) → WaitsInComparison comparing waiting.entry → HoldsSum it sum.entry → HoldsExpr (compared_of comparing it) expression) }
+{
+    match waiting {
+        Some(pending) => pending.with(alloc, sum),
+        None => Ok(sum),
     }
 }
