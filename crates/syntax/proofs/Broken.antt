@@ -1,5 +1,5 @@
 -- Where an expression breaks off.
-use Rattle.std.proofs.Common.{◌≡◌, ◌≢◌, true, false, List, [], ◌∷◌, refl, sym, ap, subst, ◌∙◌, Option, Some, None}
+use Rattle.std.proofs.Common.{◌≡◌, ◌≢◌, true, false, List, [], ◌∷◌, refl, ap, ◌∙◌, Option, Some, None}
 use Rattle.syntax.specs.Tokens.{Spot}
 use Rattle.syntax.specs.declared.partial.Partial.{Partial}
 use Rattle.syntax.specs.declared.operand.Operand.{Operand}

@@ -1,15 +1,15 @@
 -- Each token of an expression leads onward.
-use Rattle.std.proofs.Common.{◌≡◌, ◌≢◌, ℕ, List, [], ◌∷◌, ◌++◌, length, refl, sym, ap, subst, ◌∙◌, Option, Some, None}
+use Rattle.std.proofs.Common.{◌≡◌, ◌≢◌, ℕ, List, [], ◌∷◌, refl, sym, ap, ◌∙◌, None}
 use Rattle.syntax.specs.declared.token.Symbol.{Symbol}
 use Rattle.syntax.specs.declared.token.Symbol.TheVariants as sign
 use Rattle.syntax.specs.Tokens.{Lexeme, Spot, unknown, symbol, number, name}
-use Rattle.syntax.specs.Grammar.{Position, Prod, Unary, negated, literal, variable, bracketed, Multiplication, Addition, Comparison}
-use Rattle.syntax.specs.Spelled.{Piece, at, plain, IsPiece, a_sign, addition_sign, multiplication_sign, comparison_sign}
-use Rattle.syntax.specs.Limits.{name_limits, unary_within}
-use Rattle.syntax.specs.Expected.{possible, Level, Expression, operand, behind_operand, look, look_behind, look_close, look_comparison, joint, by_product, by_sum, by_comparison, closes, level_expr, product_behind, earlier}
+use Rattle.syntax.specs.Grammar.{Position, Prod, literal, variable, bracketed, Multiplication, Addition, Comparison}
+use Rattle.syntax.specs.Spelled.{at, plain, addition_sign, multiplication_sign, comparison_sign}
+use Rattle.syntax.specs.Limits.{name_limits}
+use Rattle.syntax.specs.Expected.{possible, Level, Expression, operand, behind_operand, look, look_behind, look_close, look_comparison, joint, by_product, by_sum, by_comparison, level_expr, product_behind}
 use Rattle.syntax.specs.Expected.{negating, bracketing, passing, without_product, awaiting_product, awaiting_sum, awaiting_comparison, closed}
 use Rattle.syntax.specs.Front.{front_of, behind_front}
-use Rattle.syntax.specs.Partial.{IsClear, Onward, state_limits, outermost}
+use Rattle.syntax.specs.Partial.{Onward, outermost}
 use Rattle.syntax.proofs.Onward.{onward_one, negating_pieces, bracketing_pieces, operand_pieces, awaiting_product_pieces, awaiting_sum_pieces, awaiting_comparison_pieces, closing_pieces}
 use Rattle.syntax.proofs.Onward.{clear_negating, clear_bracketing, clear_operand, clear_awaiting_product, clear_awaiting_sum, clear_awaiting_comparison, clear_closing, same_outermost, alone_comparison, not_earlier}
 

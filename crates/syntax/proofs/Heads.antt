@@ -1,15 +1,14 @@
 -- Which token is met in front of an operand, and behind one.
-use Rattle.std.proofs.Common.{◌≡◌, ℕ, ℤ, List, refl, ap, sym, ◌∙◌, rules}
+use Rattle.std.proofs.Common.{◌≡◌, ℕ, ℤ, List, refl, ap}
 use Rattle.std.specs.Borrow.{Bor}
 use Rattle.std.specs.Int.{cast_unsigned, w64}
 use Rattle.steptree.specs.declared.expression.Operator.{Operator}
-use Rattle.syntax.specs.declared.joints.Head.{Head as Met}
 use Rattle.syntax.specs.declared.joints.Head.TheVariants.{Minus, OpenBracket, Number, Variable, Other}
 use Rattle.syntax.specs.declared.joints.Joint.TheVariants as joined
 use Rattle.syntax.specs.declared.token.Symbol.{Symbol}
 use Rattle.syntax.specs.declared.token.Symbol.TheVariants as sign
-use Rattle.syntax.specs.Tokens.{Lexeme, symbol, number, name, word, unknown}
-use Rattle.syntax.specs.Grammar.{Multiplication, times, over, modulo, Addition, plus, minus, Comparison, equal, not_equal, less, less_or_equal, greater, greater_or_equal}
+use Rattle.syntax.specs.Tokens.{Lexeme, symbol, number, name}
+use Rattle.syntax.specs.Grammar.{times, over, modulo, plus, minus, equal, not_equal, less, less_or_equal, greater, greater_or_equal}
 use Rattle.syntax.specs.Spelled.{multiplication_sign, addition_sign, comparison_sign}
 use Rattle.syntax.specs.Tree.{multiplication_operator, addition_operator, comparison_operator}
 use Rattle.syntax.specs.Expected.{Joint, Head, minus_sign, open_bracket, a_number, a_variable, no_head, head, joint, by_product, by_sum, by_comparison, closes, ends}

@@ -4,13 +4,13 @@ use Rattle.std.specs.List.{flat_map}
 use Rattle.std.proofs.lemmas.List.{append-nil}
 use Rattle.steptree.specs.declared.step.NamedExpression.{NamedExpression}
 use Rattle.syntax.specs.declared.token.Symbol.TheVariants as sign
-use Rattle.syntax.specs.Tokens.{Spot, symbol}
-use Rattle.syntax.specs.Grammar.{Position, Expr, sum_alone, Sum, Sums, no_sums, sums}
+use Rattle.syntax.specs.Tokens.{Spot}
+use Rattle.syntax.specs.Grammar.{Sum, no_sums, sums}
 use Rattle.syntax.specs.Limits.{expr_limits, sum_limits, sums_limits}
-use Rattle.syntax.specs.Spelled.{Piece, plain, a_sign, expr_pieces, sum_pieces, sums_pieces}
+use Rattle.syntax.specs.Spelled.{Piece, a_sign, expr_pieces, sum_pieces, sums_pieces}
 use Rattle.syntax.specs.Tree.{IsExpr, IsSum, AreAll, AreSums}
-use Rattle.syntax.specs.Expected.{Expected, never, whole, components, more_components}
-use Rattle.syntax.specs.Parsed.{Spells, Goes, Reads, TakenIf}
+use Rattle.syntax.specs.Expected.{never, whole, components, more_components}
+use Rattle.syntax.specs.Parsed.{Spells, Reads, TakenIf}
 use Rattle.syntax.specs.Whole.{IsExpression}
 use Rattle.syntax.specs.Keys.{AreComponents, ComponentsSoFar, sums_of}
 use Rattle.syntax.proofs.Moves.{spelled_on}

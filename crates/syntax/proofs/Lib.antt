@@ -6,6 +6,7 @@ pub mod Fronts
 pub mod Heads
 pub mod KeyParts
 pub mod Moves
+pub mod NameParts
 pub mod Natural
 pub mod Once
 pub mod Onward

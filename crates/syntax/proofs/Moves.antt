@@ -1,12 +1,11 @@
 -- One step of the machine, and one part of the parser behind another.
 use Rattle.std.proofs.Common.{◌≡◌, ◌≢◌, ℕ, zero, suc, List, [], ◌∷◌, ◌++◌, refl, sym, ap, subst, ◌∙◌, append_assoc, drop, slice_get, Some, None}
 use Rattle.syntax.specs.declared.stop.Stop.{Stop}
-use Rattle.syntax.specs.declared.stop.Stop.TheVariants as stop
 use Rattle.syntax.specs.declared.token.Placed.{Placed}
-use Rattle.syntax.specs.Tokens.{Lexeme, Spot, unknown, lexeme_of, spots_of}
+use Rattle.syntax.specs.Tokens.{Spot, unknown, lexeme_of, spots_of}
 use Rattle.syntax.specs.Grammar.{Position}
 use Rattle.syntax.specs.Spelled.{Piece, IsPiece}
-use Rattle.syntax.specs.Expected.{Expected, Move, taken, left_out, wrong, passed, look, next, met, Next, ended, followed, Verdict, syntax, too_large, run}
+use Rattle.syntax.specs.Expected.{Expected, taken, left_out, wrong, passed, look, next, met, ended, followed, syntax, too_large, run}
 use Rattle.syntax.specs.Parsed.{Spells, Goes, Reads, Tells, Stops}
 use Rattle.syntax.specs.Front.{front_of, behind_front}
 

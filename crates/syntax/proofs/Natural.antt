@@ -1,5 +1,5 @@
 -- The numbers of tokens are not below 0.
-use Rattle.std.proofs.Common.{◌≡◌, ℕ, ℤ, pos, ◌<◌, ◌+◌, ◌-◌, ◌^◌, zero, suc, Bool, true, false, List, [], ◌∷◌, length, drop, refl, sym, ap, subst, ◌∙◌, arith, rules, SFits}
+use Rattle.std.proofs.Common.{◌≡◌, ℕ, pos, ◌<◌, ◌+◌, ◌-◌, ◌^◌, zero, suc, true, List, [], ◌∷◌, length, drop, refl, arith, rules}
 use Rattle.std.specs.Int.{cast_signed, cast_unsigned, w64}
 use Rattle.syntax.specs.declared.token.Placed.{Placed}
 use Rattle.syntax.specs.declared.token.Token.{Token}

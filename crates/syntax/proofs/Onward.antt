@@ -1,17 +1,16 @@
 -- From one place in an expression to the next.
-use Rattle.std.proofs.Common.{◌≡◌, ◌≢◌, ℕ, ◌+◌, List, [], ◌∷◌, ◌++◌, length, refl, sym, ap, subst, ◌∙◌, append_assoc, Option, Some, None, false}
+use Rattle.std.proofs.Common.{◌≡◌, ◌≢◌, ℕ, List, [], ◌∷◌, ◌++◌, length, refl, sym, ap, ◌∙◌, append_assoc, Option, Some, None}
 use Rattle.std.proofs.lemmas.List.{append-nil}
 use Rattle.syntax.specs.declared.limits.TheConstants.{MOST_BRACKETS}
 use Rattle.syntax.specs.declared.token.Symbol.TheVariants as sign
 use Rattle.syntax.specs.Tokens.{Spot, unknown}
-use Rattle.syntax.specs.Grammar.{Position, Expr, Sum, prod_alone, added, Prod, unary_alone, multiplied, Unary, negated, bracketed, Multiplication, Addition, Comparison}
+use Rattle.syntax.specs.Grammar.{Position, Sum, Prod, Unary, negated, bracketed, Multiplication, Addition, Comparison}
 use Rattle.syntax.specs.Spelled.{Piece, IsPiece, a_sign, sign_at, expr_pieces, sum_pieces, prod_pieces, unary_pieces, addition_sign, multiplication_sign, comparison_sign}
 use Rattle.syntax.specs.Limits.{one_more, expr_within, sum_within, prod_within, unary_within}
 use Rattle.syntax.specs.Expected.{Comparing, never, possible, behind_left, Level, Expression, Expected, operand, behind_operand, taken, look, run, earlier, negated_by, product_of, sum_of, compared_of, level_expr, product_behind}
-use Rattle.syntax.specs.Expected.{negating, bracketing, passing, without_product, awaiting_product, awaiting_sum, awaiting_comparison, closed}
-use Rattle.syntax.specs.Parsed.{Spells}
+use Rattle.syntax.specs.Expected.{negating, bracketing, without_product, awaiting_product, awaiting_sum, awaiting_comparison, closed}
 use Rattle.syntax.specs.Front.{front_of, behind_front}
-use Rattle.syntax.specs.Partial.{read_so_far, IsClear, IsSumAlone, Onward, outermost, state_pieces, state_limits, level_pieces, level_limits, sum_limits_before, product_limits_before, comparison_limits_before, minus_pieces, sum_waiting, product_waiting, comparison_waiting, around_pieces}
+use Rattle.syntax.specs.Partial.{read_so_far, IsClear, IsSumAlone, Onward, outermost, state_pieces, state_limits, level_limits, sum_limits_before, product_limits_before, comparison_limits_before, minus_pieces, sum_waiting, product_waiting, comparison_waiting}
 use Rattle.syntax.proofs.Moves.{took, spelled_one, spelled_on}
 
 -- one token more

@@ -1,14 +1,13 @@
 -- Operands, as operators make them.
-use Rattle.std.proofs.Common.{◌≡◌, ℕ, ◌-◌, ◌+◌, ◌<◌, ◌≤◌, zero, suc, max, List, [], ◌∷◌, length, sym, subst, arith, Box, Global, inl, inr}
+use Rattle.std.proofs.Common.{◌≡◌, ℕ, ◌-◌, ◌+◌, ◌<◌, ◌≤◌, suc, max, List, [], ◌∷◌, length, sym, subst, arith, Box, Global, inl, inr}
 use Rattle.steptree.specs.declared.step.NamedExpression.{NamedExpression, Negation}
 use Rattle.syntax.specs.declared.limits.TheConstants.{MOST_DEPTH}
-use Rattle.syntax.specs.declared.operand.Operand.{Operand}
-use Rattle.syntax.specs.declared.operand.Operand.TheVariants.{Kept, TooDeep}
+use Rattle.syntax.specs.declared.operand.Operand.TheVariants.{Kept}
 use Rattle.syntax.specs.Grammar.{Position, Unary, negated}
 use Rattle.syntax.specs.Limits.{unary_depth}
 use Rattle.syntax.specs.Tree.{IsUnary}
 use Rattle.syntax.specs.Expected.{negated_by}
-use Rattle.syntax.specs.Partial.{Holds, HoldsUnary, Counts}
+use Rattle.syntax.specs.Partial.{HoldsUnary, Counts}
 
 pub one_minus_more : (times : ℕ) (tree new : NamedExpression) (box : Box NamedExpression Global) → 0 < times → box.value ≡ tree
     → ((positions : List Position) (unary : Unary) → length positions ≡ times - 1 → IsUnary unary (Negation box) → IsUnary (negated_by positions unary) new)

@@ -1,5 +1,5 @@
 -- What the parser keeps of an expression.
-use Rattle.std.proofs.Common.{◌≡◌, ℕ, ◌≤◌, ◌<◌, zero, suc, Bool, true, false, List, [], ◌∷◌, ◌++◌, length, reverse, refl, sym, ap, subst, ◌∙◌, arith, Some, None, if◌then◌else◌, nat_lt, Option, rules, Vec, Global}
+use Rattle.std.proofs.Common.{◌≡◌, ℕ, ◌≤◌, ◌<◌, suc, true, false, List, [], ◌∷◌, ◌++◌, length, reverse, refl, sym, ap, subst, ◌∙◌, arith, Some, None, if◌then◌else◌, nat_lt, Option, rules, Vec, Global}
 use Rattle.std.proofs.lemmas.List.{reverse-append, length-reverse}
 use Rattle.syntax.specs.declared.limits.TheConstants.{MOST_BRACKETS}
 use Rattle.syntax.specs.declared.partial.Level.{Level as Kept_level}

@@ -1,25 +1,22 @@
 -- On the way through an expression, and at its end.
-use Rattle.std.proofs.Common.{◌≡◌, ◌<◌, ◌≤◌, ℕ, List, [], ◌∷◌, ◌++◌, length, refl, sym, ap, subst, ◌∙◌, arith, Option, Some, None, append_assoc, Bool, true, false}
+use Rattle.std.proofs.Common.{◌≡◌, ◌<◌, List, [], ◌∷◌, ◌++◌, length, refl, sym, ap, subst, ◌∙◌, arith, Option, Some, None, append_assoc, Bool, true, false}
 use Rattle.std.proofs.lemmas.List.{append-nil}
 use Rattle.steptree.specs.declared.step.NamedExpression.{NamedExpression}
-use Rattle.syntax.specs.declared.limits.TheConstants.{MOST_DEPTH}
 use Rattle.syntax.specs.declared.operand.Operand.{Operand}
 use Rattle.syntax.specs.declared.partial.Partial.{Partial}
-use Rattle.syntax.specs.declared.partial.After.{After}
-use Rattle.syntax.specs.declared.partial.After.TheVariants.{AwaitsOperand, HasProduct, Whole}
 use Rattle.syntax.specs.declared.stop.Stop.{Stop}
 use Rattle.syntax.specs.declared.stop.Stop.TheVariants as stop
 use Rattle.syntax.specs.Tokens.{Spot}
 use Rattle.syntax.specs.Grammar.{Position, Expr, Sum, sum_alone, Prod}
 use Rattle.syntax.specs.Limits.{expr_limits, expr_depth, depth_limits, expr_within, prod_within}
 use Rattle.syntax.specs.Spelled.{expr_pieces}
-use Rattle.syntax.specs.Expected.{Comparing, never, possible, behind_left, Expression, Expected, whole, operand, behind_operand, Move, left_out, passed, finished, level_expr, begun, run, look, sum_of, compared_of}
+use Rattle.syntax.specs.Expected.{Comparing, never, possible, behind_left, Expression, Expected, whole, operand, behind_operand, Move, finished, level_expr, begun, run, look, sum_of, compared_of}
 use Rattle.syntax.specs.Front.{front_of}
-use Rattle.syntax.specs.Parsed.{Spells, Goes, Tells, Stops}
+use Rattle.syntax.specs.Parsed.{Spells, Tells, Stops}
 use Rattle.syntax.specs.Partial.{HoldsProd, IsPartial, HoldsExpr, IsBehind, IsWhole, IsFresh, comparison_may_come, outermost, Follows, Onward, read_so_far, state_limits}
 use Rattle.syntax.specs.Whole.{From, Reached, IsExpression, IsWithinLimits, TellsLimit}
 use Rattle.syntax.proofs.Moves.{skipped, limited}
-use Rattle.syntax.proofs.Onward.{compared_pieces, added_pieces, compared_within, added_within, level_within}
+use Rattle.syntax.proofs.Onward.{compared_pieces, added_pieces, compared_within, added_within}
 
 pub from_on : (comparing : Comparing) (from to : Expected) (start now after : List Spot) → From comparing from start now → Onward from to now after → From comparing to start after
 from_on comparing from to start now after way step = record {

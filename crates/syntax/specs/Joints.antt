@@ -1,5 +1,5 @@
 -- Tokens as the parser meets them in front of an operand and behind one.
-use Rattle.std.specs.Prelude.{◌≡◌, ⊤, ℕ}
+use Rattle.std.specs.Prelude.{◌≡◌, ⊤}
 use Rattle.std.specs.Int.{cast_unsigned, w64}
 use Rattle.syntax.specs.declared.joints.Head.{Head as Met}
 use Rattle.syntax.specs.declared.joints.Head.TheVariants.{Minus, OpenBracket, Number, Variable, Other}

@@ -1,15 +1,14 @@
 -- A key that is read, and its components.
-use Rattle.std.specs.Prelude.{◌≡◌, ◌<◌, ◌≤◌, List, [], ◌∷◌, ◌++◌, length}
+use Rattle.std.specs.Prelude.{◌≡◌, List, [], ◌∷◌, ◌++◌}
 use Rattle.std.specs.List.{flat_map}
 use Rattle.steptree.specs.declared.step.NamedExpression.{NamedExpression}
 use Rattle.steptree.specs.declared.step.NamedKey.{NamedKey}
-use Rattle.syntax.specs.declared.token.Symbol.TheVariants as sign
 use Rattle.syntax.specs.Tokens.{Spot}
 use Rattle.syntax.specs.Grammar.{Sum, Sums, no_sums, sums, Key}
 use Rattle.syntax.specs.Limits.{sum_limits, sums_limits, key_limits}
 use Rattle.syntax.specs.Spelled.{a_sign, named, sum_pieces, sums_pieces}
 use Rattle.syntax.specs.Tree.{IsSum, AreAll, AreSums, IsKey}
-use Rattle.syntax.specs.Expected.{Expected, Kind, never, whole, components, more_components, exactly, key_rest, closing}
+use Rattle.syntax.specs.Expected.{Kind, never, whole, components, more_components, key_rest, closing}
 use Rattle.syntax.specs.Parsed.{Spells, Goes, Reads}
 
 -- the components behind the name of a key

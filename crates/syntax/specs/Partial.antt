@@ -11,7 +11,7 @@ use Rattle.syntax.specs.declared.partial.After.{After}
 use Rattle.syntax.specs.declared.partial.After.TheVariants.{AwaitsOperand, HasProduct, Whole}
 use Rattle.syntax.specs.declared.token.Symbol.TheVariants as sign
 use Rattle.syntax.specs.Tokens.{Spot}
-use Rattle.syntax.specs.Grammar.{Position, Expr, Comparison, Sum, Addition, Prod, Multiplication, Unary}
+use Rattle.syntax.specs.Grammar.{Position, Expr, Sum, Addition, Prod, Multiplication, Unary}
 use Rattle.syntax.specs.Limits.{expr_depth, sum_depth, prod_depth, unary_depth, sum_within, prod_within, one_more}
 use Rattle.syntax.specs.Spelled.{Piece, a_sign, sign_at, sum_pieces, prod_pieces, comparison_sign, addition_sign, multiplication_sign}
 use Rattle.syntax.specs.Tree.{IsExpr, IsSum, IsProd, IsUnary, AreAll, comparison_operator, addition_operator, multiplication_operator}

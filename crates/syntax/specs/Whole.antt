@@ -1,5 +1,5 @@
 -- An expression that is read.
-use Rattle.std.specs.Prelude.{◌≡◌, ◌<◌, ◌≤◌, ℕ, List, [], ◌∷◌, length, Option, Some, None}
+use Rattle.std.specs.Prelude.{◌≡◌, ◌<◌, ◌≤◌, List, [], ◌∷◌, length, Option, Some, None}
 use Rattle.steptree.specs.declared.step.NamedExpression.{NamedExpression}
 use Rattle.syntax.specs.declared.operand.Operand.{Operand}
 use Rattle.syntax.specs.declared.partial.Partial.{Partial}
@@ -12,7 +12,7 @@ use Rattle.syntax.specs.Spelled.{expr_pieces}
 use Rattle.syntax.specs.Tree.{IsExpr}
 use Rattle.syntax.specs.Expected.{Comparing, never, Expression, Expected, whole, operand, behind_operand, Move, left_out, passed, finished}
 use Rattle.syntax.specs.Parsed.{Spells, Goes, Reads}
-use Rattle.syntax.specs.Partial.{HoldsExpr, HoldsProd, IsPartial, IsBehind, IsClear, IsSumAlone, read_so_far}
+use Rattle.syntax.specs.Partial.{HoldsProd, IsPartial, IsBehind, IsClear, IsSumAlone, read_so_far}
 
 -- the tokens are an expression within the limits, which is this tree
 pub record IsExpression (comparing : Comparing) (tree : NamedExpression) (before after : List Spot) : Type 0 where

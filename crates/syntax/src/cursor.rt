@@ -15,11 +15,12 @@ pub(crate) struct Cursor<'t, 'a> {
 }
 
 impl<'t, 'a> Cursor<'t, 'a> {
-    ghost use Rattle.std.specs.Prelude.{◌∷◌, [], ◌≤◌, ◌<◌, length, IfOk, IfErr, OnOk};
+    ghost use Rattle.std.specs.Prelude.{◌∷◌, false, [], ◌≤◌, ◌<◌, length, IfOk, IfErr, OnOk};
     ghost use Rattle.syntax.specs.Tokens.{spots_of, lexeme_of, word, symbol};
     ghost use Rattle.syntax.specs.Limits.{name_limits};
     ghost use Rattle.syntax.specs.Spelled.{plain, named};
     ghost use Rattle.syntax.specs.Expected.{exactly, keyword as reserved, a_name};
+    ghost use Rattle.syntax.specs.NameLists.{TakesName, StopsAtName};
     ghost use Rattle.syntax.specs.Parsed.{left, named_of, Reads, Stops, TakenIf};
     ghost use Rattle.syntax.specs.Front.{front_of, behind_front};
 
@@ -121,6 +122,27 @@ impl<'t, 'a> Cursor<'t, 'a> {
                 true
             }
             _ => false,
+        }
+    }
+
+    /// Takes a name, unless there is no room for one.
+    pub(crate) fn counted_name(&mut self, full: bool) -> Result<Name<'a>, Stop>
+        ensures reads { IfOk result (λ name. TakesName full name (left self.old) (left self.new)) }
+        ensures within { IfOk result (λ name. name_limits (named_of name) ≡ []) }
+        ensures room { OnOk result (full ≡ false) }
+        ensures fewer { OnOk result (length (left self.new) < length (left self.old)) }
+        ensures stops { IfErr result (StopsAtName full (left self.old) (left self.new)) }
+    {
+        let place = self.place();
+        match self.front() {
+            Token::Name(text) => {
+                if text.len() > MOST_NAME_BYTES || full {
+                    return Err(Stop::TooLarge(place));
+                }
+                self.advance();
+                Ok(Name { text, place })
+            }
+            _ => Err(Stop::Syntax),
         }
     }
 }

@@ -14,6 +14,7 @@ mod keys;
 mod law;
 mod lexer;
 mod limits;
+mod name_lists;
 mod numbers;
 mod operand;
 mod own_statements;

@@ -1,7 +1,4 @@
-use Rattle.std.proofs.Common.{◌≡◌, ◌≤◌, length, sym, ap, subst, ◌∙◌, None, Some, arith, rules}
-use Rattle.syntax.specs.declared.partial.After.TheVariants.{AwaitsOperand, HasProduct, Whole}
-use Rattle.syntax.specs.Expected.{Expression, Comparing, operand}
-use Rattle.syntax.specs.Grammar.{Prod}
+use Rattle.std.proofs.Common.{◌≤◌, length, subst, arith, rules}
 use Rattle.syntax.specs.Parsed.{left}
 use Rattle.syntax.specs.Partial.{GoesOn, Fewer}
 use Rattle.syntax.specs.Whole.{Reached}

@@ -1,4 +1,4 @@
-use Rattle.std.proofs.Common.{◌≡◌, ◌++◌, ◌∷◌, [], refl, sym, subst, arith, rules}
+use Rattle.std.proofs.Common.{◌≡◌, ◌++◌, ◌∷◌, [], refl, sym, subst, rules}
 use Rattle.syntax.specs.Expected.{never}
 use Rattle.syntax.specs.Parsed.{left}
 use Rattle.syntax.specs.Keys.{AreComponents, ComponentsSoFar}

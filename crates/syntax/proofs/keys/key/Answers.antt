@@ -1,6 +1,6 @@
-use Rattle.std.proofs.Common.{◌≡◌, ◌++◌, ◌∷◌, [], refl, sym, ap, subst, ◌∙◌, rules}
-use Rattle.syntax.specs.Limits.{key_limits, sums_limits}
-use Rattle.syntax.specs.Expected.{exactly, closing, a_name, components, key_rest}
+use Rattle.std.proofs.Common.{◌++◌, ◌∷◌, [], refl, ap, subst, ◌∙◌}
+use Rattle.syntax.specs.Limits.{sums_limits}
+use Rattle.syntax.specs.Expected.{exactly, closing, components}
 use Rattle.syntax.specs.Parsed.{left, named_of, Reads}
 use Rattle.syntax.specs.Tokens.{symbol}
 use Rattle.syntax.specs.Spelled.{plain}

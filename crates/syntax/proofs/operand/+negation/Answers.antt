@@ -1,4 +1,4 @@
-use Rattle.std.proofs.Common.{arith, rules}
+use Rattle.std.proofs.Common.{arith}
 use Rattle.std.proofs.lemmas.Result.{IfOk-weaker}
 use Rattle.syntax.proofs.Operands.{one_minus_more}
 use Rattle.syntax.proofs.operand.+negation.Goals as goal

@@ -1,7 +1,7 @@
-use Rattle.std.proofs.Common.{◌≡◌, [], ◌∷◌, ◌++◌, refl, ap, subst, ◌∙◌}
+use Rattle.std.proofs.Common.{[], ◌∷◌, ◌++◌, refl, ap, subst, ◌∙◌}
 use Rattle.syntax.specs.declared.token.Symbol.TheVariants as sign
 use Rattle.syntax.specs.Limits.{expr_limits}
-use Rattle.syntax.specs.Expected.{exactly, whole, possible, item}
+use Rattle.syntax.specs.Expected.{exactly, whole, possible}
 use Rattle.syntax.specs.Spelled.{named, a_sign, sums_pieces, expr_pieces}
 use Rattle.syntax.specs.Parsed.{left, Reads}
 use Rattle.syntax.specs.Blocks.{item_rest}

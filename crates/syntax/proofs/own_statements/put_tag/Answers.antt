@@ -1,6 +1,6 @@
 use Rattle.std.proofs.Common.{[], ◌∷◌, refl}
 use Rattle.syntax.specs.declared.token.Symbol.TheVariants as sign
-use Rattle.syntax.specs.Expected.{exactly, tag}
+use Rattle.syntax.specs.Expected.{exactly}
 use Rattle.syntax.proofs.Moves.{reads_on}
 use Rattle.syntax.proofs.own_statements.put_tag.Goals as goal
 

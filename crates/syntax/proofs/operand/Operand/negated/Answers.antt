@@ -1,4 +1,4 @@
-use Rattle.std.proofs.Common.{arith, ap, subst, ◌∙◌, rules}
+use Rattle.std.proofs.Common.{arith, subst}
 use Rattle.syntax.specs.Partial.{HoldsUnary}
 use Rattle.syntax.proofs.Operands.{negated_kept, negated_too_many, negated_too_deep}
 use Rattle.syntax.proofs.operand.Operand.negated.Goals as goal

@@ -1,4 +1,4 @@
-use Rattle.std.proofs.Common.{sym, subst, rules}
+use Rattle.std.proofs.Common.{sym, subst}
 use Rattle.syntax.specs.Expected.{sum_of}
 use Rattle.syntax.specs.Partial.{WaitsInSum, WaitsInComparison}
 use Rattle.syntax.proofs.partial.Level.whole.Goals as goal

@@ -1,4 +1,4 @@
-use Rattle.std.proofs.Common.{None, refl, sym, subst, rules}
+use Rattle.std.proofs.Common.{None, refl, sym, subst}
 use Rattle.syntax.specs.Partial.{WaitsInSum}
 use Rattle.syntax.proofs.partial.Partial.await_comparison.Goals as goal
 

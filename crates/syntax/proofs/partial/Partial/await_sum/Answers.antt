@@ -1,4 +1,4 @@
-use Rattle.std.proofs.Common.{sym, subst, rules}
+use Rattle.std.proofs.Common.{sym, subst}
 use Rattle.syntax.specs.Partial.{WaitsInSum}
 use Rattle.syntax.proofs.partial.Partial.await_sum.Goals as goal
 

@@ -1,9 +1,9 @@
-use Rattle.std.proofs.Common.{◌≡◌, refl, sym, ap, subst, ◌∙◌, arith, rules, lit≤}
+use Rattle.std.proofs.Common.{refl, sym, ap, subst, lit≤}
 use Rattle.std.specs.Int.{cast_unsigned, w64}
 use Rattle.syntax.specs.Grammar.{literal, variable}
 use Rattle.syntax.specs.Limits.{name_limits}
-use Rattle.syntax.specs.Expected.{operand, behind_operand, negating, bracketing, passing, without_product, product_behind, broken_off, look_operand, head}
-use Rattle.syntax.specs.Parsed.{left, Tells}
+use Rattle.syntax.specs.Expected.{operand, negating, bracketing, passing, without_product, product_behind, look_operand, head}
+use Rattle.syntax.specs.Parsed.{left}
 use Rattle.syntax.specs.Front.{front_of}
 use Rattle.syntax.specs.Joints.{IsHead}
 use Rattle.syntax.specs.declared.joints.Head.TheVariants.{Minus, OpenBracket, Number, Variable, Other}

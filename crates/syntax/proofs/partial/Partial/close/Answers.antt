@@ -1,4 +1,3 @@
-use Rattle.std.proofs.Common.{rules}
 use Rattle.syntax.specs.Grammar.{bracketed}
 use Rattle.syntax.specs.Expected.{closed, level_expr}
 use Rattle.syntax.proofs.partial.Partial.close.Goals as goal

@@ -1,4 +1,4 @@
-use Rattle.std.proofs.Common.{[], sym, subst, ap, ◌∙◌, length, arith}
+use Rattle.std.proofs.Common.{[], sym, subst, length, arith}
 use Rattle.syntax.specs.declared.limits.TheConstants.{MOST_BRACKETS}
 use Rattle.syntax.specs.Expected.{passing}
 use Rattle.syntax.specs.Partial.{IsPartial}

@@ -1,10 +1,7 @@
-use Rattle.std.proofs.Common.{◌≡◌, ◌≢◌, ◌∷◌, [], length, refl, sym, ap, subst, ◌∙◌, true, false, rules}
+use Rattle.std.proofs.Common.{◌≡◌, refl, sym, ap, subst, ◌∙◌, rules}
 use Rattle.syntax.specs.declared.joints.Joint.TheVariants as joined
-use Rattle.syntax.specs.Tokens.{Lexeme}
 use Rattle.syntax.specs.Grammar.{bracketed}
-use Rattle.syntax.specs.Spelled.{comparison_sign, addition_sign, multiplication_sign}
-use Rattle.syntax.specs.Tree.{multiplication_operator, addition_operator, comparison_operator}
-use Rattle.syntax.specs.Expected.{Joint, by_product, by_sum, by_comparison, closes, ends, joint, look_behind, look_close, look_comparison, behind_operand, operand, awaiting_product, awaiting_sum, awaiting_comparison, closed, without_product, product_behind, level_expr}
+use Rattle.syntax.specs.Expected.{joint, look_behind, behind_operand, awaiting_product, awaiting_sum, awaiting_comparison, closed, without_product, product_behind, level_expr}
 use Rattle.syntax.specs.Parsed.{left}
 use Rattle.syntax.specs.Front.{front_of}
 use Rattle.syntax.specs.Joints.{IsJoint}

@@ -1,4 +1,4 @@
-use Rattle.std.proofs.Common.{refl, subst, sym, ap, ◌∙◌, rules}
+use Rattle.std.proofs.Common.{refl, subst, sym, rules}
 use Rattle.syntax.specs.Expected.{possible, opened}
 use Rattle.syntax.specs.Partial.{IsLevel}
 use Rattle.syntax.proofs.Partials.{bracket_opened}

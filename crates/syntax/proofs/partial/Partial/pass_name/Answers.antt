@@ -1,7 +1,5 @@
-use Rattle.std.proofs.Common.{[], ◌∷◌, sym, subst, ap, length, true, if◌then◌else◌, rules}
-use Rattle.syntax.specs.declared.limits.TheConstants.{MOST_NAME_BYTES}
+use Rattle.std.proofs.Common.{[], sym, subst, rules}
 use Rattle.syntax.specs.Expected.{passing}
-use Rattle.syntax.specs.Limits.{name_limits}
 use Rattle.syntax.specs.Partial.{IsPartial}
 use Rattle.syntax.proofs.Partials.{long_name}
 use Rattle.syntax.proofs.partial.Partial.pass_name.Goals as goal

@@ -1,4 +1,4 @@
-use Rattle.std.proofs.Common.{refl, subst, sym, inl, None, rules}
+use Rattle.std.proofs.Common.{refl, subst, sym, inl, None}
 use Rattle.syntax.specs.Expected.{negated_by}
 use Rattle.syntax.specs.Partial.{WaitsInProduct}
 use Rattle.syntax.proofs.partial.Partial.product.Goals as goal
