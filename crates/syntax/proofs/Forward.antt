@@ -14,7 +14,7 @@ use Rattle.syntax.proofs.Onward.{onward_one, negating_pieces, bracketing_pieces,
 use Rattle.syntax.proofs.Onward.{clear_negating, clear_bracketing, clear_operand, clear_awaiting_product, clear_awaiting_sum, clear_awaiting_comparison, clear_closing, same_outermost, alone_comparison, not_earlier}
 
 -- a token that is known
-known : (before : List Spot) (lexeme : Lexeme) → (front_of before).0 ≡ lexeme → lexeme ≢ unknown → (front_of before).0 ≢ unknown
+pub known : (before : List Spot) (lexeme : Lexeme) → (front_of before).0 ≡ lexeme → lexeme ≢ unknown → (front_of before).0 ≢ unknown
 known before lexeme is some none = some (sym is ∙ none)
 
 module _ (before after : List Spot) (place : Position) (there : (front_of before).1 ≡ place) (moved : after ≡ behind_front before) where

@@ -5,11 +5,11 @@ use Rattle.steptree.specs.declared.step.NamedBlock.{NamedBlock}
 use Rattle.steptree.specs.declared.step.NamedBlock.TheVariants as block
 use Rattle.syntax.specs.declared.token.Symbol.TheVariants as sign
 use Rattle.syntax.specs.Tokens.{Spot}
-use Rattle.syntax.specs.Grammar.{Get, Key, put_item, put_tag, Expr}
+use Rattle.syntax.specs.Grammar.{Get, Key, Put, put_item, put_tag, Expr}
 use Rattle.syntax.specs.Limits.{get_limits, put_limits, expr_limits}
 use Rattle.syntax.specs.Spelled.{get_pieces, put_pieces, expr_pieces, a_sign}
 use Rattle.syntax.specs.Tree.{IsExpr, IsGet, IsPut}
-use Rattle.syntax.specs.Expected.{Expected, exactly, whole, possible, get_rest, key_rest, item, tag}
+use Rattle.syntax.specs.Expected.{Expected, exactly, whole, possible, get_rest, put_target, key_rest, item, tag}
 use Rattle.syntax.specs.Parsed.{Reads}
 
 -- the first statement, with these behind it
@@ -49,6 +49,13 @@ pub record IsTagRead (tree : NamedBlock) (before after : List Spot) : Type 0 whe
   pub reads : Reads tag_rest [] (drop 2 (put_pieces (put_tag key))) before after
   pub is : (rest : NamedBlock) → IsPut (put_tag key) (with_rest tree rest) (λ other. other ≡ rest)
   pub within : put_limits (put_tag key) ≡ []
+
+-- behind the word `put`
+pub record IsPutRead (tree : NamedBlock) (before after : List Spot) : Type 0 where
+  pub put : Put
+  pub reads : Reads (put_target ∷ []) [] (drop 1 (put_pieces put)) before after
+  pub is : (rest : NamedBlock) → IsPut put (with_rest tree rest) (λ other. other ≡ rest)
+  pub within : put_limits put ≡ []
 
 -- behind the name that is assigned
 abbrev pub assignment_rest : List Expected

@@ -1,14 +1,14 @@
 //! Statements without blocks.
 ghost use Rattle.std.specs.Prelude.{◌<◌, ◌∷◌, [], length, IfOk, IfErr, OnOk};
-ghost use Rattle.syntax.specs.Expected.{get_rest};
+ghost use Rattle.syntax.specs.Expected.{get_rest, put_target};
 ghost use Rattle.syntax.specs.Parsed.{left, Stops};
-ghost use Rattle.syntax.specs.Blocks.{assignment_rest, IsValueRead, IsGetRead, item_rest, IsItemRead, tag_rest, IsTagRead};
+ghost use Rattle.syntax.specs.Blocks.{assignment_rest, IsValueRead, IsGetRead, item_rest, IsItemRead, tag_rest, IsTagRead, IsPutRead};
 
-use crate::Symbol;
 use crate::cursor::Cursor;
 use crate::expressions::value;
 use crate::keys::{item, tag};
 use crate::stop::Stop;
+use crate::{Symbol, Token};
 use std::alloc::Global;
 use steptree::{Name, NamedBlock};
 
@@ -76,4 +76,25 @@ fn put_tag<'a>(alloc: Global, cursor: &mut Cursor<'_, 'a>) -> Result<NamedBlock<
     cursor.sign(Symbol::Semicolon)?;
     let rest = Box::new(alloc, NamedBlock::End)?;
     Ok(NamedBlock::PutTag { tag, rest })
+}
+
+/// A put of an item or a tag, behind its `put`.
+pub(crate) fn put<'a>(alloc: Global, cursor: &mut Cursor<'_, 'a>) -> Result<NamedBlock<'a>, Stop>
+    ensures reads { IfOk result (λ block. IsPutRead block (left cursor.old) (left cursor.new)) }
+    ensures fewer { OnOk result (length (left cursor.new) < length (left cursor.old)) }
+    ensures stops { IfErr result (Stops (put_target ∷ []) (left cursor.old) (left cursor.new)) }
+{
+    match cursor.front() {
+        Token::Symbol(Symbol::OpenBracket) => {
+            cursor.advance();
+            let block = put_item(alloc, cursor)?;
+            Ok(block)
+        }
+        Token::Symbol(Symbol::Less) => {
+            cursor.advance();
+            let block = put_tag(alloc, cursor)?;
+            Ok(block)
+        }
+        _ => Err(Stop::Syntax),
+    }
 }
