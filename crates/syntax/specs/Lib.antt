@@ -1,6 +1,17 @@
+pub mod Blocks
+pub mod ComponentNames
+pub mod Expected
+pub mod Front
 pub mod Grammar
+pub mod Joints
+pub mod Keys
 pub mod Limits
+pub mod NameLists
+pub mod Natural
+pub mod Parsed
+pub mod Partial
 pub mod Reading
 pub mod Spelled
 pub mod Tokens
 pub mod Tree
+pub mod Whole

@@ -1,5 +1,5 @@
 -- The tokens that a derivation of the grammar spells.
-use Rattle.std.specs.Prelude.{◌≡◌, ⊤, ℕ, codes, List, [], ◌∷◌, ◌++◌, Option, Some, None}
+use Rattle.std.specs.Prelude.{◌≡◌, ⊤, codes, List, [], ◌∷◌, ◌++◌, Option, Some, None}
 use Rattle.std.specs.List.{flat_map}
 use Rattle.syntax.specs.declared.token.Word.{Word}
 use Rattle.syntax.specs.declared.token.Word.TheVariants as kept

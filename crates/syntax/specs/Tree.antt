@@ -1,5 +1,5 @@
 -- The tree that a derivation of the grammar is: names by their texts and positions, sums and products from the left.
-use Rattle.std.specs.Prelude.{◌≡◌, ⊤, pos, ℕ, List, [], ◌∷◌, length, Option, None, Some}
+use Rattle.std.specs.Prelude.{◌≡◌, ⊤, pos, List, [], ◌∷◌, length}
 use Rattle.steptree.specs.declared.expression.Operator.{Operator}
 use Rattle.steptree.specs.declared.expression.Operator.TheVariants as operator
 use Rattle.steptree.specs.declared.step.Name.{Name}
@@ -17,7 +17,7 @@ use Rattle.syntax.specs.declared.tree.Tree.{Tree}
 use Rattle.syntax.specs.Grammar.{Named, Comparison, equal, not_equal, less, less_or_equal, greater, greater_or_equal, Addition, plus, minus, Multiplication, times, over, modulo}
 use Rattle.syntax.specs.Grammar.{Expr, sum_alone, compared, Sum, prod_alone, added, Prod, unary_alone, multiplied, Unary, negated, literal, variable, bracketed, Sums, no_sums, sums, Key}
 use Rattle.syntax.specs.Grammar.{Statement, own, assigned, if_alone, if_else, for, Statements, no_more, and_then, Get, Put, put_item, put_tag}
-use Rattle.syntax.specs.Grammar.{Names, Declaration, item_declared, tag_declared, Relation, prescribes, reads, puts_item, puts_tag, environment_puts_item, environment_puts_tag, environment_gets, StepText, GraphText}
+use Rattle.syntax.specs.Grammar.{Declaration, item_declared, tag_declared, Relation, prescribes, reads, puts_item, puts_tag, environment_puts_item, environment_puts_tag, environment_gets, StepText, GraphText}
 use Rattle.syntax.specs.Limits.{all_names}
 
 abbrev pub IsName : Named → Name → Type 0

@@ -1,6 +1,8 @@
 ghost use Rattle.syntax.specs.Spelled.{GrammarExample};
+ghost use Rattle.syntax.specs.Expected.{ExpectedExample};
 
-/// A worked example of the grammar.
+/// Worked examples of the grammar: a derivation, and what may come next.
 pub fn grammar_example()
-    ensures { GrammarExample }
+    ensures derived { GrammarExample }
+    ensures expected { ExpectedExample }
 {}

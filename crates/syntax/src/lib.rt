@@ -5,12 +5,21 @@
 #![tactic(auto)]
 
 mod characters;
+mod cursor;
+mod expressions;
 mod fault;
 mod grammar;
+mod joints;
+mod keys;
 mod law;
 mod lexer;
 mod limits;
+mod name_lists;
 mod numbers;
+mod operand;
+mod own_statements;
+mod partial;
+mod stop;
 mod symbols;
 #[cfg(test)]
 mod tests;

@@ -1,3 +1,5 @@
+mod expressions;
+
 use crate::{Placed, Token, tokens, tokens_once};
 use std::process::Abort;
 use std::test::Fail;

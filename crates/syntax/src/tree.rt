@@ -12,19 +12,43 @@ pub enum Declaration<'a> {
 #[derive(Clone, Copy, Debug)]
 pub enum Relation<'a> {
     /// `<tag> :: (step);`
-    Prescribes { tag: Name<'a>, step: Name<'a> },
+    Prescribes {
+        tag: Name<'a>,
+        step: Name<'a>,
+    },
     /// `[item] -> (step);`
-    Reads { place: usize, item: Name<'a>, step: Name<'a> },
+    Reads {
+        place: usize,
+        item: Name<'a>,
+        step: Name<'a>,
+    },
     /// `(step) -> [item];`
-    PutsItem { place: usize, step: Name<'a>, item: Name<'a> },
+    PutsItem {
+        place: usize,
+        step: Name<'a>,
+        item: Name<'a>,
+    },
     /// `(step) -> <tag>;`
-    PutsTag { place: usize, step: Name<'a>, tag: Name<'a> },
+    PutsTag {
+        place: usize,
+        step: Name<'a>,
+        tag: Name<'a>,
+    },
     /// `env -> [item];`
-    EnvironmentPutsItem { place: usize, item: Name<'a> },
+    EnvironmentPutsItem {
+        place: usize,
+        item: Name<'a>,
+    },
     /// `env -> <tag>;`
-    EnvironmentPutsTag { place: usize, tag: Name<'a> },
+    EnvironmentPutsTag {
+        place: usize,
+        tag: Name<'a>,
+    },
     /// `[item] -> env;`
-    EnvironmentGets { place: usize, item: Name<'a> },
+    EnvironmentGets {
+        place: usize,
+        item: Name<'a>,
+    },
 }
 
 /// A graph as its text has it.

@@ -1,0 +1,91 @@
+-- One step of the machine, and one part of the parser behind another.
+use Rattle.std.proofs.Common.{◌≡◌, ◌≢◌, ℕ, zero, suc, List, [], ◌∷◌, ◌++◌, refl, sym, ap, subst, ◌∙◌, append_assoc, drop, slice_get, Some, None}
+use Rattle.syntax.specs.declared.stop.Stop.{Stop}
+use Rattle.syntax.specs.declared.token.Placed.{Placed}
+use Rattle.syntax.specs.Tokens.{Spot, unknown, lexeme_of, spots_of}
+use Rattle.syntax.specs.Grammar.{Position}
+use Rattle.syntax.specs.Spelled.{Piece, IsPiece}
+use Rattle.syntax.specs.Expected.{Expected, taken, left_out, wrong, passed, look, next, met, ended, followed, syntax, too_large, run}
+use Rattle.syntax.specs.Parsed.{Spells, Goes, Reads, Tells, Stops}
+use Rattle.syntax.specs.Front.{front_of, behind_front}
+
+-- what may come first takes the token in front
+pub took : (first : Expected) (more behind : List Expected) (spots : List Spot) → (front_of spots).0 ≢ unknown → look first (front_of spots).0 (front_of spots).1 ≡ taken more
+    → run (first ∷ behind) spots ≡ run (more ++ behind) (behind_front spots)
+took first more behind [] there e = absurd (there refl)
+took first more behind (spot ∷ spots) there e = ap (λ move. followed (met move behind (next behind spot)) (spot ∷ spots) (λ after. run after spots)) e
+
+-- it is left out
+pub skipped : (first : Expected) (behind : List Expected) (spots : List Spot) → look first (front_of spots).0 (front_of spots).1 ≡ left_out
+    → run (first ∷ behind) spots ≡ run behind spots
+skipped first behind [] e = ap (λ move. ended (met move behind (next behind (unknown, 0)))) e
+skipped first behind (spot ∷ spots) e = ap (λ move. followed (met move behind (next behind spot)) (spot ∷ spots) (λ after. run after spots)) e
+
+-- the token is at fault
+pub refused : (first : Expected) (behind : List Expected) (spots : List Spot) → look first (front_of spots).0 (front_of spots).1 ≡ wrong
+    → run (first ∷ behind) spots ≡ syntax spots
+refused first behind [] e = ap (λ move. ended (met move behind (next behind (unknown, 0)))) e
+refused first behind (spot ∷ spots) e = ap (λ move. followed (met move behind (next behind spot)) (spot ∷ spots) (λ after. run after spots)) e
+
+-- a limit is passed
+pub limited : (first : Expected) (behind : List Expected) (spots : List Spot) (place : Position) → look first (front_of spots).0 (front_of spots).1 ≡ passed place
+    → run (first ∷ behind) spots ≡ too_large place
+limited first behind [] place e = ap (λ move. ended (met move behind (next behind (unknown, 0)))) e
+limited first behind (spot ∷ spots) place e = ap (λ move. followed (met move behind (next behind spot)) (spot ∷ spots) (λ after. run after spots)) e
+
+-- ---- pieces
+
+pub spelled_one : (piece : Piece) (spots : List Spot) → (front_of spots).0 ≢ unknown → IsPiece piece (front_of spots) → Spells (piece ∷ []) spots (behind_front spots)
+spelled_one piece [] there is = absurd (there refl)
+spelled_one piece (spot ∷ spots) there is = (is, refl)
+
+pub spelled_on : (one two : List Piece) (before middle after : List Spot) → Spells one before middle → Spells two middle after → Spells (one ++ two) before after
+spelled_on [] two before middle after first second = subst (λ spots. Spells two spots after) (sym first) second
+spelled_on (piece ∷ one) two [] middle after first second = absurd first
+spelled_on (piece ∷ one) two (spot ∷ before) middle after first second = (first.0, spelled_on one two before middle after first.1 second)
+
+-- ---- one part behind another
+
+pub goes_on : (expected more others last : List Expected) (before middle after : List Spot) → Goes expected more before middle → Goes (more ++ others) last middle after
+    → Goes (expected ++ others) last before after
+goes_on expected more others last before middle after first second behind =
+    ap (λ stack. run stack before) (append_assoc expected others behind) ∙ first (others ++ behind) ∙ ap (λ stack. run stack middle) (sym (append_assoc more others behind)) ∙ second behind
+
+pub reads_on : {expected more last : List Expected} (others : List Expected) {one two : List Piece} {before middle after : List Spot}
+    → Reads expected more one before middle → Reads (more ++ others) last two middle after → Reads (expected ++ others) last (one ++ two) before after
+reads_on {expected} {more} {last} others {one} {two} {before} {middle} {after} first second = record {
+  spells = spelled_on one two before middle after first.spells second.spells;
+  goes = goes_on expected more others last before middle after first.goes second.goes;
+}
+
+pub stops_on : (expected more others : List Expected) (before middle after : List Spot) (cause : Stop) → Goes expected more before middle → Stops (more ++ others) middle after cause
+    → Stops (expected ++ others) before after cause
+stops_on expected more others before middle after cause first second behind =
+    let same : run ((expected ++ others) ++ behind) before ≡ run ((more ++ others) ++ behind) middle =
+    ap (λ stack. run stack before) (append_assoc expected others behind) ∙ first (others ++ behind) ∙ ap (λ stack. run stack middle) (sym (append_assoc more others behind)) in
+    subst (λ verdict. Tells cause after verdict) (sym same) (second behind)
+
+pub stops_behind : {expected more : List Expected} {pieces : List Piece} {before middle : List Spot} (others : List Expected) (after : List Spot) (cause : Stop)
+    → Reads expected more pieces before middle → Stops (more ++ others) middle after cause → Stops (expected ++ others) before after cause
+stops_behind {expected} {more} {pieces} {before} {middle} others after cause first second = stops_on expected more others before middle after cause first.goes second
+
+-- ---- the cursor
+
+pub front_spot : (n : ℕ) (tokens : List Placed) (placed : Placed) → slice_get tokens n ≡ Some placed → front_of (spots_of (drop n tokens)) ≡ (lexeme_of placed.token, placed.place)
+front_spot n [] placed e = cc
+front_spot zero (token ∷ tokens) placed e = ap (λ it. front_of (spots_of (drop 0 (elim it [ None ↦ [] | Some first ↦ first ∷ tokens ])))) e
+front_spot (suc n) (token ∷ tokens) placed e = front_spot n tokens placed e
+
+pub passed_one : (n : ℕ) (tokens : List Placed) → spots_of (drop (suc n) tokens) ≡ behind_front (spots_of (drop n tokens))
+passed_one zero [] = refl
+passed_one (suc n) [] = refl
+passed_one zero (token ∷ tokens) = refl
+passed_one (suc n) (token ∷ tokens) = passed_one n tokens
+
+-- one token, and what may come in its place
+pub taken_one : (first : Expected) (more : List Expected) (piece : Piece) (before after : List Spot) → (front_of before).0 ≢ unknown → after ≡ behind_front before
+    → look first (front_of before).0 (front_of before).1 ≡ taken more → IsPiece piece (front_of before) → Reads (first ∷ []) more (piece ∷ []) before after
+taken_one first more piece before after there moved looks is = record {
+  spells = subst (Spells (piece ∷ []) before) (sym moved) (spelled_one piece before there is);
+  goes = λ behind. took first more behind before there looks ∙ ap (run (more ++ behind)) (sym moved);
+}

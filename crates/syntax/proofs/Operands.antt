@@ -1,0 +1,53 @@
+-- Operands, as operators make them.
+use Rattle.std.proofs.Common.{◌≡◌, ℕ, ◌-◌, ◌+◌, ◌<◌, ◌≤◌, suc, max, List, [], ◌∷◌, length, sym, subst, arith, Box, Global, inl, inr}
+use Rattle.steptree.specs.declared.step.NamedExpression.{NamedExpression, Negation}
+use Rattle.syntax.specs.declared.limits.TheConstants.{MOST_DEPTH}
+use Rattle.syntax.specs.declared.operand.Operand.TheVariants.{Kept}
+use Rattle.syntax.specs.Grammar.{Position, Unary, negated}
+use Rattle.syntax.specs.Limits.{unary_depth}
+use Rattle.syntax.specs.Tree.{IsUnary}
+use Rattle.syntax.specs.Expected.{negated_by}
+use Rattle.syntax.specs.Partial.{HoldsUnary, Counts}
+
+pub one_minus_more : (times : ℕ) (tree new : NamedExpression) (box : Box NamedExpression Global) → 0 < times → box.value ≡ tree
+    → ((positions : List Position) (unary : Unary) → length positions ≡ times - 1 → IsUnary unary (Negation box) → IsUnary (negated_by positions unary) new)
+    → (positions : List Position) (unary : Unary) → length positions ≡ times → IsUnary unary tree → IsUnary (negated_by positions unary) new
+one_minus_more times tree new box some is rest [] unary e one = absurd (omega (arith, e))
+one_minus_more times tree new box some is rest (position ∷ positions) unary e one =
+    rest positions (negated position unary) (omega (arith, e)) (subst (IsUnary unary) (sym is) one)
+
+pub no_minus : (times : ℕ) (tree : NamedExpression) → times ≡ 0 → (positions : List Position) (unary : Unary) → length positions ≡ times → IsUnary unary tree → IsUnary (negated_by positions unary) tree
+no_minus times tree none [] unary e one = one
+no_minus times tree none (position ∷ positions) unary e one = absurd (omega (arith, e, none))
+
+-- ---- depths
+
+pub negated_depth : (positions : List Position) (unary : Unary) → unary_depth (negated_by positions unary) ≡ length positions + unary_depth unary
+negated_depth [] unary = omega arith
+negated_depth (position ∷ positions) unary = omega (arith, negated_depth positions (negated position unary))
+
+pub negated_kept : (times depth : ℕ) (positions : List Position) (unary : Unary) (tree new : NamedExpression) → times ≤ MOST_DEPTH - depth → Counts (length positions) times
+    → HoldsUnary unary (Kept tree depth) → (length positions ≡ times → IsUnary unary tree → IsUnary (negated_by positions unary) new) → HoldsUnary (negated_by positions unary) (Kept new (depth + times))
+negated_kept times depth positions unary tree new few (inl same) holds made =
+    let deep = negated_depth positions unary in
+    (omega (arith, deep, same, holds.0), omega (arith, deep, same, holds.0, holds.1, few), made (sym same) holds.2)
+negated_kept times depth positions unary tree new few (inr many) holds made = absurd (omega (arith, many.0, few))
+
+pub negated_too_many : (times depth : ℕ) (positions : List Position) (unary : Unary) (tree : NamedExpression) → MOST_DEPTH - depth < times → Counts (length positions) times
+    → HoldsUnary unary (Kept tree depth) → MOST_DEPTH < unary_depth (negated_by positions unary)
+negated_too_many times depth positions unary tree many (inl same) holds = omega (arith, negated_depth positions unary, same, many, holds.0, holds.1)
+negated_too_many times depth positions unary tree many (inr both) holds = omega (arith, negated_depth positions unary, both.1)
+
+pub negated_too_deep : (positions : List Position) (unary : Unary) → MOST_DEPTH < unary_depth unary → MOST_DEPTH < unary_depth (negated_by positions unary)
+negated_too_deep positions unary deep = omega (arith, negated_depth positions unary, deep)
+
+-- ---- operations
+
+pub left_deep : (left right : ℕ) → MOST_DEPTH < left → MOST_DEPTH < suc (max left right)
+left_deep left right deep = omega (arith, deep)
+
+pub right_deep : (left right : ℕ) → MOST_DEPTH < right → MOST_DEPTH < suc (max left right)
+right_deep left right deep = omega (arith, deep)
+
+pub one_deeper : (left right : ℕ) → left < MOST_DEPTH → right < MOST_DEPTH → suc (max left right) ≤ MOST_DEPTH
+one_deeper left right one two = omega (arith, one, two)

@@ -1,0 +1,116 @@
+-- On the way through an expression, and at its end.
+use Rattle.std.proofs.Common.{◌≡◌, ◌<◌, List, [], ◌∷◌, ◌++◌, length, refl, sym, ap, subst, ◌∙◌, arith, Option, Some, None, append_assoc, Bool, true, false}
+use Rattle.std.proofs.lemmas.List.{append-nil}
+use Rattle.steptree.specs.declared.step.NamedExpression.{NamedExpression}
+use Rattle.syntax.specs.declared.operand.Operand.{Operand}
+use Rattle.syntax.specs.declared.partial.Partial.{Partial}
+use Rattle.syntax.specs.declared.stop.Stop.{Stop}
+use Rattle.syntax.specs.declared.stop.Stop.TheVariants as stop
+use Rattle.syntax.specs.Tokens.{Spot}
+use Rattle.syntax.specs.Grammar.{Position, Expr, Sum, sum_alone, Prod}
+use Rattle.syntax.specs.Limits.{expr_limits, expr_depth, depth_limits, expr_within, prod_within}
+use Rattle.syntax.specs.Spelled.{expr_pieces}
+use Rattle.syntax.specs.Expected.{Comparing, never, possible, behind_left, Expression, Expected, whole, operand, behind_operand, Move, finished, level_expr, begun, run, look, sum_of, compared_of}
+use Rattle.syntax.specs.Front.{front_of}
+use Rattle.syntax.specs.Parsed.{Spells, Tells, Stops}
+use Rattle.syntax.specs.Partial.{HoldsProd, IsPartial, HoldsExpr, IsBehind, IsWhole, IsFresh, comparison_may_come, outermost, Follows, Onward, read_so_far, state_limits}
+use Rattle.syntax.specs.Whole.{From, Reached, IsExpression, IsWithinLimits, TellsLimit}
+use Rattle.syntax.proofs.Moves.{skipped, limited}
+use Rattle.syntax.proofs.Onward.{compared_pieces, added_pieces, compared_within, added_within}
+
+pub from_on : (comparing : Comparing) (from to : Expected) (start now after : List Spot) → From comparing from start now → Onward from to now after → From comparing to start after
+from_on comparing from to start now after way step = record {
+  goes = λ behind. way.goes behind ∙ step.goes behind;
+  spells = step.spells start way.spells;
+  clear = step.clear way.clear;
+  alone = λ e. step.alone (way.alone e);
+}
+
+pub begun_on : (comparing : Comparing) (start now after : List Spot) (product : Option Operand) (old new : Partial) → Reached comparing start now None old
+    → ((state : Expression) → IsPartial state old → Follows (operand state) now after product new) → length after < length now → Reached comparing start after product new
+begun_on comparing start now after None old new reached follows fewer =
+    let next = follows reached.0 reached.1 in
+    (next.0, next.1, from_on comparing (operand reached.0) (operand next.0) start now after reached.2 next.2, omega (arith, reached.3, fewer))
+begun_on comparing start now after (Some product) old new reached follows fewer =
+    let next = follows reached.0 reached.1 in
+    (next.0, next.1, next.2, next.3, next.4, from_on comparing (operand reached.0) (behind_operand next.0 next.1) start now after reached.2 next.5, omega (arith, reached.3, fewer))
+
+pub awaits_on : (comparing : Comparing) (start now after : List Spot) (product : Operand) (old new : Partial) → Reached comparing start now (Some product) old
+    → ((state : Expression) (prod : Prod) → IsPartial state old → IsBehind state → HoldsProd prod product → Follows (behind_operand state prod) now after None new) → length after < length now
+    → Reached comparing start after None new
+awaits_on comparing start now after product old new reached follows fewer =
+    let next = follows reached.0 reached.1 reached.2 reached.3 reached.4 in
+    (next.0, next.1, from_on comparing (behind_operand reached.0 reached.1) (operand next.0) start now after reached.5 next.2, omega (arith, reached.6, fewer))
+
+pub product_on : (comparing : Comparing) (start now after : List Spot) (product closed : Operand) (old new : Partial) → Reached comparing start now (Some product) old
+    → ((state : Expression) (prod : Prod) → IsPartial state old → IsBehind state → HoldsProd prod product → Follows (behind_operand state prod) now after (Some closed) new) → length after < length now
+    → Reached comparing start after (Some closed) new
+product_on comparing start now after product closed old new reached follows fewer =
+    let next = follows reached.0 reached.1 reached.2 reached.3 reached.4 in
+    (next.0, next.1, next.2, next.3, next.4, from_on comparing (behind_operand reached.0 reached.1) (behind_operand next.0 next.1) start now after reached.5 next.5, omega (arith, reached.6, fewer))
+
+-- ---- the end
+
+whole_pieces : (state : Expression) (prod : Prod) → state.outer ≡ [] → IsBehind state → read_so_far (behind_operand state prod) ≡ expr_pieces (level_expr state.level prod)
+whole_pieces state prod none nothing =
+    let no_product = nothing.0 in
+    let no_minus = nothing.1 in
+    simp (none, no_product, no_minus, compared_pieces, added_pieces, append_assoc, append-nil)
+
+whole_clear : (state : Expression) (prod : Prod) → state.outer ≡ [] → IsBehind state → state_limits state ++ prod_within (length state.outer) prod ≡ [] → expr_within 0 (level_expr state.level prod) ≡ []
+whole_clear state prod none nothing clear =
+    let no_product = nothing.0 in
+    simp (compared_within, added_within, append_assoc, append-nil) (simp (none, no_product, append_assoc, append-nil) at clear)
+
+alone_sum : (comparing : Comparing) (sum : Sum) → comparing ≡ never → compared_of comparing sum ≡ sum_alone sum
+alone_sum never sum e = refl
+alone_sum possible sum e = cc
+alone_sum (behind_left left how) sum e = cc
+
+no_limits : (expr : Expr) → ((place : Position) → depth_limits (expr_depth expr) place ≡ []) → expr_within 0 expr ≡ [] → expr_limits expr ≡ []
+no_limits expr shallow clear = rw (shallow, clear) refl
+
+pub expression_read : (comparing : Comparing) (start now after : List Spot) (product expression : Operand) (old new : Partial) (tree : NamedExpression) → Reached comparing start now (Some product) old
+    → (ends : (state : Expression) (prod : Prod) → IsPartial state old → IsBehind state → HoldsProd prod product → IsWhole state prod expression new now after)
+    → ((state : Expression) (expr : Expr) → new.first ≡ state.first → new.passed ≡ state.passed → HoldsExpr expr expression → IsWithinLimits state expr tree) → IsExpression comparing tree start after
+expression_read comparing start now after product expression old new tree reached ends finishes =
+    let state = reached.0 in
+    let prod = reached.1 in
+    let way = reached.5 in
+    let end = ends state prod reached.2 reached.3 reached.4 in
+    let within = finishes state (level_expr state.level prod) end.first end.passed end.holds in
+    subst (IsExpression comparing tree start) (sym end.same) (record {
+      expr = level_expr state.level prod;
+      reads = record {
+        spells = subst (λ pieces. Spells pieces start now) (whole_pieces state prod end.outer reached.3) way.spells;
+        goes = λ behind. way.goes behind ∙ skipped (behind_operand state prod) behind now (end.looks ∙ within.looks);
+      };
+      is = within.is;
+      within = no_limits (level_expr state.level prod) within.shallow (whole_clear state prod end.outer reached.3 (way.clear within.clear));
+      alone = λ e. (sum_of state.level.sum prod, alone_sum state.level.comparing (sum_of state.level.sum prod) (sym (ap (outermost state.level) end.outer) ∙ way.alone e));
+    })
+
+pub limit_told : (cause : Stop) (move : Move) (first : Expected) (behind : List Expected) (spots : List Spot) → TellsLimit cause move → look first (front_of spots).0 (front_of spots).1 ≡ move
+    → Tells cause spots (run (first ∷ behind) spots)
+limit_told (stop.TooLarge place) move first behind spots told looks = limited first behind spots place (looks ∙ told)
+limit_told stop.Syntax move first behind spots told looks = absurd told
+limit_told stop.NoMemory move first behind spots told looks = absurd told
+
+pub expression_stops : (comparing : Comparing) (start now after : List Spot) (product expression : Operand) (old new : Partial) (cause : Stop) → Reached comparing start now (Some product) old
+    → ((state : Expression) (prod : Prod) → IsPartial state old → IsBehind state → HoldsProd prod product → IsWhole state prod expression new now after)
+    → ((state : Expression) (expr : Expr) → new.first ≡ state.first → new.passed ≡ state.passed → HoldsExpr expr expression → TellsLimit cause (finished state expr)) → Stops (whole comparing ∷ []) start after cause
+expression_stops comparing start now after product expression old new cause reached ends finishes behind =
+    let state = reached.0 in
+    let prod = reached.1 in
+    let end = ends state prod reached.2 reached.3 reached.4 in
+    subst (λ rest. Tells cause rest (run (whole comparing ∷ behind) start)) (sym end.same) (subst (Tells cause now) (sym (reached.5.goes behind))
+    (limit_told cause _ (behind_operand state prod) behind now (finishes state (level_expr state.level prod) end.first end.passed end.holds) end.looks))
+
+-- the first token begins an operand
+pub begins : (comparing : Comparing) (spots : List Spot) (behind : List Expected) → run (whole comparing ∷ behind) spots ≡ run (operand (begun comparing (front_of spots).1) ∷ behind) spots
+begins comparing [] behind = refl
+begins comparing (spot ∷ spots) behind = refl
+
+pub some_comparing : (may : Bool) → (comparing : Comparing) × (may ≡ comparison_may_come comparing) × IsFresh comparing
+some_comparing true = (possible, refl, tt)
+some_comparing false = (never, refl, tt)

@@ -1,0 +1,19 @@
+use Rattle.std.proofs.Common.{sym, subst}
+use Rattle.syntax.specs.Partial.{WaitsInSum}
+use Rattle.syntax.proofs.partial.Partial.await_sum.Goals as goal
+
+pub returns : goal.returns
+returns c = λ state prod how is holds operates.
+    let sum = c.in_ok-left.ensures state.level.sum prod (subst (WaitsInSum state.level.sum) (sym c.take.ensures.value) is.level.sum) holds in
+    record {
+      first = is.first;
+      passed = is.passed;
+      level = record {
+        may_compare = is.level.may_compare;
+        comparison = is.level.comparison;
+        sum = (operates, sum);
+        product = is.level.product;
+        negations = is.level.negations;
+      };
+      outer = is.outer;
+    }

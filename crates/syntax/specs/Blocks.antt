@@ -1,0 +1,72 @@
+-- Statements that are read one by one, each as a block that ends behind it.
+use Rattle.std.specs.Prelude.{◌≡◌, List, [], ◌∷◌, ◌++◌, drop}
+use Rattle.steptree.specs.declared.step.Name.{Name}
+use Rattle.steptree.specs.declared.step.NamedBlock.{NamedBlock}
+use Rattle.steptree.specs.declared.step.NamedBlock.TheVariants as block
+use Rattle.syntax.specs.declared.token.Symbol.TheVariants as sign
+use Rattle.syntax.specs.Tokens.{Spot}
+use Rattle.syntax.specs.Grammar.{Get, Key, Put, put_item, put_tag, Expr}
+use Rattle.syntax.specs.Limits.{get_limits, put_limits, expr_limits}
+use Rattle.syntax.specs.Spelled.{get_pieces, put_pieces, expr_pieces, a_sign}
+use Rattle.syntax.specs.Tree.{IsExpr, IsGet, IsPut}
+use Rattle.syntax.specs.Expected.{Expected, exactly, whole, possible, get_rest, put_target, key_rest, item, tag}
+use Rattle.syntax.specs.Parsed.{Reads}
+
+-- the first statement, with these behind it
+abbrev pub with_rest : NamedBlock → NamedBlock → NamedBlock
+with_rest block.End rest = rest
+with_rest (block.Assign' name value p other) rest = block.Assign' name value p rest
+with_rest (block.If' condition p first q second r other) rest = block.If' condition p first q second r rest
+with_rest (block.For' name from to p inner q other) rest = block.For' name from to p inner q rest
+with_rest (block.Get' name key p other) rest = block.Get' name key p rest
+with_rest (block.PutItem' key value p other) rest = block.PutItem' key value p rest
+with_rest (block.PutTag' key p other) rest = block.PutTag' key p rest
+
+-- behind the word `get`
+pub record IsGetRead (tree : NamedBlock) (before after : List Spot) : Type 0 where
+  pub get : Get
+  pub reads : Reads get_rest [] (drop 1 (get_pieces get)) before after
+  pub is : (rest : NamedBlock) → IsGet get (with_rest tree rest) (λ other. other ≡ rest)
+  pub within : get_limits get ≡ []
+
+-- behind `put [`
+abbrev pub item_rest : List Expected
+item_rest = key_rest item ++ exactly sign.Assign ∷ whole possible ∷ exactly sign.Semicolon ∷ []
+
+pub record IsItemRead (tree : NamedBlock) (before after : List Spot) : Type 0 where
+  pub key : Key
+  pub value : Expr
+  pub reads : Reads item_rest [] (drop 2 (put_pieces (put_item key value))) before after
+  pub is : (rest : NamedBlock) → IsPut (put_item key value) (with_rest tree rest) (λ other. other ≡ rest)
+  pub within : put_limits (put_item key value) ≡ []
+
+-- behind `put <`
+abbrev pub tag_rest : List Expected
+tag_rest = key_rest tag ++ exactly sign.Semicolon ∷ []
+
+pub record IsTagRead (tree : NamedBlock) (before after : List Spot) : Type 0 where
+  pub key : Key
+  pub reads : Reads tag_rest [] (drop 2 (put_pieces (put_tag key))) before after
+  pub is : (rest : NamedBlock) → IsPut (put_tag key) (with_rest tree rest) (λ other. other ≡ rest)
+  pub within : put_limits (put_tag key) ≡ []
+
+-- behind the word `put`
+pub record IsPutRead (tree : NamedBlock) (before after : List Spot) : Type 0 where
+  pub put : Put
+  pub reads : Reads (put_target ∷ []) [] (drop 1 (put_pieces put)) before after
+  pub is : (rest : NamedBlock) → IsPut put (with_rest tree rest) (λ other. other ≡ rest)
+  pub within : put_limits put ≡ []
+
+-- behind the name that is assigned
+abbrev pub assignment_rest : List Expected
+assignment_rest = exactly sign.Assign ∷ whole possible ∷ exactly sign.Semicolon ∷ []
+
+abbrev pub IsAssignment : Name → Expr → NamedBlock → NamedBlock → Type 0
+IsAssignment name expr (block.Assign' other value _ behind) rest = (other ≡ name) × IsExpr expr value × (behind ≡ rest)
+IsAssignment name expr tree rest = ⊥
+
+pub record IsValueRead (tree : NamedBlock) (name : Name) (before after : List Spot) : Type 0 where
+  pub expr : Expr
+  pub reads : Reads assignment_rest [] (a_sign sign.Assign ++ expr_pieces expr ++ a_sign sign.Semicolon) before after
+  pub is : (rest : NamedBlock) → IsAssignment name expr (with_rest tree rest) rest
+  pub within : expr_limits expr ≡ []

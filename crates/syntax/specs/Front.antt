@@ -1,0 +1,12 @@
+-- The token in front.
+use Rattle.std.specs.Prelude.{List, [], ◌∷◌}
+use Rattle.syntax.specs.Tokens.{Spot, unknown}
+
+-- the token in front, and those behind it; at the end an unknown one
+abbrev pub front_of : List Spot → Spot
+front_of [] = (unknown, 0)
+front_of (spot ∷ spots) = spot
+
+abbrev pub behind_front : List Spot → List Spot
+behind_front [] = []
+behind_front (spot ∷ spots) = spots

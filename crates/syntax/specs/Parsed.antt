@@ -1,0 +1,53 @@
+-- What a part of the parser reads: the tokens in front of it and behind it, and where it stops.
+use Rattle.std.specs.Prelude.{◌≡◌, ⊤, Bool, true, false, List, [], ◌∷◌, ◌++◌, drop, Option, Some, None}
+use Rattle.steptree.specs.declared.step.Name.{Name}
+use Rattle.syntax.specs.declared.cursor.Cursor.{Cursor}
+use Rattle.syntax.specs.declared.stop.Stop.{Stop}
+use Rattle.syntax.specs.declared.stop.Stop.TheVariants as stop
+use Rattle.syntax.specs.declared.token.Symbol.{Symbol}
+use Rattle.syntax.specs.Tokens.{Lexeme, symbol, Spot, spots_of}
+use Rattle.syntax.specs.Grammar.{Position, Named}
+use Rattle.syntax.specs.Spelled.{Piece, plain, IsPiece}
+use Rattle.syntax.specs.Expected.{Expected, Verdict, syntax, too_large, run, look, look_if}
+
+-- the tokens that are left
+abbrev pub left : Cursor → List Spot
+left cursor = spots_of (drop cursor.passed cursor.tokens.now)
+
+abbrev pub named_of : Name → Named
+named_of it = (it.text.now, it.place)
+
+-- the tokens are these pieces, and then those behind
+abbrev pub Spells : List Piece → List Spot → List Spot → Type 0
+Spells [] before after = before ≡ after
+Spells (piece ∷ pieces) [] after = ⊥
+Spells (piece ∷ pieces) (spot ∷ spots) after = IsPiece piece spot × Spells pieces spots after
+
+-- where these may come at the tokens before, those may come at the tokens behind, whatever may come after them
+abbrev pub Goes : List Expected → List Expected → List Spot → List Spot → Type 0
+Goes expected more before after = (behind : List Expected) → run (expected ++ behind) before ≡ run (more ++ behind) after
+
+pub record Reads (expected more : List Expected) (pieces : List Piece) (before after : List Spot) : Type 0 where
+  pub spells : Spells pieces before after
+  pub goes : Goes expected more before after
+
+-- the verdict is told by where the parser stops, with these tokens left
+abbrev pub Tells : Stop → List Spot → Verdict → Type 0
+Tells stop.NoMemory rest verdict = ⊤
+Tells stop.Syntax rest verdict = verdict ≡ syntax rest
+Tells (stop.TooLarge place) rest verdict = verdict ≡ too_large place
+
+abbrev pub Stops : List Expected → List Spot → List Spot → Stop → Type 0
+Stops expected before after cause = (behind : List Expected) → Tells cause after (run (expected ++ behind) before)
+
+-- the verdict where an expression breaks off behind this limit, if one is passed
+abbrev pub BreaksOff : Option Position → List Spot → Verdict → Type 0
+BreaksOff None rest verdict = verdict ≡ syntax rest
+BreaksOff (Some place) rest verdict = verdict ≡ too_large place
+
+-- where a sign may stand, whether it is taken: where it is, those behind it may come, else what it stands for is left out
+abbrev pub TakenIf : Symbol → Bool → List Spot → List Spot → Type 0
+TakenIf sign true before after = (first : Expected) (more : List Expected) → ((lexeme : Lexeme) (place : Position) → look first lexeme place ≡ look_if sign lexeme more)
+    → Reads (first ∷ []) more (plain (symbol sign) ∷ []) before after
+TakenIf sign false before after = (after ≡ before) × ((first : Expected) (more : List Expected) → ((lexeme : Lexeme) (place : Position) → look first lexeme place ≡ look_if sign lexeme more)
+    → Goes (first ∷ []) [] before after)

@@ -1,0 +1,213 @@
+-- An expression while it is read: what the parser keeps of it, what it spelled so far, and the limits so far.
+use Rattle.std.specs.Prelude.{◌≡◌, ◌⊎◌, ◌<◌, ◌≤◌, ⊤, ℕ, Bool, true, false, List, [], ◌∷◌, ◌++◌, length, reverse, Option, Some, None}
+use Rattle.steptree.specs.declared.step.NamedExpression.{NamedExpression}
+use Rattle.syntax.specs.declared.limits.TheConstants.{MOST_DEPTH, MOST_BRACKETS}
+use Rattle.syntax.specs.declared.operand.Operand.{Operand}
+use Rattle.syntax.specs.declared.operand.Operand.TheVariants.{Kept, TooDeep}
+use Rattle.syntax.specs.declared.operand.Pending.{Pending}
+use Rattle.syntax.specs.declared.partial.Level.{Level as Kept_level}
+use Rattle.syntax.specs.declared.partial.Partial.{Partial}
+use Rattle.syntax.specs.declared.partial.After.{After}
+use Rattle.syntax.specs.declared.partial.After.TheVariants.{AwaitsOperand, HasProduct, Whole}
+use Rattle.syntax.specs.declared.token.Symbol.TheVariants as sign
+use Rattle.syntax.specs.Tokens.{Spot}
+use Rattle.syntax.specs.Grammar.{Position, Expr, Sum, Addition, Prod, Multiplication, Unary}
+use Rattle.syntax.specs.Limits.{expr_depth, sum_depth, prod_depth, unary_depth, sum_within, prod_within, one_more}
+use Rattle.syntax.specs.Spelled.{Piece, a_sign, sign_at, sum_pieces, prod_pieces, comparison_sign, addition_sign, multiplication_sign}
+use Rattle.syntax.specs.Tree.{IsExpr, IsSum, IsProd, IsUnary, AreAll, comparison_operator, addition_operator, multiplication_operator}
+use Rattle.syntax.specs.Expected.{Comparing, never, possible, behind_left, Level, Expression, Expected, operand, behind_operand, level_expr, look, finished}
+use Rattle.syntax.specs.Front.{front_of}
+use Rattle.syntax.specs.Parsed.{Spells, Goes}
+
+-- ---- operands
+
+-- an operand of this depth that is so, or none where it is too deep
+abbrev pub Holds : (NamedExpression → Type 0) → ℕ → Operand → Type 0
+Holds Is depth (Kept tree kept) = (kept ≡ depth) × (depth ≤ MOST_DEPTH) × Is tree
+Holds Is depth TooDeep = MOST_DEPTH < depth
+
+abbrev pub HoldsExpr : Expr → Operand → Type 0
+HoldsExpr expr = Holds (IsExpr expr) (expr_depth expr)
+
+abbrev pub HoldsSum : Sum → Operand → Type 0
+HoldsSum sum = Holds (IsSum sum) (sum_depth sum)
+
+abbrev pub HoldsProd : Prod → Operand → Type 0
+HoldsProd prod = Holds (IsProd prod) (prod_depth prod)
+
+abbrev pub HoldsUnary : Unary → Operand → Type 0
+HoldsUnary unary = Holds (IsUnary unary) (unary_depth unary)
+
+-- as many, or too many both
+abbrev pub Counts : ℕ → ℕ → Type 0
+Counts many counted = (counted ≡ many) ⊎ ((MOST_DEPTH < counted) × (MOST_DEPTH < many))
+
+-- ---- levels
+
+abbrev pub WaitsInSum : Option (Sum × Addition) → Option Pending → Type 0
+WaitsInSum None None = ⊤
+WaitsInSum (Some waits) (Some pending) = (pending.operator ≡ addition_operator waits.1) × HoldsSum waits.0 pending.left
+WaitsInSum waits pending = ⊥
+
+abbrev pub WaitsInProduct : Option (Prod × Multiplication) → Option Pending → Type 0
+WaitsInProduct None None = ⊤
+WaitsInProduct (Some waits) (Some pending) = (pending.operator ≡ multiplication_operator waits.1) × HoldsProd waits.0 pending.left
+WaitsInProduct waits pending = ⊥
+
+abbrev pub WaitsInComparison : Comparing → Option Pending → Type 0
+WaitsInComparison never None = ⊤
+WaitsInComparison possible None = ⊤
+WaitsInComparison (behind_left left how) (Some pending) = (pending.operator ≡ comparison_operator how) × HoldsSum left pending.left
+WaitsInComparison waits pending = ⊥
+
+-- whether a comparison may come
+abbrev pub comparison_may_come : Comparing → Bool
+comparison_may_come never = false
+comparison_may_come possible = true
+comparison_may_come (behind_left left how) = false
+
+-- no operand is read yet
+abbrev pub IsFresh : Comparing → Type 0
+IsFresh never = ⊤
+IsFresh possible = ⊤
+IsFresh (behind_left left how) = ⊥
+
+pub record IsLevel (level : Level) (kept : Kept_level) : Type 0 where
+  pub may_compare : kept.may_compare ≡ comparison_may_come level.comparing
+  pub comparison : WaitsInComparison level.comparing kept.comparison
+  pub sum : WaitsInSum level.sum kept.sum
+  pub product : WaitsInProduct level.product kept.product
+  pub negations : Counts (length level.negations) kept.negations
+
+-- the parser keeps this of an expression
+pub record IsPartial (state : Expression) (kept : Partial) : Type 0 where
+  pub first : kept.first ≡ state.first
+  pub passed : kept.passed ≡ state.passed
+  pub level : IsLevel state.level kept.level
+  pub outer : AreAll (λ (around : Level × Position). IsLevel around.0) state.outer (reverse kept.outer.items)
+
+-- ---- what is spelled
+
+abbrev pub sum_waiting : Option (Sum × Addition) → List Piece
+sum_waiting None = []
+sum_waiting (Some waits) = sum_pieces waits.0 ++ a_sign (addition_sign waits.1)
+
+abbrev pub product_waiting : Option (Prod × Multiplication) → List Piece
+product_waiting None = []
+product_waiting (Some waits) = prod_pieces waits.0 ++ a_sign (multiplication_sign waits.1)
+
+abbrev pub comparison_waiting : Comparing → List Piece
+comparison_waiting never = []
+comparison_waiting possible = []
+comparison_waiting (behind_left left how) = sum_pieces left ++ a_sign (comparison_sign how)
+
+abbrev pub minus_pieces : List Position → List Piece
+minus_pieces [] = []
+minus_pieces (position ∷ positions) = minus_pieces positions ++ sign_at position sign.Minus
+
+abbrev pub level_pieces : Level → List Piece
+level_pieces level = comparison_waiting level.comparing ++ sum_waiting level.sum ++ product_waiting level.product ++ minus_pieces level.negations
+
+abbrev pub around_pieces : List (Level × Position) → List Piece
+around_pieces [] = []
+around_pieces (around ∷ outer) = around_pieces outer ++ level_pieces around.0 ++ sign_at around.1 sign.OpenRound
+
+abbrev pub state_pieces : Expression → List Piece
+state_pieces state = around_pieces state.outer ++ level_pieces state.level
+
+-- ---- the limits that are passed
+
+abbrev pub sum_limits_before : ℕ → Option (Sum × Addition) → List Position
+sum_limits_before around None = []
+sum_limits_before around (Some waits) = sum_within around waits.0
+
+abbrev pub product_limits_before : ℕ → Option (Prod × Multiplication) → List Position
+product_limits_before around None = []
+product_limits_before around (Some waits) = prod_within around waits.0
+
+abbrev pub comparison_limits_before : ℕ → Comparing → List Position
+comparison_limits_before around never = []
+comparison_limits_before around possible = []
+comparison_limits_before around (behind_left left how) = sum_within around left
+
+abbrev pub level_limits : ℕ → Level → List Position
+level_limits around level = comparison_limits_before around level.comparing ++ sum_limits_before around level.sum ++ product_limits_before around level.product
+
+abbrev pub around_limits : List (Level × Position) → List Position
+around_limits [] = []
+around_limits (around ∷ outer) = around_limits outer ++ level_limits (length outer) around.0 ++ one_more MOST_BRACKETS (length outer) around.1
+
+abbrev pub state_limits : Expression → List Position
+state_limits state = around_limits state.outer ++ level_limits (length state.outer) state.level
+
+-- ---- the outermost level
+
+abbrev pub outermost : Level → List (Level × Position) → Comparing
+outermost level [] = level.comparing
+outermost level (around ∷ outer) = outermost around.0 outer
+
+-- ---- from one place in an expression to the next
+
+abbrev pub read_so_far : Expected → List Piece
+read_so_far (operand state) = state_pieces state
+read_so_far (behind_operand state prod) = state_pieces state ++ prod_pieces prod
+read_so_far other = []
+
+-- where no limit is said to be passed, none is
+abbrev pub IsClear : Expected → Type 0
+IsClear (operand state) = state.passed ≡ None → state_limits state ≡ []
+IsClear (behind_operand state prod) = state.passed ≡ None → state_limits state ++ prod_within (length state.outer) prod ≡ []
+IsClear other = ⊤
+
+-- a key's component stays one
+abbrev pub IsSumAlone : Expected → Type 0
+IsSumAlone (operand state) = outermost state.level state.outer ≡ never
+IsSumAlone (behind_operand state prod) = outermost state.level state.outer ≡ never
+IsSumAlone other = ⊤
+
+pub record Onward (from to : Expected) (before after : List Spot) : Type 0 where
+  pub goes : Goes (from ∷ []) (to ∷ []) before after
+  pub spells : (start : List Spot) → Spells (read_so_far from) start before → Spells (read_so_far to) start after
+  pub clear : IsClear from → IsClear to
+  pub alone : IsSumAlone from → IsSumAlone to
+
+-- nothing waits in front of the operand
+abbrev pub IsBehind : Expression → Type 0
+IsBehind state = (state.level.product ≡ None) × (state.level.negations ≡ [])
+
+-- with this product behind an operand, or none before one
+abbrev pub Follows : Expected → List Spot → List Spot → Option Operand → Partial → Type 0
+Follows from before after None kept = (state : Expression) × IsPartial state kept × Onward from (operand state) before after
+Follows from before after (Some product) kept =
+    (state : Expression) × (prod : Prod) × IsPartial state kept × IsBehind state × HoldsProd prod product × Onward from (behind_operand state prod) before after
+
+-- the expression is whole in front of a token that is not taken
+pub record IsWhole (state : Expression) (prod : Prod) (expression : Operand) (kept : Partial) (before after : List Spot) : Type 0 where
+  pub same : after ≡ before
+  pub first : kept.first ≡ state.first
+  pub passed : kept.passed ≡ state.passed
+  pub outer : state.outer ≡ []
+  pub holds : HoldsExpr (level_expr state.level prod) expression
+  pub looks : look (behind_operand state prod) (front_of before).0 (front_of before).1 ≡ finished state (level_expr state.level prod)
+
+abbrev pub GoesOn : Expression → Prod → List Spot → List Spot → After → Partial → Type 0
+GoesOn state prod before after AwaitsOperand kept = Follows (behind_operand state prod) before after None kept
+GoesOn state prod before after (HasProduct product) kept = Follows (behind_operand state prod) before after (Some product) kept
+GoesOn state prod before after (Whole expression) kept = IsWhole state prod expression kept before after
+
+-- a token is taken unless the expression is whole
+abbrev pub Fewer : After → ℕ → ℕ → Type 0
+Fewer (Whole expression) before after = after ≤ before
+Fewer other before after = after < before
+
+-- the expression ends behind this product, within no bracket
+abbrev pub EndsAs : Expression → Prod → Operand → Partial → Type 0
+EndsAs state prod expression kept = (kept.first ≡ state.first) × (kept.passed ≡ state.passed) × (state.outer ≡ []) × HoldsExpr (level_expr state.level prod) expression
+
+-- the expression without the level around its innermost one, which this one is
+pub record IsAround (state : Expression) (kept : Partial) (level : Level) (outer : List (Level × Position)) (around : Kept_level) : Type 0 where
+  pub first : kept.first ≡ state.first
+  pub passed : kept.passed ≡ state.passed
+  pub inner : IsLevel state.level kept.level
+  pub outside : IsLevel level around
+  pub others : AreAll (λ (one : Level × Position). IsLevel one.0) outer (reverse kept.outer.items)

@@ -1,0 +1,148 @@
+//! The tokens that are left, and the takes of single ones.
+ghost use Rattle.std.specs.Prelude.{◌≡◌, true};
+ghost use Rattle.syntax.specs.Natural.{all_natural};
+
+use crate::stop::Stop;
+use crate::{MOST_NAME_BYTES, Placed, Symbol, Token, Word};
+use steptree::Name;
+
+/// The tokens of a text, and how many of them are passed.
+#[derive(Drop)]
+pub(crate) struct Cursor<'t, 'a> {
+    pub(crate) tokens: &'t [Placed<'a>],
+    pub(crate) passed: usize,
+    ghost natural: { all_natural tokens.now ≡ true },
+}
+
+impl<'t, 'a> Cursor<'t, 'a> {
+    ghost use Rattle.std.specs.Prelude.{◌∷◌, false, [], ◌≤◌, ◌<◌, length, IfOk, IfErr, OnOk};
+    ghost use Rattle.syntax.specs.Tokens.{spots_of, lexeme_of, word, symbol};
+    ghost use Rattle.syntax.specs.Limits.{name_limits};
+    ghost use Rattle.syntax.specs.Spelled.{plain, named};
+    ghost use Rattle.syntax.specs.Expected.{exactly, keyword as reserved, a_name};
+    ghost use Rattle.syntax.specs.NameLists.{TakesName, StopsAtName};
+    ghost use Rattle.syntax.specs.Parsed.{left, named_of, Reads, Stops, TakenIf};
+    ghost use Rattle.syntax.specs.Front.{front_of, behind_front};
+
+    /// In front of all of these tokens, which are those of a text.
+    pub(crate) fn begin(tokens: &'t [Placed<'a>]) -> Cursor<'t, 'a>
+        requires { all_natural tokens.now ≡ true }
+        ensures { left result ≡ spots_of tokens.now }
+    {
+        Cursor { tokens, passed: 0 }
+    }
+
+    /// The token in front; at the end an unknown one.
+    pub(crate) fn front(&self) -> Token<'a>
+        ensures { lexeme_of result ≡ (front_of (left self.now)).0 }
+    {
+        match self.tokens.get(self.passed) {
+            Some(placed) => placed.token,
+            None => Token::Unknown,
+        }
+    }
+
+    /// Its position; 0 at the end.
+    pub(crate) fn place(&self) -> usize
+        ensures { result ≡ (front_of (left self.now)).1 }
+    {
+        match self.tokens.get(self.passed) {
+            Some(placed) => placed.place,
+            None => 0,
+        }
+    }
+
+    /// Goes behind the token in front.
+    pub(crate) fn advance(&mut self)
+        ensures { left self.new ≡ behind_front (left self.old) }
+    {
+        if self.passed < self.tokens.len() {
+            self.passed += 1;
+        }
+    }
+
+    /// Takes this sign.
+    pub(crate) fn sign(&mut self, sign: Symbol) -> Result<(), Stop>
+        ensures reads { OnOk result (Reads (exactly sign ∷ []) [] (plain (symbol sign) ∷ []) (left self.old) (left self.new)) }
+        ensures fewer { OnOk result (length (left self.new) < length (left self.old)) }
+        ensures stops { IfErr result (Stops (exactly sign ∷ []) (left self.old) (left self.new)) }
+    {
+        match self.front() {
+            Token::Symbol(other) if other == sign => {
+                self.advance();
+                Ok(())
+            }
+            _ => Err(Stop::Syntax),
+        }
+    }
+
+    /// Takes this reserved word.
+    pub(crate) fn keyword(&mut self, keyword: Word) -> Result<(), Stop>
+        ensures reads { OnOk result (Reads (reserved keyword ∷ []) [] (plain (word keyword) ∷ []) (left self.old) (left self.new)) }
+        ensures fewer { OnOk result (length (left self.new) < length (left self.old)) }
+        ensures stops { IfErr result (Stops (reserved keyword ∷ []) (left self.old) (left self.new)) }
+    {
+        match self.front() {
+            Token::Word(other) if other == keyword => {
+                self.advance();
+                Ok(())
+            }
+            _ => Err(Stop::Syntax),
+        }
+    }
+
+    /// Takes a name of at most so many bytes as a name may have.
+    pub(crate) fn name(&mut self) -> Result<Name<'a>, Stop>
+        ensures reads { IfOk result (λ name. Reads (a_name ∷ []) [] (named (named_of name) ∷ []) (left self.old) (left self.new)) }
+        ensures within { IfOk result (λ name. name_limits (named_of name) ≡ []) }
+        ensures fewer { OnOk result (length (left self.new) < length (left self.old)) }
+        ensures stops { IfErr result (Stops (a_name ∷ []) (left self.old) (left self.new)) }
+    {
+        let place = self.place();
+        match self.front() {
+            Token::Name(text) => {
+                if text.len() > MOST_NAME_BYTES {
+                    return Err(Stop::TooLarge(place));
+                }
+                self.advance();
+                Ok(Name { text, place })
+            }
+            _ => Err(Stop::Syntax),
+        }
+    }
+
+    /// Takes this sign, if it stands in front.
+    pub(crate) fn takes(&mut self, sign: Symbol) -> bool
+        ensures taken { TakenIf sign result (left self.old) (left self.new) }
+        ensures fewer { length (left self.new) ≤ length (left self.old) }
+    {
+        match self.front() {
+            Token::Symbol(other) if other == sign => {
+                self.advance();
+                true
+            }
+            _ => false,
+        }
+    }
+
+    /// Takes a name, unless there is no room for one.
+    pub(crate) fn counted_name(&mut self, full: bool) -> Result<Name<'a>, Stop>
+        ensures reads { IfOk result (λ name. TakesName full name (left self.old) (left self.new)) }
+        ensures within { IfOk result (λ name. name_limits (named_of name) ≡ []) }
+        ensures room { OnOk result (full ≡ false) }
+        ensures fewer { OnOk result (length (left self.new) < length (left self.old)) }
+        ensures stops { IfErr result (StopsAtName full (left self.old) (left self.new)) }
+    {
+        let place = self.place();
+        match self.front() {
+            Token::Name(text) => {
+                if text.len() > MOST_NAME_BYTES || full {
+                    return Err(Stop::TooLarge(place));
+                }
+                self.advance();
+                Ok(Name { text, place })
+            }
+            _ => Err(Stop::Syntax),
+        }
+    }
+}

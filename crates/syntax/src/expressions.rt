@@ -1,0 +1,52 @@
+//! Expressions: a loop over their tokens, with a level for each open bracket.
+ghost use Rattle.std.specs.Prelude.{◌≡◌, ◌<◌, ◌∷◌, [], length, IfOk, IfErr, OnOk};
+ghost use Rattle.syntax.specs.Expected.{Comparing, possible, whole};
+ghost use Rattle.syntax.specs.Parsed.{left, Stops};
+ghost use Rattle.syntax.specs.Partial.{IsFresh, comparison_may_come};
+ghost use Rattle.syntax.specs.Whole.{IsExpression};
+
+use crate::cursor::Cursor;
+use crate::partial::{After, Partial};
+use crate::stop::Stop;
+use std::alloc::Global;
+use steptree::NamedExpression;
+
+/// An expression, or a component of a key, which has no comparison outside of brackets.
+///
+/// An expression that is whole and too deep is answered at its first token; else the first limit that is passed within it,
+/// also where it breaks off.
+pub(crate) fn expression<'a>(
+    alloc: Global,
+    cursor: &mut Cursor<'_, 'a>,
+    may_compare: bool,
+) -> Result<NamedExpression<'a>, Stop>
+    ensures reads { IfOk result (λ tree. (comparing : Comparing) → may_compare ≡ comparison_may_come comparing → IsFresh comparing → IsExpression comparing tree (left cursor.old) (left cursor.new)) }
+    ensures fewer { OnOk result (length (left cursor.new) < length (left cursor.old)) }
+    ensures stops { IfErr result (λ stop. (comparing : Comparing) → may_compare ≡ comparison_may_come comparing → IsFresh comparing → Stops (whole comparing ∷ []) (left cursor.old) (left cursor.new) stop) }
+{
+    let mut partial = Partial::begun(alloc, may_compare, cursor.place());
+    let mut product = None;
+    loop {
+        match product {
+            None => product = partial.begin(alloc, cursor)?,
+            Some(operand) => match partial.go_on(alloc, cursor, operand)? {
+                After::AwaitsOperand => product = None,
+                After::HasProduct(operand) => product = Some(operand),
+                After::Whole(expression) => return Ok(partial.finish(expression)?),
+            },
+        }
+    }
+}
+
+/// A whole expression of a statement.
+pub(crate) fn value<'a>(
+    alloc: Global,
+    cursor: &mut Cursor<'_, 'a>,
+) -> Result<NamedExpression<'a>, Stop>
+    ensures reads { IfOk result (λ tree. IsExpression possible tree (left cursor.old) (left cursor.new)) }
+    ensures fewer { OnOk result (length (left cursor.new) < length (left cursor.old)) }
+    ensures stops { IfErr result (Stops (whole possible ∷ []) (left cursor.old) (left cursor.new)) }
+{
+    let tree = expression(alloc, cursor, true)?;
+    Ok(tree)
+}

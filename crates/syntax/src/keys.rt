@@ -1,0 +1,70 @@
+//! Keys of items and tags.
+ghost use Rattle.std.specs.Prelude.{◌≡◌, ◌<◌, ◌≤◌, ◌∷◌, [], length, IfOk, IfErr, OnOk};
+ghost use Rattle.syntax.specs.Expected.{Kind, components as some_components, closing, item as item_kind, tag as tag_kind, key_rest};
+ghost use Rattle.syntax.specs.Parsed.{left, Stops};
+ghost use Rattle.syntax.specs.Keys.{AreComponents, IsKeyRest};
+
+use crate::Symbol;
+use crate::cursor::Cursor;
+use crate::expressions::expression;
+use crate::stop::Stop;
+use std::alloc::Global;
+use steptree::{NamedExpression, NamedKey};
+
+// The components behind the name of a key: none, or a colon and at least one.
+fn components<'a>(
+    alloc: Global,
+    cursor: &mut Cursor<'_, 'a>,
+) -> Result<Vec<NamedExpression<'a>>, Stop>
+    ensures reads { IfOk result (λ expressions. AreComponents expressions.items (left cursor.old) (left cursor.new)) }
+    ensures fewer { OnOk result (length (left cursor.new) ≤ length (left cursor.old)) }
+    ensures stops { IfErr result (Stops (some_components ∷ []) (left cursor.old) (left cursor.new)) }
+{
+    let mut components = Vec::new(alloc);
+    if !cursor.takes(Symbol::Colon) {
+        return Ok(components);
+    }
+    loop {
+        let component = expression(alloc, cursor, false)?;
+        components.reserve(1)?;
+        components.push_reserved(component);
+        if !cursor.takes(Symbol::Comma) {
+            return Ok(components);
+        }
+    }
+}
+
+// A key behind its opening bracket, up to this closing one.
+fn key<'a>(alloc: Global, cursor: &mut Cursor<'_, 'a>, close: Symbol) -> Result<NamedKey<'a>, Stop>
+    ensures reads { IfOk result (λ key. (kind : Kind) → close ≡ closing kind → IsKeyRest kind key (left cursor.old) (left cursor.new)) }
+    ensures fewer { OnOk result (length (left cursor.new) < length (left cursor.old)) }
+    ensures stops { IfErr result (λ stop. (kind : Kind) → close ≡ closing kind → Stops (key_rest kind) (left cursor.old) (left cursor.new) stop) }
+{
+    let collection = cursor.name()?;
+    let components = components(alloc, cursor)?;
+    cursor.sign(close)?;
+    Ok(NamedKey {
+        collection,
+        components,
+    })
+}
+
+/// An item behind its opening bracket.
+pub(crate) fn item<'a>(alloc: Global, cursor: &mut Cursor<'_, 'a>) -> Result<NamedKey<'a>, Stop>
+    ensures reads { IfOk result (λ key. IsKeyRest item_kind key (left cursor.old) (left cursor.new)) }
+    ensures fewer { OnOk result (length (left cursor.new) < length (left cursor.old)) }
+    ensures stops { IfErr result (Stops (key_rest item_kind) (left cursor.old) (left cursor.new)) }
+{
+    let key = key(alloc, cursor, Symbol::CloseBracket)?;
+    Ok(key)
+}
+
+/// A tag behind its opening bracket.
+pub(crate) fn tag<'a>(alloc: Global, cursor: &mut Cursor<'_, 'a>) -> Result<NamedKey<'a>, Stop>
+    ensures reads { IfOk result (λ key. IsKeyRest tag_kind key (left cursor.old) (left cursor.new)) }
+    ensures fewer { OnOk result (length (left cursor.new) < length (left cursor.old)) }
+    ensures stops { IfErr result (Stops (key_rest tag_kind) (left cursor.old) (left cursor.new)) }
+{
+    let key = key(alloc, cursor, Symbol::Greater)?;
+    Ok(key)
+}

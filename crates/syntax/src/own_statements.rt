@@ -1,0 +1,100 @@
+//! Statements without blocks.
+ghost use Rattle.std.specs.Prelude.{◌<◌, ◌∷◌, [], length, IfOk, IfErr, OnOk};
+ghost use Rattle.syntax.specs.Expected.{get_rest, put_target};
+ghost use Rattle.syntax.specs.Parsed.{left, Stops};
+ghost use Rattle.syntax.specs.Blocks.{assignment_rest, IsValueRead, IsGetRead, item_rest, IsItemRead, tag_rest, IsTagRead, IsPutRead};
+
+use crate::cursor::Cursor;
+use crate::expressions::value;
+use crate::keys::{item, tag};
+use crate::stop::Stop;
+use crate::{Symbol, Token};
+use std::alloc::Global;
+use steptree::{Name, NamedBlock};
+
+/// An assignment, behind its name.
+pub(crate) fn assignment<'a>(
+    alloc: Global,
+    cursor: &mut Cursor<'_, 'a>,
+    variable: Name<'a>,
+) -> Result<NamedBlock<'a>, Stop>
+    ensures reads { IfOk result (λ block. IsValueRead block variable.entry (left cursor.old) (left cursor.new)) }
+    ensures fewer { OnOk result (length (left cursor.new) < length (left cursor.old)) }
+    ensures stops { IfErr result (Stops assignment_rest (left cursor.old) (left cursor.new)) }
+{
+    cursor.sign(Symbol::Assign)?;
+    let value = value(alloc, cursor)?;
+    cursor.sign(Symbol::Semicolon)?;
+    let rest = Box::new(alloc, NamedBlock::End)?;
+    Ok(NamedBlock::Assign {
+        variable,
+        value,
+        rest,
+    })
+}
+
+/// A read of an item, behind its `get`.
+pub(crate) fn get<'a>(alloc: Global, cursor: &mut Cursor<'_, 'a>) -> Result<NamedBlock<'a>, Stop>
+    ensures reads { IfOk result (λ block. IsGetRead block (left cursor.old) (left cursor.new)) }
+    ensures fewer { OnOk result (length (left cursor.new) < length (left cursor.old)) }
+    ensures stops { IfErr result (Stops get_rest (left cursor.old) (left cursor.new)) }
+{
+    let variable = cursor.name()?;
+    cursor.sign(Symbol::Assign)?;
+    cursor.sign(Symbol::OpenBracket)?;
+    let item = item(alloc, cursor)?;
+    cursor.sign(Symbol::Semicolon)?;
+    let rest = Box::new(alloc, NamedBlock::End)?;
+    Ok(NamedBlock::Get {
+        variable,
+        item,
+        rest,
+    })
+}
+
+// An item and its value, behind `put [`.
+fn put_item<'a>(alloc: Global, cursor: &mut Cursor<'_, 'a>) -> Result<NamedBlock<'a>, Stop>
+    ensures reads { IfOk result (λ block. IsItemRead block (left cursor.old) (left cursor.new)) }
+    ensures fewer { OnOk result (length (left cursor.new) < length (left cursor.old)) }
+    ensures stops { IfErr result (Stops item_rest (left cursor.old) (left cursor.new)) }
+{
+    let item = item(alloc, cursor)?;
+    cursor.sign(Symbol::Assign)?;
+    let value = value(alloc, cursor)?;
+    cursor.sign(Symbol::Semicolon)?;
+    let rest = Box::new(alloc, NamedBlock::End)?;
+    Ok(NamedBlock::PutItem { item, value, rest })
+}
+
+// A tag, behind `put <`.
+fn put_tag<'a>(alloc: Global, cursor: &mut Cursor<'_, 'a>) -> Result<NamedBlock<'a>, Stop>
+    ensures reads { IfOk result (λ block. IsTagRead block (left cursor.old) (left cursor.new)) }
+    ensures fewer { OnOk result (length (left cursor.new) < length (left cursor.old)) }
+    ensures stops { IfErr result (Stops tag_rest (left cursor.old) (left cursor.new)) }
+{
+    let tag = tag(alloc, cursor)?;
+    cursor.sign(Symbol::Semicolon)?;
+    let rest = Box::new(alloc, NamedBlock::End)?;
+    Ok(NamedBlock::PutTag { tag, rest })
+}
+
+/// A put of an item or a tag, behind its `put`.
+pub(crate) fn put<'a>(alloc: Global, cursor: &mut Cursor<'_, 'a>) -> Result<NamedBlock<'a>, Stop>
+    ensures reads { IfOk result (λ block. IsPutRead block (left cursor.old) (left cursor.new)) }
+    ensures fewer { OnOk result (length (left cursor.new) < length (left cursor.old)) }
+    ensures stops { IfErr result (Stops (put_target ∷ []) (left cursor.old) (left cursor.new)) }
+{
+    match cursor.front() {
+        Token::Symbol(Symbol::OpenBracket) => {
+            cursor.advance();
+            let block = put_item(alloc, cursor)?;
+            Ok(block)
+        }
+        Token::Symbol(Symbol::Less) => {
+            cursor.advance();
+            let block = put_tag(alloc, cursor)?;
+            Ok(block)
+        }
+        _ => Err(Stop::Syntax),
+    }
+}

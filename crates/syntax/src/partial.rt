@@ -1,0 +1,319 @@
+//! What is kept of an expression while it is read.
+ghost use Rattle.std.specs.Prelude.{◌≡◌, ◌≢◌, ◌∷◌, [], ◌<◌, length, List, Option, Some, IfOk, IfErr, OnOk, OnErr};
+ghost use Rattle.syntax.specs.Tokens.{Spot};
+ghost use Rattle.syntax.specs.Grammar.{Position, Expr, Prod, Unary, bracketed, Multiplication, Addition, Comparison};
+ghost use Rattle.syntax.specs.Tree.{multiplication_operator, addition_operator, comparison_operator};
+ghost use Rattle.syntax.specs.Limits.{one_more, name_limits};
+ghost use Rattle.syntax.specs.Expected.{Verdict, Comparing, Level as LevelRead, Expression, operand, behind_operand, closed, finished, opened, begun, negating, bracketing, passing, without_product, product_behind, level_expr, awaiting_product, awaiting_sum, awaiting_comparison};
+ghost use Rattle.syntax.specs.Parsed.{left, BreaksOff, Tells, Stops};
+ghost use Rattle.syntax.specs.Front.{front_of};
+ghost use Rattle.syntax.specs.Whole.{IsWithinLimits, TellsLimit};
+ghost use Rattle.syntax.specs.Partial.{HoldsExpr, HoldsProd, HoldsUnary, IsPartial, IsLevel, IsFresh, comparison_may_come, Follows, IsBehind, IsAround, GoesOn, EndsAs, Fewer};
+
+use crate::cursor::Cursor;
+use crate::joints::{Head, Joint};
+use crate::operand::{Operand, Pending, comparison, product, sum};
+use crate::stop::Stop;
+use crate::{MOST_BRACKETS, MOST_DEPTH, MOST_NAME_BYTES};
+use std::alloc::{AllocError, Global};
+use std::mem;
+use steptree::{Name, NamedExpression, Operator};
+
+/// What waits within one bracket, or outside of all: the left operands of a comparison, a sum and a product, and how many
+/// minus signs stand in front of the operand.
+#[derive(Drop)]
+pub(crate) struct Level<'a> {
+    pub(crate) may_compare: bool,
+    pub(crate) comparison: Option<Pending<'a>>,
+    pub(crate) sum: Option<Pending<'a>>,
+    pub(crate) product: Option<Pending<'a>>,
+    pub(crate) negations: usize,
+}
+
+/// An expression so far: the place of its first token, the first limit that is passed within it, its innermost level, and
+/// those around it, the outermost first.
+#[derive(Drop)]
+pub(crate) struct Partial<'a> {
+    pub(crate) first: usize,
+    pub(crate) passed: Option<usize>,
+    pub(crate) level: Level<'a>,
+    pub(crate) outer: Vec<Level<'a>>,
+}
+
+/// What comes of an expression behind an operand.
+pub(crate) enum After<'a> {
+    /// The next operand is expected.
+    AwaitsOperand,
+    /// A bracket closed, and this is the product so far.
+    HasProduct(Operand<'a>),
+    /// The expression is whole.
+    Whole(Operand<'a>),
+}
+
+impl<'a> Level<'a> {
+    /// The expression that ends in this product.
+    fn whole(&mut self, alloc: Global, product: Operand<'a>) -> Result<Operand<'a>, AllocError>
+        ensures { IfOk result (λ expression. (level : LevelRead) (prod : Prod) → IsLevel level self.old → HoldsProd prod product.entry → HoldsExpr (level_expr level prod) expression) }
+    {
+        let sum = sum(alloc, self.sum.take(), product)?;
+        let expression = comparison(alloc, self.comparison.take(), sum)?;
+        Ok(expression)
+    }
+
+    /// Before its first operand.
+    pub(crate) fn opened(may_compare: bool) -> Level<'a>
+        ensures { (comparing : Comparing) → may_compare ≡ comparison_may_come comparing → IsFresh comparing → IsLevel (opened comparing) result }
+    {
+        Level {
+            may_compare,
+            comparison: None,
+            sum: None,
+            product: None,
+            negations: 0,
+        }
+    }
+}
+
+impl<'a> Partial<'a> {
+    /// Before its first token, which stands at this place.
+    pub(crate) fn begun(alloc: Global, may_compare: bool, first: usize) -> Partial<'a>
+        ensures { (comparing : Comparing) → may_compare ≡ comparison_may_come comparing → IsFresh comparing → IsPartial (begun comparing first) result }
+    {
+        Partial {
+            first,
+            passed: None,
+            level: Level::opened(may_compare),
+            outer: Vec::new(alloc),
+        }
+    }
+
+    /// Behind a minus sign.
+    fn negate(&mut self)
+        ensures { (state : Expression) (place : Position) → IsPartial state self.old → IsPartial (negating state place) self.new }
+    {
+        if self.level.negations <= MOST_DEPTH {
+            self.level.negations += 1;
+        }
+    }
+
+    /// A limit is passed here, if none was before.
+    fn pass(&mut self, place: usize)
+        ensures { (state : Expression) (others : List Position) → IsPartial state self.old → IsPartial (passing state (place ∷ others)) self.new }
+    {
+        if self.passed.is_none() {
+            self.passed = Some(place);
+        }
+    }
+
+    /// One bracket more is to be open.
+    fn count(&mut self, place: usize)
+        ensures { (state : Expression) → IsPartial state self.old → IsPartial (passing state (one_more MOST_BRACKETS (length state.outer) place)) self.new }
+    {
+        if self.outer.len() >= MOST_BRACKETS {
+            self.pass(place);
+        }
+    }
+
+    /// Behind an opening bracket.
+    fn open(&mut self, place: usize) -> Result<(), AllocError>
+        ensures { OnOk result ((state : Expression) → IsPartial state self.old → IsPartial (bracketing state place) self.new) }
+    {
+        self.count(place);
+        self.outer.reserve(1)?;
+        let around = mem::replace(&mut self.level, Level::opened(true));
+        self.outer.push_reserved(around);
+        Ok(())
+    }
+
+    /// The product so far, behind an operand.
+    fn product(&mut self, alloc: Global, operand: Operand<'a>) -> Result<Operand<'a>, AllocError>
+        ensures { IfOk result (λ product. (state : Expression) (unary : Unary) → IsPartial state self.old → HoldsUnary unary operand.entry
+            → IsPartial (without_product state) self.new × HoldsProd (product_behind state unary) product) }
+    {
+        let operand = operand.negated(alloc, self.level.negations)?;
+        self.level.negations = 0;
+        let product = product(alloc, self.level.product.take(), operand)?;
+        Ok(product)
+    }
+
+    /// The expression breaks off: the first limit that is passed within it, or else the token in front.
+    pub(crate) fn broken_off(&self) -> Stop
+        ensures { (state : Expression) (rest : List Spot) (verdict : Verdict) → IsPartial state self.now → BreaksOff state.passed rest verdict → Tells result rest verdict }
+    {
+        match self.passed {
+            Some(place) => Stop::TooLarge(place),
+            None => Stop::Syntax,
+        }
+    }
+
+    /// Takes the token in front, of an operand. An operand that ends here is the product so far.
+    pub(crate) fn begin(
+        &mut self,
+        alloc: Global,
+        cursor: &mut Cursor<'_, 'a>,
+    ) -> Result<Option<Operand<'a>>, Stop>
+        ensures follows { IfOk result (λ product. (state : Expression) → IsPartial state self.old → Follows (operand state) (left cursor.old) (left cursor.new) product self.new) }
+        ensures fewer { OnOk result (length (left cursor.new) < length (left cursor.old)) }
+        ensures stops { IfErr result (λ stop. (state : Expression) → IsPartial state self.old → Stops (operand state ∷ []) (left cursor.old) (left cursor.new) stop) }
+    {
+        let place = cursor.place();
+        match Head::of(cursor.front()) {
+            Head::Minus => {
+                cursor.advance();
+                self.negate();
+                Ok(None)
+            }
+            Head::OpenBracket => {
+                cursor.advance();
+                self.open(place)?;
+                Ok(None)
+            }
+            Head::Number(value) => {
+                cursor.advance();
+                let tree = NamedExpression::Number(value);
+                let product = self.product(alloc, Operand::Kept { tree, depth: 1 })?;
+                Ok(Some(product))
+            }
+            Head::Variable(text) => {
+                cursor.advance();
+                self.pass_name(text, place);
+                let tree = NamedExpression::Variable(Name { text, place });
+                let product = self.product(alloc, Operand::Kept { tree, depth: 1 })?;
+                Ok(Some(product))
+            }
+            Head::Other => Err(self.broken_off()),
+        }
+    }
+
+    // A name of the expression stands here.
+    fn pass_name(&mut self, text: &str, place: usize)
+        ensures { (state : Expression) → IsPartial state self.old → IsPartial (passing state (name_limits (text.now, place))) self.new }
+    {
+        if text.len() > MOST_NAME_BYTES {
+            self.pass(place);
+        }
+    }
+
+    /// Behind the sign of a product.
+    fn await_product(&mut self, product: Operand<'a>, operator: Operator)
+        ensures { (state : Expression) (prod : Prod) (how : Multiplication) → IsPartial state self.old → HoldsProd prod product.entry → operator ≡ multiplication_operator how → IsPartial (awaiting_product state prod how) self.new }
+    {
+        self.level.product = Some(Pending {
+            left: product,
+            operator,
+        });
+    }
+
+    /// Behind the sign of a sum.
+    fn await_sum(
+        &mut self,
+        alloc: Global,
+        product: Operand<'a>,
+        operator: Operator,
+    ) -> Result<(), AllocError>
+        ensures { OnOk result ((state : Expression) (prod : Prod) (how : Addition) → IsPartial state self.old → HoldsProd prod product.entry → operator ≡ addition_operator how → IsPartial (awaiting_sum state prod how) self.new) }
+    {
+        let left = sum(alloc, self.level.sum.take(), product)?;
+        self.level.sum = Some(Pending { left, operator });
+        Ok(())
+    }
+
+    /// Behind the sign of a comparison.
+    fn await_comparison(
+        &mut self,
+        alloc: Global,
+        product: Operand<'a>,
+        operator: Operator,
+    ) -> Result<(), AllocError>
+        ensures { OnOk result ((state : Expression) (prod : Prod) (how : Comparison) → IsPartial state self.old → HoldsProd prod product.entry → operator ≡ comparison_operator how → IsPartial (awaiting_comparison state prod how) self.new) }
+    {
+        let left = sum(alloc, self.level.sum.take(), product)?;
+        self.level.may_compare = false;
+        self.level.comparison = Some(Pending { left, operator });
+        Ok(())
+    }
+
+    /// Behind the bracket that closes the innermost level, with this level around it.
+    fn close(
+        &mut self,
+        alloc: Global,
+        product: Operand<'a>,
+        around: Level<'a>,
+    ) -> Result<Operand<'a>, AllocError>
+        ensures { IfOk result (λ new. (state : Expression) (prod : Prod) (level : LevelRead) (place : Position) (outer : List (LevelRead × Position)) → IsAround state self.old level outer around.entry → HoldsProd prod product.entry
+            → IsPartial (without_product (closed state level outer)) self.new × HoldsProd (product_behind (closed state level outer) (bracketed place (level_expr state.level prod))) new) }
+    {
+        let expression = self.level.whole(alloc, product)?;
+        self.level = around;
+        let product = self.product(alloc, expression)?;
+        Ok(product)
+    }
+
+    /// Takes the token in front, behind an operand with which this product ends, unless the expression is whole there.
+    pub(crate) fn go_on(
+        &mut self,
+        alloc: Global,
+        cursor: &mut Cursor<'_, 'a>,
+        product: Operand<'a>,
+    ) -> Result<After<'a>, Stop>
+        ensures goes_on { IfOk result (λ after. (state : Expression) (prod : Prod) → IsPartial state self.old → IsBehind state → HoldsProd prod product.entry → GoesOn state prod (left cursor.old) (left cursor.new) after self.new) }
+        ensures fewer { IfOk result (λ after. Fewer after (length (left cursor.old)) (length (left cursor.new))) }
+        ensures stops { IfErr result (λ stop. (state : Expression) (prod : Prod) → IsPartial state self.old → Stops (behind_operand state prod ∷ []) (left cursor.old) (left cursor.new) stop) }
+    {
+        match Joint::of(cursor.front()) {
+            Joint::Product(operator) => {
+                cursor.advance();
+                self.await_product(product, operator);
+                Ok(After::AwaitsOperand)
+            }
+            Joint::Sum(operator) => {
+                cursor.advance();
+                self.await_sum(alloc, product, operator)?;
+                Ok(After::AwaitsOperand)
+            }
+            Joint::Comparison(operator) => {
+                if !self.level.may_compare {
+                    return Ok(After::Whole(self.end(alloc, product)?));
+                }
+                cursor.advance();
+                self.await_comparison(alloc, product, operator)?;
+                Ok(After::AwaitsOperand)
+            }
+            Joint::Closes => {
+                let Some(around) = self.outer.pop() else {
+                    return Ok(After::Whole(self.end(alloc, product)?));
+                };
+                cursor.advance();
+                let product = self.close(alloc, product, around)?;
+                Ok(After::HasProduct(product))
+            }
+            Joint::Ends => Ok(After::Whole(self.end(alloc, product)?)),
+        }
+    }
+
+    // The expression that is whole behind this product, unless it breaks off within a bracket.
+    fn end(&mut self, alloc: Global, product: Operand<'a>) -> Result<Operand<'a>, Stop>
+        ensures whole { IfOk result (λ expression. (state : Expression) (prod : Prod) → IsPartial state self.old → HoldsProd prod product.entry → EndsAs state prod expression self.new) }
+        ensures stops { IfErr result (λ stop. (state : Expression) (rest : List Spot) (verdict : Verdict) → IsPartial state self.old → (state.outer ≢ [] → BreaksOff state.passed rest verdict) → Tells stop rest verdict) }
+    {
+        if !self.outer.is_empty() {
+            return Err(self.broken_off());
+        }
+        let expression = self.level.whole(alloc, product)?;
+        Ok(expression)
+    }
+
+    /// The tree of a whole expression, unless it is too deep or a limit is passed within it.
+    pub(crate) fn finish(&self, expression: Operand<'a>) -> Result<NamedExpression<'a>, Stop>
+        ensures within { IfOk result (λ tree. (state : Expression) (expr : Expr) → self.now.first ≡ state.first → self.now.passed ≡ state.passed → HoldsExpr expr expression.entry → IsWithinLimits state expr tree) }
+        ensures limits { IfErr result (λ stop. (state : Expression) (expr : Expr) → self.now.first ≡ state.first → self.now.passed ≡ state.passed → HoldsExpr expr expression.entry → TellsLimit stop (finished state expr)) }
+    {
+        let Operand::Kept { tree, depth: _ } = expression else {
+            return Err(Stop::TooLarge(self.first));
+        };
+        match self.passed {
+            Some(place) => Err(Stop::TooLarge(place)),
+            None => Ok(tree),
+        }
+    }
+}
