@@ -1,4 +1,5 @@
 mod expressions;
+mod statements;
 
 use crate::{Placed, Token, tokens, tokens_once};
 use std::process::Abort;
