@@ -1,3 +1,4 @@
+pub mod Accepted
 pub mod Broken
 pub mod Chain
 pub mod Example

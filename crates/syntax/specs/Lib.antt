@@ -6,6 +6,7 @@ pub mod Grammar
 pub mod Joints
 pub mod Keys
 pub mod Limits
+pub mod MayCome
 pub mod NameLists
 pub mod Natural
 pub mod Parsed

@@ -1,7 +1,13 @@
+ghost use Rattle.syntax.specs.MayCome.{ExpressionsMayCome};
 ghost use Rattle.syntax.specs.Tokens.{TokensOnce, TokensExample};
 
 /// A text is one list of tokens at most; and a worked example.
 pub fn tokens_once()
     ensures once { TokensOnce }
     ensures example { TokensExample }
+{}
+
+/// What the grammar derives within the limits may come: expressions.
+pub fn derived_may_come()
+    ensures expressions { ExpressionsMayCome }
 {}

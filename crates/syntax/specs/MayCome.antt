@@ -1,0 +1,22 @@
+-- What the grammar derives within the limits may come.
+use Rattle.std.specs.Prelude.{◌≡◌, ⊤, List, [], ◌∷◌, ◌++◌}
+use Rattle.syntax.specs.declared.token.Symbol.{Symbol}
+use Rattle.syntax.specs.declared.token.Symbol.TheVariants as sign
+use Rattle.syntax.specs.Tokens.{Spot, symbol}
+use Rattle.syntax.specs.Grammar.{Position, Expr}
+use Rattle.syntax.specs.Spelled.{ArePieces, expr_pieces}
+use Rattle.syntax.specs.Limits.{expr_limits}
+use Rattle.syntax.specs.Expected.{Expected, whole, possible, run}
+
+-- a sign that may stand behind the expression of a statement
+abbrev pub EndsExpression : Symbol → Type 0
+EndsExpression sign.Semicolon = ⊤
+EndsExpression sign.CloseRound = ⊤
+EndsExpression sign.DoubleDot = ⊤
+EndsExpression sign.OpenBrace = ⊤
+EndsExpression _ = ⊥
+
+-- an expression within the limits may come where one is expected, and then what may come behind it
+abbrev pub ExpressionsMayCome : Type 0
+ExpressionsMayCome = (expr : Expr) (tokens rest : List Spot) (end : Symbol) (position : Position) (behind : List Expected) → EndsExpression end → expr_limits expr ≡ [] → ArePieces (expr_pieces expr) tokens
+    → run (whole possible ∷ behind) (tokens ++ (symbol end, position) ∷ rest) ≡ run behind ((symbol end, position) ∷ rest)
