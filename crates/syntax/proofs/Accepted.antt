@@ -14,7 +14,7 @@ use Rattle.syntax.specs.Limits.{name_limits, one_more, depth_limits, expr_depth,
 use Rattle.syntax.specs.declared.limits.TheConstants.{MOST_BRACKETS, MOST_DEPTH}
 use Rattle.syntax.specs.Expected.{Comparing, possible, behind_left, Level, Expression, Expected, operand, behind_operand, earlier, negated_by, product_of, opened, sum_of, level_expr, whole, within, left_out, met, next, followed, run}
 
-both_none : {X : Type 0} (a b : List X) → a ++ b ≡ [] → (a ≡ []) × (b ≡ [])
+pub both_none : {X : Type 0} (a b : List X) → a ++ b ≡ [] → (a ≡ []) × (b ≡ [])
 both_none [] b none = (refl, none)
 both_none (x ∷ a) b none = absurd (cc)
 
@@ -78,15 +78,15 @@ abbrev pub at_product : Comparing → Option (Sum × Addition) → Level
 at_product comparing sum = record { comparing = comparing; sum = sum; product = None; negations = [] }
 
 -- what waits of a sum, and its last product
-abbrev sum_waits : Sum → Option (Sum × Addition)
+abbrev pub sum_waits : Sum → Option (Sum × Addition)
 sum_waits (prod_alone prod) = None
 sum_waits (added left how right) = Some (left, how)
 
-abbrev last_prod : Sum → Prod
+abbrev pub last_prod : Sum → Prod
 last_prod (prod_alone prod) = prod
 last_prod (added left how right) = right
 
-sum_is : (sum : Sum) → sum_of (sum_waits sum) (last_prod sum) ≡ sum
+pub sum_is : (sum : Sum) → sum_of (sum_waits sum) (last_prod sum) ≡ sum
 sum_is (prod_alone prod) = refl
 sum_is (added left how right) = refl
 
@@ -144,7 +144,7 @@ module _ (first : Position) where
         ∙ ap (λ (sum : Sum). run (operand (so_far first (at_product (behind_left sum how) None) outer) ∷ stack) (outer_split.back ++ behind)) (sum_is left)
         ∙ sum_comes right (behind_left left how) outer stack outer_split.back behind limits.1 outer_split.second
 
-    sum_comes : (sum : Sum) (comparing : Comparing) (outer : List (Level × Position)) (stack : List Expected) (tokens behind : List Spot) → sum_within (length outer) sum ≡ [] → ArePieces (sum_pieces sum) tokens
+    pub sum_comes : (sum : Sum) (comparing : Comparing) (outer : List (Level × Position)) (stack : List Expected) (tokens behind : List Spot) → sum_within (length outer) sum ≡ [] → ArePieces (sum_pieces sum) tokens
         → run (operand (so_far first (at_product comparing None) outer) ∷ stack) (tokens ++ behind)
         ≡ run (behind_operand (so_far first (at_product comparing (sum_waits sum)) outer) (last_prod sum) ∷ stack) behind
     sum_comes (prod_alone prod) comparing outer stack tokens behind within are = prod_comes prod comparing None outer stack tokens behind within are
@@ -208,7 +208,7 @@ module _ (first : Position) where
 -- ---- whole expressions
 
 -- a depth that is no limit is none at any place
-no_depth : (depth : ℕ) (one other : Position) → depth_limits depth one ≡ [] → depth_limits depth other ≡ []
+pub no_depth : (depth : ℕ) (one other : Position) → depth_limits depth one ≡ [] → depth_limits depth other ≡ []
 no_depth depth one other none = by (nat_lt MOST_DEPTH depth) none
   where
     by : (b : Bool) → (if b then one ∷ [] else []) ≡ [] → (if b then other ∷ [] else []) ≡ []
@@ -216,7 +216,7 @@ no_depth depth one other none = by (nat_lt MOST_DEPTH depth) none
     by false none = refl
 
 -- an expression has a first token
-abbrev IsSome : List Piece → Type 0
+abbrev pub IsSome : List Piece → Type 0
 IsSome [] = ⊥
 IsSome (piece ∷ pieces) = ⊤
 
@@ -234,7 +234,7 @@ prod_some : (prod : Prod) → IsSome (prod_pieces prod)
 prod_some (unary_alone unary) = unary_some unary
 prod_some (multiplied left how right) = some_more (prod_pieces left ++ a_sign (multiplication_sign how)) (unary_pieces right) (some_more (prod_pieces left) (a_sign (multiplication_sign how)) (prod_some left))
 
-sum_some : (sum : Sum) → IsSome (sum_pieces sum)
+pub sum_some : (sum : Sum) → IsSome (sum_pieces sum)
 sum_some (prod_alone prod) = prod_some prod
 sum_some (added left how right) = some_more (sum_pieces left ++ a_sign (addition_sign how)) (prod_pieces right) (some_more (sum_pieces left) (a_sign (addition_sign how)) (sum_some left))
 
@@ -250,7 +250,7 @@ begins (piece ∷ pieces) [] behind stack some are = absurd are
 begins (piece ∷ pieces) (spot ∷ tokens) behind stack some are = (spot.1, refl)
 
 -- where its depth is within the limit it is left
-left : (first position : Position) (level : Level) (prod : Prod) (rest : List Spot) (lexeme : Lexeme) (stack : List Expected) → depth_limits (expr_depth (level_expr level prod)) first ≡ []
+pub left : (first position : Position) (level : Level) (prod : Prod) (rest : List Spot) (lexeme : Lexeme) (stack : List Expected) → depth_limits (expr_depth (level_expr level prod)) first ≡ []
     → followed (met (within (depth_limits (expr_depth (level_expr level prod)) first) left_out) stack (next stack (lexeme, position))) ((lexeme, position) ∷ rest) (λ after. run after rest)
     ≡ run stack ((lexeme, position) ∷ rest)
 left first position level prod rest lexeme stack none =

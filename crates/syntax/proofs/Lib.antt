@@ -1,4 +1,5 @@
 pub mod Accepted
+pub mod AcceptedKeys
 pub mod Broken
 pub mod Chain
 pub mod Example

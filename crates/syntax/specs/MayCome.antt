@@ -3,10 +3,10 @@ use Rattle.std.specs.Prelude.{◌≡◌, ⊤, List, [], ◌∷◌, ◌++◌}
 use Rattle.syntax.specs.declared.token.Symbol.{Symbol}
 use Rattle.syntax.specs.declared.token.Symbol.TheVariants as sign
 use Rattle.syntax.specs.Tokens.{Spot, symbol}
-use Rattle.syntax.specs.Grammar.{Position, Expr}
-use Rattle.syntax.specs.Spelled.{ArePieces, expr_pieces}
-use Rattle.syntax.specs.Limits.{expr_limits}
-use Rattle.syntax.specs.Expected.{Expected, whole, possible, run}
+use Rattle.syntax.specs.Grammar.{Position, Expr, Key}
+use Rattle.syntax.specs.Spelled.{ArePieces, named, a_sign, expr_pieces, sums_pieces}
+use Rattle.syntax.specs.Limits.{expr_limits, key_limits}
+use Rattle.syntax.specs.Expected.{Expected, Kind, closing, key_rest, whole, possible, run}
 
 -- a sign that may stand behind the expression of a statement
 abbrev pub EndsExpression : Symbol → Type 0
@@ -20,3 +20,8 @@ EndsExpression _ = ⊥
 abbrev pub ExpressionsMayCome : Type 0
 ExpressionsMayCome = (expr : Expr) (tokens rest : List Spot) (end : Symbol) (position : Position) (behind : List Expected) → EndsExpression end → expr_limits expr ≡ [] → ArePieces (expr_pieces expr) tokens
     → run (whole possible ∷ behind) (tokens ++ (symbol end, position) ∷ rest) ≡ run behind ((symbol end, position) ∷ rest)
+
+-- a key within the limits may come behind its opening bracket
+abbrev pub KeysMayCome : Type 0
+KeysMayCome = (kind : Kind) (key : Key) (tokens rest : List Spot) (behind : List Expected) → key_limits key ≡ [] → ArePieces (named key.collection ∷ sums_pieces key.components ++ a_sign (closing kind)) tokens
+    → run (key_rest kind ++ behind) (tokens ++ rest) ≡ run behind rest

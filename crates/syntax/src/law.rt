@@ -1,4 +1,4 @@
-ghost use Rattle.syntax.specs.MayCome.{ExpressionsMayCome};
+ghost use Rattle.syntax.specs.MayCome.{ExpressionsMayCome, KeysMayCome};
 ghost use Rattle.syntax.specs.Tokens.{TokensOnce, TokensExample};
 
 /// A text is one list of tokens at most; and a worked example.
@@ -7,7 +7,8 @@ pub fn tokens_once()
     ensures example { TokensExample }
 {}
 
-/// What the grammar derives within the limits may come: expressions.
+/// What the grammar derives within the limits may come, token by token: expressions, and keys.
 pub fn derived_may_come()
     ensures expressions { ExpressionsMayCome }
+    ensures keys { KeysMayCome }
 {}
