@@ -1,16 +1,15 @@
 -- What the grammar derives within the limits may come, token by token.
-use Rattle.std.proofs.Common.{◌≡◌, ℕ, suc, Bool, true, false, nat_lt, if◌then◌else◌, List, [], ◌∷◌, ◌++◌, length, Option, Some, None, refl, sym, ap, subst, ◌∙◌}
+use Rattle.std.proofs.Common.{◌≡◌, ℕ, suc, Bool, true, false, nat_lt, if◌then◌else◌, List, [], ◌∷◌, ◌++◌, length, Option, Some, None, refl, ap, ◌∙◌}
 use Rattle.std.specs.Prelude.{⊤}
 use Rattle.std.proofs.lemmas.List.{append_assoc}
-use Rattle.syntax.specs.declared.token.Word.{Word}
 use Rattle.syntax.specs.declared.token.Symbol.{Symbol}
 use Rattle.syntax.specs.declared.token.Symbol.TheVariants as sign
 use Rattle.syntax.specs.Tokens.{Lexeme, name, number, symbol, Spot}
-use Rattle.syntax.specs.Grammar.{Position, Named, Comparison, equal, not_equal, less, less_or_equal, greater, greater_or_equal, Addition, plus, minus, Multiplication, times, over, modulo}
+use Rattle.syntax.specs.Grammar.{Position, Comparison, equal, not_equal, less, less_or_equal, greater, greater_or_equal, Addition, plus, minus, Multiplication, times, over, modulo}
 use Rattle.syntax.specs.Grammar.{Expr, sum_alone, compared, Sum, prod_alone, added, Prod, unary_alone, multiplied, Unary, negated, literal, variable, bracketed}
-use Rattle.syntax.specs.Spelled.{Piece, plain, at, IsPiece, ArePieces, comparison_sign, addition_sign, multiplication_sign, a_sign, expr_pieces, sum_pieces, prod_pieces, unary_pieces}
+use Rattle.syntax.specs.Spelled.{Piece, plain, at, ArePieces, comparison_sign, addition_sign, multiplication_sign, a_sign, expr_pieces, sum_pieces, prod_pieces, unary_pieces}
 use Rattle.syntax.specs.MayCome.{EndsExpression}
-use Rattle.syntax.specs.Limits.{name_limits, one_more, depth_limits, expr_depth, expr_first, expr_limits, expr_within, sum_within, prod_within, unary_within}
+use Rattle.syntax.specs.Limits.{one_more, depth_limits, expr_depth, expr_first, expr_limits, expr_within, sum_within, prod_within, unary_within}
 use Rattle.syntax.specs.declared.limits.TheConstants.{MOST_BRACKETS, MOST_DEPTH}
 use Rattle.syntax.specs.Expected.{Comparing, possible, behind_left, Level, Expression, Expected, operand, behind_operand, earlier, negated_by, product_of, opened, sum_of, level_expr, whole, within, left_out, met, next, followed, run}
 
@@ -137,7 +136,7 @@ module _ (first : Position) where
         let inner_split = split (sum_pieces left) (a_sign (comparison_sign how)) outer_split.front outer_split.first in
         let sign_token = first_plain (symbol (comparison_sign how)) [] inner_split.back inner_split.second in
         ap (λ (list : List Spot). run (operand (so_far first (opened possible) outer) ∷ stack) (list ++ behind))
-            (three tokens outer_split.front outer_split.back inner_split.front inner_split.back sign_token.more (symbol (comparison_sign how)) sign_token.position outer_split.whole inner_split.whole sign_token.whole (none_left sign_token.more sign_token.are))
+        (three tokens outer_split.front outer_split.back inner_split.front inner_split.back sign_token.more (symbol (comparison_sign how)) sign_token.position outer_split.whole inner_split.whole sign_token.whole (none_left sign_token.more sign_token.are))
         ∙ ap (λ (list : List Spot). run (operand (so_far first (opened possible) outer) ∷ stack) list) (regroup inner_split.front (symbol (comparison_sign how)) sign_token.position outer_split.back behind)
         ∙ sum_comes left possible outer stack inner_split.front ((symbol (comparison_sign how), sign_token.position) ∷ outer_split.back ++ behind) limits.0 inner_split.first
         ∙ compared_with how (sum_waits left) outer (last_prod left) stack sign_token.position (outer_split.back ++ behind)
@@ -154,7 +153,7 @@ module _ (first : Position) where
         let inner_split = split (sum_pieces left) (a_sign (addition_sign how)) outer_split.front outer_split.first in
         let sign_token = first_plain (symbol (addition_sign how)) [] inner_split.back inner_split.second in
         ap (λ (list : List Spot). run (operand (so_far first (at_product comparing None) outer) ∷ stack) (list ++ behind))
-            (three tokens outer_split.front outer_split.back inner_split.front inner_split.back sign_token.more (symbol (addition_sign how)) sign_token.position outer_split.whole inner_split.whole sign_token.whole (none_left sign_token.more sign_token.are))
+        (three tokens outer_split.front outer_split.back inner_split.front inner_split.back sign_token.more (symbol (addition_sign how)) sign_token.position outer_split.whole inner_split.whole sign_token.whole (none_left sign_token.more sign_token.are))
         ∙ ap (λ (list : List Spot). run (operand (so_far first (at_product comparing None) outer) ∷ stack) list) (regroup inner_split.front (symbol (addition_sign how)) sign_token.position outer_split.back behind)
         ∙ sum_comes left comparing outer stack inner_split.front ((symbol (addition_sign how), sign_token.position) ∷ outer_split.back ++ behind) limits.0 inner_split.first
         ∙ added_to how (at_product comparing (sum_waits left)) outer (last_prod left) stack sign_token.position (outer_split.back ++ behind)
@@ -171,7 +170,7 @@ module _ (first : Position) where
         let inner_split = split (prod_pieces left) (a_sign (multiplication_sign how)) outer_split.front outer_split.first in
         let sign_token = first_plain (symbol (multiplication_sign how)) [] inner_split.back inner_split.second in
         ap (λ (list : List Spot). run (operand (so_far first (at_product comparing sum) outer) ∷ stack) (list ++ behind))
-            (three tokens outer_split.front outer_split.back inner_split.front inner_split.back sign_token.more (symbol (multiplication_sign how)) sign_token.position outer_split.whole inner_split.whole sign_token.whole (none_left sign_token.more sign_token.are))
+        (three tokens outer_split.front outer_split.back inner_split.front inner_split.back sign_token.more (symbol (multiplication_sign how)) sign_token.position outer_split.whole inner_split.whole sign_token.whole (none_left sign_token.more sign_token.are))
         ∙ ap (λ (list : List Spot). run (operand (so_far first (at_product comparing sum) outer) ∷ stack) list) (regroup inner_split.front (symbol (multiplication_sign how)) sign_token.position outer_split.back behind)
         ∙ prod_comes left comparing sum outer stack inner_split.front ((symbol (multiplication_sign how), sign_token.position) ∷ outer_split.back ++ behind) limits.0 inner_split.first
         ∙ multiplied_by how (at_product comparing sum) outer left stack sign_token.position (outer_split.back ++ behind)
@@ -187,11 +186,11 @@ module _ (first : Position) where
     unary_comes (literal position value) level outer stack tokens behind within are =
         let token = first_at position (number value) [] tokens are in
         ap (λ (list : List Spot). run (operand (so_far first level outer) ∷ stack) (list ++ behind))
-            (token.whole ∙ ap (λ (list : List Spot). (number value, position) ∷ list) (none_left token.more token.are))
+        (token.whole ∙ ap (λ (list : List Spot). (number value, position) ∷ list) (none_left token.more token.are))
     unary_comes (variable it) level outer stack tokens behind within are =
         let token = first_at it.1 (name it.0) [] tokens are in
         ap (λ (list : List Spot). run (operand (so_far first level outer) ∷ stack) (list ++ behind))
-            (token.whole ∙ ap (λ (list : List Spot). (name it.0, it.1) ∷ list) (none_left token.more token.are))
+        (token.whole ∙ ap (λ (list : List Spot). (name it.0, it.1) ∷ list) (none_left token.more token.are))
         ∙ ap (λ (limits : List Position). run (behind_operand (record (so_far first (at_product level.comparing level.sum) outer) { passed = earlier None limits }) (product_of level.product (negated_by level.negations (variable it))) ∷ stack) behind) within
     unary_comes (bracketed position expr) level outer stack tokens behind within are =
         let limits = both_none (one_more MOST_BRACKETS (length outer) position) (expr_within (suc (length outer)) expr) within in
@@ -199,7 +198,7 @@ module _ (first : Position) where
         let parts = split (expr_pieces expr) (a_sign sign.CloseRound) token.more token.are in
         let close = first_plain (symbol sign.CloseRound) [] parts.back parts.second in
         ap (λ (list : List Spot). run (operand (so_far first level outer) ∷ stack) (list ++ behind))
-            (token.whole ∙ ap (λ (list : List Spot). (symbol sign.OpenRound, position) ∷ list) (parts.whole ∙ ap (λ (list : List Spot). parts.front ++ list) (close.whole ∙ ap (λ (list : List Spot). (symbol sign.CloseRound, close.position) ∷ list) (none_left close.more close.are))))
+        (token.whole ∙ ap (λ (list : List Spot). (symbol sign.OpenRound, position) ∷ list) (parts.whole ∙ ap (λ (list : List Spot). parts.front ++ list) (close.whole ∙ ap (λ (list : List Spot). (symbol sign.CloseRound, close.position) ∷ list) (none_left close.more close.are))))
         ∙ ap (λ (limits : List Position). run (operand (record (so_far first (opened possible) ((level, position) ∷ outer)) { passed = earlier None limits }) ∷ stack) (parts.front ++ ((symbol sign.CloseRound, close.position) ∷ []) ++ behind)) limits.0
         ∙ ap (λ (list : List Spot). run (operand (so_far first (opened possible) ((level, position) ∷ outer)) ∷ stack) list) (append_assoc parts.front ((symbol sign.CloseRound, close.position) ∷ []) behind)
         ∙ expr_comes expr ((level, position) ∷ outer) stack parts.front ((symbol sign.CloseRound, close.position) ∷ behind) limits.1 parts.first
@@ -273,4 +272,4 @@ whole_comes expr tokens rest end position behind ends none are =
     begun.1
     ∙ expr_comes begun.0 expr [] behind tokens ((symbol end, position) ∷ rest) limits.1 are
     ∙ ends_at end ends begun.0 position (expr_level expr) (expr_last expr) rest behind
-        (ap (λ (it : Expr). depth_limits (expr_depth it) begun.0) (expr_is expr) ∙ no_depth (expr_depth expr) (expr_first expr) begun.0 limits.0)
+    (ap (λ (it : Expr). depth_limits (expr_depth it) begun.0) (expr_is expr) ∙ no_depth (expr_depth expr) (expr_first expr) begun.0 limits.0)

@@ -5,12 +5,12 @@ use Rattle.std.specs.List.{flat_map}
 use Rattle.std.proofs.lemmas.List.{append_assoc}
 use Rattle.syntax.specs.declared.token.Symbol.{Symbol}
 use Rattle.syntax.specs.declared.token.Symbol.TheVariants as sign
-use Rattle.syntax.specs.Tokens.{Lexeme, name, symbol, Spot}
+use Rattle.syntax.specs.Tokens.{name, symbol, Spot}
 use Rattle.syntax.specs.Grammar.{Position, Named, Sum, Sums, no_sums, sums, Key}
-use Rattle.syntax.specs.Spelled.{Piece, plain, at, named, ArePieces, a_sign, sum_pieces, sums_pieces}
+use Rattle.syntax.specs.Spelled.{Piece, named, ArePieces, a_sign, sum_pieces, sums_pieces}
 use Rattle.syntax.specs.Limits.{name_limits, depth_limits, sum_depth, sum_first, sum_within, sum_limits, sums_limits, key_limits}
-use Rattle.syntax.specs.Expected.{Expected, exactly, whole, never, possible, components, more_components, a_name, Kind, item, tag, closing, key_rest, opened, operand, behind_operand, within, taken, met, next, followed, run}
-use Rattle.syntax.proofs.Accepted.{Split, split, First, first_plain, FirstAt, first_at, none_left, both_none, so_far, at_product, sum_waits, last_prod, sum_is, sum_comes, sum_some, IsSome, left, no_depth}
+use Rattle.syntax.specs.Expected.{Expected, exactly, whole, never, components, more_components, a_name, Kind, item, tag, closing, key_rest, opened, operand, behind_operand, within, taken, met, next, followed, run}
+use Rattle.syntax.proofs.Accepted.{split, first_plain, first_at, none_left, both_none, so_far, at_product, sum_waits, last_prod, sum_is, sum_comes, sum_some, IsSome, left, no_depth}
 
 -- a sign that may stand behind a component
 abbrev EndsComponent : Symbol → Type 0
@@ -75,20 +75,22 @@ more_come : (kind : Kind) (more : List Sum) (tokens rest : List Spot) (behind : 
     → (run (more_components ∷ exactly (closing kind) ∷ behind) (tokens ++ rest) ≡ run behind rest) × GoesOn (tokens ++ rest)
 more_come kind [] tokens rest behind none are =
     let token = first_plain (symbol (closing kind)) [] tokens are in
-    let whole_tokens = token.whole ∙ ap (λ (list : List Spot). (symbol (closing kind), token.position) ∷ list) (none_left token.more token.are) in
-    (ap (λ (list : List Spot). run (more_components ∷ exactly (closing kind) ∷ behind) (list ++ rest)) whole_tokens ∙ closed_kind kind token.position rest behind,
-     (closing kind, closing_ends kind, (token.position, rest, ap (λ (list : List Spot). list ++ rest) whole_tokens)))
+    let whole_tokens = token.whole ∙ ap (λ (list : List Spot). (symbol (closing kind), token.position) ∷ list) (none_left token.more token.are) in (
+      ap (λ (list : List Spot). run (more_components ∷ exactly (closing kind) ∷ behind) (list ++ rest)) whole_tokens ∙ closed_kind kind token.position rest behind,
+      (closing kind, closing_ends kind, (token.position, rest, ap (λ (list : List Spot). list ++ rest) whole_tokens)),
+    )
 more_come kind (sum ∷ more) tokens rest behind none are =
     let limits = both_none (sum_limits sum) (flat_map sum_limits more) none in
     let comma = first_plain (symbol sign.Comma) (sum_pieces sum ++ flat_map comma_and more ++ a_sign (closing kind)) tokens are in
     let parts = split (sum_pieces sum) (flat_map comma_and more ++ a_sign (closing kind)) comma.more
-          (subst (λ (pieces : List Piece). ArePieces pieces comma.more) (append_assoc (sum_pieces sum) (flat_map comma_and more) (a_sign (closing kind))) comma.are) in
-    let later = more_come kind more parts.back rest behind limits.1 parts.second in
-    (ap (λ (list : List Spot). run (more_components ∷ exactly (closing kind) ∷ behind) (list ++ rest)) comma.whole
-     ∙ ap (λ (list : List Spot). run (whole never ∷ more_components ∷ exactly (closing kind) ∷ behind) list) (ap (λ (list : List Spot). list ++ rest) parts.whole ∙ append_assoc parts.front parts.back rest)
-     ∙ component_then sum parts.front (parts.back ++ rest) (more_components ∷ exactly (closing kind) ∷ behind) later.1 limits.0 parts.first
-     ∙ later.0,
-     (sign.Comma, tt, (comma.position, comma.more ++ rest, ap (λ (list : List Spot). list ++ rest) comma.whole)))
+    (subst (λ (pieces : List Piece). ArePieces pieces comma.more) (append_assoc (sum_pieces sum) (flat_map comma_and more) (a_sign (closing kind))) comma.are) in
+    let later = more_come kind more parts.back rest behind limits.1 parts.second in (
+      ap (λ (list : List Spot). run (more_components ∷ exactly (closing kind) ∷ behind) (list ++ rest)) comma.whole
+          ∙ ap (λ (list : List Spot). run (whole never ∷ more_components ∷ exactly (closing kind) ∷ behind) list) (ap (λ (list : List Spot). list ++ rest) parts.whole ∙ append_assoc parts.front parts.back rest)
+          ∙ component_then sum parts.front (parts.back ++ rest) (more_components ∷ exactly (closing kind) ∷ behind) later.1 limits.0 parts.first
+          ∙ later.0,
+      (sign.Comma, tt, (comma.position, comma.more ++ rest, ap (λ (list : List Spot). list ++ rest) comma.whole)),
+    )
 
 -- the components of a key, and the closing sign
 sums_come : (kind : Kind) (them : Sums) (tokens rest : List Spot) (behind : List Expected) → sums_limits them ≡ [] → ArePieces (sums_pieces them ++ a_sign (closing kind)) tokens
@@ -96,13 +98,13 @@ sums_come : (kind : Kind) (them : Sums) (tokens rest : List Spot) (behind : List
 sums_come kind no_sums tokens rest behind none are =
     let token = first_plain (symbol (closing kind)) [] tokens are in
     ap (λ (list : List Spot). run (components ∷ exactly (closing kind) ∷ behind) (list ++ rest))
-        (token.whole ∙ ap (λ (list : List Spot). (symbol (closing kind), token.position) ∷ list) (none_left token.more token.are))
+    (token.whole ∙ ap (λ (list : List Spot). (symbol (closing kind), token.position) ∷ list) (none_left token.more token.are))
     ∙ closed_bare kind token.position rest behind
 sums_come kind (sums sum more) tokens rest behind none are =
     let limits = both_none (sum_limits sum) (flat_map sum_limits more) none in
     let colon = first_plain (symbol sign.Colon) (sum_pieces sum ++ flat_map comma_and more ++ a_sign (closing kind)) tokens are in
     let parts = split (sum_pieces sum) (flat_map comma_and more ++ a_sign (closing kind)) colon.more
-          (subst (λ (pieces : List Piece). ArePieces pieces colon.more) (append_assoc (sum_pieces sum) (flat_map comma_and more) (a_sign (closing kind))) colon.are) in
+    (subst (λ (pieces : List Piece). ArePieces pieces colon.more) (append_assoc (sum_pieces sum) (flat_map comma_and more) (a_sign (closing kind))) colon.are) in
     let later = more_come kind more parts.back rest behind limits.1 parts.second in
     ap (λ (list : List Spot). run (components ∷ exactly (closing kind) ∷ behind) (list ++ rest)) colon.whole
     ∙ ap (λ (list : List Spot). run (whole never ∷ more_components ∷ exactly (closing kind) ∷ behind) list) (ap (λ (list : List Spot). list ++ rest) parts.whole ∙ append_assoc parts.front parts.back rest)
