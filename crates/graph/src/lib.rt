@@ -6,6 +6,8 @@
 
 mod fault;
 mod limits;
+mod numbered;
+mod place;
 
 pub use fault::{GraphError, GraphFault};
 pub use limits::MOST_TEXT;

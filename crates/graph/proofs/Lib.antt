@@ -1,0 +1,4 @@
+mod Entries
+mod Lists
+mod Places
+mod Texts
