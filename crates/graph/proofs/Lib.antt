@@ -1,4 +1,5 @@
 mod Entries
 mod Lists
 mod Places
+mod Seen
 mod Texts

@@ -2,6 +2,8 @@ pub mod Canonical
 pub mod Faults
 pub mod Fits
 pub mod Graph
+pub mod Inside
 pub mod Numbered
+pub mod Prescribed
 pub mod Reads
 pub mod Tree

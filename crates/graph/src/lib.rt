@@ -5,9 +5,11 @@
 #![tactic(auto)]
 
 mod fault;
+mod graph;
 mod limits;
 mod numbered;
 mod place;
 
 pub use fault::{GraphError, GraphFault};
+pub use graph::Graph;
 pub use limits::MOST_TEXT;

@@ -1,0 +1,50 @@
+-- What a graph is seen as.
+use Rattle.std.proofs.Common.{◌≡◌, ℕ, zero, suc, Bool, true, false, List, [], ◌∷◌, map, Some, None, Option, if◌then◌else◌, refl, sym, ap, subst, ◌∙◌, slice_get, get_or}
+use Rattle.std.specs.Prelude.{option_map, IfSome, ◌==◌}
+use Rattle.std.proofs.Common.{eqb-true}
+use Rattle.std.proofs.lemmas.Option.{slice_get-map}
+use Rattle.steptree.specs.Names.{Text, place_of}
+use Rattle.graph.specs.declared.graph.Prescriber.{Prescriber}
+use Rattle.graph.specs.declared.graph.Prescribed.{Prescribed}
+use Rattle.graph.specs.declared.graph.Graph.TheInside.{Inside}
+use Rattle.graph.specs.Graph.{Collection, Step, Graph, IsGraph, IsStep}
+use Rattle.graph.specs.Inside.{graph_seen, collection_seen, tags_seen, step_seen, IsKept}
+use Rattle.graph.specs.Numbered.{names_numbered}
+use Rattle.graph.specs.Prescribed.{prescribed_by, prescribed_from, names_of_steps}
+use Rattle.graph.specs.Tree.{names_in}
+
+fused : {X Y Z : Type 0} (f : X → Y) (g : Y → Z) (xs : List X) → map g (map f xs) ≡ map (λ x. g (f x)) xs
+fused f g [] = refl
+fused f g (x ∷ xs) = ap (λ l. g (f x) ∷ l) (fused f g xs)
+
+pub items_named : (items : List (Text × ℕ)) → names_numbered items ≡ names_in (map collection_seen items)
+items_named items = sym (fused collection_seen (λ collection. collection.name) items)
+
+pub tags_named : (tags : List (Text × Prescriber)) → names_numbered tags ≡ names_in (map tags_seen tags)
+tags_named tags = sym (fused tags_seen (λ collection. collection.name) tags)
+
+pub steps_named : (steps : List (Text × Prescribed)) → names_numbered steps ≡ names_of_steps (map step_seen steps)
+steps_named steps = sym (fused step_seen (λ step. step.name) steps)
+
+none_of : (tag number : ℕ) (steps : List Step) → ((place : ℕ) (step : Step) → slice_get steps place ≡ Some step → (step.prescriber == tag) ≡ false) → prescribed_from number steps tag ≡ []
+none_of tag number [] other = refl
+none_of tag number (step ∷ steps) other =
+    ap (λ (b : Bool). if b then number ∷ prescribed_from (suc number) steps tag else prescribed_from (suc number) steps tag) (other 0 step refl)
+    ∙ none_of tag (suc number) steps (λ place it there. other (suc place) it there)
+
+-- tags that are not of the graph prescribe nothing
+pub none_prescribed : (g : Graph) (tag : ℕ) → IsGraph g → slice_get g.tags tag ≡ None → prescribed_by g tag ≡ []
+none_prescribed g tag graph none = none_of tag 0 g.steps (λ place step there. by place step there (step.prescriber == tag) refl)
+  where
+    by : (place : ℕ) (step : Step) → slice_get g.steps place ≡ Some step → (same : Bool) → (step.prescriber == tag) ≡ same → same ≡ false
+    by place step there true same =
+        let is = (graph.steps place step there).prescribed in
+        let one : step.prescriber ≡ tag = eqb-true step.prescriber tag same in
+        let here = is.1 in
+        absurd (cc)
+    by place step there false same = refl
+
+pub not_seen : (tags : List (Text × Prescriber)) (number : ℕ) → None ≡ option_map (λ entry. entry.1) (slice_get tags number) → slice_get (map tags_seen tags) number ≡ None
+not_seen [] number none = refl
+not_seen (entry ∷ tags) zero none = absurd (cc)
+not_seen (entry ∷ tags) (suc number) none = not_seen tags number none
