@@ -1,4 +1,5 @@
 mod Entries
+mod FirstFaults
 mod Lists
 mod Places
 mod Seen

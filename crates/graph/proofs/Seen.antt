@@ -1,14 +1,13 @@
 -- What a graph is seen as.
-use Rattle.std.proofs.Common.{◌≡◌, ℕ, zero, suc, Bool, true, false, List, [], ◌∷◌, map, Some, None, Option, if◌then◌else◌, refl, sym, ap, subst, ◌∙◌, slice_get, get_or}
+use Rattle.std.proofs.Common.{◌≡◌, ℕ, zero, suc, Bool, true, false, List, [], ◌∷◌, map, Some, None, Option, if◌then◌else◌, refl, sym, ap, subst, ◌∙◌, slice_get, get_or, length, ◌≤◌, arith}
 use Rattle.std.specs.Prelude.{option_map, IfSome, ◌==◌}
 use Rattle.std.proofs.Common.{eqb-true}
 use Rattle.std.proofs.lemmas.Option.{slice_get-map}
 use Rattle.steptree.specs.Names.{Text, place_of}
-use Rattle.graph.specs.declared.graph.Prescriber.{Prescriber}
 use Rattle.graph.specs.declared.graph.Prescribed.{Prescribed}
 use Rattle.graph.specs.declared.graph.Graph.TheInside.{Inside}
 use Rattle.graph.specs.Graph.{Collection, Step, Graph, IsGraph, IsStep}
-use Rattle.graph.specs.Inside.{graph_seen, collection_seen, tags_seen, step_seen, IsKept}
+use Rattle.graph.specs.Inside.{graph_seen, collection_seen, step_seen, IsKept}
 use Rattle.graph.specs.Numbered.{names_numbered}
 use Rattle.graph.specs.Prescribed.{prescribed_by, prescribed_from, names_of_steps}
 use Rattle.graph.specs.Tree.{names_in}
@@ -19,9 +18,6 @@ fused f g (x ∷ xs) = ap (λ l. g (f x) ∷ l) (fused f g xs)
 
 pub items_named : (items : List (Text × ℕ)) → names_numbered items ≡ names_in (map collection_seen items)
 items_named items = sym (fused collection_seen (λ collection. collection.name) items)
-
-pub tags_named : (tags : List (Text × Prescriber)) → names_numbered tags ≡ names_in (map tags_seen tags)
-tags_named tags = sym (fused tags_seen (λ collection. collection.name) tags)
 
 pub steps_named : (steps : List (Text × Prescribed)) → names_numbered steps ≡ names_of_steps (map step_seen steps)
 steps_named steps = sym (fused step_seen (λ step. step.name) steps)
@@ -44,7 +40,7 @@ none_prescribed g tag graph none = none_of tag 0 g.steps (λ place step there. b
         absurd (cc)
     by place step there false same = refl
 
-pub not_seen : (tags : List (Text × Prescriber)) (number : ℕ) → None ≡ option_map (λ entry. entry.1) (slice_get tags number) → slice_get (map tags_seen tags) number ≡ None
-not_seen [] number none = refl
-not_seen (entry ∷ tags) zero none = absurd (cc)
-not_seen (entry ∷ tags) (suc number) none = not_seen tags number none
+pub past_seen : (tags : List (Text × ℕ)) (number : ℕ) → length tags ≤ number → slice_get (map collection_seen tags) number ≡ None
+past_seen [] number past = refl
+past_seen (entry ∷ tags) zero past = absurd (omega arith)
+past_seen (entry ∷ tags) (suc number) past = past_seen tags number (omega arith)

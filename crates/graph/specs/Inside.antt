@@ -1,6 +1,7 @@
 -- What a graph is seen as, and what is kept of it.
-use Rattle.std.specs.Prelude.{◌≡◌, ℕ, List, map, Some, slice_get}
-use Rattle.graph.specs.declared.graph.Prescriber.{Prescriber}
+use Rattle.std.specs.Prelude.{◌≡◌, ℕ, List, map, length, Some, slice_get, Vec}
+use Rattle.std.specs.declared.alloc.Global.{Global}
+use Rattle.terms.specs.declared.name.StepCollection.{StepCollection}
 use Rattle.graph.specs.declared.graph.Prescribed.{Prescribed}
 use Rattle.graph.specs.declared.graph.Graph.TheInside.{Inside}
 use Rattle.graph.specs.Graph.{Collection, Step, Graph, IsGraph}
@@ -8,9 +9,6 @@ use Rattle.graph.specs.Prescribed.{prescribed_by}
 
 abbrev pub collection_seen : List ℕ × ℕ → Collection
 collection_seen entry = record { name = entry.0; components = entry.1 }
-
-abbrev pub tags_seen : List ℕ × Prescriber → Collection
-tags_seen entry = record { name = entry.0; components = entry.1.components }
 
 abbrev pub step_seen : List ℕ × Prescribed → Step
 step_seen entry = record {
@@ -27,7 +25,7 @@ step_seen entry = record {
 abbrev pub graph_seen : Inside → Graph
 graph_seen g = record {
   items = map collection_seen g.items;
-  tags = map tags_seen g.tags;
+  tags = map collection_seen g.tags;
   steps = map step_seen g.steps;
   environment_item_puts = g.environment_item_puts.items;
   environment_tag_puts = g.environment_tag_puts.items;
@@ -37,4 +35,5 @@ graph_seen g = record {
 -- it is a graph, and each collection of tags has the numbers of the steps that it prescribes
 pub record IsKept (g : Inside) : Type 0 where
   pub graph : IsGraph (graph_seen g)
-  pub prescribes : (number : ℕ) (entry : List ℕ × Prescriber) → slice_get g.tags number ≡ Some entry → map (λ step. step.0) entry.1.prescribes.items ≡ prescribed_by (graph_seen g) number
+  pub long : length g.prescribes.items ≡ length g.tags
+  pub prescribes : (number : ℕ) (steps : Vec StepCollection Global) → slice_get g.prescribes.items number ≡ Some steps → map (λ step. step.0) steps.items ≡ prescribed_by (graph_seen g) number

@@ -1,9 +1,13 @@
 pub mod Canonical
+pub mod Collected
 pub mod Faults
 pub mod Fits
 pub mod Graph
 pub mod Inside
 pub mod Numbered
+pub mod Placed
 pub mod Prescribed
 pub mod Reads
+pub mod Small
+pub mod Tables
 pub mod Tree

@@ -10,13 +10,6 @@ use std::marker::Model;
 use steptree::Checked;
 use terms::{ItemCollection, StepCollection, TagCollection};
 
-/// A collection of tags: how many components its keys have, and the steps that it prescribes, rising.
-#[derive(Drop)]
-pub(crate) struct Prescriber {
-    pub(crate) components: usize,
-    pub(crate) prescribes: Vec<StepCollection>,
-}
-
 /// A step: what prescribes it, what it may read and put by the numbers of the collections, and its body.
 #[derive(Drop)]
 pub(crate) struct Prescribed {
@@ -34,7 +27,9 @@ pub(crate) struct Prescribed {
 #[derive(Drop)]
 pub struct Graph {
     pub(crate) items: Numbered<usize>,
-    pub(crate) tags: Numbered<Prescriber>,
+    pub(crate) tags: Numbered<usize>,
+    // by the numbers of the tag collections, the steps that each prescribes
+    pub(crate) prescribes: Vec<Vec<StepCollection>>,
     pub(crate) steps: Numbered<Prescribed>,
     pub(crate) environment_item_puts: Vec<bool>,
     pub(crate) environment_tag_puts: Vec<bool>,
@@ -94,10 +89,7 @@ impl Graph {
     pub fn tag_components(&self, tag: TagCollection) -> Option<usize>
         ensures { result ≡ option_map (λ collection. collection.components) (slice_get self.now.tags tag.0) }
     {
-        match self.tags.value(tag.0 as usize) {
-            Some(tag) => Some(tag.components),
-            None => None,
-        }
+        self.tags.value(tag.0 as usize).copied()
     }
 
     /// How many parameters a step has, if it is of the graph.
@@ -178,9 +170,11 @@ impl Graph {
     pub fn prescribed_by(&self, tag: TagCollection) -> &[StepCollection]
         ensures { map (λ step. step.0) result.now ≡ prescribed_by self.now tag.0 }
     {
-        match self.tags.value(tag.0 as usize) {
-            Some(tag) => &tag.prescribes,
-            None => &[],
+        let number = tag.0 as usize;
+        if number < self.prescribes.len() {
+            &self.prescribes[number]
+        } else {
+            &[]
         }
     }
 

@@ -4,6 +4,7 @@
 //! and facts, without a look at the bodies of steps.
 #![tactic(auto)]
 
+mod declarations;
 mod fault;
 mod graph;
 mod limits;

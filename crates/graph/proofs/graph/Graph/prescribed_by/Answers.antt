@@ -1,12 +1,11 @@
-use Rattle.std.proofs.Common.{◌≡◌, ◌∙◌, List, [], ap, sym, subst, slice_get, Some, None}
-use Rattle.std.specs.Prelude.{option_map}
+use Rattle.std.proofs.Common.{◌≡◌, ◌∙◌, ap, sym, arith}
 use Rattle.graph.specs.Graph.{Graph}
-use Rattle.graph.specs.Inside.{graph_seen, tags_seen}
+use Rattle.graph.specs.Inside.{graph_seen}
 use Rattle.graph.specs.Prescribed.{prescribed_by}
-use Rattle.graph.proofs.Seen.{none_prescribed, not_seen}
+use Rattle.graph.proofs.Seen.{none_prescribed, past_seen}
 use Rattle.graph.proofs.graph.Graph.prescribed_by.Goals as goal
 
-pub returns-in-None : goal.returns-in-None
-returns-in-None c =
+pub returns-else-number-len : goal.returns-else-number-len
+returns-else-number-len c =
     sym (ap (λ (g : Graph). prescribed_by g c.args.tag.0) (sym c.self.view_is)
-    ∙ none_prescribed (graph_seen c.self.inside) c.args.tag.0 c.self.invariant.graph (not_seen c.self.inside.tags c.args.tag.0 c.in-None.ensures))
+    ∙ none_prescribed (graph_seen c.self.inside) c.args.tag.0 c.self.invariant.graph (past_seen c.self.inside.tags c.args.tag.0 (omega arith)))
