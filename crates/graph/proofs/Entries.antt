@@ -7,7 +7,7 @@ use Rattle.std.proofs.lemmas.Option.{slice_get-map}
 use Rattle.std.proofs.lemmas.List.{map-append}
 use Rattle.std.specs.Map.{keys_of, lookup}
 use Rattle.steptree.specs.Names.{Text, is_text, place_of}
-use Rattle.graph.specs.Numbered.{names_numbered}
+use Rattle.graph.specs.Numbered.{names_numbered, found}
 use Rattle.graph.proofs.Texts.{texts_are_bytes, same_both_ways}
 use Rattle.graph.proofs.Places.{own_place}
 
@@ -63,3 +63,21 @@ module _ {K V : Type 0} (text : K → Text) where
           let e : place_of (names_numbered (seen (entry ∷ entries))) (text name) ≡ option_map suc (place_of (names_numbered (seen entries)) (text name)) =
               ap (λ (b : Bool). if b then Some zero else option_map suc (place_of (names_numbered (seen entries)) (text name))) same in
           ap (λ (b : Bool). cond b (Some entry.1) (lookup (λ key. bytes_eq (text name) (text key)) entries)) test ∙ others (unmapped _ (sym e ∙ none))
+
+  -- what is looked up is found
+  pub looked_up : (entries : List (K × V)) (name : Text) → lookup (λ key. bytes_eq name (text key)) entries ≡ found (seen entries) name
+  looked_up [] name = refl
+  looked_up (entry ∷ entries) name = by (is_text (text entry.0) name) refl (looked_up entries name)
+    where
+      by : (same : Bool) → is_text (text entry.0) name ≡ same → lookup (λ key. bytes_eq name (text key)) entries ≡ found (seen entries) name
+          → lookup (λ key. bytes_eq name (text key)) (entry ∷ entries) ≡ found (seen (entry ∷ entries)) name
+      by same is others =
+          let test : bytes_eq name (text entry.0) ≡ same = sym (texts_are_bytes name (text entry.0)) ∙ same_both_ways name (text entry.0) ∙ is in
+          ap (λ (b : Bool). cond b (Some entry.1) (lookup (λ key. bytes_eq name (text key)) entries)) test
+          ∙ at same others
+          ∙ sym (ap (λ (b : Bool). if b then Some entry.1 else found (seen entries) name) is)
+        where
+          at : (b : Bool) → lookup (λ key. bytes_eq name (text key)) entries ≡ found (seen entries) name
+              → cond b (Some entry.1) (lookup (λ key. bytes_eq name (text key)) entries) ≡ (if b then Some entry.1 else found (seen entries) name)
+          at true e = refl
+          at false e = e

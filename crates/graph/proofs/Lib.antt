@@ -1,6 +1,8 @@
+mod Declaring
 mod Entries
 mod FirstFaults
 mod Lists
+mod Marks
 mod Places
 mod Seen
 mod Texts

@@ -1,5 +1,5 @@
 -- Lists, one element after another.
-use Rattle.std.proofs.Common.{◌≡◌, ◌<◌, ℕ, suc, ◌+◌, List, [], ◌∷◌, ◌++◌, length, drop, take, get_or, refl, sym, ap, ◌∙◌, arith}
+use Rattle.std.proofs.Common.{◌≡◌, ◌<◌, ℕ, zero, suc, ◌+◌, List, [], ◌∷◌, ◌++◌, length, drop, take, get_or, refl, sym, ap, ◌∙◌, arith}
 use Rattle.std.proofs.Math.Seq.{drop-cons}
 
 -- what is left at an index: the element there, and those behind it
@@ -19,3 +19,9 @@ past xs index all = ap (λ (n : ℕ). drop n xs) all ∙ past_all xs
 pub with_none : {X : Type 0} (xs : List X) → xs ++ [] ≡ xs
 with_none [] = refl
 with_none (x ∷ xs) = ap (λ l. x ∷ l) (with_none xs)
+
+-- what is read at an index stands there, whatever is read past the end
+pub stands : {X : Type 0} (xs : List X) (index : ℕ) (default this : X) → index < length xs → get_or xs index default ≡ this → this ≡ get_or xs index this
+stands [] index default this within is = absurd (omega arith)
+stands (x ∷ xs) zero default this within is = sym is
+stands (x ∷ xs) (suc index) default this within is = stands xs index default this (omega arith) is

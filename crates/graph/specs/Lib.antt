@@ -4,10 +4,10 @@ pub mod Faults
 pub mod Fits
 pub mod Graph
 pub mod Inside
+pub mod Marks
 pub mod Numbered
 pub mod Placed
 pub mod Prescribed
 pub mod Reads
 pub mod Small
-pub mod Tables
 pub mod Tree

@@ -10,6 +10,8 @@ mod graph;
 mod limits;
 mod numbered;
 mod place;
+mod relations;
+mod tables;
 
 pub use fault::{GraphError, GraphFault};
 pub use graph::Graph;

@@ -1,7 +1,7 @@
 ghost use Rattle.std.specs.Prelude.{◌≡◌, ◌<◌, ◌++◌, ◌∷◌, [], length, None, Some, IfSome, OnOk, slice_get};
 ghost use Rattle.std.specs.Option.{option_map};
 ghost use Rattle.steptree.specs.Names.{place_of};
-ghost use Rattle.graph.specs.Numbered.{names_numbered};
+ghost use Rattle.graph.specs.Numbered.{names_numbered, found};
 
 use indexmap::IndexMap;
 use std::alloc::{AllocError, Global};
@@ -47,6 +47,13 @@ impl<V> Numbered<V> {
         ensures within { IfSome result (λ number. number < length self.now) }
     {
         self.entries.get_index_of(name)
+    }
+
+    /// The value with a name.
+    pub(crate) fn get(&self, name: &str) -> Option<&V>
+        ensures { option_map (λ value. value.now) result ≡ found self.now name.now }
+    {
+        self.entries.get(name)
     }
 
     /// The name with a number.

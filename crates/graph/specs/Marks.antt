@@ -1,6 +1,8 @@
 -- What is marked in rows of truth values, and which relations the marks are.
-use Rattle.std.specs.Prelude.{◌≡◌, ℕ, Bool, true, false, ◌||◌, List, [], ◌∷◌, length, All, Option, Some, None, get_or, is_some}
-use Rattle.std.specs.List.{list_any}
+use Rattle.std.specs.Prelude.{◌≡◌, ℕ, Bool, true, false, ◌||◌, List, [], ◌∷◌, length, map, Option, Some, None, get_or, Vec}
+use Rattle.std.specs.declared.alloc.Global.{Global}
+use Rattle.std.proofs.Math.ListN.{set}
+use Rattle.std.specs.List.{list_any, AllByRecursion}
 use Rattle.terms.specs.declared.name.TagCollection.{TagCollection}
 use Rattle.syntax.specs.declared.tree.Relation.{Relation}
 use Rattle.steptree.specs.Names.{Text, place_of}
@@ -24,7 +26,7 @@ pub record AreMarks (is : Text → Relation → Bool) (names : List Text) (befor
 -- the marks of the rows are the relations between these steps and these names
 pub record AreRows (is : Text → Text → Relation → Bool) (steps names : List Text) (before : List Relation) (rows : List (List Bool)) : Type 0 where
   pub long : length rows ≡ length steps
-  pub wide : All (λ row. length row ≡ length names) rows
+  pub wide : AllByRecursion (λ row. length row ≡ length names) rows
   pub each : (step name : Text) → list_any (is step name) before ≡ mark_between rows (place_of steps step) (place_of names name)
 
 -- the tags that prescribe a step, by their number
@@ -41,3 +43,23 @@ prescriber_at list (Some place) = get_or list place None
 pub record ArePrescribers (tags steps : List Text) (before : List Relation) (list : List (Option TagCollection)) : Type 0 where
   pub long : length list ≡ length steps
   pub each : (step : Text) → IsPrescriber tags (prescriber_of before step) (prescriber_at list (place_of steps step))
+
+-- ---- marking
+
+-- the row with a mark at a place, where there is one
+abbrev pub with_mark : List Bool → Option ℕ → List Bool
+with_mark row None = row
+with_mark row (Some place) = set row place true
+
+abbrev pub with_mark_between : List (List Bool) → Option ℕ → Option ℕ → List (List Bool)
+with_mark_between rows None place = rows
+with_mark_between rows (Some row) place = set rows row (with_mark (get_or rows row []) place)
+
+-- the rows alone
+abbrev pub bits : Vec (Vec Bool Global) Global → List (List Bool)
+bits rows = map (λ row. row.items) rows.items
+
+-- the list after a tag's number is set at the place of a step
+abbrev pub IsPrescribedBy : List (Option TagCollection) → Option ℕ → Option ℕ → List (Option TagCollection) → Type 0
+IsPrescribedBy old (Some place) (Some tag) new = (number : TagCollection) × (number.0 ≡ tag) × (new ≡ set old place (Some number))
+IsPrescribedBy old step tag new = ⊥

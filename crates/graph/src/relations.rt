@@ -1,0 +1,64 @@
+ghost use Rattle.std.specs.Prelude.{◌≡◌, ◌<◌, ◌^◌, ◌++◌, List, IfSome, OnOk, is_none, is_some};
+ghost use Rattle.steptree.specs.Names.{Text};
+ghost use Rattle.syntax.specs.declared.tree.Relation.{Relation};
+ghost use Rattle.graph.specs.declared.fault.GraphError.TheVariants.{UnknownName, StepMissing, TwoPrescribers};
+ghost use Rattle.graph.specs.Faults.{fault_if, or_else};
+ghost use Rattle.graph.specs.Placed.{Reports};
+ghost use Rattle.graph.specs.Marks.{prescriber_at, IsPrescribedBy};
+
+use crate::fault::{GraphError, PlacedFault};
+use crate::numbered::Numbered;
+use crate::tables::{environment, known, put, read};
+use steptree::Name;
+use syntax::Relation;
+use terms::TagCollection;
+
+/// The numbers of the collections by their names. Of two equal names of steps the first counts.
+#[derive(Clone, Copy)]
+pub(crate) struct Numbers<'b> {
+    pub(crate) items: &'b Numbered<usize>,
+    pub(crate) tags: &'b Numbered<usize>,
+    pub(crate) steps: &'b Numbered<usize>,
+}
+
+/// The relations so far, by the numbers of the collections.
+#[derive(Drop)]
+pub(crate) struct Relations {
+    pub(crate) prescribers: Vec<Option<TagCollection>>,
+    pub(crate) reads: Vec<Vec<bool>>,
+    pub(crate) item_puts: Vec<Vec<bool>>,
+    pub(crate) tag_puts: Vec<Vec<bool>>,
+    pub(crate) environment_item_puts: Vec<bool>,
+    pub(crate) environment_tag_puts: Vec<bool>,
+    pub(crate) environment_gets: Vec<bool>,
+}
+
+/// A prescription, by the places of its tags and its step.
+fn prescribe(
+    prescribers: &mut Vec<Option<TagCollection>>,
+    tag: Option<usize>,
+    tag_name: &Name<'_>,
+    step: Option<usize>,
+    step_name: &Name<'_>,
+) -> Result<(), PlacedFault>
+    requires { IfSome tag (λ number. number < 2 ^ 16) }
+    ensures faults { Reports (fault_if (is_none tag) UnknownName tag_name.now.place ++ or_else (fault_if (is_none step) StepMissing step_name.now.place) (fault_if (is_some (prescriber_at prescribers.old.items step)) TwoPrescribers step_name.now.place)) result }
+    ensures prescribed { OnOk result (IsPrescribedBy prescribers.old.items step tag prescribers.new.items) }
+{
+    known(tag, GraphError::UnknownName, tag_name)?;
+    known(step, GraphError::StepMissing, step_name)?;
+    if let Some(number) = tag {
+        if let Some(place) = step {
+            if place < prescribers.len() {
+                if prescribers[place].is_some() {
+                    return Err(PlacedFault {
+                        error: GraphError::TwoPrescribers,
+                        position: step_name.place,
+                    });
+                }
+                prescribers[place] = Some(TagCollection(number as u16));
+            }
+        }
+    }
+    Ok(())
+}
