@@ -4,5 +4,8 @@ mod FirstFaults
 mod Lists
 mod Marks
 mod Places
+mod Prescribers
+mod Relating
+mod RelationKinds
 mod Seen
 mod Texts

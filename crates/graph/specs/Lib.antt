@@ -9,5 +9,6 @@ pub mod Numbered
 pub mod Placed
 pub mod Prescribed
 pub mod Reads
+pub mod Relations
 pub mod Small
 pub mod Tree

@@ -60,6 +60,6 @@ abbrev pub bits : Vec (Vec Bool Global) Global → List (List Bool)
 bits rows = map (λ row. row.items) rows.items
 
 -- the list after a tag's number is set at the place of a step
-abbrev pub IsPrescribedBy : List (Option TagCollection) → Option ℕ → Option ℕ → List (Option TagCollection) → Type 0
-IsPrescribedBy old (Some place) (Some tag) new = (number : TagCollection) × (number.0 ≡ tag) × (new ≡ set old place (Some number))
-IsPrescribedBy old step tag new = ⊥
+abbrev pub with_prescriber : List (Option TagCollection) → Option ℕ → Option ℕ → List (Option TagCollection)
+with_prescriber old (Some place) (Some tag) = set old place (Some (record { 0 = tag }))
+with_prescriber old step tag = old

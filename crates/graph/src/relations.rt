@@ -1,10 +1,11 @@
-ghost use Rattle.std.specs.Prelude.{◌≡◌, ◌<◌, ◌^◌, ◌++◌, List, IfSome, OnOk, is_none, is_some};
+ghost use Rattle.std.specs.Prelude.{◌≡◌, ◌<◌, ◌^◌, ◌++◌, List, length, IfSome, OnOk, is_none, is_some};
 ghost use Rattle.steptree.specs.Names.{Text};
-ghost use Rattle.syntax.specs.declared.tree.Relation.{Relation};
+ghost use Rattle.syntax.specs.declared.tree.Relation.{Relation as Tied};
 ghost use Rattle.graph.specs.declared.fault.GraphError.TheVariants.{UnknownName, StepMissing, TwoPrescribers};
 ghost use Rattle.graph.specs.Faults.{fault_if, or_else};
 ghost use Rattle.graph.specs.Placed.{Reports};
-ghost use Rattle.graph.specs.Marks.{prescriber_at, IsPrescribedBy};
+ghost use Rattle.graph.specs.Relations.{AreNumbers, AreRelations, Relates};
+ghost use Rattle.graph.specs.Marks.{prescriber_at, with_prescriber};
 
 use crate::fault::{GraphError, PlacedFault};
 use crate::numbered::Numbered;
@@ -43,7 +44,7 @@ fn prescribe(
 ) -> Result<(), PlacedFault>
     requires { IfSome tag (λ number. number < 2 ^ 16) }
     ensures faults { Reports (fault_if (is_none tag) UnknownName tag_name.now.place ++ or_else (fault_if (is_none step) StepMissing step_name.now.place) (fault_if (is_some (prescriber_at prescribers.old.items step)) TwoPrescribers step_name.now.place)) result }
-    ensures prescribed { OnOk result (IsPrescribedBy prescribers.old.items step tag prescribers.new.items) }
+    ensures prescribed { OnOk result (prescribers.new.items ≡ with_prescriber prescribers.old.items step tag) }
 {
     known(tag, GraphError::UnknownName, tag_name)?;
     known(step, GraphError::StepMissing, step_name)?;
@@ -61,4 +62,64 @@ fn prescribe(
         }
     }
     Ok(())
+}
+
+impl Relations {
+    /// One more relation, or the first of its faults.
+    fn relate(&mut self, numbers: &Numbers<'_>, relation: &Relation<'_>) -> Result<(), PlacedFault>
+        requires { length numbers.now.tags.now < 2 ^ 16 }
+        ensures { (items tags steps : List Text) (before : List Tied) → AreNumbers items tags steps numbers.now → AreRelations items tags steps before self.old → Relates items tags steps before relation.now self.new result }
+    {
+        match relation {
+            Relation::Prescribes { tag, step } => prescribe(
+                &mut self.prescribers,
+                numbers.tags.number(tag.text),
+                tag,
+                numbers.steps.get(step.text).copied(),
+                step,
+            ),
+            Relation::Reads { place, item, step } => read(
+                &mut self.reads,
+                *place,
+                numbers.items.number(item.text),
+                item,
+                numbers.steps.get(step.text).copied(),
+                step,
+            ),
+            Relation::PutsItem { place, step, item } => put(
+                &mut self.item_puts,
+                *place,
+                numbers.steps.get(step.text).copied(),
+                step,
+                numbers.items.number(item.text),
+                item,
+            ),
+            Relation::PutsTag { place, step, tag } => put(
+                &mut self.tag_puts,
+                *place,
+                numbers.steps.get(step.text).copied(),
+                step,
+                numbers.tags.number(tag.text),
+                tag,
+            ),
+            Relation::EnvironmentPutsItem { place, item } => environment(
+                &mut self.environment_item_puts,
+                *place,
+                numbers.items.number(item.text),
+                item,
+            ),
+            Relation::EnvironmentPutsTag { place, tag } => environment(
+                &mut self.environment_tag_puts,
+                *place,
+                numbers.tags.number(tag.text),
+                tag,
+            ),
+            Relation::EnvironmentGets { place, item } => environment(
+                &mut self.environment_gets,
+                *place,
+                numbers.items.number(item.text),
+                item,
+            ),
+        }
+    }
 }
