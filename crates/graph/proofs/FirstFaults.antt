@@ -1,6 +1,6 @@
 -- The first of the faults of several parts.
 use Rattle.std.proofs.Common.{◌≡◌, Bool, true, false, ℕ, List, [], ◌∷◌, ◌++◌, sym, ap, refl, ◌∙◌, subst, inl, inr}
-use Rattle.std.specs.Prelude.{Result, Ok, Err, IsErrAnd, if◌then◌else◌}
+use Rattle.std.specs.Prelude.{Result, Ok, Err, IsErrAnd, MatchResult, if◌then◌else◌}
 use Rattle.graph.specs.declared.fault.GraphError.{GraphError}
 use Rattle.graph.specs.declared.fault.PlacedFault.{PlacedFault}
 use Rattle.graph.specs.Faults.{At, fault_if}
@@ -30,3 +30,9 @@ there holds error position is = ap (λ (b : Bool). fault_if b error position) is
 
 pub nothing : (holds : Bool) (error : GraphError) (position : ℕ) → holds ≡ false → fault_if holds error position ≡ []
 nothing holds error position is = ap (λ (b : Bool). fault_if b error position) is
+
+-- the same, whatever else is said of a value
+pub relation_passed_on : {X : Type 0} (P : X → Type 0) (faults : List At) (result : Result X PlacedFault) (fault : PlacedFault) → IsErrAnd result (λ other. other ≡ fault) → IsFirst faults fault
+    → MatchResult result P (IsFirst faults)
+relation_passed_on P faults (Ok value) fault is first = absurd is
+relation_passed_on P faults (Err other) fault is first = subst (IsFirst faults) (sym is) first

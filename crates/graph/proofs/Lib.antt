@@ -9,3 +9,4 @@ mod Relating
 mod RelationKinds
 mod Seen
 mod Texts
+mod Unmarked

@@ -1,15 +1,16 @@
-ghost use Rattle.std.specs.Prelude.{◌≡◌, ◌<◌, ◌^◌, ◌++◌, List, length, IfSome, OnOk, is_none, is_some};
+ghost use Rattle.std.specs.Prelude.{◌≡◌, ◌<◌, ◌^◌, ◌++◌, List, length, IfOk, IfSome, OnOk, is_none, is_some};
 ghost use Rattle.steptree.specs.Names.{Text};
 ghost use Rattle.syntax.specs.declared.tree.Relation.{Relation as Tied};
 ghost use Rattle.graph.specs.declared.fault.GraphError.TheVariants.{UnknownName, StepMissing, TwoPrescribers};
 ghost use Rattle.graph.specs.Faults.{fault_if, or_else};
 ghost use Rattle.graph.specs.Placed.{Reports};
-ghost use Rattle.graph.specs.Relations.{AreNumbers, AreRelations, Relates};
+ghost use Rattle.graph.specs.Relations.{AreNumbers, AreRelations, IsUnmarked, Relates, RelatesAll};
 ghost use Rattle.graph.specs.Marks.{prescriber_at, with_prescriber};
 
 use crate::fault::{GraphError, PlacedFault};
 use crate::numbered::Numbered;
-use crate::tables::{environment, known, put, read};
+use crate::tables::{environment, known, no_marks, put, read};
+use std::alloc::{AllocError, Global};
 use steptree::Name;
 use syntax::Relation;
 use terms::TagCollection;
@@ -122,4 +123,36 @@ impl Relations {
             ),
         }
     }
+}
+
+/// No relations, of so many collections of each kind.
+fn none(alloc: Global, items: usize, tags: usize, steps: usize) -> Result<Relations, AllocError>
+    ensures { IfOk result (λ them. IsUnmarked items tags steps them) }
+{
+    Ok(Relations {
+        prescribers: vec![in alloc; None; steps]?,
+        reads: no_marks(alloc, steps, items)?,
+        item_puts: no_marks(alloc, steps, items)?,
+        tag_puts: no_marks(alloc, steps, tags)?,
+        environment_item_puts: vec![in alloc; false; items]?,
+        environment_tag_puts: vec![in alloc; false; tags]?,
+        environment_gets: vec![in alloc; false; items]?,
+    })
+}
+
+/// The relations of a tree, by the numbers of its collections, or the first of their faults.
+pub(crate) fn relate_all(
+    alloc: Global,
+    numbers: &Numbers<'_>,
+    steps: usize,
+    relations: &[Relation<'_>],
+) -> Result<Relations, PlacedFault>
+    requires { length numbers.now.tags.now < 2 ^ 16 }
+    ensures { (items tags names : List Text) → AreNumbers items tags names numbers.now → length names ≡ steps → RelatesAll items tags names relations.now result }
+{
+    let mut them = none(alloc, numbers.items.len(), numbers.tags.len(), steps)?;
+    for relation in relations {
+        them.relate(numbers, relation)?;
+    }
+    Ok(them)
 }

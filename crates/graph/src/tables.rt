@@ -1,10 +1,11 @@
-ghost use Rattle.std.specs.Prelude.{◌≡◌, ◌++◌, OnOk, is_none};
+ghost use Rattle.std.specs.Prelude.{◌≡◌, ◌++◌, OnOk, IfOk, is_none, false, replicate};
 ghost use Rattle.graph.specs.declared.fault.GraphError.TheVariants.{Redeclared, UnknownName, StepMissing};
 ghost use Rattle.graph.specs.Faults.{fault_if};
 ghost use Rattle.graph.specs.Placed.{Reports};
 ghost use Rattle.graph.specs.Marks.{mark_at, mark_between, with_mark, with_mark_between, bits};
 
 use crate::fault::{GraphError, PlacedFault};
+use std::alloc::{AllocError, Global};
 use steptree::Name;
 
 /// Marks a place of a row; a mark that is there is at fault.
@@ -103,4 +104,15 @@ pub(crate) fn environment(
 {
     mark(row, place, position)?;
     known(place, GraphError::UnknownName, name)
+}
+
+/// So many rows of so many places, none marked.
+pub(crate) fn no_marks(alloc: Global, rows: usize, width: usize) -> Result<Vec<Vec<bool>>, AllocError>
+    ensures { IfOk result (λ them. bits them ≡ replicate rows (replicate width false)) }
+{
+    let mut them = Vec::new(alloc);
+    for _row in 0..rows {
+        them.push(vec![in alloc; false; width]?)?;
+    }
+    Ok(them)
 }
