@@ -1,8 +1,10 @@
+mod Checking
 mod Declaring
 mod Entries
 mod FirstFaults
 mod Lists
 mod Marks
+mod Naming
 mod Places
 mod Prescribers
 mod Relating

@@ -11,4 +11,5 @@ pub mod Prescribed
 pub mod Reads
 pub mod Relations
 pub mod Small
+pub mod Steps
 pub mod Tree

@@ -11,6 +11,7 @@ mod limits;
 mod numbered;
 mod place;
 mod relations;
+mod steps;
 mod tables;
 
 pub use fault::{GraphError, GraphFault};
