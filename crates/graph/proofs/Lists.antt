@@ -25,3 +25,9 @@ pub stands : {X : Type 0} (xs : List X) (index : ℕ) (default this : X) → ind
 stands [] index default this within is = absurd (omega arith)
 stands (x ∷ xs) zero default this within is = sym is
 stands (x ∷ xs) (suc index) default this within is = stands xs index default this (omega arith) is
+
+-- within a list no default is read
+pub any_default : {X : Type 0} (xs : List X) (index : ℕ) (one two : X) → index < length xs → get_or xs index one ≡ get_or xs index two
+any_default [] index one two within = absurd (omega arith)
+any_default (x ∷ xs) zero one two within = refl
+any_default (x ∷ xs) (suc index) one two within = any_default xs index one two (omega arith)
