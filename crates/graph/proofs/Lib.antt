@@ -9,6 +9,7 @@ mod Places
 mod Prescribers
 mod Relating
 mod RelationKinds
+mod Resolving
 mod Seen
 mod Texts
 mod Unmarked

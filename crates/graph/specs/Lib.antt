@@ -10,6 +10,7 @@ pub mod Placed
 pub mod Prescribed
 pub mod Reads
 pub mod Relations
+pub mod Resolved
 pub mod Small
 pub mod Steps
 pub mod Tree

@@ -11,6 +11,7 @@ mod limits;
 mod numbered;
 mod place;
 mod relations;
+mod resolved;
 mod steps;
 mod tables;
 
