@@ -1,9 +1,8 @@
 -- Steps, one after another.
-use Rattle.std.proofs.Common.{◌≡◌, ◌<◌, ℕ, zero, suc, Bool, true, false, not, List, [], ◌∷◌, ◌++◌, length, map, get_or, take, drop, Some, None, Option, if◌then◌else◌, refl, sym, ap, subst, ◌∙◌, ◌+◌, arith, append_assoc, is_some, slice_get}
+use Rattle.std.proofs.Common.{◌≡◌, ◌<◌, ℕ, zero, suc, Bool, true, false, not, List, [], ◌∷◌, ◌++◌, length, get_or, take, drop, Some, None, Option, if◌then◌else◌, refl, sym, ap, subst, ◌∙◌, ◌+◌, arith, is_some, slice_get}
 use Rattle.std.specs.Prelude.{option_map, ◌==◌}
 use Rattle.std.proofs.lemmas.Bool.{eqb-true, eq-eqb, true≢false, false≢true}
 use Rattle.steptree.specs.declared.sheet.Declared.{Declared}
-use Rattle.steptree.specs.declared.step.Name.{Name}
 use Rattle.steptree.specs.declared.step.Step.{Step as NamedStep}
 use Rattle.steptree.specs.Names.{Text, is_text, place_of}
 use Rattle.terms.specs.declared.name.TagCollection.{TagCollection}
@@ -64,7 +63,7 @@ looked_up (first ∷ tags) tag number there = by (is_text first.name.now tag) re
 declared_there : (tags : List Declared) (number : ℕ) (tag : Text) → place_of (names_in (declared_collections tags)) tag ≡ Some number → (components : ℕ) × (option_map (λ declared. declared.components) (slice_get tags number) ≡ Some components)
 declared_there tags number tag there =
     by (slice_get tags number) (sym (slice_get-map (λ collection. collection.name) (declared_collections tags) number
-      ∙ ap (option_map (λ collection. collection.name)) (slice_get-map (λ it. record { name = it.name.now; components = it.components }) tags number)) ∙ at_place (names_in (declared_collections tags)) tag number there)
+    ∙ ap (option_map (λ collection. collection.name)) (slice_get-map (λ it. record { name = it.name.now; components = it.components }) tags number)) ∙ at_place (names_in (declared_collections tags)) tag number there)
   where
     by : (declared : Option Declared) → option_map (λ collection. collection.name) (option_map (λ it. let c : Collection = record { name = it.name.now; components = it.components } in c) declared) ≡ Some tag
         → (components : ℕ) × (option_map (λ declared. declared.components) declared ≡ Some components)
@@ -156,14 +155,14 @@ module _ (tags : List Declared) (items : List Text) (all : List Relation) (steps
       where
         by : (b : Bool) → twice ≡ b
             → or_else (fault_if b StepTwice this.name.place) (arity_faults (declared_collections tags) (prescriber_of all (text_of this.name)) this)
-                ≡ or_else (fault_if b StepTwice this.name.place) (components_faults (components_by tags (get_or relations.prescribers.items index None)) this)
+            ≡ or_else (fault_if b StepTwice this.name.place) (components_faults (components_by tags (get_or relations.prescribers.items index None)) this)
         by true e = refl
         by false e =
             let here : place_of (step_names steps) (text_of this.name) ≡ Some index =
-                its_place (place_of (step_names steps) (text_of this.name)) index (sym (not_twice (is_place (place_of (step_names steps) (text_of this.name)) index)) ∙ ap not (sym tells ∙ e)) in
+            its_place (place_of (step_names steps) (text_of this.name)) index (sym (not_twice (is_place (place_of (step_names steps) (text_of this.name)) index)) ∙ ap not (sym tells ∙ e)) in
             arity tags this (prescriber_of all (text_of this.name)) (get_or relations.prescribers.items index None)
             (subst (λ (p : Option ℕ). IsPrescriber (names_in (declared_collections tags)) (prescriber_of all (text_of this.name)) (prescriber_at relations.prescribers.items p)) here
-              (are.prescribers.each (text_of this.name)))
+            (are.prescribers.each (text_of this.name)))
 
     abbrev pub naming : List At
     naming = repeated [] (this.parameters.items ++ this.variables.items)

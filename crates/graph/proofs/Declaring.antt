@@ -1,22 +1,19 @@
 -- Declarations, one after another.
-use Rattle.std.proofs.Common.{◌≡◌, ◌<◌, ℕ, Bool, true, false, List, [], ◌∷◌, ◌++◌, length, map, take, drop, get_or, refl, sym, ap, subst, ◌∙◌, ◌+◌, arith}
-use Rattle.std.specs.Prelude.{if◌then◌else◌}
+use Rattle.std.proofs.Common.{◌≡◌, ◌<◌, ℕ, List, [], ◌∷◌, ◌++◌, length, take, drop, get_or, refl, sym, ap, subst, ◌∙◌, ◌+◌}
 use Rattle.std.proofs.lemmas.List.{take_more, map-append}
-use Rattle.steptree.specs.declared.sheet.Declared.{Declared}
 use Rattle.steptree.specs.declared.step.Name.{Name}
 use Rattle.steptree.specs.Names.{Text}
 use Rattle.syntax.specs.declared.tree.Declaration.{Declaration}
 use Rattle.syntax.specs.declared.tree.Declaration.TheVariants as declared
 use Rattle.graph.specs.declared.declarations.Collections.{Collections}
 use Rattle.graph.specs.declared.fault.PlacedFault.{PlacedFault}
-use Rattle.graph.specs.declared.fault.GraphError.TheVariants.{Redeclared}
 use Rattle.graph.specs.Collected.{AreCollected, again, of_name, collections_numbered}
-use Rattle.graph.specs.Faults.{At, declaration_faults, fault_if, has}
+use Rattle.graph.specs.Faults.{At, declaration_faults}
 use Rattle.graph.specs.Graph.{Collection, declared_collections}
 use Rattle.graph.specs.Numbered.{names_numbered}
 use Rattle.graph.specs.Placed.{IsFirst}
 use Rattle.graph.specs.Tree.{items_of, tags_of, names_in, text_of}
-use Rattle.graph.proofs.FirstFaults.{in_front, behind_none, empty_in_front}
+use Rattle.graph.proofs.FirstFaults.{in_front, empty_in_front}
 use Rattle.graph.proofs.Lists.{opened, past, with_none}
 use Rattle.graph.proofs.Seen.{items_named}
 
@@ -62,14 +59,14 @@ module _ (ds : List Declaration) where
         → collections_numbered new.numbered ≡ collections_numbered items.numbered ++ of_name name components ∷ [] → SoFar (index + 1) new tags
     item_declared name components new it so none one two =
         let more : items_of (take (index + 1) ds) ≡ items_of (take index ds) ++ of_name name components ∷ [] =
-            next_items ∙ ap (λ (d : Declaration). items_of (take index ds) ++ items_of (d ∷ [])) it in
+        next_items ∙ ap (λ (d : Declaration). items_of (take index ds) ++ items_of (d ∷ [])) it in
         let same : tags_of (take (index + 1) ds) ≡ tags_of (take index ds) =
-            next_tags ∙ ap (λ (d : Declaration). tags_of (take index ds) ++ tags_of (d ∷ [])) it ∙ with_none (tags_of (take index ds)) in
+        next_tags ∙ ap (λ (d : Declaration). tags_of (take index ds) ++ tags_of (d ∷ [])) it ∙ with_none (tags_of (take index ds)) in
         let names = their_names (items_of (take index ds)) items so.items_so_far in
         let rest : declaration_faults (names_in (items_of (take index ds)) ++ text_of name ∷ []) (names_in (tags_of (take index ds))) (drop (index + 1) ds)
-            ≡ declaration_faults (names_in (items_of (take (index + 1) ds))) (names_in (tags_of (take (index + 1) ds))) (drop (index + 1) ds) =
-            ap (λ (l : List Text). declaration_faults l (names_in (tags_of (take index ds))) (drop (index + 1) ds)) (names_more (items_of (take index ds)) (items_of (take (index + 1) ds)) (of_name name components ∷ []) more)
-            ∙ ap (λ (l : List Collection). declaration_faults (names_in (items_of (take (index + 1) ds))) (names_in l) (drop (index + 1) ds)) (sym same) in
+        ≡ declaration_faults (names_in (items_of (take (index + 1) ds))) (names_in (tags_of (take (index + 1) ds))) (drop (index + 1) ds) =
+        ap (λ (l : List Text). declaration_faults l (names_in (tags_of (take index ds))) (drop (index + 1) ds)) (names_more (items_of (take index ds)) (items_of (take (index + 1) ds)) (of_name name components ∷ []) more)
+        ∙ ap (λ (l : List Collection). declaration_faults (names_in (items_of (take (index + 1) ds))) (names_in l) (drop (index + 1) ds)) (sym same) in
         record {
           items_so_far = record {
             declared = one ∙ ap (λ l. l ++ of_name name components ∷ []) so.items_so_far.declared ∙ sym more;
@@ -85,14 +82,14 @@ module _ (ds : List Declaration) where
         → collections_numbered new.numbered ≡ collections_numbered tags.numbered ++ of_name name components ∷ [] → SoFar (index + 1) items new
     tag_declared name components new it so none one two =
         let more : tags_of (take (index + 1) ds) ≡ tags_of (take index ds) ++ of_name name components ∷ [] =
-            next_tags ∙ ap (λ (d : Declaration). tags_of (take index ds) ++ tags_of (d ∷ [])) it in
+        next_tags ∙ ap (λ (d : Declaration). tags_of (take index ds) ++ tags_of (d ∷ [])) it in
         let same : items_of (take (index + 1) ds) ≡ items_of (take index ds) =
-            next_items ∙ ap (λ (d : Declaration). items_of (take index ds) ++ items_of (d ∷ [])) it ∙ with_none (items_of (take index ds)) in
+        next_items ∙ ap (λ (d : Declaration). items_of (take index ds) ++ items_of (d ∷ [])) it ∙ with_none (items_of (take index ds)) in
         let names = their_names (tags_of (take index ds)) tags so.tags_so_far in
         let rest : declaration_faults (names_in (items_of (take index ds))) (names_in (tags_of (take index ds)) ++ text_of name ∷ []) (drop (index + 1) ds)
-            ≡ declaration_faults (names_in (items_of (take (index + 1) ds))) (names_in (tags_of (take (index + 1) ds))) (drop (index + 1) ds) =
-            ap (λ (l : List Text). declaration_faults (names_in (items_of (take index ds))) l (drop (index + 1) ds)) (names_more (tags_of (take index ds)) (tags_of (take (index + 1) ds)) (of_name name components ∷ []) more)
-            ∙ ap (λ (l : List Collection). declaration_faults (names_in l) (names_in (tags_of (take (index + 1) ds))) (drop (index + 1) ds)) (sym same) in
+        ≡ declaration_faults (names_in (items_of (take (index + 1) ds))) (names_in (tags_of (take (index + 1) ds))) (drop (index + 1) ds) =
+        ap (λ (l : List Text). declaration_faults (names_in (items_of (take index ds))) l (drop (index + 1) ds)) (names_more (tags_of (take index ds)) (tags_of (take (index + 1) ds)) (of_name name components ∷ []) more)
+        ∙ ap (λ (l : List Collection). declaration_faults (names_in l) (names_in (tags_of (take (index + 1) ds))) (drop (index + 1) ds)) (sym same) in
         record {
           tags_so_far = record {
             declared = one ∙ ap (λ l. l ++ of_name name components ∷ []) so.tags_so_far.declared ∙ sym more;

@@ -1,10 +1,8 @@
 -- The names of entries.
-use Rattle.std.proofs.Common.{◌≡◌, ℕ, zero, suc, Bool, true, false, cond, if◌then◌else◌, List, [], ◌∷◌, ◌++◌, map, Some, None, Option, refl, sym, ap, subst, ◌∙◌, slice_get}
+use Rattle.std.proofs.Common.{◌≡◌, ℕ, zero, suc, Bool, true, false, cond, if◌then◌else◌, List, [], ◌∷◌, map, Some, None, Option, refl, sym, ap, subst, ◌∙◌, slice_get}
 use Rattle.std.specs.Prelude.{option_map}
 use Rattle.std.specs.List.{IsDistinct, AllByRecursion}
 use Rattle.std.specs.Str.{bytes_eq}
-use Rattle.std.proofs.lemmas.Option.{slice_get-map}
-use Rattle.std.proofs.lemmas.List.{map-append}
 use Rattle.std.specs.Map.{keys_of, lookup}
 use Rattle.steptree.specs.Names.{Text, is_text, place_of}
 use Rattle.graph.specs.Numbered.{names_numbered, found}
@@ -61,7 +59,7 @@ module _ {K V : Type 0} (text : K → Text) where
       by false same others =
           let test : bytes_eq (text name) (text entry.0) ≡ false = sym (texts_are_bytes (text name) (text entry.0)) ∙ same_both_ways (text name) (text entry.0) ∙ same in
           let e : place_of (names_numbered (seen (entry ∷ entries))) (text name) ≡ option_map suc (place_of (names_numbered (seen entries)) (text name)) =
-              ap (λ (b : Bool). if b then Some zero else option_map suc (place_of (names_numbered (seen entries)) (text name))) same in
+          ap (λ (b : Bool). if b then Some zero else option_map suc (place_of (names_numbered (seen entries)) (text name))) same in
           ap (λ (b : Bool). cond b (Some entry.1) (lookup (λ key. bytes_eq (text name) (text key)) entries)) test ∙ others (unmapped _ (sym e ∙ none))
 
   -- what is looked up is found

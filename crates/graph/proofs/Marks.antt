@@ -1,6 +1,6 @@
 -- Marks, and the relations that they are.
 use Rattle.std.proofs.Common.{◌≡◌, ◌<◌, ℕ, zero, suc, Bool, true, false, ◌&&◌, ◌||◌, List, [], ◌∷◌, ◌++◌, length, map, get_or, Some, None, Option, if◌then◌else◌, refl, sym, ap, subst, ◌∙◌, arith, slice_get}
-use Rattle.std.specs.Prelude.{option_map, nat_eq, ◌==◌}
+use Rattle.std.specs.Prelude.{option_map, ◌==◌}
 use Rattle.std.specs.List.{list_any, AllByRecursion}
 use Rattle.std.proofs.lemmas.Option.{slice_get_within}
 use Rattle.std.proofs.Math.ListN.{set}
@@ -13,7 +13,7 @@ use Rattle.std.specs.Prelude.{Vec}
 use Rattle.std.specs.declared.alloc.Global.{Global}
 use Rattle.std.proofs.lemmas.List.{map-set}
 use Rattle.graph.specs.Marks.{mark_at, mark_between, with_mark, with_mark_between, AreMarks, AreRows}
-use Rattle.graph.proofs.Texts.{one_text, itself, same_both_ways}
+use Rattle.graph.proofs.Texts.{one_text, itself}
 
 -- ---- places
 
@@ -177,7 +177,7 @@ module _ (is : Text → Text → Relation → Bool) (steps names : List Text) (b
     each = λ one two. any_both (is one two) before relation
         ∙ ap (λ (b : Bool). b || is one two relation) (are.each one two)
         ∙ ap (λ (b : Bool). mark_between rows (place_of steps one) (place_of names two) || b)
-            (kind one two ∙ ap (λ (b : Bool). b && is_text name two) (one_place steps step one row step_there) ∙ ap (λ (b : Bool). is_place (place_of steps one) row && b) (one_place names name two place there))
+        (kind one two ∙ ap (λ (b : Bool). b && is_text name two) (one_place steps step one row step_there) ∙ ap (λ (b : Bool). is_place (place_of steps one) row && b) (one_place names name two place there))
         ∙ sym (marked_between rows row place (place_of steps one) (place_of names two) within in_row);
   }
     where

@@ -1,7 +1,7 @@
 -- Names of steps and in steps, one after another.
-use Rattle.std.proofs.Common.{◌≡◌, ◌<◌, ◌≤◌, ℕ, zero, suc, Bool, true, false, List, [], ◌∷◌, ◌++◌, length, map, get_or, take, drop, Some, None, Option, if◌then◌else◌, refl, sym, ap, subst, ◌∙◌, ◌+◌, arith, append_assoc, is_some}
-use Rattle.std.specs.Prelude.{option_map, is_none}
-use Rattle.std.proofs.lemmas.List.{take_more, map-append, length-take}
+use Rattle.std.proofs.Common.{◌≡◌, ◌<◌, ℕ, zero, suc, Bool, true, false, List, [], ◌∷◌, ◌++◌, length, get_or, take, drop, Some, None, Option, if◌then◌else◌, refl, sym, ap, subst, ◌∙◌, ◌+◌, arith, append_assoc, is_some}
+use Rattle.std.specs.Prelude.{option_map}
+use Rattle.std.proofs.lemmas.List.{take_more, map-append}
 use Rattle.steptree.specs.declared.step.Name.{Name}
 use Rattle.steptree.specs.declared.step.Step.{Step as NamedStep}
 use Rattle.steptree.specs.Names.{Text, is_text, place_of}
@@ -24,7 +24,7 @@ pub repeated_both : (before : List Text) (one two : List Name) → repeated befo
 repeated_both before [] two = ap (λ (l : List Text). repeated l two) (sym (with_none before))
 repeated_both before (name ∷ one) two =
     ap (λ (l : List At). fault_if (has before name) Redeclared name.place ++ l)
-      (repeated_both (before ++ text_of name ∷ []) one two ∙ ap (λ (l : List Text). repeated (before ++ text_of name ∷ []) one ++ repeated l two) (append_assoc before (text_of name ∷ []) (texts one)))
+    (repeated_both (before ++ text_of name ∷ []) one two ∙ ap (λ (l : List Text). repeated (before ++ text_of name ∷ []) one ++ repeated l two) (append_assoc before (text_of name ∷ []) (texts one)))
     ∙ sym (append_assoc (fault_if (has before name) Redeclared name.place) (repeated (before ++ text_of name ∷ []) one) (repeated (before ++ text_of name ∷ texts one) two))
 
 module _ (before : List Text) (more : List Name) where

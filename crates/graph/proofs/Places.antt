@@ -1,5 +1,5 @@
 -- The place of a text among names.
-use Rattle.std.proofs.Common.{◌≡◌, ◌<◌, ℕ, zero, suc, ◌+◌, Bool, true, false, List, [], ◌∷◌, ◌++◌, length, map, get_or, Some, None, Option, if◌then◌else◌, refl, sym, ap, subst, ◌∙◌, arith, slice_get, cond}
+use Rattle.std.proofs.Common.{◌≡◌, ℕ, zero, suc, ◌+◌, Bool, true, false, List, [], ◌∷◌, map, Some, None, Option, if◌then◌else◌, refl, sym, ap, subst, ◌∙◌, arith, slice_get, cond}
 use Rattle.std.specs.Prelude.{option_map, position}
 use Rattle.std.specs.List.{position_from, AllByRecursion, IsDistinct}
 use Rattle.std.specs.Str.{bytes_eq}

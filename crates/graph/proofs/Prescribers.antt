@@ -1,6 +1,5 @@
 -- The prescribers of the steps.
-use Rattle.std.proofs.Common.{◌≡◌, ◌<◌, ℕ, zero, suc, Bool, true, false, List, [], ◌∷◌, ◌++◌, length, get_or, Some, None, Option, if◌then◌else◌, refl, sym, ap, subst, ◌∙◌, arith, is_some}
-use Rattle.std.specs.Prelude.{◌==◌}
+use Rattle.std.proofs.Common.{◌≡◌, ◌<◌, ℕ, Bool, true, false, List, [], ◌∷◌, ◌++◌, length, get_or, Some, None, Option, if◌then◌else◌, refl, sym, ap, subst, ◌∙◌, arith, is_some}
 use Rattle.std.proofs.Math.ListN.{set}
 use Rattle.std.proofs.lemmas.Bool.{eqb-true, eq-eqb, true≢false}
 use Rattle.std.proofs.lemmas.Option.{slice_get_within}
@@ -53,7 +52,7 @@ module _ (tags steps : List Text) (before : List Relation) where
     long = are.long;
     each = λ step.
         let same : prescriber_of (before ++ relation ∷ []) step ≡ prescriber_of before step =
-            prescriber_of_both before (relation ∷ []) step ∙ ap (either (prescriber_of before step)) (none step) ∙ either_none (prescriber_of before step) in
+        prescriber_of_both before (relation ∷ []) step ∙ ap (either (prescriber_of before step)) (none step) ∙ either_none (prescriber_of before step) in
         subst (λ (tag : Option Text). IsPrescriber tags tag (prescriber_at list (place_of steps step))) (sym same) (are.each step);
   }
 

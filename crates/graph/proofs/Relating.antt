@@ -1,21 +1,18 @@
 -- One more relation.
-use Rattle.std.proofs.Common.{◌≡◌, ◌<◌, ℕ, zero, suc, Bool, true, false, not, ◌&&◌, ◌||◌, List, [], ◌∷◌, ◌++◌, length, map, get_or, Some, None, Option, if◌then◌else◌, refl, sym, ap, subst, ◌∙◌, arith, is_some}
-use Rattle.std.specs.Prelude.{Result, Ok, Err, OnOk, is_none, Vec, option_map}
+use Rattle.std.proofs.Common.{◌≡◌, ℕ, Bool, true, false, not, ◌&&◌, ◌||◌, List, [], ◌∷◌, ◌++◌, Some, None, Option, refl, sym, ap, subst, ◌∙◌, is_some}
+use Rattle.std.specs.Prelude.{Result, Ok, Err, OnOk, is_none}
 use Rattle.std.specs.List.{list_any}
 use Rattle.steptree.specs.Names.{Text, is_text, place_of}
 use Rattle.steptree.specs.declared.step.Name.{Name}
 use Rattle.syntax.specs.declared.tree.Relation.{Relation}
 use Rattle.syntax.specs.declared.tree.Relation.TheVariants as related
 use Rattle.graph.specs.declared.fault.GraphError.{GraphError}
-use Rattle.graph.specs.declared.fault.GraphError.TheVariants.{Redeclared, UnknownName, StepMissing, TwoPrescribers}
 use Rattle.graph.specs.declared.fault.PlacedFault.{PlacedFault}
 use Rattle.graph.specs.declared.relations.Relations.{Relations}
-use Rattle.graph.specs.Faults.{At, fault_if, or_else, has, same_relation, again, unknown, missing, relation_fault, prescribed_before}
-use Rattle.graph.specs.Marks.{mark_at, mark_between, with_mark, with_mark_between, AreMarks, AreRows, ArePrescribers, IsPrescriber, prescriber_at, with_prescriber, bits}
-use Rattle.terms.specs.declared.name.TagCollection.{TagCollection}
+use Rattle.graph.specs.Faults.{At, fault_if, or_else, has, same_relation, relation_fault}
 use Rattle.graph.specs.Placed.{IsFirst, Reports}
 use Rattle.graph.specs.Relations.{AreRelations, Relates}
-use Rattle.graph.specs.Tree.{text_of, is_name, is_read, is_item_put, is_tag_put, is_environment_item_put, is_environment_tag_put, is_environment_get, prescriber_of}
+use Rattle.graph.specs.Tree.{text_of, is_read, is_item_put, is_tag_put, is_environment_item_put, is_environment_tag_put, is_environment_get}
 use Rattle.graph.proofs.Texts.{same_both_ways}
 
 -- ---- the same relation

@@ -1,20 +1,19 @@
 -- One more relation between a step and items or tags, or with the environment.
-use Rattle.std.proofs.Common.{◌≡◌, ◌<◌, ℕ, zero, suc, Bool, true, false, not, ◌&&◌, ◌||◌, List, [], ◌∷◌, ◌++◌, length, map, get_or, Some, None, Option, if◌then◌else◌, refl, sym, ap, subst, ◌∙◌, arith, is_some}
-use Rattle.std.specs.Prelude.{Result, Ok, Err, OnOk, is_none, Vec, option_map}
+use Rattle.std.proofs.Common.{◌≡◌, ℕ, Bool, true, List, [], ◌∷◌, ◌++◌, get_or, Some, Option, refl, sym, ap, subst, ◌∙◌, is_some}
+use Rattle.std.specs.Prelude.{Result, OnOk, is_none, Vec}
 use Rattle.std.specs.List.{list_any}
 use Rattle.steptree.specs.Names.{Text, is_text, place_of}
 use Rattle.steptree.specs.declared.step.Name.{Name}
 use Rattle.syntax.specs.declared.tree.Relation.{Relation}
 use Rattle.syntax.specs.declared.tree.Relation.TheVariants as related
-use Rattle.graph.specs.declared.fault.GraphError.{GraphError}
 use Rattle.graph.specs.declared.fault.GraphError.TheVariants.{Redeclared, UnknownName, StepMissing, TwoPrescribers}
 use Rattle.graph.specs.declared.fault.PlacedFault.{PlacedFault}
 use Rattle.graph.specs.declared.relations.Relations.{Relations}
-use Rattle.graph.specs.Faults.{At, fault_if, or_else, has, same_relation, again, unknown, missing, relation_fault, prescribed_before}
-use Rattle.graph.specs.Marks.{mark_at, mark_between, with_mark, with_mark_between, AreMarks, AreRows, ArePrescribers, IsPrescriber, prescriber_at, with_prescriber, bits}
-use Rattle.graph.specs.Placed.{IsFirst, Reports}
+use Rattle.graph.specs.Faults.{At, fault_if, or_else, same_relation, again, unknown, missing, relation_fault, prescribed_before}
+use Rattle.graph.specs.Marks.{mark_at, mark_between, with_mark, with_mark_between, AreMarks, AreRows, ArePrescribers, prescriber_at, with_prescriber, bits}
+use Rattle.graph.specs.Placed.{Reports}
 use Rattle.graph.specs.Relations.{AreRelations, Relates}
-use Rattle.graph.specs.Tree.{text_of, is_name, is_read, is_item_put, is_tag_put, is_environment_item_put, is_environment_tag_put, is_environment_get, prescriber_of}
+use Rattle.graph.specs.Tree.{text_of, is_read, is_item_put, is_tag_put, is_environment_item_put, is_environment_tag_put, is_environment_get}
 use Rattle.graph.proofs.Marks.{marks_stay, one_marked, rows_stay, two_marked}
 use Rattle.graph.proofs.Prescribers.{prescribers_stay, one_prescribed, both_there}
 use Rattle.graph.proofs.Relating.{any_same, swapped, in_vain, no_two, is_there, not_held, first_none, relates, same_read, same_item_put, same_tag_put, same_environment_item_put, same_environment_tag_put, same_environment_get}
@@ -22,7 +21,6 @@ use Rattle.std.specs.declared.alloc.Global.{Global}
 use Rattle.terms.specs.declared.name.TagCollection.{TagCollection}
 use Rattle.std.proofs.Math.ListN.{set}
 use Rattle.std.proofs.lemmas.Result.{IfOk-weaker}
-
 
 module _ (items tags steps : List Text) (before : List Relation) (old : Relations) (are : AreRelations items tags steps before old) where
   pub read_relates : (p : ℕ) (a b : Name) (sp op : Option ℕ) (rows : Vec (Vec Bool Global) Global) (result : Result (Unit {0}) PlacedFault)
@@ -51,7 +49,7 @@ module _ (items tags steps : List Text) (before : List Relation) (old : Relation
           let place = is_there op UnknownName a.place others.1 in
           let there = two_marked (λ step item. is_read item step) steps items before (related.Reads p a b) (bits old.reads) (text_of b) (text_of a) row.0 place.0 (sym step_is ∙ row.1) (sym other_is ∙ place.1) (λ one two. swapped (is_text (text_of a) two) (is_text (text_of b) one)) are.reads in
           let now : bits rows ≡ set (bits old.reads) row.0 (set (get_or (bits old.reads) row.0 []) place.0 true) =
-              marked ∙ ap (λ (r : Option ℕ). with_mark_between (bits old.reads) r op) row.1 ∙ ap (with_mark_between (bits old.reads) (Some row.0)) place.1 in
+          marked ∙ ap (λ (r : Option ℕ). with_mark_between (bits old.reads) r op) row.1 ∙ ap (with_mark_between (bits old.reads) (Some row.0)) place.1 in
           record {
             prescribers = prescribers_stay tags steps before (related.Reads p a b) (λ step. refl) old.prescribers.items are.prescribers;
             reads = subst (AreRows (λ step item. is_read item step) steps items (before ++ (related.Reads p a b) ∷ [])) (sym now) there;
@@ -88,7 +86,7 @@ module _ (items tags steps : List Text) (before : List Relation) (old : Relation
           let place = is_there op UnknownName b.place parts.1 in
           let there = two_marked (is_item_put) steps items before (related.PutsItem p a b) (bits old.item_puts) (text_of a) (text_of b) row.0 place.0 (sym step_is ∙ row.1) (sym other_is ∙ place.1) (λ one two. refl) are.item_puts in
           let now : bits rows ≡ set (bits old.item_puts) row.0 (set (get_or (bits old.item_puts) row.0 []) place.0 true) =
-              marked ∙ ap (λ (r : Option ℕ). with_mark_between (bits old.item_puts) r op) row.1 ∙ ap (with_mark_between (bits old.item_puts) (Some row.0)) place.1 in
+          marked ∙ ap (λ (r : Option ℕ). with_mark_between (bits old.item_puts) r op) row.1 ∙ ap (with_mark_between (bits old.item_puts) (Some row.0)) place.1 in
           record {
             prescribers = prescribers_stay tags steps before (related.PutsItem p a b) (λ step. refl) old.prescribers.items are.prescribers;
             reads = rows_stay (λ step item. is_read item step) steps items before (related.PutsItem p a b) (bits old.reads) (λ step name. refl) are.reads;
@@ -125,7 +123,7 @@ module _ (items tags steps : List Text) (before : List Relation) (old : Relation
           let place = is_there op UnknownName b.place parts.1 in
           let there = two_marked (is_tag_put) steps tags before (related.PutsTag p a b) (bits old.tag_puts) (text_of a) (text_of b) row.0 place.0 (sym step_is ∙ row.1) (sym other_is ∙ place.1) (λ one two. refl) are.tag_puts in
           let now : bits rows ≡ set (bits old.tag_puts) row.0 (set (get_or (bits old.tag_puts) row.0 []) place.0 true) =
-              marked ∙ ap (λ (r : Option ℕ). with_mark_between (bits old.tag_puts) r op) row.1 ∙ ap (with_mark_between (bits old.tag_puts) (Some row.0)) place.1 in
+          marked ∙ ap (λ (r : Option ℕ). with_mark_between (bits old.tag_puts) r op) row.1 ∙ ap (with_mark_between (bits old.tag_puts) (Some row.0)) place.1 in
           record {
             prescribers = prescribers_stay tags steps before (related.PutsTag p a b) (λ step. refl) old.prescribers.items are.prescribers;
             reads = rows_stay (λ step item. is_read item step) steps items before (related.PutsTag p a b) (bits old.reads) (λ step name. refl) are.reads;
@@ -259,7 +257,7 @@ module _ (items tags steps : List Text) (before : List Relation) (old : Relation
           let free = not_held (is_some (prescriber_at old.prescribers.items sp)) TwoPrescribers b.place alone.1 in
           let there = one_prescribed tags steps before old.prescribers.items a b tag.0 step.0 (sym tag_is ∙ tag.1) (sym step_is ∙ step.1) (ap (λ (p : Option ℕ). is_some (prescriber_at old.prescribers.items p)) (sym step.1) ∙ free) are.prescribers in
           let now : list.items ≡ set old.prescribers.items step.0 (Some (record { 0 = tag.0 })) =
-              marked ∙ ap (λ (s : Option ℕ). with_prescriber old.prescribers.items s tp) step.1 ∙ ap (with_prescriber old.prescribers.items (Some step.0)) tag.1 in
+          marked ∙ ap (λ (s : Option ℕ). with_prescriber old.prescribers.items s tp) step.1 ∙ ap (with_prescriber old.prescribers.items (Some step.0)) tag.1 in
           record {
             prescribers = subst (ArePrescribers tags steps (before ++ (related.Prescribes a b) ∷ [])) (sym now) there;
             reads = rows_stay (λ step item. is_read item step) steps items before (related.Prescribes a b) (bits old.reads) (λ step name. refl) are.reads;

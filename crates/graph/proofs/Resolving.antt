@@ -53,7 +53,7 @@ module _ (tree : Tree) where
   relation_first ds relations fault d r none first =
       in_front (declaration_faults [] [] tree.declarations.items ++ relation_faults item_names tag_names its_steps [] tree.relations.items) _ fault
       (behind_none (declaration_faults [] [] tree.declarations.items) _ fault (first_part ds d none)
-        (subst (λ (l : List Relation). IsFirst (relation_faults item_names tag_names its_steps [] l) fault) r first))
+      (subst (λ (l : List Relation). IsFirst (relation_faults item_names tag_names its_steps [] l) fault) r first))
 
   module _ (ds : List Declaration) (declared : List Declared) (steps : List NamedStep) (relations : List Relation) (tags : Collections) (them : Relations)
       (d : ds ≡ tree.declarations.items) (t : declared ≡ tags.declared.items) (s : steps ≡ tree.steps.items) (r : relations ≡ tree.relations.items) (are : AreCollected (tags_of ds) tags) where

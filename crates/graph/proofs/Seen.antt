@@ -1,13 +1,11 @@
 -- What a graph is seen as.
-use Rattle.std.proofs.Common.{◌≡◌, ℕ, zero, suc, Bool, true, false, List, [], ◌∷◌, map, Some, None, Option, if◌then◌else◌, refl, sym, ap, subst, ◌∙◌, slice_get, get_or, length, ◌≤◌, arith}
-use Rattle.std.specs.Prelude.{option_map, IfSome, ◌==◌}
+use Rattle.std.proofs.Common.{◌≡◌, ℕ, zero, suc, Bool, true, false, List, [], ◌∷◌, map, Some, None, if◌then◌else◌, refl, sym, ap, ◌∙◌, slice_get, length, ◌≤◌, arith}
+use Rattle.std.specs.Prelude.{◌==◌}
 use Rattle.std.proofs.Common.{eqb-true}
-use Rattle.std.proofs.lemmas.Option.{slice_get-map}
-use Rattle.steptree.specs.Names.{Text, place_of}
+use Rattle.steptree.specs.Names.{Text}
 use Rattle.graph.specs.declared.graph.Prescribed.{Prescribed}
-use Rattle.graph.specs.declared.graph.Graph.TheInside.{Inside}
-use Rattle.graph.specs.Graph.{Collection, Step, Graph, IsGraph, IsStep}
-use Rattle.graph.specs.Inside.{graph_seen, collection_seen, step_seen, IsKept}
+use Rattle.graph.specs.Graph.{Step, Graph, IsGraph}
+use Rattle.graph.specs.Inside.{collection_seen, step_seen}
 use Rattle.graph.specs.Numbered.{names_numbered}
 use Rattle.graph.specs.Prescribed.{prescribed_by, prescribed_from, names_of_steps}
 use Rattle.graph.specs.Tree.{names_in}

@@ -1,18 +1,17 @@
 -- Where nothing is marked there are no relations; and relations one after another.
-use Rattle.std.proofs.Common.{◌≡◌, ◌<◌, ℕ, zero, suc, Bool, true, false, List, [], ◌∷◌, ◌++◌, length, get_or, take, drop, Some, None, Option, refl, sym, ap, subst, ◌∙◌, ◌+◌, arith}
-use Rattle.std.specs.Prelude.{replicate, Result}
+use Rattle.std.proofs.Common.{◌≡◌, ◌<◌, ℕ, zero, suc, Bool, false, List, [], ◌∷◌, ◌++◌, length, get_or, take, drop, Some, None, Option, refl, sym, ap, subst, ◌∙◌, ◌+◌}
+use Rattle.std.specs.Prelude.{replicate}
 use Rattle.std.specs.List.{AllByRecursion}
 use Rattle.std.proofs.lemmas.List.{take_more}
 use Rattle.steptree.specs.declared.step.Name.{Name}
 use Rattle.steptree.specs.Names.{Text, place_of}
 use Rattle.graph.specs.Numbered.{names_numbered}
-use Rattle.terms.specs.declared.name.TagCollection.{TagCollection}
 use Rattle.syntax.specs.declared.tree.Relation.{Relation}
 use Rattle.graph.specs.declared.fault.PlacedFault.{PlacedFault}
 use Rattle.graph.specs.declared.relations.Numbers.{Numbers}
 use Rattle.graph.specs.declared.relations.Relations.{Relations}
 use Rattle.graph.specs.Faults.{At, relation_fault, relation_faults}
-use Rattle.graph.specs.Marks.{mark_at, mark_between, AreMarks, AreRows, ArePrescribers, IsPrescriber, prescriber_at, bits}
+use Rattle.graph.specs.Marks.{mark_at, mark_between, AreMarks, AreRows, ArePrescribers, prescriber_at, bits}
 use Rattle.graph.specs.Placed.{IsFirst}
 use Rattle.graph.specs.Relations.{AreNumbers, AreRelations, IsUnmarked}
 use Rattle.graph.specs.Tree.{is_read, is_item_put, is_tag_put, is_environment_item_put, is_environment_tag_put, is_environment_get}

@@ -1,6 +1,5 @@
 -- Collections as they are declared, and by their numbers.
-use Rattle.std.specs.Prelude.{◌≡◌, ℕ, List, [], ◌∷◌, map}
-use Rattle.steptree.specs.declared.sheet.Declared.{Declared}
+use Rattle.std.specs.Prelude.{◌≡◌, ℕ, List, map}
 use Rattle.steptree.specs.declared.step.Name.{Name}
 use Rattle.steptree.specs.Names.{Text}
 use Rattle.graph.specs.declared.fault.GraphError.TheVariants.{Redeclared}

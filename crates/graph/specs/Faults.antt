@@ -1,13 +1,11 @@
 -- What is at fault in a tree, in the order of the places: the declarations, the relations, the steps, and behind them their
 -- bodies. One fault at a place.
-use Rattle.std.specs.Prelude.{◌≡◌, ℕ, Bool, true, false, not, ◌&&◌, ◌==◌, is_some, is_none, if◌then◌else◌, List, [], ◌∷◌, ◌++◌, map, length, Option, Some, None, slice_get}
+use Rattle.std.specs.Prelude.{ℕ, Bool, true, false, not, ◌&&◌, ◌==◌, is_some, if◌then◌else◌, List, [], ◌∷◌, ◌++◌, length, Option, Some, None}
 use Rattle.std.specs.List.{list_any}
 use Rattle.steptree.specs.declared.checker.CheckFault.{CheckFault}
-use Rattle.steptree.specs.declared.sheet.Sheet.{Sheet}
 use Rattle.steptree.specs.declared.step.Name.{Name}
 use Rattle.steptree.specs.declared.step.Step.{Step as NamedStep}
 use Rattle.steptree.specs.Names.{Text, is_text, place_of}
-use Rattle.steptree.specs.CheckFaults.{faults_of}
 use Rattle.syntax.specs.declared.tree.Declaration.{Declaration}
 use Rattle.syntax.specs.declared.tree.Declaration.TheVariants as declared
 use Rattle.syntax.specs.declared.tree.Relation.{Relation}
@@ -16,7 +14,7 @@ use Rattle.syntax.specs.declared.tree.Tree.{Tree}
 use Rattle.graph.specs.declared.fault.GraphError.{GraphError}
 use Rattle.graph.specs.declared.fault.GraphError.TheVariants.{Redeclared, UnknownName, Arity, NoPrescriber, TwoPrescribers, StepMissing, StepTwice, Check}
 use Rattle.graph.specs.Graph.{Collection}
-use Rattle.graph.specs.Tree.{text_of, items_of, tags_of, names_in, step_names, is_name, prescriber_of}
+use Rattle.graph.specs.Tree.{text_of, items_of, tags_of, names_in, step_names, prescriber_of}
 
 -- a fault at a position
 abbrev pub At : Type 0

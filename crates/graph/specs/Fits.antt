@@ -1,6 +1,6 @@
 -- Which events fit a graph and facts, and which facts fit a graph. The bodies of steps play no part, nor does what a step
 -- may put; and that a number is one of 64 bits stands elsewhere.
-use Rattle.std.specs.Prelude.{◌≡◌, ⊤, ℕ, ℤ, Bool, true, false, List, [], ◌∷◌, ◌++◌, length}
+use Rattle.std.specs.Prelude.{◌≡◌, ⊤, ℕ, ℤ, true, false, List, [], ◌∷◌, ◌++◌, length}
 use Rattle.std.specs.List.{AllByRecursion}
 use Rattle.terms.specs.declared.name.Addr.{Addr}
 use Rattle.terms.specs.declared.name.Tag.{Tag}

@@ -1,5 +1,5 @@
 -- Which steps a collection of tags prescribes.
-use Rattle.std.specs.Prelude.{ℕ, zero, suc, Bool, false, List, [], ◌∷◌, map, Option, Some, None, get_or, slice_get, ◌==◌, if◌then◌else◌}
+use Rattle.std.specs.Prelude.{ℕ, suc, Bool, false, List, [], ◌∷◌, map, Option, Some, None, get_or, slice_get, ◌==◌, if◌then◌else◌}
 use Rattle.steptree.specs.Names.{Text}
 use Rattle.graph.specs.Graph.{Step, Graph}
 

@@ -1,5 +1,5 @@
 -- The relations so far, by the numbers of the collections.
-use Rattle.std.specs.Prelude.{◌≡◌, ℕ, Bool, false, List, [], ◌∷◌, ◌++◌, None, replicate, Result, MatchResult}
+use Rattle.std.specs.Prelude.{◌≡◌, ℕ, false, List, [], ◌∷◌, ◌++◌, None, replicate, Result, MatchResult}
 use Rattle.steptree.specs.Names.{Text, place_of}
 use Rattle.syntax.specs.declared.tree.Relation.{Relation}
 use Rattle.graph.specs.declared.fault.PlacedFault.{PlacedFault}

@@ -1,5 +1,5 @@
 -- What is at fault at a step, by the number of the components of the tags that prescribe it.
-use Rattle.std.specs.Prelude.{◌≡◌, ℕ, Bool, true, not, List, length, Option, None, Some, option_map, slice_get, ◌==◌}
+use Rattle.std.specs.Prelude.{◌≡◌, ℕ, true, not, List, length, Option, None, Some, option_map, slice_get, ◌==◌}
 use Rattle.terms.specs.declared.name.TagCollection.{TagCollection}
 use Rattle.steptree.specs.declared.sheet.Declared.{Declared}
 use Rattle.steptree.specs.Names.{Text, place_of}

@@ -38,7 +38,6 @@ pub struct Graph {
 
 impl Model for Graph {
     ghost use Rattle.graph.specs.Graph.{Graph as Seen};
-
     ghost use Rattle.std.specs.Coded.{codes};
     ghost use Rattle.steptree.specs.contracts.block.Block as block;
 

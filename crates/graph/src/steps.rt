@@ -20,10 +20,7 @@ use steptree::{Declared, Name, Step};
 use terms::TagCollection;
 
 /// The steps by their names, each with its number; of two equal names the first counts.
-pub(crate) fn number_steps(
-    alloc: Global,
-    steps: &[Step<'_>],
-) -> Result<Numbered<usize>, AllocError>
+pub(crate) fn number_steps(alloc: Global, steps: &[Step<'_>]) -> Result<Numbered<usize>, AllocError>
     ensures { IfOk result (λ numbered. ArePlaces numbered (step_names steps.now)) }
 {
     let mut numbered = Numbered::new(alloc);
@@ -74,11 +71,7 @@ fn names_differ(alloc: Global, step: &Step<'_>) -> Result<(), PlacedFault>
 }
 
 /// Whether a step stands once, and has as many parameters as the tags that prescribe it have components.
-fn is_prescribed(
-    step: &Step<'_>,
-    twice: bool,
-    components: Option<usize>,
-) -> Result<(), PlacedFault>
+fn is_prescribed(step: &Step<'_>, twice: bool, components: Option<usize>) -> Result<(), PlacedFault>
     ensures { Reports (or_else (fault_if twice StepTwice step.now.name.place) (components_faults components step.now)) result }
 {
     refuse_if(twice, GraphError::StepTwice, &step.name)?;

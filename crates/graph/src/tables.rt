@@ -46,7 +46,11 @@ fn mark_in(
 }
 
 /// A name that is looked up in vain is at fault.
-pub(crate) fn known(place: Option<usize>, error: GraphError, name: &Name<'_>) -> Result<(), PlacedFault>
+pub(crate) fn known(
+    place: Option<usize>,
+    error: GraphError,
+    name: &Name<'_>,
+) -> Result<(), PlacedFault>
     ensures { Reports (fault_if (is_none place) error name.now.place) result }
 {
     match place {
@@ -107,7 +111,11 @@ pub(crate) fn environment(
 }
 
 /// So many rows of so many places, none marked.
-pub(crate) fn no_marks(alloc: Global, rows: usize, width: usize) -> Result<Vec<Vec<bool>>, AllocError>
+pub(crate) fn no_marks(
+    alloc: Global,
+    rows: usize,
+    width: usize,
+) -> Result<Vec<Vec<bool>>, AllocError>
     ensures { IfOk result (λ them. bits them ≡ replicate rows (replicate width false)) }
 {
     let mut them = Vec::new(alloc);

@@ -1,4 +1,4 @@
-use Rattle.std.proofs.Common.{◌≡◌, ◌∙◌, ap, sym, arith, Option, Some, ℕ}
+use Rattle.std.proofs.Common.{◌∙◌, ap, sym, arith, Option, Some, ℕ}
 use Rattle.std.proofs.lemmas.List.{set_past}
 use Rattle.graph.specs.Marks.{with_prescriber}
 use Rattle.graph.proofs.relations.prescribe.Goals as goal

@@ -1,4 +1,4 @@
-use Rattle.std.proofs.Common.{◌≡◌, List, length, refl, arith, get_or, take}
+use Rattle.std.proofs.Common.{refl, arith, get_or, take}
 use Rattle.syntax.specs.declared.tree.Relation.{Relation}
 use Rattle.syntax.specs.declared.tree.Relation.TheVariants.{Prescribes}
 use Rattle.graph.proofs.FirstFaults.{relation_passed_on}

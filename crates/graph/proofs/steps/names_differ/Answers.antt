@@ -1,5 +1,4 @@
 use Rattle.std.proofs.Common.{◌≡◌, ◌∙◌, ◌++◌, [], List, ap, sym, subst}
-use Rattle.steptree.specs.declared.step.Name.{Name}
 use Rattle.steptree.specs.Names.{Text}
 use Rattle.steptree.specs.Statements.{texts}
 use Rattle.graph.specs.Faults.{At, repeated}
@@ -15,20 +14,20 @@ returns-in_err-add_names c =
     let vs = c.args.step.now.variables.items in
     let fault = c.in_err-add_names.field-0.0 in
     let same : repeated (names_numbered c.new-names.result) c.deref.result.now ≡ repeated [] ps =
-        ap (λ (l : List (Text × Unit {0})). repeated (names_numbered l) c.deref.result.now) c.new-names.ensures ∙ ap (repeated []) c.deref.ensures.value in
+    ap (λ (l : List (Text × Unit {0})). repeated (names_numbered l) c.deref.result.now) c.new-names.ensures ∙ ap (repeated []) c.deref.ensures.value in
     passed_on _ c.from_residual.result fault c.from_residual.ensures.1
     (subst (λ (l : List At). IsFirst l fault) (sym (repeated_both [] ps vs)) (in_front (repeated [] ps) (repeated (texts ps) vs) fault
-      (subst (λ (l : List At). IsFirst l fault) same c.in_err-add_names.ensures.faults)))
+    (subst (λ (l : List At). IsFirst l fault) same c.in_err-add_names.ensures.faults)))
 
 pub returns : goal.returns
 returns c =
     let ps = c.args.step.now.parameters.items in
     let vs = c.args.step.now.variables.items in
     let none : repeated [] ps ≡ [] =
-        sym (ap (λ (l : List (Text × Unit {0})). repeated (names_numbered l) c.deref.result.now) c.new-names.ensures ∙ ap (repeated []) c.deref.ensures.value) ∙ c.in_ok-add_names.ensures.faults in
+    sym (ap (λ (l : List (Text × Unit {0})). repeated (names_numbered l) c.deref.result.now) c.new-names.ensures ∙ ap (repeated []) c.deref.ensures.value) ∙ c.in_ok-add_names.ensures.faults in
     let added : names_numbered c.add_names.new.names ≡ texts ps =
-        c.in_ok-add_names.ensures.added ∙ ap (λ (l : List (Text × Unit {0})). names_numbered l ++ texts c.deref.result.now) c.new-names.ensures ∙ ap texts c.deref.ensures.value in
+    c.in_ok-add_names.ensures.added ∙ ap (λ (l : List (Text × Unit {0})). names_numbered l ++ texts c.deref.result.now) c.new-names.ensures ∙ ap texts c.deref.ensures.value in
     let all : repeated (names_numbered c.add_names.new.names) c.deref-2.result.now ≡ repeated [] (ps ++ vs) =
-        ap (λ (l : List Text). repeated l c.deref-2.result.now) added ∙ ap (repeated (texts ps)) c.deref-2.ensures.value
-        ∙ sym (repeated_both [] ps vs ∙ empty_in_front (repeated [] ps) (repeated (texts ps) vs) none) in
+    ap (λ (l : List Text). repeated l c.deref-2.result.now) added ∙ ap (repeated (texts ps)) c.deref-2.ensures.value
+    ∙ sym (repeated_both [] ps vs ∙ empty_in_front (repeated [] ps) (repeated (texts ps) vs) none) in
     subst (λ (l : List At). Reports l c.add_names-2.result) all c.add_names-2.ensures.faults

@@ -1,4 +1,4 @@
-use Rattle.std.proofs.Common.{◌≡◌, ◌∙◌, ap, sym, arith}
+use Rattle.std.proofs.Common.{◌∙◌, ap, sym, arith}
 use Rattle.graph.specs.Graph.{Graph}
 use Rattle.graph.specs.Inside.{graph_seen}
 use Rattle.graph.specs.Prescribed.{prescribed_by}

@@ -1,4 +1,4 @@
-use Rattle.std.proofs.Common.{◌≡◌, ◌<◌, ◌≤◌, ◌∙◌, List, ap, length, arith}
+use Rattle.std.proofs.Common.{◌∙◌, List, ap}
 use Rattle.steptree.specs.Names.{Text, place_of}
 use Rattle.graph.specs.Graph.{Graph}
 use Rattle.graph.specs.Tree.{names_in}

@@ -1,4 +1,4 @@
-use Rattle.std.proofs.Common.{◌≡◌, ◌∙◌, List, ap, sym}
+use Rattle.std.proofs.Common.{◌∙◌, List, ap}
 use Rattle.std.specs.String.{string_bytes}
 use Rattle.steptree.specs.Names.{Text}
 use Rattle.graph.specs.Numbered.{found}

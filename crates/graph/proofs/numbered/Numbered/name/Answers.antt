@@ -1,9 +1,9 @@
-use Rattle.std.proofs.Common.{◌≡◌, ◌∙◌, List, ap, sym, subst, Option, Some, None, slice_get}
+use Rattle.std.proofs.Common.{◌≡◌, ◌∙◌, List, ap, sym, subst, Some, slice_get}
 use Rattle.std.specs.Prelude.{option_map}
 use Rattle.std.specs.String.{string_bytes}
 use Rattle.steptree.specs.Names.{Text, place_of}
 use Rattle.graph.specs.Numbered.{names_numbered}
-use Rattle.graph.proofs.Entries.{seen, name_there, once}
+use Rattle.graph.proofs.Entries.{name_there, once}
 use Rattle.graph.proofs.numbered.Numbered.name.Goals as goal
 
 pub returns-in-Some-clause-name : goal.returns-in-Some-clause-name
@@ -27,4 +27,4 @@ returns-in-Some-clause-once g c =
     let there = sym (c.in-Some.ensures.entry ∙ ap (λ l. slice_get l c.args.number) c.as_slice.ensures.entries) in
     ap (place_of (names_numbered c.args.self.now)) c.as_str.ensures.value
     ∙ subst (λ (l : List (Text × g.row.V.Denot)). place_of (names_numbered l) (string_bytes c.in-Some.name.now) ≡ Some c.args.number) c.self.view_is
-      (once string_bytes entries c.args.number (c.in-Some.name.now, c.in-Some.field-0-1.now) c.as_slice.ensures.unique there)
+    (once string_bytes entries c.args.number (c.in-Some.name.now, c.in-Some.field-0-1.now) c.as_slice.ensures.unique there)

@@ -1,4 +1,4 @@
-use Rattle.std.proofs.Common.{◌≡◌, ◌∙◌, ◌++◌, ◌∷◌, [], List, None, ap, sym, subst}
+use Rattle.std.proofs.Common.{◌≡◌, ◌∙◌, ◌++◌, ◌∷◌, [], List, None, ap}
 use Rattle.std.specs.String.{string_bytes, string_eq}
 use Rattle.std.proofs.lemmas.List.{map-append}
 use Rattle.indexmap.proofs.CallerLemmas.{insert_entry-new}
@@ -13,7 +13,7 @@ returns g c =
     let name = c.in_ok-name.name in
     let given = c.in_ok-name.ensures.ok in
     let none : place_of (names_numbered (seen string_bytes entries)) (string_bytes name) ≡ None =
-        ap (place_of (names_numbered (seen string_bytes entries))) given ∙ ap (λ (l : List (Text × g.row.V.Denot)). place_of (names_numbered l) c.args.name.now) c.self.view_is ∙ c.requires in
+    ap (place_of (names_numbered (seen string_bytes entries))) given ∙ ap (λ (l : List (Text × g.row.V.Denot)). place_of (names_numbered l) c.args.name.now) c.self.view_is ∙ c.requires in
     let new = c.in_ok-insert.ensures.entries ∙ insert_entry-new string_eq c.self.inside.entries name c.args.value (absent string_bytes entries name none) in
     ap (seen string_bytes) new
     ∙ map-append _ entries ((name, c.args.value) ∷ [])
