@@ -1,4 +1,13 @@
+mod Checking
+mod Declaring
+mod Entries
 pub mod ExampleText
+mod FirstFaults
+mod Lists
+mod Marks
+mod Naming
+mod Places
+mod Prescribers
 pub mod PrintedBlocks
 pub mod PrintedCollections
 pub mod PrintedDeclarations
@@ -11,4 +20,10 @@ pub mod PrintedNames
 pub mod PrintedStatements
 pub mod PrintedTokens
 pub mod PrintedValues
+mod Relating
+mod RelationKinds
+mod Resolving
 pub mod SameText
+mod Seen
+mod Texts
+mod Unmarked

@@ -1,3 +1,7 @@
+ghost use Rattle.std.specs.Prelude.{◌≡◌};
+ghost use Rattle.graph.specs.Placed.{no_memory};
+
+use std::alloc::{AllocError, AllocFailed};
 use steptree::CheckError;
 use thiserror::Error;
 
@@ -48,4 +52,33 @@ pub struct GraphFault {
     pub error: GraphError,
     pub line: usize,
     pub column: usize,
+}
+
+/// A fault, and the position of the byte at which it stands; 0 where memory was refused.
+#[derive(Clone, Copy, Debug)]
+pub(crate) struct PlacedFault {
+    pub(crate) error: GraphError,
+    pub(crate) position: usize,
+}
+
+impl From<AllocError> for PlacedFault {
+    ghost from_gives = { λ _ fault. fault ≡ no_memory };
+
+    fn from(_: AllocError) -> Self {
+        PlacedFault {
+            error: GraphError::NoMemory,
+            position: 0,
+        }
+    }
+}
+
+impl<T: Drop> From<AllocFailed<T>> for PlacedFault {
+    ghost from_gives = { λ _ fault. fault ≡ no_memory };
+
+    fn from(_: AllocFailed<T>) -> Self {
+        PlacedFault {
+            error: GraphError::NoMemory,
+            position: 0,
+        }
+    }
 }

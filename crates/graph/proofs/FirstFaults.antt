@@ -1,0 +1,38 @@
+-- The first of the faults of several parts.
+use Rattle.std.proofs.Common.{◌≡◌, Bool, true, false, ℕ, List, [], ◌∷◌, ◌++◌, sym, ap, subst, inl, inr}
+use Rattle.std.specs.Prelude.{Result, Ok, Err, IsErrAnd, MatchResult}
+use Rattle.graph.specs.declared.fault.GraphError.{GraphError}
+use Rattle.graph.specs.declared.fault.PlacedFault.{PlacedFault}
+use Rattle.graph.specs.Faults.{At, fault_if}
+use Rattle.graph.specs.Placed.{IsFirst, Reports}
+
+pub empty_in_front : (xs ys : List At) → xs ≡ [] → xs ++ ys ≡ ys
+empty_in_front xs ys none = ap (λ l. l ++ ys) none
+
+-- the first fault of what stands in front is the first of all
+pub in_front : (front others : List At) (fault : PlacedFault) → IsFirst front fault → IsFirst (front ++ others) fault
+in_front [] others fault (inl memory) = inl memory
+in_front [] others fault (inr first) = absurd (cc)
+in_front (x ∷ front) others fault first = first
+
+-- where nothing in front is at fault, the first of the others is the first of all
+pub behind_none : (front others : List At) (fault : PlacedFault) → front ≡ [] → IsFirst others fault → IsFirst (front ++ others) fault
+behind_none front others fault none first = subst (λ (l : List At). IsFirst l fault) (sym (empty_in_front front others none)) first
+
+-- a fault that is passed on
+pub passed_on : {X : Type 0} (faults : List At) (result : Result X PlacedFault) (fault : PlacedFault) → IsErrAnd result (λ other. other ≡ fault) → IsFirst faults fault → Reports faults result
+passed_on faults (Ok value) fault is first = absurd is
+passed_on faults (Err other) fault is first = subst (IsFirst faults) (sym is) first
+
+-- a fault that is there, and one that is not
+pub there : (holds : Bool) (error : GraphError) (position : ℕ) → holds ≡ true → fault_if holds error position ≡ (error, position) ∷ []
+there holds error position is = ap (λ (b : Bool). fault_if b error position) is
+
+pub nothing : (holds : Bool) (error : GraphError) (position : ℕ) → holds ≡ false → fault_if holds error position ≡ []
+nothing holds error position is = ap (λ (b : Bool). fault_if b error position) is
+
+-- the same, whatever else is said of a value
+pub relation_passed_on : {X : Type 0} (P : X → Type 0) (faults : List At) (result : Result X PlacedFault) (fault : PlacedFault) → IsErrAnd result (λ other. other ≡ fault) → IsFirst faults fault
+    → MatchResult result P (IsFirst faults)
+relation_passed_on P faults (Ok value) fault is first = absurd is
+relation_passed_on P faults (Err other) fault is first = subst (IsFirst faults) (sym is) first

@@ -1,0 +1,44 @@
+-- What a graph is seen as.
+use Rattle.std.proofs.Common.{◌≡◌, ℕ, zero, suc, Bool, true, false, List, [], ◌∷◌, map, Some, None, if◌then◌else◌, refl, sym, ap, ◌∙◌, slice_get, length, ◌≤◌, arith}
+use Rattle.std.specs.Prelude.{◌==◌}
+use Rattle.std.proofs.Common.{eqb-true}
+use Rattle.steptree.specs.Names.{Text}
+use Rattle.graph.specs.declared.graph.Prescribed.{Prescribed}
+use Rattle.graph.specs.Graph.{Step, Graph, IsGraph}
+use Rattle.graph.specs.Inside.{collection_seen, step_seen}
+use Rattle.graph.specs.Numbered.{names_numbered}
+use Rattle.graph.specs.Prescribed.{prescribed_by, prescribed_from, names_of_steps}
+use Rattle.graph.specs.Tree.{names_in}
+
+fused : {X Y Z : Type 0} (f : X → Y) (g : Y → Z) (xs : List X) → map g (map f xs) ≡ map (λ x. g (f x)) xs
+fused f g [] = refl
+fused f g (x ∷ xs) = ap (λ l. g (f x) ∷ l) (fused f g xs)
+
+pub items_named : (items : List (Text × ℕ)) → names_numbered items ≡ names_in (map collection_seen items)
+items_named items = sym (fused collection_seen (λ collection. collection.name) items)
+
+pub steps_named : (steps : List (Text × Prescribed)) → names_numbered steps ≡ names_of_steps (map step_seen steps)
+steps_named steps = sym (fused step_seen (λ step. step.name) steps)
+
+none_of : (tag number : ℕ) (steps : List Step) → ((place : ℕ) (step : Step) → slice_get steps place ≡ Some step → (step.prescriber == tag) ≡ false) → prescribed_from number steps tag ≡ []
+none_of tag number [] other = refl
+none_of tag number (step ∷ steps) other =
+    ap (λ (b : Bool). if b then number ∷ prescribed_from (suc number) steps tag else prescribed_from (suc number) steps tag) (other 0 step refl)
+    ∙ none_of tag (suc number) steps (λ place it there. other (suc place) it there)
+
+-- tags that are not of the graph prescribe nothing
+pub none_prescribed : (g : Graph) (tag : ℕ) → IsGraph g → slice_get g.tags tag ≡ None → prescribed_by g tag ≡ []
+none_prescribed g tag graph none = none_of tag 0 g.steps (λ place step there. by place step there (step.prescriber == tag) refl)
+  where
+    by : (place : ℕ) (step : Step) → slice_get g.steps place ≡ Some step → (same : Bool) → (step.prescriber == tag) ≡ same → same ≡ false
+    by place step there true same =
+        let is = (graph.steps place step there).prescribed in
+        let one : step.prescriber ≡ tag = eqb-true step.prescriber tag same in
+        let here = is.1 in
+        absurd (cc)
+    by place step there false same = refl
+
+pub past_seen : (tags : List (Text × ℕ)) (number : ℕ) → length tags ≤ number → slice_get (map collection_seen tags) number ≡ None
+past_seen [] number past = refl
+past_seen (entry ∷ tags) zero past = absurd (omega arith)
+past_seen (entry ∷ tags) (suc number) past = past_seen tags number (omega arith)

@@ -1,0 +1,25 @@
+-- Collections as they are declared, and by their numbers.
+use Rattle.std.specs.Prelude.{◌≡◌, ℕ, List, map}
+use Rattle.steptree.specs.declared.step.Name.{Name}
+use Rattle.steptree.specs.Names.{Text}
+use Rattle.graph.specs.declared.fault.GraphError.TheVariants.{Redeclared}
+use Rattle.graph.specs.declared.declarations.Collections.{Collections}
+use Rattle.graph.specs.Graph.{Collection, declared_collections}
+use Rattle.graph.specs.Faults.{At, fault_if, has}
+use Rattle.graph.specs.Inside.{collection_seen}
+use Rattle.graph.specs.Tree.{text_of}
+
+-- a name that stands before
+abbrev pub again : List Text → Name → List At
+again names name = fault_if (has names name) Redeclared name.place
+
+abbrev pub of_name : Name → ℕ → Collection
+of_name name components = record { name = text_of name; components = components }
+
+abbrev pub collections_numbered : List (Text × ℕ) → List Collection
+collections_numbered numbered = map collection_seen numbered
+
+-- these are the collections, as they are declared and by their numbers
+pub record AreCollected (collections : List Collection) (them : Collections) : Type 0 where
+  pub declared : declared_collections them.declared.items ≡ collections
+  pub numbered : collections_numbered them.numbered ≡ collections

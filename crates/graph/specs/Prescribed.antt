@@ -1,0 +1,25 @@
+-- Which steps a collection of tags prescribes.
+use Rattle.std.specs.Prelude.{ℕ, suc, Bool, false, List, [], ◌∷◌, map, Option, Some, None, get_or, slice_get, ◌==◌, if◌then◌else◌}
+use Rattle.steptree.specs.Names.{Text}
+use Rattle.graph.specs.Graph.{Step, Graph}
+
+-- of these steps, the first of which has this number, the numbers of those that the tags with another number prescribe, rising
+abbrev pub prescribed_from : ℕ → List Step → ℕ → List ℕ
+prescribed_from number [] tag = []
+prescribed_from number (step ∷ steps) tag = if step.prescriber == tag then number ∷ prescribed_from (suc number) steps tag else prescribed_from (suc number) steps tag
+
+-- the numbers of the steps that these tags prescribe, rising
+abbrev pub prescribed_by : Graph → ℕ → List ℕ
+prescribed_by g tag = prescribed_from 0 g.steps tag
+
+abbrev pub names_of_steps : List Step → List Text
+names_of_steps steps = map (λ step. step.name) steps
+
+-- a mark of a step, and false where there is no step
+abbrev pub mark_in : (Step → List Bool) → Option Step → ℕ → Bool
+mark_in marks None number = false
+mark_in marks (Some step) number = get_or (marks step) number false
+
+-- what a step of the graph is marked with at a number, and false where there is no such step or number
+abbrev pub mark_of : (Step → List Bool) → Graph → ℕ → ℕ → Bool
+mark_of marks g step number = mark_in marks (slice_get g.steps step) number

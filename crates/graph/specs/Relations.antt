@@ -1,0 +1,48 @@
+-- The relations so far, by the numbers of the collections.
+use Rattle.std.specs.Prelude.{◌≡◌, ℕ, false, List, [], ◌∷◌, ◌++◌, None, replicate, Result, MatchResult}
+use Rattle.steptree.specs.Names.{Text, place_of}
+use Rattle.syntax.specs.declared.tree.Relation.{Relation}
+use Rattle.graph.specs.declared.fault.PlacedFault.{PlacedFault}
+use Rattle.graph.specs.declared.relations.Numbers.{Numbers}
+use Rattle.graph.specs.declared.relations.Relations.{Relations}
+use Rattle.graph.specs.Faults.{relation_fault, relation_faults}
+use Rattle.graph.specs.Marks.{AreMarks, AreRows, ArePrescribers, bits}
+use Rattle.graph.specs.Numbered.{names_numbered, found}
+use Rattle.graph.specs.Placed.{IsFirst}
+use Rattle.graph.specs.Tree.{is_read, is_item_put, is_tag_put, is_environment_item_put, is_environment_tag_put, is_environment_get}
+
+-- nothing is marked, of so many collections of each kind
+pub record IsUnmarked (items tags steps : ℕ) (them : Relations) : Type 0 where
+  pub prescribers : them.prescribers.items ≡ replicate steps None
+  pub reads : bits them.reads ≡ replicate steps (replicate items false)
+  pub item_puts : bits them.item_puts ≡ replicate steps (replicate items false)
+  pub tag_puts : bits them.tag_puts ≡ replicate steps (replicate tags false)
+  pub environment_item_puts : them.environment_item_puts.items ≡ replicate items false
+  pub environment_tag_puts : them.environment_tag_puts.items ≡ replicate tags false
+  pub environment_gets : them.environment_gets.items ≡ replicate items false
+
+module _ (items tags steps : List Text) where
+  -- the numbers are the places of these names
+  pub record AreNumbers (numbers : Numbers) : Type 0 where
+    pub items_are : names_numbered numbers.items.now ≡ items
+    pub tags_are : names_numbered numbers.tags.now ≡ tags
+    pub steps_are : (text : Text) → found numbers.steps.now text ≡ place_of steps text
+
+  -- what is marked are these relations
+  pub record AreRelations (before : List Relation) (them : Relations) : Type 0 where
+    pub prescribers : ArePrescribers tags steps before them.prescribers.items
+    pub reads : AreRows (λ step item. is_read item step) steps items before (bits them.reads)
+    pub item_puts : AreRows is_item_put steps items before (bits them.item_puts)
+    pub tag_puts : AreRows is_tag_put steps tags before (bits them.tag_puts)
+    pub environment_item_puts : AreMarks is_environment_item_put items before them.environment_item_puts.items
+    pub environment_tag_puts : AreMarks is_environment_tag_put tags before them.environment_tag_puts.items
+    pub environment_gets : AreMarks is_environment_get items before them.environment_gets.items
+
+  -- one more relation is marked, if it has no fault
+  abbrev pub Relates : List Relation → Relation → Relations → Result (Unit {0}) PlacedFault → Type 0
+  Relates before relation them result =
+      MatchResult result (λ _. (relation_fault items tags steps before relation ≡ []) × AreRelations (before ++ relation ∷ []) them) (IsFirst (relation_fault items tags steps before relation))
+
+  -- all of them are marked, if none has a fault
+  abbrev pub RelatesAll : List Relation → Result Relations PlacedFault → Type 0
+  RelatesAll relations result = MatchResult result (λ them. (relation_faults items tags steps [] relations ≡ []) × AreRelations relations them) (IsFirst (relation_faults items tags steps [] relations))

@@ -1,0 +1,11 @@
+-- A tree whose names have numbers.
+use Rattle.syntax.specs.declared.tree.Tree.{Tree}
+use Rattle.graph.specs.declared.resolved.Resolved.{Resolved}
+use Rattle.graph.specs.Collected.{AreCollected}
+use Rattle.graph.specs.Relations.{AreRelations}
+use Rattle.graph.specs.Tree.{items_of, tags_of, names_in, step_names}
+
+pub record IsResolved (tree : Tree) (resolved : Resolved) : Type 0 where
+  pub items : AreCollected (items_of tree.declarations.items) resolved.items
+  pub tags : AreCollected (tags_of tree.declarations.items) resolved.tags
+  pub relations : AreRelations (names_in (items_of tree.declarations.items)) (names_in (tags_of tree.declarations.items)) (step_names tree.steps.items) tree.relations.items resolved.relations

@@ -1,0 +1,21 @@
+ghost use Rattle.std.specs.Prelude.{◌≡◌, ◌≤◌, ◌<◌, ◌+◌, ◌^◌, length, take};
+ghost use Rattle.graph.specs.Reads.{walked};
+
+/// The line and the column of the byte at a position, both from 1; only a line feed begins a line.
+pub(crate) fn place(text: &[u8], position: usize) -> (usize, usize)
+    requires within { position ≤ length text.now }
+    requires fits { length text.now < 2 ^ 32 }
+    ensures { walked 1 1 (take position text.now) ≡ result }
+{
+    let mut line = 1;
+    let mut column = 1;
+    for byte in &text[..position] {
+        if *byte == 10 {
+            line += 1;
+            column = 1;
+        } else {
+            column += 1;
+        }
+    }
+    (line, column)
+}

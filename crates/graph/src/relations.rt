@@ -1,0 +1,158 @@
+ghost use Rattle.std.specs.Prelude.{◌≡◌, ◌<◌, ◌^◌, ◌++◌, List, length, IfOk, IfSome, OnOk, is_none, is_some};
+ghost use Rattle.steptree.specs.Names.{Text};
+ghost use Rattle.syntax.specs.declared.tree.Relation.{Relation as Tied};
+ghost use Rattle.graph.specs.declared.fault.GraphError.TheVariants.{UnknownName, StepMissing, TwoPrescribers};
+ghost use Rattle.graph.specs.Faults.{fault_if, or_else};
+ghost use Rattle.graph.specs.Placed.{Reports};
+ghost use Rattle.graph.specs.Relations.{AreNumbers, AreRelations, IsUnmarked, Relates, RelatesAll};
+ghost use Rattle.graph.specs.Marks.{prescriber_at, with_prescriber};
+
+use crate::fault::{GraphError, PlacedFault};
+use crate::numbered::Numbered;
+use crate::tables::{environment, known, no_marks, put, read};
+use std::alloc::{AllocError, Global};
+use steptree::Name;
+use syntax::Relation;
+use terms::TagCollection;
+
+/// The numbers of the collections by their names. Of two equal names of steps the first counts.
+#[derive(Clone, Copy)]
+pub(crate) struct Numbers<'b> {
+    pub(crate) items: &'b Numbered<usize>,
+    pub(crate) tags: &'b Numbered<usize>,
+    pub(crate) steps: &'b Numbered<usize>,
+}
+
+/// The relations so far, by the numbers of the collections.
+#[derive(Drop)]
+pub(crate) struct Relations {
+    pub(crate) prescribers: Vec<Option<TagCollection>>,
+    pub(crate) reads: Vec<Vec<bool>>,
+    pub(crate) item_puts: Vec<Vec<bool>>,
+    pub(crate) tag_puts: Vec<Vec<bool>>,
+    pub(crate) environment_item_puts: Vec<bool>,
+    pub(crate) environment_tag_puts: Vec<bool>,
+    pub(crate) environment_gets: Vec<bool>,
+}
+
+/// A prescription, by the places of its tags and its step.
+fn prescribe(
+    prescribers: &mut Vec<Option<TagCollection>>,
+    tag: Option<usize>,
+    tag_name: &Name<'_>,
+    step: Option<usize>,
+    step_name: &Name<'_>,
+) -> Result<(), PlacedFault>
+    requires { IfSome tag (λ number. number < 2 ^ 16) }
+    ensures faults { Reports (fault_if (is_none tag) UnknownName tag_name.now.place ++ or_else (fault_if (is_none step) StepMissing step_name.now.place) (fault_if (is_some (prescriber_at prescribers.old.items step)) TwoPrescribers step_name.now.place)) result }
+    ensures prescribed { OnOk result (prescribers.new.items ≡ with_prescriber prescribers.old.items step tag) }
+{
+    known(tag, GraphError::UnknownName, tag_name)?;
+    known(step, GraphError::StepMissing, step_name)?;
+    if let Some(number) = tag {
+        if let Some(place) = step {
+            if place < prescribers.len() {
+                if prescribers[place].is_some() {
+                    return Err(PlacedFault {
+                        error: GraphError::TwoPrescribers,
+                        position: step_name.place,
+                    });
+                }
+                prescribers[place] = Some(TagCollection(number as u16));
+            }
+        }
+    }
+    Ok(())
+}
+
+impl Relations {
+    /// One more relation, or the first of its faults.
+    fn relate(&mut self, numbers: &Numbers<'_>, relation: &Relation<'_>) -> Result<(), PlacedFault>
+        requires { length numbers.now.tags.now < 2 ^ 16 }
+        ensures { (items tags steps : List Text) (before : List Tied) → AreNumbers items tags steps numbers.now → AreRelations items tags steps before self.old → Relates items tags steps before relation.now self.new result }
+    {
+        match relation {
+            Relation::Prescribes { tag, step } => prescribe(
+                &mut self.prescribers,
+                numbers.tags.number(tag.text),
+                tag,
+                numbers.steps.get(step.text).copied(),
+                step,
+            ),
+            Relation::Reads { place, item, step } => read(
+                &mut self.reads,
+                *place,
+                numbers.items.number(item.text),
+                item,
+                numbers.steps.get(step.text).copied(),
+                step,
+            ),
+            Relation::PutsItem { place, step, item } => put(
+                &mut self.item_puts,
+                *place,
+                numbers.steps.get(step.text).copied(),
+                step,
+                numbers.items.number(item.text),
+                item,
+            ),
+            Relation::PutsTag { place, step, tag } => put(
+                &mut self.tag_puts,
+                *place,
+                numbers.steps.get(step.text).copied(),
+                step,
+                numbers.tags.number(tag.text),
+                tag,
+            ),
+            Relation::EnvironmentPutsItem { place, item } => environment(
+                &mut self.environment_item_puts,
+                *place,
+                numbers.items.number(item.text),
+                item,
+            ),
+            Relation::EnvironmentPutsTag { place, tag } => environment(
+                &mut self.environment_tag_puts,
+                *place,
+                numbers.tags.number(tag.text),
+                tag,
+            ),
+            Relation::EnvironmentGets { place, item } => environment(
+                &mut self.environment_gets,
+                *place,
+                numbers.items.number(item.text),
+                item,
+            ),
+        }
+    }
+}
+
+/// No relations, of so many collections of each kind.
+fn none(alloc: Global, items: usize, tags: usize, steps: usize) -> Result<Relations, AllocError>
+    ensures { IfOk result (λ them. IsUnmarked items tags steps them) }
+{
+    Ok(Relations {
+        prescribers: vec![in alloc; None; steps]?,
+        reads: no_marks(alloc, steps, items)?,
+        item_puts: no_marks(alloc, steps, items)?,
+        tag_puts: no_marks(alloc, steps, tags)?,
+        environment_item_puts: vec![in alloc; false; items]?,
+        environment_tag_puts: vec![in alloc; false; tags]?,
+        environment_gets: vec![in alloc; false; items]?,
+    })
+}
+
+/// The relations of a tree, by the numbers of its collections, or the first of their faults.
+pub(crate) fn relate_all(
+    alloc: Global,
+    numbers: &Numbers<'_>,
+    steps: usize,
+    relations: &[Relation<'_>],
+) -> Result<Relations, PlacedFault>
+    requires { length numbers.now.tags.now < 2 ^ 16 }
+    ensures { (items tags names : List Text) → AreNumbers items tags names numbers.now → length names ≡ steps → RelatesAll items tags names relations.now result }
+{
+    let mut them = none(alloc, numbers.items.len(), numbers.tags.len(), steps)?;
+    for relation in relations {
+        them.relate(numbers, relation)?;
+    }
+    Ok(them)
+}
