@@ -1,3 +1,4 @@
+pub mod PrintedApart
 pub mod PrintedBlocks
 pub mod PrintedCollections
 pub mod PrintedDeclarations
