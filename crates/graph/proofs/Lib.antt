@@ -2,6 +2,7 @@ pub mod PrintedApart
 pub mod PrintedBlocks
 pub mod PrintedCollections
 pub mod PrintedDeclarations
+pub mod PrintedDeclared
 pub mod PrintedExpressions
 pub mod PrintedKeys
 pub mod PrintedLines
