@@ -9,6 +9,7 @@ pub mod PrintedLines
 pub mod PrintedLists
 pub mod PrintedNameLists
 pub mod PrintedNames
+pub mod PrintedRelations
 pub mod PrintedStatements
 pub mod PrintedTokens
 pub mod PrintedValues
