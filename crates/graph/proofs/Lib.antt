@@ -7,9 +7,11 @@ pub mod PrintedExpressions
 pub mod PrintedKeys
 pub mod PrintedLines
 pub mod PrintedLists
+pub mod PrintedMarks
 pub mod PrintedNameLists
 pub mod PrintedNames
 pub mod PrintedRelations
+pub mod PrintedSets
 pub mod PrintedStatements
 pub mod PrintedTokens
 pub mod PrintedValues
