@@ -1,5 +1,6 @@
 pub mod PrintedApart
 pub mod PrintedBlocks
+pub mod PrintedClashes
 pub mod PrintedCollections
 pub mod PrintedDeclarations
 pub mod PrintedDeclared
