@@ -14,5 +14,6 @@ pub mod PrintedNames
 pub mod PrintedRelations
 pub mod PrintedSets
 pub mod PrintedStatements
+pub mod PrintedSteps
 pub mod PrintedTokens
 pub mod PrintedValues

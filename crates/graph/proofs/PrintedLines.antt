@@ -12,12 +12,11 @@ use Rattle.graph.proofs.PrintedTokens.{after_word, after_sign, never, Printed, b
 use Rattle.graph.proofs.PrintedNames.{a_word_alone}
 
 -- where the text of a line that stands so many levels in begins
-pub inside : ℕ → ℕ → ℕ
+abbrev pub inside : ℕ → ℕ → ℕ
 inside zero place = place
 inside (suc level) place = inside level (place + 2)
 
 pub lined : {text : Text} {pieces : List Piece} (level place : ℕ) → Printed never (inside level place) text pieces → Printed never place (line level text) pieces
-unfolding inside
 lined zero place one = and_blanks one (codes "\n") (refl, tt) (λ rest may. refl)
 lined (suc level) place one = and (blank place (codes "  ") (refl, (refl, tt))) (lined level (place + 2) one)
 
