@@ -54,15 +54,15 @@ word_is_text reserved.For = (refl, (refl, (refl, tt)))
 word_is_text reserved.In = (refl, (refl, tt))
 
 pub a_word_alone : (place : ℕ) (kept : Word) → Printed after_word place (word_text kept) (a_word kept)
-a_word_alone place kept = one_token after_word place (word_text kept) (word kept) (plain (word kept)) refl (λ rest may. (refl, (word_is_text kept, may)))
+a_word_alone place kept = one_token after_word place (word_text kept) (word kept) (plain (word kept)) tt refl (λ rest may. (refl, (word_is_text kept, may)))
 
 pub word_at : (place : ℕ) (kept : Word) → Printed after_word place (word_text kept) (at place (word kept) ∷ [])
-word_at place kept = one_token after_word place (word_text kept) (word kept) (at place (word kept)) (refl, refl) (λ rest may. (refl, (word_is_text kept, may)))
+word_at place kept = one_token after_word place (word_text kept) (word kept) (at place (word kept)) tt (refl, refl) (λ rest may. (refl, (word_is_text kept, may)))
 
 -- ---- names
 
 pub printed_name : (place : ℕ) (text : Text) → IsGraphName text → Printed after_word place text (named (text, place) ∷ [])
-printed_name place text is = one_token after_word place text (name text) (named (text, place)) (refl, refl) (λ rest may. (refl, (is.word, may), is.not_reserved))
+printed_name place text is = one_token after_word place text (name text) (named (text, place)) tt (refl, refl) (λ rest may. (refl, (is.word, may), is.not_reserved))
 
 pub name_fronts : (text : Text) → IsGraphName text → Fronts text
 name_fronts text is = word_fronts text is.word
@@ -108,7 +108,7 @@ number_fronts value small = digits_front (decimal value) (decimal_nonempty value
 pub printed_number : (place value : ℕ) → value ≤ GREATEST → Printed after_word place (decimal value) (at place (number value) ∷ [])
 printed_number place value small =
     let fits : value < 2 ^ 64 = omega arith in
-    one_token after_word place (decimal value) (number value) (at place (number value)) (refl, refl) (λ rest may. (
+    one_token after_word place (decimal value) (number value) (at place (number value)) tt (refl, refl) (λ rest may. (
       decimal value,
       refl,
       (not_empty (decimal value) (decimal_nonempty value fits), digits_decimal own value fits, begins_no_digit rest may, digits_value-decimal own value fits),
