@@ -16,4 +16,5 @@ pub mod PrintedSets
 pub mod PrintedStatements
 pub mod PrintedSteps
 pub mod PrintedTokens
+pub mod PrintedTrees
 pub mod PrintedValues

@@ -123,7 +123,7 @@ three_apart a b c xs ys zs one two three h k m =
     apart_both clash (map a xs ++ map b ys) (map c zs) (apart_both clash (map a xs) (map b ys) one two (clear_mapped a b h xs ys)) three
     (clear_of_both clash (map a xs) (map b ys) (map c zs) (clear_mapped a c k xs zs) (clear_mapped b c m ys zs))
 
-each_of_three : (P : Shape → Type 0) (a b c : Text → Shape) (xs ys zs : List Text) → AllByRecursion (λ text. P (a text)) xs → AllByRecursion (λ text. P (b text)) ys → AllByRecursion (λ text. P (c text)) zs
+pub each_of_three : (P : Shape → Type 0) (a b c : Text → Shape) (xs ys zs : List Text) → AllByRecursion (λ text. P (a text)) xs → AllByRecursion (λ text. P (b text)) ys → AllByRecursion (λ text. P (c text)) zs
     → AllByRecursion P (map a xs ++ map b ys ++ map c zs)
 each_of_three P a b c xs ys zs one two three = each_of_both P (map a xs ++ map b ys) (map c zs) (each_of_both P (map a xs) (map b ys) (each_mapped P a xs one) (each_mapped P b ys two)) (each_mapped P c zs three)
 

@@ -33,7 +33,7 @@ many_declared : (collections : List Declared) → length (declared_collections c
 many_declared [] = refl
 many_declared (first ∷ rest) = omega (arith, many_declared rest)
 
-many_names : (collections : List Collection) → length (names_in collections) ≡ length collections
+pub many_names : (collections : List Collection) → length (names_in collections) ≡ length collections
 many_names [] = refl
 many_names (first ∷ rest) = omega (arith, many_names rest)
 
