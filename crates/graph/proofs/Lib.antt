@@ -5,6 +5,7 @@ pub mod PrintedCollections
 pub mod PrintedDeclarations
 pub mod PrintedDeclared
 pub mod PrintedExpressions
+pub mod PrintedGraph
 pub mod PrintedKeys
 pub mod PrintedLines
 pub mod PrintedLists
