@@ -12,6 +12,7 @@ pub mod PrintedLists
 pub mod PrintedMarks
 pub mod PrintedNameLists
 pub mod PrintedNames
+pub mod PrintedReads
 pub mod PrintedRelations
 pub mod PrintedSets
 pub mod PrintedStatements

@@ -1,11 +1,11 @@
 -- Lists of which no two elements clash, and what is found in them.
-use Rattle.std.proofs.Common.{◌≡◌, ◌≢◌, ℕ, zero, suc, ◌+◌, ◌<◌, ◌≤◌, Bool, true, false, ◌||◌, ◌&&◌, if◌then◌else◌, List, [], ◌∷◌, ◌++◌, length, get_or, map, Option, Some, None, option_map, refl, sym, ap, subst, ◌∙◌, arith}
-use Rattle.std.specs.Prelude.{⊤, slice_get}
+use Rattle.std.proofs.Common.{◌≡◌, ◌≢◌, ℕ, zero, suc, ◌<◌, ◌≤◌, Bool, true, false, ◌||◌, ◌&&◌, if◌then◌else◌, List, [], ◌∷◌, ◌++◌, length, get_or, map, Option, Some, None, option_map, refl, sym, ap, ◌∙◌, arith}
+use Rattle.std.specs.Prelude.{⊤}
 use Rattle.std.specs.List.{AllByRecursion, flat_map, list_any, zip}
 use Rattle.std.proofs.lemmas.Bool.{false≢true}
 use Rattle.steptree.specs.Names.{Text, is_text, place_of}
 use Rattle.graph.specs.Canonical.{marked}
-use Rattle.graph.proofs.PrintedNames.{AreDistinct, distinct_rest, same_text, told_text, other_text}
+use Rattle.graph.proofs.PrintedNames.{AreDistinct, distinct_rest, same_text, other_text}
 
 -- ---- what holds of each
 
@@ -152,9 +152,9 @@ marks_back (first ∷ names) (true ∷ marks) all many =
     let those : List Text = marked (zip names marks) in
     let heads : (is_text first first || is_among those first) ≡ true = ap (λ (b : Bool). b || is_among those first) (same_text first) in
     let agree : map (λ (text : Text). is_text first text || is_among those text) names ≡ map (is_among those) names =
-        maps_agree (λ (text : Text). is_text first text || is_among those text) (is_among those) names
-        (each_weaker (λ (text : Text). is_text text first ≡ false) (λ (text : Text). (is_text first text || is_among those text) ≡ is_among those text)
-        (λ text h. ap (λ (b : Bool). b || is_among those text) (flipped text first h)) names all.0) in
+    maps_agree (λ (text : Text). is_text first text || is_among those text) (is_among those) names
+    (each_weaker (λ (text : Text). is_text text first ≡ false) (λ (text : Text). (is_text first text || is_among those text) ≡ is_among those text)
+    (λ text h. ap (λ (b : Bool). b || is_among those text) (flipped text first h)) names all.0) in
     let tails : map (λ (text : Text). is_text first text || is_among those text) names ≡ marks = agree ∙ marks_back names marks all.1 (omega (arith, many)) in
     ap (λ (b : Bool). b ∷ map (λ (text : Text). is_text first text || is_among those text) names) heads ∙ ap (λ (l : List Bool). true ∷ l) tails
 marks_back (first ∷ names) (false ∷ marks) all many =

@@ -1,19 +1,18 @@
 -- No two of the relations that are printed are one, and each names what there is: so they are without a fault.
-use Rattle.std.proofs.Common.{◌≡◌, ℕ, zero, suc, ◌+◌, ◌<◌, ◌≤◌, Bool, true, false, ◌||◌, ◌&&◌, if◌then◌else◌, List, [], ◌∷◌, ◌++◌, length, get_or, map, Option, Some, None, option_map, refl, sym, ap, subst, ◌∙◌, arith, append_assoc}
+use Rattle.std.proofs.Common.{◌≡◌, ℕ, Bool, true, false, ◌||◌, ◌&&◌, if◌then◌else◌, List, [], ◌∷◌, ◌++◌, get_or, map, Option, Some, None, refl, sym, ap, subst, ◌∙◌}
 use Rattle.std.specs.Prelude.{is_some, not, ⊤}
 use Rattle.std.specs.List.{AllByRecursion, flat_map, list_any}
 use Rattle.std.proofs.lemmas.List.{map-append}
 use Rattle.steptree.specs.Names.{Text, is_text, place_of}
 use Rattle.syntax.specs.declared.tree.Relation.{Relation as Related}
-use Rattle.syntax.specs.Grammar.{Position, Relation, prescribes, reads, puts_item, puts_tag, environment_puts_item, environment_puts_tag, environment_gets}
+use Rattle.syntax.specs.Grammar.{Relation, prescribes, reads, puts_item, puts_tag, environment_puts_item, environment_puts_tag, environment_gets}
 use Rattle.graph.specs.declared.fault.GraphError.TheVariants.{Redeclared, UnknownName, StepMissing, TwoPrescribers}
 use Rattle.graph.specs.Graph.{Graph, Step}
 use Rattle.graph.specs.Tree.{names_in, prescriber_of}
-use Rattle.graph.specs.Faults.{At, fault_if, or_else, has, same_relation, again, unknown, missing, prescribed_before, relation_fault, relation_faults}
+use Rattle.graph.specs.Faults.{At, fault_if, or_else, same_relation, again, unknown, missing, prescribed_before, relation_fault, relation_faults}
 use Rattle.graph.specs.Textual.{names_of_steps}
 use Rattle.graph.specs.Canonical.{those}
-use Rattle.graph.proofs.PrintedNames.{same_text}
-use Rattle.graph.proofs.PrintedApart.{each, each_weaker, each_of_both, each_mapped, each_flat, any_none, and_false, Apart, Clear, apart_both, clear_both, clear_of_both, marked_apart, flipped}
+use Rattle.graph.proofs.PrintedApart.{each, each_weaker, each_of_both, each_mapped, each_flat, and_false, Apart, Clear, apart_both, clear_both, clear_of_both, marked_apart, flipped}
 use Rattle.graph.proofs.PrintedRelations.{Shape, a_prescription, a_read, an_item_put, a_tag_put, an_environment_item, an_environment_tag, an_environment_get, shape_of, step_shapes, environment_shapes, shapes}
 use Rattle.graph.proofs.PrintedSets.{tree_relation}
 use Rattle.graph.proofs.PrintedValues.{name_of}
@@ -97,9 +96,9 @@ module _ (items tags steps : List Text) where
   relations_without_fault before [] is apart clear = refl
   relations_without_fault before (d ∷ relations) is apart clear =
       let ones : AllByRecursion (λ y. AllByRecursion (λ x. clash y x ≡ false) (shape_of d ∷ [])) (map shape_of relations) =
-          each_weaker (λ y. clash y (shape_of d) ≡ false) (λ y. AllByRecursion (λ x. clash y x ≡ false) (shape_of d ∷ [])) (λ y h. (h, tt)) (map shape_of relations) apart.0 in
+      each_weaker (λ y. clash y (shape_of d) ≡ false) (λ y. AllByRecursion (λ x. clash y x ≡ false) (shape_of d ∷ [])) (λ y h. (h, tt)) (map shape_of relations) apart.0 in
       let more : Clear clash (map shape_of (before ++ d ∷ [])) (map shape_of relations) =
-          subst (λ (l : List Shape). Clear clash l (map shape_of relations)) (sym (map-append shape_of before (d ∷ []))) (clear_of_both clash (map shape_of before) (shape_of d ∷ []) (map shape_of relations) clear.1 ones) in
+      subst (λ (l : List Shape). Clear clash l (map shape_of relations)) (sym (map-append shape_of before (d ∷ []))) (clear_of_both clash (map shape_of before) (shape_of d ∷ []) (map shape_of relations) clear.1 ones) in
       no_faults _ _ (one_without before d is.0 clear.0)
       (ap (λ (l : List Related). relation_faults items tags steps l (map tree_relation relations)) (sym (map-append tree_relation before (d ∷ []))) ∙ relations_without_fault (before ++ d ∷ []) relations is.1 apart.1 more)
 
@@ -169,9 +168,9 @@ module _ (g : Graph) (items_apart : Apart is_text (names_in g.items)) (tags_apar
   all_of_step step = (
     refl,
     each_of_three (IsOfStep step.name) (λ item. a_read item step.name) (λ item. an_item_put step.name item) (λ tag. a_tag_put step.name tag) (those g.items step.reads) (those g.items step.item_puts) (those g.tags step.tag_puts)
-    (each (λ item. IsOfStep step.name (a_read item step.name)) (λ it. refl) (those g.items step.reads))
-    (each (λ item. IsOfStep step.name (an_item_put step.name item)) (λ it. refl) (those g.items step.item_puts))
-    (each (λ tag. IsOfStep step.name (a_tag_put step.name tag)) (λ it. refl) (those g.tags step.tag_puts)),
+        (each (λ item. IsOfStep step.name (a_read item step.name)) (λ it. refl) (those g.items step.reads))
+        (each (λ item. IsOfStep step.name (an_item_put step.name item)) (λ it. refl) (those g.items step.item_puts))
+        (each (λ tag. IsOfStep step.name (a_tag_put step.name tag)) (λ it. refl) (those g.tags step.tag_puts)),
   )
 
   all_of_environment : AllByRecursion IsOfEnvironment (environment_shapes g)
@@ -183,13 +182,13 @@ module _ (g : Graph) (items_apart : Apart is_text (names_in g.items)) (tags_apar
   step_apart : (step : Step) → Apart clash (step_shapes g step)
   step_apart step = (
     each_of_three (λ y. clash y (a_prescription (get_or (names_in g.tags) step.prescriber []) step.name) ≡ false) (λ item. a_read item step.name) (λ item. an_item_put step.name item) (λ tag. a_tag_put step.name tag)
-    (those g.items step.reads) (those g.items step.item_puts) (those g.tags step.tag_puts)
-    (each (λ item. false ≡ false) (λ it. refl) (those g.items step.reads)) (each (λ item. false ≡ false) (λ it. refl) (those g.items step.item_puts)) (each (λ tag. false ≡ false) (λ it. refl) (those g.tags step.tag_puts)),
+        (those g.items step.reads) (those g.items step.item_puts) (those g.tags step.tag_puts)
+        (each (λ item. false ≡ false) (λ it. refl) (those g.items step.reads)) (each (λ item. false ≡ false) (λ it. refl) (those g.items step.item_puts)) (each (λ tag. false ≡ false) (λ it. refl) (those g.tags step.tag_puts)),
     three_apart (λ item. a_read item step.name) (λ item. an_item_put step.name item) (λ tag. a_tag_put step.name tag) (those g.items step.reads) (those g.items step.item_puts) (those g.tags step.tag_puts)
-    (apart_mapped (λ item. a_read item step.name) (λ one two h. ap (λ (b : Bool). b && is_text step.name step.name) h) (those g.items step.reads) (marked_apart (names_in g.items) step.reads items_apart))
-    (apart_mapped (λ item. an_item_put step.name item) (λ one two h. ap (λ (b : Bool). is_text step.name step.name && b) h ∙ and_false (is_text step.name step.name)) (those g.items step.item_puts) (marked_apart (names_in g.items) step.item_puts items_apart))
-    (apart_mapped (λ tag. a_tag_put step.name tag) (λ one two h. ap (λ (b : Bool). is_text step.name step.name && b) h ∙ and_false (is_text step.name step.name)) (those g.tags step.tag_puts) (marked_apart (names_in g.tags) step.tag_puts tags_apart))
-    (λ one two. refl) (λ one two. refl) (λ one two. refl),
+        (apart_mapped (λ item. a_read item step.name) (λ one two h. ap (λ (b : Bool). b && is_text step.name step.name) h) (those g.items step.reads) (marked_apart (names_in g.items) step.reads items_apart))
+        (apart_mapped (λ item. an_item_put step.name item) (λ one two h. ap (λ (b : Bool). is_text step.name step.name && b) h ∙ and_false (is_text step.name step.name)) (those g.items step.item_puts) (marked_apart (names_in g.items) step.item_puts items_apart))
+        (apart_mapped (λ tag. a_tag_put step.name tag) (λ one two h. ap (λ (b : Bool). is_text step.name step.name && b) h ∙ and_false (is_text step.name step.name)) (those g.tags step.tag_puts) (marked_apart (names_in g.tags) step.tag_puts tags_apart))
+        (λ one two. refl) (λ one two. refl) (λ one two. refl),
   )
 
   two_steps : (one two : Step) → is_text two.name one.name ≡ false → Clear clash (step_shapes g one) (step_shapes g two)

@@ -1,14 +1,13 @@
 -- The declarations that are printed are those of the graph, within the limits and without a fault.
-use Rattle.std.proofs.Common.{◌≡◌, ℕ, zero, suc, ◌+◌, ◌<◌, ◌≤◌, Bool, true, false, if◌then◌else◌, List, [], ◌∷◌, ◌++◌, length, map, Option, Some, None, refl, sym, ap, subst, ◌∙◌, arith, append_assoc}
+use Rattle.std.proofs.Common.{◌≡◌, ℕ, suc, ◌+◌, ◌≤◌, false, List, [], ◌∷◌, ◌++◌, length, map, Option, refl, ap, ◌∙◌, arith}
 use Rattle.std.specs.Prelude.{is_some}
 use Rattle.std.specs.List.{AllByRecursion}
-use Rattle.std.proofs.lemmas.List.{append-nil}
 use Rattle.steptree.specs.declared.sheet.TheConstants.{MOST_COLLECTIONS}
-use Rattle.steptree.specs.Names.{Text, is_text, place_of}
+use Rattle.steptree.specs.Names.{Text, is_text}
 use Rattle.syntax.specs.declared.tree.Declaration.{Declaration as Declared}
 use Rattle.syntax.specs.declared.tree.Declaration.TheVariants as tree
-use Rattle.syntax.specs.Grammar.{Position, Named, Names, Declaration, item_declared, tag_declared}
-use Rattle.syntax.specs.Limits.{one_more, all_names, declared_limits, declarations_limits}
+use Rattle.syntax.specs.Grammar.{Names, Declaration, item_declared, tag_declared}
+use Rattle.syntax.specs.Limits.{all_names, declarations_limits}
 use Rattle.syntax.specs.Tree.{AreAll, IsDeclaration}
 use Rattle.graph.specs.declared.fault.GraphError.TheVariants.{Redeclared}
 use Rattle.graph.specs.Graph.{Collection}

@@ -1,49 +1,34 @@
--- The canonical text of a graph that a text can give reads as that graph.
-use Rattle.std.proofs.Common.{◌≡◌, ℕ, zero, suc, ◌+◌, ◌*◌, ◌^◌, ◌<◌, ◌≤◌, Bool, true, false, if◌then◌else◌, List, [], ◌∷◌, ◌++◌, length, get_or, map, Option, Some, None, option_map, refl, sym, ap, subst, ◌∙◌, arith, append_assoc, length-append}
-use Rattle.std.specs.Prelude.{is_some, All, slice_get}
+-- The relations of a graph that a text can give: their names are good and known, and they say of each step what the graph says.
+use Rattle.std.proofs.Common.{◌≡◌, ℕ, zero, suc, ◌+◌, ◌*◌, ◌^◌, ◌<◌, ◌≤◌, Bool, true, false, if◌then◌else◌, List, [], ◌∷◌, ◌++◌, length, get_or, map, Option, Some, None, option_map, refl, sym, ap, subst, ◌∙◌, arith, length-append}
+use Rattle.std.specs.Prelude.{is_some, All}
 use Rattle.std.specs.List.{AllByRecursion, flat_map}
 use Rattle.std.proofs.lemmas.Bool.{false≢true}
-use Rattle.std.proofs.lemmas.List.{append-nil}
 use Rattle.std.proofs.lemmas.Option.{slice_get_within}
 use Rattle.terms.specs.declared.key.TheConstants.{MAX_COMPONENTS}
-use Rattle.steptree.specs.declared.sheet.TheConstants.{MOST_COLLECTIONS}
-use Rattle.steptree.specs.declared.step.Step.{Step as NamedStep}
 use Rattle.steptree.specs.Names.{Text, is_text, place_of}
-use Rattle.syntax.specs.declared.tree.Relation.{Relation as Related}
-use Rattle.syntax.specs.declared.tree.Tree.{Tree}
-use Rattle.syntax.specs.Tokens.{Spot, AreTokens}
-use Rattle.syntax.specs.Grammar.{Declaration, Relation, StepText, GraphText, item_declared, tag_declared}
-use Rattle.syntax.specs.Spelled.{Piece, declaration_pieces, relation_pieces, step_pieces}
-use Rattle.syntax.specs.Limits.{relation_limits}
+use Rattle.syntax.specs.Grammar.{Relation}
 use Rattle.syntax.specs.Tree.{AreAll}
-use Rattle.graph.specs.declared.limits.TheConstants.{MOST_TEXT}
-use Rattle.graph.specs.Graph.{Collection, Graph, Step, IsStep, IsOf, IsOfGraph, AreCollections}
-use Rattle.graph.specs.Tree.{text_of, items_of, tags_of, names_in, step_names, is_read, is_item_put, is_tag_put, each_of, IsSheetOf, IsStepOf, IsGraphOf}
-use Rattle.graph.specs.Faults.{At, declaration_faults, relation_faults, step_faults, tree_faults}
-use Rattle.graph.specs.Textual.{IsGraphName, AreNames, IsTextStep, IsTextual, names_of_steps, CanonicalReads}
-use Rattle.graph.specs.Reads.{Reads}
-use Rattle.graph.specs.Canonical.{in_brackets, in_angles, those, step_text, step_relations, environment_relations, canonical}
-use Rattle.graph.proofs.PrintedTokens.{never, anything, Printed, and, whole}
+use Rattle.graph.specs.Graph.{Collection, Graph, Step, IsOfGraph}
+use Rattle.graph.specs.Tree.{names_in}
+use Rattle.graph.specs.Faults.{relation_faults}
+use Rattle.graph.specs.Textual.{IsGraphName, IsTextStep, IsTextual, names_of_steps}
+use Rattle.graph.specs.Canonical.{those}
 use Rattle.graph.proofs.PrintedNames.{name_at, found_at, same_text}
-use Rattle.graph.proofs.PrintedExpressions.{no_both}
-use Rattle.graph.proofs.PrintedLists.{AllPrinted, all_printed, related_lengths, no_all}
 use Rattle.graph.proofs.PrintedCollections.{many_names}
-use Rattle.graph.proofs.PrintedDeclarations.{Declarable, declaration_line, item_lines_printed, tag_lines_printed, Declares}
-use Rattle.graph.proofs.PrintedDeclared.{tree_declaration, are_declarations, items_back, no_items, no_tags, tags_back, declarations_within, without_fault}
+use Rattle.graph.proofs.PrintedDeclarations.{Declarable}
 use Rattle.graph.proofs.PrintedApart.{each, each_weaker, each_of_both, each_flat, each_marked, fewer_marked, Apart, apart}
-use Rattle.graph.proofs.PrintedRelations.{Shape, a_prescription, a_read, an_item_put, a_tag_put, an_environment_item, an_environment_tag, an_environment_get, shape_line, shape_of, Shaped, HasGoodNames, step_shapes, environment_shapes, shapes, relations_printed, relation_lines, flat_of_both}
-use Rattle.graph.proofs.PrintedSets.{tree_relation, are_relations, shapes_back}
-use Rattle.graph.proofs.PrintedMarks.{environment_items_told, environment_tags_told, environment_gets_told, reads_told, item_puts_told, tag_puts_told, prescribed}
+use Rattle.graph.proofs.PrintedRelations.{Shape, a_prescription, a_read, an_item_put, a_tag_put, an_environment_item, an_environment_tag, an_environment_get, shape_of, Shaped, HasGoodNames, step_shapes, environment_shapes, shapes}
+use Rattle.graph.proofs.PrintedSets.{tree_relation, shapes_back}
+use Rattle.graph.proofs.PrintedMarks.{reads_told, item_puts_told, tag_puts_told, prescribed}
 use Rattle.graph.proofs.PrintedClashes.{clash, IsThere, IsKnown, relations_without_fault, each_of_three, shapes_apart}
-use Rattle.graph.proofs.PrintedSteps.{IsGood, DerivedStep, step_printed, many_mapped}
-use Rattle.graph.proofs.PrintedTrees.{all_indexed, Shown, StepTrees, step_trees, names_shown, steps_within, components_found, Facts, steps_without_fault}
-use Rattle.graph.proofs.PrintedValues.{vec_of}
+use Rattle.graph.proofs.PrintedSteps.{IsGood, many_mapped}
+use Rattle.graph.proofs.PrintedTrees.{all_indexed, components_found, Facts}
 
 each_two : {X : Type 0} (P Q : X → Type 0) (xs : List X) → AllByRecursion P xs → AllByRecursion Q xs → AllByRecursion (λ x. P x × Q x) xs
 each_two P Q [] one two = tt
 each_two P Q (x ∷ xs) one two = ((one.0, two.0), each_two P Q xs one.1 two.1)
 
-declarable : (collections : List Collection) → All (λ collection. collection.components ≤ MAX_COMPONENTS) collections → AllByRecursion IsGraphName (names_in collections) → AllByRecursion Declarable collections
+pub declarable : (collections : List Collection) → All (λ collection. collection.components ≤ MAX_COMPONENTS) collections → AllByRecursion IsGraphName (names_in collections) → AllByRecursion Declarable collections
 declarable [] few good = tt
 declarable (first ∷ rest) few good = (record { name = good.0; few = few 0 first (omega arith) }, declarable rest (λ k d h. few (suc k) d (omega arith)) good.1)
 
@@ -88,8 +73,8 @@ shapes_each P g heads deeds one two three =
       (
         heads.0,
         each_of_three P (λ item. a_read item step.name) (λ item. an_item_put step.name item) (λ tag. a_tag_put step.name tag) (those g.items step.reads) (those g.items step.item_puts) (those g.tags step.tag_puts)
-        (each_marked (λ item. P (a_read item step.name)) (names_in g.items) step.reads deeds.0.0) (each_marked (λ item. P (an_item_put step.name item)) (names_in g.items) step.item_puts deeds.0.1)
-        (each_marked (λ tag. P (a_tag_put step.name tag)) (names_in g.tags) step.tag_puts deeds.0.2),
+            (each_marked (λ item. P (a_read item step.name)) (names_in g.items) step.reads deeds.0.0) (each_marked (λ item. P (an_item_put step.name item)) (names_in g.items) step.item_puts deeds.0.1)
+            (each_marked (λ tag. P (a_tag_put step.name tag)) (names_in g.tags) step.tag_puts deeds.0.2),
       ),
       steps more heads.1 deeds.1,
     )
@@ -114,7 +99,7 @@ steps_count : (g : Graph) (steps : List Step) → length g.items ≤ 64 → leng
 steps_count g [] items tags = omega arith
 steps_count g (step ∷ steps) items tags = omega (arith, length-append (step_shapes g step) (flat_map (step_shapes g) steps), step_count g step items tags, steps_count g steps items tags)
 
-shapes_count : (g : Graph) → length g.items ≤ 64 → length g.tags ≤ 64 → length g.steps ≤ 64 → length (shapes g) < 2 ^ 63
+pub shapes_count : (g : Graph) → length g.items ≤ 64 → length g.tags ≤ 64 → length g.steps ≤ 64 → length (shapes g) < 2 ^ 63
 shapes_count g items tags steps =
     let counted = count_of_three (λ item. an_environment_item item) (λ tag. an_environment_tag tag) (λ item. an_environment_get item) (those g.items g.environment_item_puts) (those g.tags g.environment_tag_puts) (those g.items g.environment_gets) in
     omega (arith, length-append (flat_map (step_shapes g) g.steps) (environment_shapes g), steps_count g g.steps items tags, counted, fewer g.items g.environment_item_puts, fewer g.tags g.environment_tag_puts, fewer g.items g.environment_gets)
@@ -122,22 +107,22 @@ shapes_count g items tags steps =
 -- ---- the parts of a graph that a text can give
 
 module _ (g : Graph) (is : IsTextual g) where
-  items_apart : Apart is_text (names_in g.items)
+  pub items_apart : Apart is_text (names_in g.items)
   items_apart = apart (names_in g.items) is.items.distinct
 
-  tags_apart : Apart is_text (names_in g.tags)
+  pub tags_apart : Apart is_text (names_in g.tags)
   tags_apart = apart (names_in g.tags) is.tags.distinct
 
-  steps_apart : Apart is_text (names_of_steps g.steps)
+  pub steps_apart : Apart is_text (names_of_steps g.steps)
   steps_apart = apart (names_of_steps g.steps) is.step_names.distinct
 
   of_graph : AllByRecursion (IsOfGraph g) g.steps
   of_graph = all_indexed (IsOfGraph g) g.steps is.graph.steps
 
-  good_steps : AllByRecursion (IsGood g) g.steps
+  pub good_steps : AllByRecursion (IsGood g) g.steps
   good_steps = each_weaker (λ step. IsOfGraph g step × IsTextStep step) (IsGood g) (λ step h. record { of_graph = h.0; textual = h.1 }) g.steps (each_two (IsOfGraph g) IsTextStep g.steps of_graph is.steps)
 
-  good_shapes : AllByRecursion HasGoodNames (shapes g)
+  pub good_shapes : AllByRecursion HasGoodNames (shapes g)
   good_shapes =
       shapes_each HasGoodNames g
       (each_weaker (IsGood g) (λ step. HasGoodNames (a_prescription (get_or (names_in g.tags) step.prescriber []) step.name))

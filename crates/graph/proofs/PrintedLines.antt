@@ -1,14 +1,14 @@
 -- Lines, and the fixed parts of a line.
-use Rattle.std.proofs.Common.{◌≡◌, ℕ, zero, suc, ◌+◌, List, [], ◌∷◌, ◌++◌, length, codes, refl, sym, ap, subst, ◌∙◌, arith}
+use Rattle.std.proofs.Common.{◌≡◌, ℕ, zero, suc, ◌+◌, List, [], ◌∷◌, ◌++◌, codes, refl, arith}
 use Rattle.syntax.specs.declared.token.Word.{Word}
 use Rattle.syntax.specs.declared.token.Word.TheVariants as kept
 use Rattle.syntax.specs.declared.token.Symbol.{Symbol}
 use Rattle.syntax.specs.declared.token.Symbol.TheVariants as sign
-use Rattle.syntax.specs.Tokens.{symbol, symbol_text, word_text}
-use Rattle.syntax.specs.Spelled.{Piece, IsPiece, a_sign, sign_at, a_word}
+use Rattle.syntax.specs.Tokens.{symbol_text, word_text}
+use Rattle.syntax.specs.Spelled.{Piece, a_sign, sign_at, a_word}
 use Rattle.steptree.specs.Names.{Text}
 use Rattle.graph.specs.Canonical.{line}
-use Rattle.graph.proofs.PrintedTokens.{after_word, after_sign, never, Printed, behind, and, and_blanks, blank, space, and_space, sign_and_space, closed_sign, open_sign, double_sign}
+use Rattle.graph.proofs.PrintedTokens.{never, Printed, behind, and, and_blanks, blank, space, and_space, sign_and_space, closed_sign, open_sign, double_sign}
 use Rattle.graph.proofs.PrintedNames.{a_word_alone}
 
 -- where the text of a line that stands so many levels in begins

@@ -1,5 +1,5 @@
 -- Names, words and numbers as printed texts; and where a name stands among others.
-use Rattle.std.proofs.Common.{◌≡◌, ◌≢◌, ℕ, zero, suc, ℤ, pos, ◌+◌, ◌^◌, ◌<◌, ◌≤◌, Bool, true, false, ◌||◌, ◌&&◌, ◌==◌, if◌then◌else◌, List, [], ◌∷◌, ◌++◌, length, get_or, map, codes, Option, Some, None, option_map, refl, sym, ap, subst, ◌∙◌, arith, nat_lt}
+use Rattle.std.proofs.Common.{◌≡◌, ◌≢◌, ℕ, zero, suc, ◌^◌, ◌<◌, ◌≤◌, Bool, true, false, ◌&&◌, ◌==◌, if◌then◌else◌, List, [], ◌∷◌, ◌++◌, length, get_or, Some, option_map, refl, ap, ◌∙◌, arith, nat_lt}
 use Rattle.std.specs.List.{AllByRecursion}
 use Rattle.std.specs.Fmt.{decimal}
 use Rattle.std.specs.Str.Parse.{digits_value}
@@ -10,13 +10,13 @@ use Rattle.std.proofs.lemmas.Str.Parse.{IsDigitsTest, IsNumeralModel, numerals_b
 use Rattle.syntax.specs.declared.token.Word.{Word}
 use Rattle.syntax.specs.declared.token.Word.TheVariants as reserved
 use Rattle.syntax.specs.declared.limits.TheConstants.{MOST_NAME_BYTES}
-use Rattle.syntax.specs.Tokens.{AreDigits, BeginsWithout, GREATEST, IsWordText, Stands, name, number, word, is_blank, is_letter, is_digit, word_text}
-use Rattle.syntax.specs.Spelled.{Piece, plain, at, named, a_word}
+use Rattle.syntax.specs.Tokens.{AreDigits, BeginsWithout, GREATEST, IsWordText, name, number, word, is_letter, is_digit, word_text}
+use Rattle.syntax.specs.Spelled.{plain, at, named, a_word}
 use Rattle.syntax.specs.Grammar.{Position}
 use Rattle.syntax.specs.Limits.{name_limits, one_more}
 use Rattle.steptree.specs.Names.{Text, is_text, place_of}
-use Rattle.graph.specs.Textual.{IsGraphName, AreNames}
-use Rattle.graph.proofs.PrintedTokens.{after_word, after_sign, never, anything, Printed, and, one_token, space}
+use Rattle.graph.specs.Textual.{IsGraphName}
+use Rattle.graph.proofs.PrintedTokens.{after_word, after_sign, Printed, one_token}
 
 -- ---- what a text begins with
 

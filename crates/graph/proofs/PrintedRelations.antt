@@ -1,28 +1,23 @@
 -- The relations of a graph as they are printed.
-use Rattle.std.proofs.Common.{◌≡◌, ℕ, zero, suc, ◌+◌, ◌<◌, ◌≤◌, Bool, true, false, ◌||◌, List, [], ◌∷◌, ◌++◌, length, get_or, map, codes, refl, sym, ap, subst, ◌∙◌, arith, append_assoc}
-use Rattle.std.specs.List.{AllByRecursion, flat_map, list_any}
+use Rattle.std.proofs.Common.{◌≡◌, ℕ, ◌+◌, Bool, false, List, [], ◌∷◌, ◌++◌, length, get_or, map, codes, refl, sym, ap, ◌∙◌, append_assoc}
+use Rattle.std.specs.List.{AllByRecursion, flat_map}
 use Rattle.steptree.specs.Names.{Text}
 use Rattle.syntax.specs.declared.token.Word.TheVariants as kept
 use Rattle.syntax.specs.declared.token.Symbol.TheVariants as sign
-use Rattle.syntax.specs.declared.tree.Relation.{Relation as Related}
-use Rattle.syntax.specs.declared.tree.Relation.TheVariants as tree
-use Rattle.syntax.specs.Tokens.{BeginsWithout}
-use Rattle.syntax.specs.Grammar.{Position, Named, Relation, prescribes, reads, puts_item, puts_tag, environment_puts_item, environment_puts_tag, environment_gets}
-use Rattle.syntax.specs.Spelled.{Piece, named, a_sign, sign_at, a_word, item_at, relation_pieces}
+use Rattle.syntax.specs.Grammar.{Relation, prescribes, reads, puts_item, puts_tag, environment_puts_item, environment_puts_tag, environment_gets}
+use Rattle.syntax.specs.Spelled.{Piece, a_sign, sign_at, relation_pieces}
 use Rattle.syntax.specs.Spelled.{arrow as arrow_pieces}
 use Rattle.syntax.specs.Limits.{name_limits, relation_limits}
-use Rattle.syntax.specs.Tree.{AreAll, IsRelation}
 use Rattle.graph.specs.Graph.{Graph, Step}
 use Rattle.graph.specs.Tree.{names_in}
 use Rattle.graph.specs.Textual.{IsGraphName}
 use Rattle.graph.specs.Canonical.{in_brackets, in_angles, in_rounds, arrow, line, those, step_relations, environment_relations}
-use Rattle.graph.proofs.PrintedTokens.{after_word, after_sign, never, anything, Printed, behind, and, and_blanks, closed_sign}
+use Rattle.graph.proofs.PrintedTokens.{after_word, never, anything, Printed, behind, and, and_blanks, closed_sign}
 use Rattle.graph.proofs.PrintedNames.{printed_name, name_fronts, no_name_limit, word_at, a_word_alone}
 use Rattle.graph.proofs.PrintedExpressions.{no_both, rounded, rounded_anywhere}
 use Rattle.graph.proofs.PrintedLists.{OnePrinted, AllPrinted, all_printed, flat_map-map}
 use Rattle.graph.proofs.PrintedLines.{semicolon, arrow_sign, colons}
 use Rattle.graph.proofs.PrintedDeclarations.{bracketed, angled}
-use Rattle.graph.proofs.PrintedValues.{name_of}
 
 -- a relation by its names, at no place
 pub data Shape : Type 0 where
@@ -86,10 +81,10 @@ relation_printed (a_prescription tag step) place good =
     let there : ℕ = place + length (in_angles tag ++ codes " :: ") in
     let head = behind (angled (name_fronts tag good.0) (printed_name (place + 1) tag good.0)) (colons (place + length (in_angles tag))) (λ rest may. refl) in
     let all = and (and head (rounded_anywhere (printed_name (there + 1) step good.1))) (semicolon (place + length (in_angles tag ++ codes " :: " ++ in_rounds step))) in record {
-  derived = prescribes (tag, place + 1) (step, there + 1);
-  printed = and_blanks all (codes "\n") (refl, tt) (λ rest may. refl);
-  related = record { is = refl; limits = both_names tag step (place + 1) (there + 1) good.0 good.1 };
-}
+      derived = prescribes (tag, place + 1) (step, there + 1);
+      printed = and_blanks all (codes "\n") (refl, tt) (λ rest may. refl);
+      related = record { is = refl; limits = both_names tag step (place + 1) (there + 1) good.0 good.1 };
+    }
 relation_printed (a_read item step) place good = let there : ℕ = place + length (in_brackets item ++ codes " -> ") in record {
   derived = reads place (item, place + 1) (step, there + 1);
   printed = arrow_printed (bracketed_at (printed_name (place + 1) item good.0)) (rounded_anywhere (printed_name (there + 1) step good.1)) refl refl;

@@ -1,5 +1,5 @@
 -- The relations that are printed mark what the graph marks, and prescribe its steps.
-use Rattle.std.proofs.Common.{◌≡◌, ℕ, zero, suc, ◌+◌, ◌<◌, ◌≤◌, Bool, true, false, ◌||◌, ◌&&◌, if◌then◌else◌, List, [], ◌∷◌, ◌++◌, length, get_or, map, Option, Some, None, refl, sym, ap, subst, ◌∙◌, arith, append_assoc}
+use Rattle.std.proofs.Common.{◌≡◌, ℕ, zero, suc, Bool, true, false, ◌||◌, ◌&&◌, List, [], ◌∷◌, ◌++◌, get_or, map, Some, refl, sym, ap, subst, ◌∙◌}
 use Rattle.std.specs.Prelude.{slice_get}
 use Rattle.std.specs.List.{AllByRecursion, flat_map, list_any}
 use Rattle.steptree.specs.Names.{Text, is_text}
@@ -8,11 +8,11 @@ use Rattle.syntax.specs.declared.tree.Relation.TheVariants as tree
 use Rattle.syntax.specs.Grammar.{Relation, prescribes, reads, puts_item, puts_tag, environment_puts_item, environment_puts_tag, environment_gets}
 use Rattle.syntax.specs.Tree.{AreAll, IsRelation}
 use Rattle.graph.specs.Graph.{Graph, Step}
-use Rattle.graph.specs.Tree.{names_in, is_read, is_item_put, is_tag_put, is_environment_item_put, is_environment_tag_put, is_environment_get, prescriber_of}
+use Rattle.graph.specs.Tree.{names_in}
 use Rattle.graph.specs.Textual.{names_of_steps}
 use Rattle.graph.specs.Canonical.{those}
 use Rattle.graph.proofs.PrintedNames.{same_text}
-use Rattle.graph.proofs.PrintedApart.{each, each_weaker, each_of_both, each_mapped, any_none, any_agree, any_of_both, any_mapped, any_flat, any_and, or_false, and_true, and_false, Apart, flipped, is_among, maps_agree, marks_back}
+use Rattle.graph.proofs.PrintedApart.{each, each_mapped, any_none, any_agree, any_of_both, any_mapped, any_flat, or_false, and_true, and_false, Apart, flipped}
 use Rattle.graph.proofs.PrintedRelations.{Shape, a_prescription, a_read, an_item_put, a_tag_put, an_environment_item, an_environment_tag, an_environment_get, shape_of, Shaped, step_shapes, environment_shapes, shapes}
 use Rattle.graph.proofs.PrintedValues.{name_of}
 

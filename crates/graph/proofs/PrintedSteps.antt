@@ -1,7 +1,7 @@
 -- A step as it is printed.
-use Rattle.std.proofs.Common.{◌≡◌, ℕ, zero, suc, ◌+◌, ◌^◌, ◌<◌, ◌≤◌, Bool, true, false, if◌then◌else◌, List, [], ◌∷◌, ◌++◌, length, get_or, map, take, drop, codes, Option, Some, None, refl, sym, ap, subst, ◌∙◌, arith, append_assoc, length-append, length-take-le, take-append-drop}
+use Rattle.std.proofs.Common.{◌≡◌, ℕ, zero, suc, ◌+◌, false, List, [], ◌∷◌, ◌++◌, length, map, take, drop, codes, Option, refl, sym, ap, subst, ◌∙◌, arith, append_assoc, length-append, length-take-le, take-append-drop}
 use Rattle.std.specs.Prelude.{is_some}
-use Rattle.std.specs.List.{AllByRecursion, flat_map}
+use Rattle.std.specs.List.{AllByRecursion}
 use Rattle.std.proofs.lemmas.List.{map-append}
 use Rattle.terms.specs.declared.key.TheConstants.{MAX_COMPONENTS}
 use Rattle.steptree.specs.declared.slot.TheConstants.{MOST_NAMES}
@@ -14,22 +14,22 @@ use Rattle.steptree.specs.Sheet.{BodyKeepsTo}
 use Rattle.syntax.specs.declared.token.Word.TheVariants as kept
 use Rattle.syntax.specs.declared.token.Symbol.TheVariants as sign
 use Rattle.syntax.specs.Tokens.{symbol, word}
-use Rattle.syntax.specs.Grammar.{Position, Named, StepText}
+use Rattle.syntax.specs.Grammar.{Named, StepText}
 use Rattle.syntax.specs.Spelled.{Piece, plain, named, a_sign, a_word, parameters_pieces, variables_pieces, get_pieces, put_pieces, statements_pieces, step_pieces}
-use Rattle.syntax.specs.Limits.{name_limits, names_behind, all_names, get_limits, put_limits, step_limits}
-use Rattle.syntax.specs.Tree.{AreAll, IsGet, IsPut, IsStep}
+use Rattle.syntax.specs.Limits.{all_names, step_limits}
+use Rattle.syntax.specs.Tree.{AreAll, IsStep}
 use Rattle.graph.specs.declared.fault.GraphError.TheVariants.{Redeclared}
 use Rattle.graph.specs.Graph.{Graph, Step, IsSheet, IsOfGraph, AreCollections}
 use Rattle.graph.specs.Tree.{text_of, names_in}
 use Rattle.graph.specs.Faults.{At, fault_if, has, repeated}
 use Rattle.graph.specs.Textual.{IsGraphName, AreNames, IsTextStep}
 use Rattle.graph.specs.Canonical.{in_rounds, joined, line, variables_line, block_text, step_text}
-use Rattle.graph.proofs.PrintedTokens.{after_word, never, anything, Printed, behind, and}
+use Rattle.graph.proofs.PrintedTokens.{never, Printed, behind, and}
 use Rattle.graph.proofs.PrintedNames.{printed_name, no_name_limit}
 use Rattle.graph.proofs.PrintedExpressions.{no_both, rounded_anywhere}
 use Rattle.graph.proofs.PrintedLists.{OnePrinted, related_lengths}
 use Rattle.graph.proofs.PrintedLines.{inside, lined, word_first, close_brace, plain_brace}
-use Rattle.graph.proofs.PrintedNameLists.{Bears, no_limits_of, none_behind, texts_of, names_of_all, ParametersPrinted, parameters_printed, VariablesPrinted, variables_printed}
+use Rattle.graph.proofs.PrintedNameLists.{Bears, no_limits_of, none_behind, texts_of, names_of_all, parameters_printed, variables_printed}
 use Rattle.graph.proofs.PrintedNames.{a_word_alone}
 use Rattle.graph.proofs.PrintedCollections.{known}
 use Rattle.graph.proofs.PrintedBlocks.{read_printed, write_printed}
@@ -66,7 +66,7 @@ not_repeated before (text ∷ texts) (it ∷ those) all apart clear =
     let first : fault_if (has before (name_of it)) Redeclared it.1 ≡ [] = ap (λ (o : Option ℕ). fault_if (is_some o) Redeclared it.1) (nowhere before it.0 here) in
     let same : before ++ it.0 ∷ [] ≡ before ++ text ∷ [] = ap (λ (t : Text). before ++ t ∷ []) all.0.same in
     let more : repeated (before ++ it.0 ∷ []) (map name_of those) ≡ [] =
-        ap (λ (l : List Text). repeated l (map name_of those)) same ∙ not_repeated (before ++ text ∷ []) texts those all.1 apart.1 (one_before before text texts clear.1 apart.0) in
+    ap (λ (l : List Text). repeated l (map name_of those)) same ∙ not_repeated (before ++ text ∷ []) texts those all.1 apart.1 (one_before before text texts clear.1 apart.0) in
     ap (λ (l : List At). l ++ repeated (before ++ it.0 ∷ []) (map name_of those)) first ∙ more
 
 take_each : (P : Text → Type 0) (count : ℕ) (texts : List Text) → AllByRecursion P texts → AllByRecursion P (take count texts)
@@ -133,9 +133,9 @@ module _ (g : Graph) (items : AreCollections g.items) (tags : AreCollections g.t
       let parameters = parameters_printed inputs (place + length head + 1) (take_each IsGraphName step.parameters step.names good.textual.names.each) in
       let variables = variables_printed locals (place + length line0) (drop_each IsGraphName step.parameters step.names good.textual.names.each) in
       let read = read_printed g step.names sheet good.textual.names (λ allowed index components is. known sheet.items.now g.items allowed index components is_sheet.items items item_names is)
-          (λ allowed index components is. known sheet.tags.now g.tags allowed index components is_sheet.tags tags tag_names is) step.body.read 2 0 (place + length text2) good.textual.read good.of_graph.keeps.0 in
+      (λ allowed index components is. known sheet.tags.now g.tags allowed index components is_sheet.tags tags tag_names is) step.body.read 2 0 (place + length text2) good.textual.read good.of_graph.keeps.0 in
       let write = write_printed g step.names sheet good.textual.names (λ allowed index components is. known sheet.items.now g.items allowed index components is_sheet.items items item_names is)
-          (λ allowed index components is. known sheet.tags.now g.tags allowed index components is_sheet.tags tags tag_names is) step.body.write 2 0 (place + length text5) good.textual.write good.of_graph.keeps.1 in
+      (λ allowed index components is. known sheet.tags.now g.tags allowed index components is_sheet.tags tags tag_names is) step.body.write 2 0 (place + length text5) good.textual.write good.of_graph.keeps.1 in
       let title = behind (and (word_first place kept.Step) (printed_name (place + 5) step.name good.textual.name)) (rounded_anywhere parameters.printed) (λ rest may. refl) in
       let first = lined 0 place (and title (plain_brace (place + length (head ++ in_rounds (joined inputs))))) in
       let upto3 = and (and (and first variables.printed) (lined 1 (place + length text1) (opened (inside 1 (place + length text1))))) read.printed in
@@ -154,7 +154,7 @@ module _ (g : Graph) (items : AreCollections g.items) (tags : AreCollections g.t
       let many_two : length (map name_of two) ≡ length two = many_mapped name_of two in
       let sum : length (one ++ two) ≡ length one + length two = length-append one two in
       let no_names = no_both _ _ (no_both _ _ (no_both _ _ (no_name_limit step.name (place + 5) good.textual.name) (no_limits_of step.names (one ++ two) bear))
-          (none_behind MAX_COMPONENTS one (omega (arith, few, good.textual.few)))) (none_behind MOST_NAMES (one ++ two) (omega (arith, many, good.of_graph.names))) in
+      (none_behind MAX_COMPONENTS one (omega (arith, few, good.textual.few)))) (none_behind MOST_NAMES (one ++ two) (omega (arith, many, good.of_graph.names))) in
       let value : NamedStep = record {
         name = name_of (step.name, place + 5);
         parameters = vec_of (map name_of one) (omega (arith, many_one, few, good.textual.few));
@@ -162,24 +162,24 @@ module _ (g : Graph) (items : AreCollections g.items) (tags : AreCollections g.t
         read = read.value;
         write = write.value;
       } in record {
-    derived = text;
-    printed = subst (λ (p : List Piece). Printed never place (step_text g step) p)
-        (in_order (a_word kept.Step ++ named (step.name, place + 5) ∷ a_sign sign.OpenRound ++ parameters_pieces parameters.names ++ a_sign sign.CloseRound) (variables_pieces variables.names) (statements_pieces get_pieces read.statements)
-        (statements_pieces put_pieces write.statements) (plain (symbol sign.OpenBrace)) (plain (word kept.Read)) (plain (symbol sign.OpenBrace)) (plain (symbol sign.CloseBrace)) (plain (word kept.Write)) (plain (symbol sign.OpenBrace))
-        (plain (symbol sign.CloseBrace)) (plain (symbol sign.CloseBrace))) all;
-    related = record {
-      sheet = sheet;
-      is_sheet = is_sheet;
-      limits = no_both _ _ (no_both _ _ no_names read.limits) write.limits;
-      value = value;
-      is = record { name = (refl, refl); parameters = names_of_all one; variables = names_of_all two; read = read.is; write = write.is };
-      name = refl;
-      names = sym named_all;
-      parameters = omega (arith, many_one, few);
-      read = subst (λ (l : List Text). IsBlock l sheet read.value step.body.read) (sym named_all) read.resolves;
-      write = subst (λ (l : List Text). IsBlock l sheet write.value step.body.write) (sym named_all) write.resolves;
-      keeps = good.of_graph.keeps;
-      once = ap (λ (l : List Name). repeated [] l) (sym (map-append name_of one two))
-          ∙ not_repeated [] step.names (one ++ two) bear (apart step.names good.textual.names.distinct) (each (λ text. AllByRecursion (λ other. is_text text other ≡ false) []) (λ text. tt) step.names);
-    };
-  }
+        derived = text;
+        printed = subst (λ (p : List Piece). Printed never place (step_text g step) p)
+            (in_order (a_word kept.Step ++ named (step.name, place + 5) ∷ a_sign sign.OpenRound ++ parameters_pieces parameters.names ++ a_sign sign.CloseRound) (variables_pieces variables.names) (statements_pieces get_pieces read.statements)
+            (statements_pieces put_pieces write.statements) (plain (symbol sign.OpenBrace)) (plain (word kept.Read)) (plain (symbol sign.OpenBrace)) (plain (symbol sign.CloseBrace)) (plain (word kept.Write)) (plain (symbol sign.OpenBrace))
+            (plain (symbol sign.CloseBrace)) (plain (symbol sign.CloseBrace))) all;
+        related = record {
+          sheet = sheet;
+          is_sheet = is_sheet;
+          limits = no_both _ _ (no_both _ _ no_names read.limits) write.limits;
+          value = value;
+          is = record { name = (refl, refl); parameters = names_of_all one; variables = names_of_all two; read = read.is; write = write.is };
+          name = refl;
+          names = sym named_all;
+          parameters = omega (arith, many_one, few);
+          read = subst (λ (l : List Text). IsBlock l sheet read.value step.body.read) (sym named_all) read.resolves;
+          write = subst (λ (l : List Text). IsBlock l sheet write.value step.body.write) (sym named_all) write.resolves;
+          keeps = good.of_graph.keeps;
+          once = ap (λ (l : List Name). repeated [] l) (sym (map-append name_of one two))
+              ∙ not_repeated [] step.names (one ++ two) bear (apart step.names good.textual.names.distinct) (each (λ text. AllByRecursion (λ other. is_text text other ≡ false) []) (λ text. tt) step.names);
+        };
+      }

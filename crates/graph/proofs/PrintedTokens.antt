@@ -5,11 +5,10 @@ use Rattle.std.specs.List.{AllByRecursion}
 use Rattle.std.proofs.lemmas.List.{append-nil}
 use Rattle.std.proofs.lemmas.Bool.{false≢true}
 use Rattle.std.proofs.lemmas.Bool.Decides.{nat_tests}
-use Rattle.syntax.specs.declared.token.Word.{Word}
 use Rattle.syntax.specs.declared.token.Symbol.{Symbol}
 use Rattle.syntax.specs.declared.token.Symbol.TheVariants.{DoubleColon, Arrow, DoubleDot, Equal, NotEqual, LessOrEqual, GreaterOrEqual}
 use Rattle.syntax.specs.Tokens.{AreBlank, AreDigits, AreTokens, Begins, BeginsWithout, IsWordText, Lexeme, name, number, word, symbol, unknown, Spot, Stands, is_blank, is_letter, is_digit, symbol_text, word_text}
-use Rattle.syntax.specs.Spelled.{Piece, plain, at, IsPiece, ArePieces}
+use Rattle.syntax.specs.Spelled.{Piece, IsPiece, ArePieces}
 
 -- ---- what may not stand behind a token
 

@@ -1,5 +1,5 @@
 -- The steps of the tree that is printed: their names, limits and faults.
-use Rattle.std.proofs.Common.{◌≡◌, ℕ, zero, suc, ◌+◌, ◌<◌, ◌≤◌, Bool, true, false, if◌then◌else◌, ◌==◌, List, [], ◌∷◌, ◌++◌, length, get_or, map, Option, Some, None, refl, sym, ap, subst, ◌∙◌, arith}
+use Rattle.std.proofs.Common.{◌≡◌, ℕ, zero, suc, ◌+◌, ◌≤◌, Bool, true, false, if◌then◌else◌, ◌==◌, List, [], ◌∷◌, ◌++◌, length, get_or, Option, Some, refl, ap, ◌∙◌, arith}
 use Rattle.std.specs.Prelude.{is_some, not, slice_get}
 use Rattle.std.specs.List.{AllByRecursion}
 use Rattle.std.proofs.lemmas.Bool.Decides.{nat_tests}
@@ -10,8 +10,8 @@ use Rattle.steptree.specs.Names.{Text, is_text, place_of, names_of}
 use Rattle.steptree.specs.Resolved.{IsBlock}
 use Rattle.steptree.specs.Sheet.{BodyKeepsTo}
 use Rattle.syntax.specs.declared.tree.Relation.{Relation as Related}
-use Rattle.syntax.specs.Grammar.{Position, StepText}
-use Rattle.syntax.specs.Limits.{step_limits, steps_limits}
+use Rattle.syntax.specs.Grammar.{StepText}
+use Rattle.syntax.specs.Limits.{steps_limits}
 use Rattle.syntax.specs.Tree.{AreAll, IsStep}
 use Rattle.graph.specs.declared.fault.GraphError.TheVariants.{StepTwice, Arity}
 use Rattle.graph.specs.Graph.{Collection, Graph, Step, IsSheet}
@@ -120,9 +120,9 @@ steps_without_fault g relations before (value ∷ values) [] all facts apart cle
 steps_without_fault g relations before (value ∷ values) (step ∷ steps) all facts apart clear =
     let arity : List At = arity_faults g.tags (prescriber_of relations (text_of value.name)) value in
     let first : or_else (fault_if (has before value.name) StepTwice value.name.place) arity ≡ [] =
-        ap (λ (l : List At). or_else l arity) (not_twice before value step.name all.0.name clear.0) ∙ right_arity g relations value step all.0 facts.0 in
+    ap (λ (l : List At). or_else l arity) (not_twice before value step.name all.0.name clear.0) ∙ right_arity g relations value step all.0 facts.0 in
     let more : step_faults g.tags relations (before ++ text_of value.name ∷ []) values ≡ [] =
-        ap (λ (t : Text). step_faults g.tags relations (before ++ t ∷ []) values) all.0.name
-        ∙ steps_without_fault g relations (before ++ step.name ∷ []) values steps all.1 facts.1 apart.1 (one_before before step.name (names_of_steps steps) clear.1 apart.0) in
+    ap (λ (t : Text). step_faults g.tags relations (before ++ t ∷ []) values) all.0.name
+    ∙ steps_without_fault g relations (before ++ step.name ∷ []) values steps all.1 facts.1 apart.1 (one_before before step.name (names_of_steps steps) clear.1 apart.0) in
     ap (λ (l : List At). l ++ repeated [] (value.parameters.items ++ value.variables.items) ++ step_faults g.tags relations (before ++ text_of value.name ∷ []) values) first
     ∙ ap (λ (l : List At). l ++ step_faults g.tags relations (before ++ text_of value.name ∷ []) values) all.0.once ∙ more

@@ -5,7 +5,9 @@
 #![tactic(auto)]
 
 mod fault;
+mod law;
 mod limits;
 
 pub use fault::{GraphError, GraphFault};
+pub use law::canonical_reads;
 pub use limits::MOST_TEXT;
