@@ -8,17 +8,27 @@ mod Marks
 mod Naming
 mod Places
 mod Prescribers
+pub mod PrintedApart
 pub mod PrintedBlocks
+pub mod PrintedClashes
 pub mod PrintedCollections
 pub mod PrintedDeclarations
+pub mod PrintedDeclared
 pub mod PrintedExpressions
+pub mod PrintedGraph
 pub mod PrintedKeys
 pub mod PrintedLines
 pub mod PrintedLists
+pub mod PrintedMarks
 pub mod PrintedNameLists
 pub mod PrintedNames
+pub mod PrintedReads
+pub mod PrintedRelations
+pub mod PrintedSets
 pub mod PrintedStatements
+pub mod PrintedSteps
 pub mod PrintedTokens
+pub mod PrintedTrees
 pub mod PrintedValues
 mod Relating
 mod RelationKinds

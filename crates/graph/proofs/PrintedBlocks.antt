@@ -1,5 +1,5 @@
 -- The read block and the write block of a step, as they are printed.
-use Rattle.std.proofs.Common.{◌≡◌, ℕ, zero, suc, ◌+◌, ◌<◌, ◌≤◌, Bool, List, [], ◌∷◌, ◌++◌, length, get_or, map, codes, Some, refl, sym, ap, subst, ◌∙◌, arith, append_assoc}
+use Rattle.std.proofs.Common.{ℕ, suc, ◌+◌, ◌<◌, Bool, List, [], ◌++◌, length, get_or, map, codes, refl, ap, ◌∙◌}
 use Rattle.std.specs.Prelude.{Box}
 use Rattle.std.specs.declared.alloc.Global.{Global}
 use Rattle.terms.specs.declared.name.ItemCollection.{ItemCollection}
@@ -12,18 +12,18 @@ use Rattle.steptree.specs.declared.step.NamedBlock.TheVariants as tree
 use Rattle.steptree.specs.Names.{Text, place_of, names_declared}
 use Rattle.steptree.specs.Sheet.{IsAllowed, KeepsTo}
 use Rattle.syntax.specs.declared.token.Word.TheVariants as kept
-use Rattle.syntax.specs.Grammar.{sum_alone, prod_alone, unary_alone, own, and_then, Get, Put, put_item, put_tag}
+use Rattle.syntax.specs.Grammar.{sum_alone, prod_alone, unary_alone, own, and_then, put_item, put_tag}
 use Rattle.syntax.specs.Spelled.{get_pieces, put_pieces}
 use Rattle.syntax.specs.Limits.{get_limits, put_limits}
 use Rattle.syntax.specs.Tree.{IsGet, IsPut}
 use Rattle.graph.specs.Graph.{Graph}
 use Rattle.graph.specs.Tree.{names_in}
 use Rattle.graph.specs.Textual.{IsTextExpression, AreComponents, IsGraphName, AreNames, IsReadBlock, IsWriteBlock}
-use Rattle.graph.specs.Canonical.{expression_text, item_text, tag_text, with_colon, block_text, line}
-use Rattle.graph.proofs.PrintedTokens.{after_word, never, anything, Printed, behind, and}
+use Rattle.graph.specs.Canonical.{expression_text, item_text, tag_text, line}
+use Rattle.graph.proofs.PrintedTokens.{behind, and}
 use Rattle.graph.proofs.PrintedNames.{printed_name, name_at, found_at, no_name_limit}
-use Rattle.graph.proofs.PrintedExpressions.{IsPrinted, no_both, expression_printed}
-use Rattle.graph.proofs.PrintedKeys.{no_limits, KeyPrinted, key_printed, bracketed_key, angled_key, key_fronts}
+use Rattle.graph.proofs.PrintedExpressions.{no_both, expression_printed}
+use Rattle.graph.proofs.PrintedKeys.{no_limits, key_printed, bracketed_key, angled_key, key_fronts}
 use Rattle.graph.proofs.PrintedLines.{inside, lined, word_first, semicolon, equals}
 use Rattle.graph.proofs.PrintedStatements.{BlockPrinted, end_printed, assign_printed, if_printed, for_printed}
 use Rattle.graph.proofs.PrintedCollections.{Known}
@@ -52,13 +52,13 @@ module _ (g : Graph) (names : List Text) (sheet : Sheet) (are : AreNames names)
       let it = key_printed g names are (get_or (names_in g.items) collection.0 []) is.name components (there + 1) is.few all in
       let head = behind (and (word_first start kept.Get) (printed_name (start + 4) variable good)) (equals (start + length (codes "get " ++ variable))) (λ more may. refl) in
       let line_printed = lined level place (and (and head (bracketed_key it.key it.printed)) (semicolon (start + length (codes "get " ++ variable ++ codes " = " ++ item_text g names collection.0 components)))) in record {
-    statements = and_then (own (record { variable = (variable, start + 4); item = it.key })) later.statements;
-    printed = and line_printed later.printed;
-    limits = no_both _ _ (no_both _ _ (no_name_limit variable (start + 4) good) it.limits) later.limits;
-    value = tree.Get' (name_of (variable, start + 4)) it.value box later.value;
-    is = ((refl, refl), it.is, later.is);
-    resolves = (found_at names slot are.distinct within, (ap (λ (t : Text). place_of (names_declared sheet.items.now) t) it.is_of ∙ is.found, it.resolve), later.resolves);
-  }
+        statements = and_then (own (record { variable = (variable, start + 4); item = it.key })) later.statements;
+        printed = and line_printed later.printed;
+        limits = no_both _ _ (no_both _ _ (no_name_limit variable (start + 4) good) it.limits) later.limits;
+        value = tree.Get' (name_of (variable, start + 4)) it.value box later.value;
+        is = ((refl, refl), it.is, later.is);
+        resolves = (found_at names slot are.distinct within, (ap (λ (t : Text). place_of (names_declared sheet.items.now) t) it.is_of ∙ is.found, it.resolve), later.resolves);
+      }
 
   abbrev item_line : ℕ → ℕ → List Expression → Expression → Text
   item_line level collection components value = line level (codes "put " ++ item_text g names collection components ++ codes " = " ++ expression_text g names value ++ codes ";")
@@ -74,13 +74,13 @@ module _ (g : Graph) (names : List Text) (sheet : Sheet) (are : AreNames names)
       let head = and (and (word_first start kept.Put) (bracketed_key it.key it.printed)) (equals (start + length (codes "put " ++ item_text g names collection.0 components))) in
       let end = semicolon (start + length (codes "put " ++ item_text g names collection.0 components ++ codes " = " ++ expression_text g names value)) in
       let line_printed = lined level place (behind (and head it2.printed) end (λ more may. refl)) in record {
-    statements = and_then (own (put_item it.key (sum_alone (prod_alone (unary_alone it2.unary))))) later.statements;
-    printed = and line_printed later.printed;
-    limits = no_both _ _ (no_both _ _ it.limits (no_limits it2 value_is.1)) later.limits;
-    value = tree.PutItem' it.value it2.value box later.value;
-    is = (it.is, it2.is, later.is);
-    resolves = ((ap (λ (t : Text). place_of (names_declared sheet.items.now) t) it.is_of ∙ is.found, it.resolve), it2.resolves, later.resolves);
-  }
+        statements = and_then (own (put_item it.key (sum_alone (prod_alone (unary_alone it2.unary))))) later.statements;
+        printed = and line_printed later.printed;
+        limits = no_both _ _ (no_both _ _ it.limits (no_limits it2 value_is.1)) later.limits;
+        value = tree.PutItem' it.value it2.value box later.value;
+        is = (it.is, it2.is, later.is);
+        resolves = ((ap (λ (t : Text). place_of (names_declared sheet.items.now) t) it.is_of ∙ is.found, it.resolve), it2.resolves, later.resolves);
+      }
 
   abbrev tag_line : ℕ → ℕ → List Expression → Text
   tag_line level collection components = line level (codes "put " ++ tag_text g names collection components ++ codes ";")
@@ -95,13 +95,13 @@ module _ (g : Graph) (names : List Text) (sheet : Sheet) (are : AreNames names)
       let tag_printed = angled_key it.key (key_fronts tag (map (expression_text g names) components) is.name) it.printed in
       let end = semicolon (start + length (codes "put " ++ tag_text g names collection.0 components)) in
       let line_printed = lined level place (behind (and (word_first start kept.Put) tag_printed) end (λ more may. refl)) in record {
-    statements = and_then (own (put_tag it.key)) later.statements;
-    printed = and line_printed later.printed;
-    limits = no_both _ _ it.limits later.limits;
-    value = tree.PutTag' it.value box later.value;
-    is = (it.is, later.is);
-    resolves = ((ap (λ (t : Text). place_of (names_declared sheet.tags.now) t) it.is_of ∙ is.found, it.resolve), later.resolves);
-  }
+        statements = and_then (own (put_tag it.key)) later.statements;
+        printed = and line_printed later.printed;
+        limits = no_both _ _ it.limits later.limits;
+        value = tree.PutTag' it.value box later.value;
+        is = (it.is, later.is);
+        resolves = ((ap (λ (t : Text). place_of (names_declared sheet.tags.now) t) it.is_of ∙ is.found, it.resolve), later.resolves);
+      }
 
   pub read_printed : (block : Block) (level around place : ℕ) → IsReadBlock (length names) around block → KeepsTo sheet block → ReadPrinted level around place block
   read_printed End level around place is keeps = end_printed _ _ _ g names sheet level around place

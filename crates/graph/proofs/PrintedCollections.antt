@@ -1,6 +1,6 @@
 -- The collections that a sheet declares: their names, and how many components they have.
-use Rattle.std.proofs.Common.{◌≡◌, ℕ, zero, suc, ◌+◌, ◌<◌, ◌≤◌, Bool, List, [], ◌∷◌, length, get_or, map, Some, None, refl, sym, ap, subst, ◌∙◌, arith}
-use Rattle.std.specs.Prelude.{All, slice_get}
+use Rattle.std.proofs.Common.{◌≡◌, ℕ, zero, suc, ◌<◌, ◌≤◌, Bool, List, [], ◌∷◌, length, get_or, Some, refl, sym, ap, subst, ◌∙◌, arith}
+use Rattle.std.specs.Prelude.{slice_get}
 use Rattle.std.proofs.lemmas.Option.{slice_get_within}
 use Rattle.terms.specs.declared.key.TheConstants.{MAX_COMPONENTS}
 use Rattle.steptree.specs.declared.sheet.Declared.{Declared}
@@ -33,7 +33,7 @@ many_declared : (collections : List Declared) → length (declared_collections c
 many_declared [] = refl
 many_declared (first ∷ rest) = omega (arith, many_declared rest)
 
-many_names : (collections : List Collection) → length (names_in collections) ≡ length collections
+pub many_names : (collections : List Collection) → length (names_in collections) ≡ length collections
 many_names [] = refl
 many_names (first ∷ rest) = omega (arith, many_names rest)
 
@@ -47,7 +47,7 @@ known collections named allowed index components same are names is =
     let it : Collection = record { name = collection.name.now; components = collection.components } in
     let few : (get_or named index it).components ≤ MAX_COMPONENTS = are.short index it (omega arith) in
     let there : (get_or named index it).components ≡ collection.components = subst (λ (l : List Collection). (get_or l index it).components ≡ collection.components) same (components_at collections index collection is.declared.1 index it refl) in record {
-  few = omega (arith, is.declared.2);
-  name = name_at (names_in named) index names.each inside;
-  found = ap (λ (l : List Text). place_of l (get_or (names_in named) index [])) (sym (named_declared collections) ∙ ap names_in same) ∙ found_at (names_in named) index names.distinct inside;
-}
+      few = omega (arith, is.declared.2);
+      name = name_at (names_in named) index names.each inside;
+      found = ap (λ (l : List Text). place_of l (get_or (names_in named) index [])) (sym (named_declared collections) ∙ ap names_in same) ∙ found_at (names_in named) index names.distinct inside;
+    }

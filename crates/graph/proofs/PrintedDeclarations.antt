@@ -1,29 +1,23 @@
 -- The declarations of a graph as they are printed: first those of items, and then those of tags.
-use Rattle.std.proofs.Common.{◌≡◌, ℕ, zero, suc, ◌+◌, ◌<◌, ◌≤◌, Bool, List, [], ◌∷◌, ◌++◌, length, map, codes, Option, Some, None, refl, sym, ap, subst, ◌∙◌, arith, append_assoc}
-use Rattle.std.specs.List.{AllByRecursion, flat_map}
+use Rattle.std.proofs.Common.{◌≡◌, ℕ, ◌+◌, ◌≤◌, List, [], ◌++◌, length, codes, Option, refl, sym, subst, ◌∙◌, arith, append_assoc}
+use Rattle.std.specs.List.{AllByRecursion}
 use Rattle.terms.specs.declared.key.TheConstants.{MAX_COMPONENTS}
-use Rattle.steptree.specs.declared.sheet.TheConstants.{MOST_COLLECTIONS}
 use Rattle.steptree.specs.Names.{Text}
 use Rattle.syntax.specs.declared.token.Symbol.TheVariants as sign
-use Rattle.syntax.specs.declared.tree.Declaration.{Declaration as Declared}
-use Rattle.syntax.specs.declared.tree.Declaration.TheVariants as tree
 use Rattle.syntax.specs.Tokens.{BeginsWithout}
 use Rattle.syntax.specs.Grammar.{Position, Named, Names, Declaration, item_declared, tag_declared}
-use Rattle.syntax.specs.Spelled.{Piece, named, a_sign, after_colon, declaration_pieces}
-use Rattle.syntax.specs.Limits.{one_more, all_names, declared_limits, declarations_limits}
-use Rattle.syntax.specs.Tree.{AreAll, IsDeclaration}
-use Rattle.graph.specs.Graph.{Collection, Graph}
-use Rattle.graph.specs.Tree.{items_of, tags_of, names_in}
+use Rattle.syntax.specs.Spelled.{Piece, a_sign, declaration_pieces}
+use Rattle.syntax.specs.Limits.{all_names, declared_limits}
+use Rattle.graph.specs.Graph.{Collection}
 use Rattle.graph.specs.Textual.{IsGraphName}
-use Rattle.graph.specs.Canonical.{in_brackets, in_angles, with_colon, component_names, declaration_lines, line}
+use Rattle.graph.specs.Canonical.{in_brackets, in_angles, with_colon, component_names, line}
 use Rattle.graph.proofs.PrintedTokens.{after_word, after_sign, never, anything, Printed, behind, and, and_blanks, closed_sign, open_sign}
-use Rattle.graph.proofs.PrintedNames.{Fronts, no_name_limit, no_more_limit}
+use Rattle.graph.proofs.PrintedNames.{Fronts, no_name_limit}
 use Rattle.graph.proofs.PrintedExpressions.{no_both}
 use Rattle.graph.proofs.PrintedLists.{OnePrinted, AllPrinted, all_printed, related_lengths}
 use Rattle.graph.proofs.PrintedKeys.{key_fronts}
-use Rattle.graph.proofs.PrintedLines.{inside, lined, semicolon}
+use Rattle.graph.proofs.PrintedLines.{semicolon}
 use Rattle.graph.proofs.PrintedNameLists.{Bears, no_limits_of, none_behind, HeadPrinted, head_printed, good_components, many_components}
-use Rattle.graph.proofs.PrintedValues.{name_of}
 
 -- ---- in brackets
 
@@ -56,13 +50,13 @@ declares : (make : Named → Option Names → Declaration) (collection : Collect
     → Declares make collection (make (collection.name, place) it.names)
 declares make collection place it good =
     let many : length (all_names it.names) ≡ collection.components = sym (related_lengths Bears (component_names collection.components) (all_names it.names) it.related) ∙ many_components collection.components (omega (arith, good.few)) in record {
-  position = place;
-  components = it.names;
-  is = refl;
-  many = many;
-  limits = no_both _ _ (no_both _ _ (no_name_limit collection.name place good.name) (no_limits_of (component_names collection.components) (all_names it.names) it.related))
-      (none_behind MAX_COMPONENTS (all_names it.names) (omega (arith, many, good.few)));
-}
+      position = place;
+      components = it.names;
+      is = refl;
+      many = many;
+      limits = no_both _ _ (no_both _ _ (no_name_limit collection.name place good.name) (no_limits_of (component_names collection.components) (all_names it.names) it.related))
+          (none_behind MAX_COMPONENTS (all_names it.names) (omega (arith, many, good.few)));
+    }
 
 abbrev pub declaration_line : (Text → Text) → Collection → Text
 declaration_line brackets collection = line 0 (brackets (with_colon collection.name (component_names collection.components)) ++ codes ";")
@@ -71,20 +65,20 @@ item_line_printed : (collection : Collection) (place : ℕ) → Declarable colle
 item_line_printed collection place good =
     let it = head_printed collection.name (component_names collection.components) (place + 1) good.name (good_components collection.components) in
     let end = semicolon (place + length (in_brackets (with_colon collection.name (component_names collection.components)))) in record {
-  derived = item_declared (collection.name, place + 1) it.names;
-  printed = and_blanks (and (bracketed it.printed) end) (codes "\n") (refl, tt) (λ rest may. refl);
-  related = declares item_declared collection (place + 1) it good;
-}
+      derived = item_declared (collection.name, place + 1) it.names;
+      printed = and_blanks (and (bracketed it.printed) end) (codes "\n") (refl, tt) (λ rest may. refl);
+      related = declares item_declared collection (place + 1) it good;
+    }
 
 tag_line_printed : (collection : Collection) (place : ℕ) → Declarable collection → OnePrinted never (declaration_line in_angles) declaration_pieces (Declares tag_declared) place collection
 tag_line_printed collection place good =
     let it = head_printed collection.name (component_names collection.components) (place + 1) good.name (good_components collection.components) in
     let end = semicolon (place + length (in_angles (with_colon collection.name (component_names collection.components)))) in
     let head = angled (key_fronts collection.name (component_names collection.components) good.name) it.printed in record {
-  derived = tag_declared (collection.name, place + 1) it.names;
-  printed = and_blanks (behind head end (λ rest may. refl)) (codes "\n") (refl, tt) (λ rest may. refl);
-  related = declares tag_declared collection (place + 1) it good;
-}
+      derived = tag_declared (collection.name, place + 1) it.names;
+      printed = and_blanks (behind head end (λ rest may. refl)) (codes "\n") (refl, tt) (λ rest may. refl);
+      related = declares tag_declared collection (place + 1) it good;
+    }
 
 pub item_lines_printed : (collections : List Collection) (place : ℕ) → AllByRecursion Declarable collections
     → AllPrinted never (declaration_line in_brackets) declaration_pieces (Declares item_declared) place collections

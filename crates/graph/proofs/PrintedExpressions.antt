@@ -1,29 +1,27 @@
 -- An expression that is printed: its derivation, the tree that it is, and that it passes no limit.
-use Rattle.std.proofs.Common.{◌≡◌, ◌≢◌, ℕ, zero, suc, ℤ, pos, ◌+◌, ◌<◌, ◌≤◌, Bool, true, false, List, [], ◌∷◌, ◌++◌, length, get_or, codes, Option, Some, refl, sym, ap, subst, ◌∙◌, arith}
+use Rattle.std.proofs.Common.{◌≡◌, ℕ, suc, ℤ, pos, ◌+◌, ◌<◌, ◌≤◌, List, [], ◌++◌, length, get_or, codes, refl, sym, ap, subst, ◌∙◌, arith}
 use Rattle.std.specs.Prelude.{max, Box}
 use Rattle.std.specs.declared.alloc.Global.{Global}
-use Rattle.std.specs.List.{AllByRecursion}
-use Rattle.std.specs.Fmt.{decimal}
 use Rattle.steptree.specs.declared.expression.Operator.{Operator}
 use Rattle.steptree.specs.declared.expression.Operator.TheVariants as operator
 use Rattle.steptree.specs.declared.expression.Expression.{Expression}
 use Rattle.steptree.specs.declared.expression.Expression.TheVariants.{Number, Variable, Negation', Operation'}
 use Rattle.steptree.specs.declared.step.NamedExpression.{NamedExpression}
 use Rattle.steptree.specs.declared.step.NamedExpression.TheVariants as tree
-use Rattle.steptree.specs.Names.{Text, place_of}
+use Rattle.steptree.specs.Names.{Text}
 use Rattle.steptree.specs.Resolved.{IsExpression}
-use Rattle.syntax.specs.declared.limits.TheConstants.{MOST_DEPTH, MOST_BRACKETS}
+use Rattle.syntax.specs.declared.limits.TheConstants.{MOST_BRACKETS}
 use Rattle.syntax.specs.declared.token.Symbol.{Symbol}
 use Rattle.syntax.specs.declared.token.Symbol.TheVariants as sign
-use Rattle.syntax.specs.Tokens.{BeginsWithout, GREATEST, symbol_text}
-use Rattle.syntax.specs.Grammar.{Position, Named, equal, not_equal, less, less_or_equal, greater, greater_or_equal, plus, minus, times, over, modulo}
-use Rattle.syntax.specs.Grammar.{Expr, sum_alone, compared, Sum, prod_alone, added, Prod, unary_alone, multiplied, Unary, negated, literal, variable, bracketed}
-use Rattle.syntax.specs.Spelled.{Piece, plain, at, a_sign, sign_at, named, expr_pieces, sum_pieces, unary_pieces}
-use Rattle.syntax.specs.Limits.{expr_depth, sum_depth, unary_depth, expr_within, sum_within, unary_within, one_more}
-use Rattle.syntax.specs.Tree.{IsExpr, IsSum, IsUnary}
+use Rattle.syntax.specs.Tokens.{GREATEST}
+use Rattle.syntax.specs.Grammar.{Position, equal, not_equal, less, less_or_equal, greater, greater_or_equal, plus, minus, times, over, modulo}
+use Rattle.syntax.specs.Grammar.{Expr, sum_alone, compared, prod_alone, added, unary_alone, multiplied, Unary, negated, literal, variable, bracketed}
+use Rattle.syntax.specs.Spelled.{Piece, at, a_sign, sign_at, expr_pieces, unary_pieces}
+use Rattle.syntax.specs.Limits.{expr_depth, unary_depth, expr_within, unary_within}
+use Rattle.syntax.specs.Tree.{IsExpr, IsUnary}
 use Rattle.graph.specs.Graph.{Graph}
-use Rattle.graph.specs.Textual.{depth_of, IsSpelled, IsGraphName, AreNames}
-use Rattle.graph.specs.Canonical.{in_rounds, operator_text, number_text, expression_text}
+use Rattle.graph.specs.Textual.{depth_of, IsSpelled, AreNames}
+use Rattle.graph.specs.Canonical.{in_rounds, operator_text, expression_text}
 use Rattle.graph.proofs.PrintedTokens.{after_word, after_sign, never, anything, Printed, behind, and, narrowed, and_space, sign_and_space, closed_sign, open_sign, double_sign}
 use Rattle.graph.proofs.PrintedNames.{Fronts, printed_name, name_fronts, name_at, no_name_limit, no_more_limit, printed_number, number_fronts, found_at}
 use Rattle.graph.proofs.PrintedValues.{name_of}
@@ -175,18 +173,18 @@ module _ (g : Graph) (names : List Text) (are : AreNames names) where
   operation_printed place op box left other right one two =
       let front = sign_and_space (and (and_space one.printed) (printed_operator (place + 1 + length (expression_text g names left ++ codes " ")) op)) in
       let all = and front two.printed in record {
-    unary = bracketed place (between op one.unary two.unary);
-    printed = narrowed (λ rest may. anything rest)
-        (subst (λ (p : List Piece). Printed never place (expression_text g names (Operation' op box left other right)) (sign_at place sign.OpenRound ++ p ++ a_sign sign.CloseRound)) (sym (between_pieces op one.unary two.unary)) (rounded all));
-    fronts = λ rest. refl;
-    depth = between_depth op one.unary two.unary ∙ ap (λ (n : ℕ). suc (max n (unary_depth two.unary))) one.depth ∙ ap (λ (n : ℕ). suc (max (depth_of left) n)) two.depth;
-    within = λ around h.
-        let inner = no_both _ _ (one.within (suc around) (omega arith)) (two.within (suc around) (omega arith)) in
-        no_both _ _ (no_more_limit MOST_BRACKETS around place (omega (arith, some_depth left))) (between_within (suc around) op one.unary two.unary ∙ inner);
-    value = tree.Operation' op box one.value other two.value;
-    is = between_is op one.unary two.unary box other one.value two.value one.is two.is;
-    resolves = (refl, one.resolves, two.resolves);
-  }
+        unary = bracketed place (between op one.unary two.unary);
+        printed = narrowed (λ rest may. anything rest)
+            (subst (λ (p : List Piece). Printed never place (expression_text g names (Operation' op box left other right)) (sign_at place sign.OpenRound ++ p ++ a_sign sign.CloseRound)) (sym (between_pieces op one.unary two.unary)) (rounded all));
+        fronts = λ rest. refl;
+        depth = between_depth op one.unary two.unary ∙ ap (λ (n : ℕ). suc (max n (unary_depth two.unary))) one.depth ∙ ap (λ (n : ℕ). suc (max (depth_of left) n)) two.depth;
+        within = λ around h.
+            let inner = no_both _ _ (one.within (suc around) (omega arith)) (two.within (suc around) (omega arith)) in
+            no_both _ _ (no_more_limit MOST_BRACKETS around place (omega (arith, some_depth left))) (between_within (suc around) op one.unary two.unary ∙ inner);
+        value = tree.Operation' op box one.value other two.value;
+        is = between_is op one.unary two.unary box other one.value two.value one.is two.is;
+        resolves = (refl, one.resolves, two.resolves);
+      }
 
   -- an expression that a text can have is printed
   pub expression_printed : (expression : Expression) (place : ℕ) → IsSpelled (length names) expression → IsPrinted g names place expression

@@ -1,6 +1,5 @@
 -- An item or a tag of a body that is printed: a name, and behind a colon its components.
-use Rattle.std.proofs.Common.{◌≡◌, ℕ, zero, suc, ◌+◌, ◌^◌, ◌<◌, ◌≤◌, Bool, true, false, if◌then◌else◌, nat_lt, List, [], ◌∷◌, ◌++◌, length, map, codes, refl, sym, ap, subst, ◌∙◌, arith, append_assoc}
-use Rattle.std.specs.List.{AllByRecursion, flat_map}
+use Rattle.std.proofs.Common.{◌≡◌, ℕ, ◌+◌, ◌≤◌, Bool, false, if◌then◌else◌, nat_lt, List, [], ◌∷◌, ◌++◌, length, map, codes, refl, sym, ap, subst, ◌∙◌, arith, append_assoc}
 use Rattle.std.proofs.lemmas.Bool.Decides.{nat_tests}
 use Rattle.terms.specs.declared.key.TheConstants.{MAX_COMPONENTS}
 use Rattle.steptree.specs.declared.expression.Expression.{Expression}
@@ -8,20 +7,20 @@ use Rattle.steptree.specs.declared.step.NamedExpression.{NamedExpression}
 use Rattle.steptree.specs.declared.step.NamedKey.{NamedKey}
 use Rattle.steptree.specs.Names.{Text}
 use Rattle.steptree.specs.Resolved.{IsExpression, AreExpressions}
-use Rattle.syntax.specs.declared.limits.TheConstants.{MOST_DEPTH, MOST_BRACKETS}
+use Rattle.syntax.specs.declared.limits.TheConstants.{MOST_DEPTH}
 use Rattle.syntax.specs.declared.token.Symbol.TheVariants as sign
 use Rattle.syntax.specs.Tokens.{BeginsWithout}
-use Rattle.syntax.specs.Grammar.{Position, Sum, prod_alone, unary_alone, Unary, Sums, no_sums, sums, Key}
-use Rattle.syntax.specs.Spelled.{Piece, named, a_sign, sum_pieces, sums_pieces, item_pieces, tag_pieces}
+use Rattle.syntax.specs.Grammar.{Position, Sum, prod_alone, unary_alone, no_sums, sums, Key}
+use Rattle.syntax.specs.Spelled.{named, a_sign, sum_pieces, sums_pieces, item_pieces, tag_pieces}
 use Rattle.syntax.specs.Limits.{unary_depth, unary_first, depth_limits, sum_limits, sums_limits, key_limits}
-use Rattle.syntax.specs.Tree.{IsSum, AreAll, AreSums, IsKey}
+use Rattle.syntax.specs.Tree.{IsSum, AreAll, IsKey}
 use Rattle.graph.specs.Graph.{Graph}
 use Rattle.graph.specs.Textual.{depth_of, IsTextExpression, AreComponents, IsGraphName, AreNames}
 use Rattle.graph.specs.Canonical.{with_colon, in_brackets, in_angles, joined, expression_text}
-use Rattle.graph.proofs.PrintedTokens.{after_word, after_sign, never, anything, Printed, behind, and, and_blanks, narrowed, sign_and_space, closed_sign, open_sign}
+use Rattle.graph.proofs.PrintedTokens.{after_word, after_sign, never, Printed, behind, and, sign_and_space, closed_sign, open_sign}
 use Rattle.graph.proofs.PrintedNames.{Fronts, printed_name, name_fronts, no_name_limit}
 use Rattle.graph.proofs.PrintedExpressions.{IsPrinted, no_both, expression_printed}
-use Rattle.graph.proofs.PrintedLists.{OnePrinted, JoinedPrinted, joined_printed, related_lengths, no_all}
+use Rattle.graph.proofs.PrintedLists.{OnePrinted, joined_printed, no_all}
 use Rattle.graph.proofs.PrintedValues.{vec_of, name_of}
 
 -- ---- components
@@ -49,10 +48,10 @@ module _ (g : Graph) (names : List Text) (are : AreNames names) where
   component_printed : (expression : Expression) (place : ℕ) → IsTextExpression (length names) expression → OnePrinted after_word (expression_text g names) sum_pieces (IsComponent names) place expression
   component_printed expression place is =
       let it = expression_printed g names are expression place is.0 in record {
-    derived = prod_alone (unary_alone it.unary);
-    printed = it.printed;
-    related = record { limits = no_limits it is.1; value = it.value; is = it.is; resolves = it.resolves };
-  }
+        derived = prod_alone (unary_alone it.unary);
+        printed = it.printed;
+        related = record { limits = no_limits it is.1; value = it.value; is = it.is; resolves = it.resolves };
+      }
 
 -- the trees of components
 pub record HasValues (names : List Text) (expressions : List Expression) (components : List Sum) : Type 0 where
@@ -100,15 +99,15 @@ module _ (g : Graph) (names : List Text) (are : AreNames names) (collection : Te
       let start : ℕ = place + length (collection ++ codes ": ") in
       let it = joined_printed (expression_text g names) sum_pieces (IsComponent names) (IsTextExpression (length names)) (component_printed g names are) first more start all in
       let trees = values_of names (first ∷ more) (it.first ∷ it.more) it.related in record {
-    key = record { collection = (collection, place); components = sums it.first it.more };
-    printed = and (behind (printed_name place collection is_name) (colon (place + length collection)) (λ rest may. refl)) it.printed;
-    limits = ap (λ (l : List Position). l ++ sums_limits (sums it.first it.more)) (no_name_limit collection place is_name)
-        ∙ no_all (IsComponent names) sum_limits (λ x d r. r.limits) (first ∷ more) (it.first ∷ it.more) it.related;
-    value = record { collection = name_of (collection, place); components = vec_of trees.values (omega (arith, trees.many)) };
-    is = ((refl, refl), trees.are);
-    is_of = refl;
-    resolve = trees.resolve;
-  }
+        key = record { collection = (collection, place); components = sums it.first it.more };
+        printed = and (behind (printed_name place collection is_name) (colon (place + length collection)) (λ rest may. refl)) it.printed;
+        limits = ap (λ (l : List Position). l ++ sums_limits (sums it.first it.more)) (no_name_limit collection place is_name)
+            ∙ no_all (IsComponent names) sum_limits (λ x d r. r.limits) (first ∷ more) (it.first ∷ it.more) it.related;
+        value = record { collection = name_of (collection, place); components = vec_of trees.values (omega (arith, trees.many)) };
+        is = ((refl, refl), trees.are);
+        is_of = refl;
+        resolve = trees.resolve;
+      }
 
 -- in the brackets of an item, and in those of a tag
 pub bracketed_key : {place : ℕ} {text : Text} (key : Key) → Printed after_word (place + 1) text (named key.collection ∷ sums_pieces key.components) → Printed never place (in_brackets text) (item_pieces key)

@@ -1,23 +1,22 @@
 -- Lines, and the fixed parts of a line.
-use Rattle.std.proofs.Common.{◌≡◌, ℕ, zero, suc, ◌+◌, List, [], ◌∷◌, ◌++◌, length, codes, refl, sym, ap, subst, ◌∙◌, arith}
+use Rattle.std.proofs.Common.{◌≡◌, ℕ, zero, suc, ◌+◌, List, [], ◌∷◌, ◌++◌, codes, refl, arith}
 use Rattle.syntax.specs.declared.token.Word.{Word}
 use Rattle.syntax.specs.declared.token.Word.TheVariants as kept
 use Rattle.syntax.specs.declared.token.Symbol.{Symbol}
 use Rattle.syntax.specs.declared.token.Symbol.TheVariants as sign
-use Rattle.syntax.specs.Tokens.{symbol, symbol_text, word_text}
-use Rattle.syntax.specs.Spelled.{Piece, IsPiece, a_sign, sign_at, a_word}
+use Rattle.syntax.specs.Tokens.{symbol_text, word_text}
+use Rattle.syntax.specs.Spelled.{Piece, a_sign, sign_at, a_word}
 use Rattle.steptree.specs.Names.{Text}
 use Rattle.graph.specs.Canonical.{line}
-use Rattle.graph.proofs.PrintedTokens.{after_word, after_sign, never, Printed, behind, and, and_blanks, blank, space, and_space, sign_and_space, closed_sign, open_sign, double_sign}
+use Rattle.graph.proofs.PrintedTokens.{never, Printed, behind, and, and_blanks, blank, space, and_space, sign_and_space, closed_sign, open_sign, double_sign}
 use Rattle.graph.proofs.PrintedNames.{a_word_alone}
 
 -- where the text of a line that stands so many levels in begins
-pub inside : ℕ → ℕ → ℕ
+abbrev pub inside : ℕ → ℕ → ℕ
 inside zero place = place
 inside (suc level) place = inside level (place + 2)
 
 pub lined : {text : Text} {pieces : List Piece} (level place : ℕ) → Printed never (inside level place) text pieces → Printed never place (line level text) pieces
-unfolding inside
 lined zero place one = and_blanks one (codes "\n") (refl, tt) (λ rest may. refl)
 lined (suc level) place one = and (blank place (codes "  ") (refl, (refl, tt))) (lined level (place + 2) one)
 

@@ -1,5 +1,5 @@
 -- Lists that are printed, one behind the other, or with a comma between them.
-use Rattle.std.proofs.Common.{◌≡◌, ℕ, suc, ◌+◌, ◌<◌, ◌≤◌, Bool, List, [], ◌∷◌, ◌++◌, length, map, codes, refl, sym, ap, subst, ◌∙◌, arith, append_assoc}
+use Rattle.std.proofs.Common.{◌≡◌, ℕ, ◌+◌, Bool, List, [], ◌∷◌, ◌++◌, length, map, codes, refl, sym, ap, subst, ◌∙◌, arith, append_assoc}
 use Rattle.std.specs.List.{AllByRecursion, flat_map}
 use Rattle.syntax.specs.declared.token.Symbol.TheVariants as sign
 use Rattle.syntax.specs.Tokens.{BeginsWithout}
@@ -32,10 +32,10 @@ module _ {X D : Type 0} (stop : ℕ → Bool) (text_of : X → Text) (pieces_of 
   all_printed each (x ∷ xs) place good =
       let one = each x place good.0 in
       let rest = all_printed each xs (place + length (text_of x)) good.1 in record {
-    derived = one.derived ∷ rest.derived;
-    printed = behind one.printed rest.printed (λ later may. all_front xs later good.1 may);
-    related = (one.related, rest.related);
-  }
+        derived = one.derived ∷ rest.derived;
+        printed = behind one.printed rest.printed (λ later may. all_front xs later good.1 may);
+        related = (one.related, rest.related);
+      }
 
 -- ---- what is known of each of two lists
 
@@ -91,8 +91,8 @@ module _ {X D : Type 0} (text_of : X → Text) (pieces_of : D → List Piece) (R
       let one = each x place good.0 in
       let rest = commas_printed each xs (place + length (text_of x)) good.1 in
       let all = behind one.printed rest.printed (λ later may. commas_front xs later may) in record {
-    first = one.derived;
-    more = rest.derived;
-    printed = subst (λ (t : Text). Printed after_word place (text_of x ++ t) (pieces_of one.derived ++ flat_map comma_pieces rest.derived)) (sym (flat_map-map (λ (t : Text). codes ", " ++ t) text_of xs)) all;
-    related = (one.related, rest.related);
-  }
+        first = one.derived;
+        more = rest.derived;
+        printed = subst (λ (t : Text). Printed after_word place (text_of x ++ t) (pieces_of one.derived ++ flat_map comma_pieces rest.derived)) (sym (flat_map-map (λ (t : Text). codes ", " ++ t) text_of xs)) all;
+        related = (one.related, rest.related);
+      }

@@ -1,22 +1,20 @@
 -- Lists of names that are printed: components of a declaration, parameters and variables.
-use Rattle.std.proofs.Common.{◌≡◌, ◌≢◌, ℕ, zero, suc, ◌+◌, ◌<◌, ◌≤◌, Bool, List, [], ◌∷◌, ◌++◌, length, map, take, drop, codes, Option, Some, None, refl, sym, ap, subst, ◌∙◌, arith, append_assoc, length-take-le}
+use Rattle.std.proofs.Common.{◌≡◌, ◌≢◌, ℕ, zero, suc, ◌+◌, ◌≤◌, List, [], ◌∷◌, ◌++◌, length, map, take, codes, Option, Some, None, refl, sym, ap, subst, arith, length-take-le}
 use Rattle.std.specs.List.{AllByRecursion, flat_map}
 use Rattle.std.proofs.lemmas.List.{drop_all, map-id}
-use Rattle.steptree.specs.declared.step.Name.{Name}
 use Rattle.steptree.specs.Names.{Text}
 use Rattle.syntax.specs.declared.token.Word.{Word}
 use Rattle.syntax.specs.declared.token.Word.TheVariants as kept
-use Rattle.syntax.specs.declared.token.Symbol.TheVariants as sign
 use Rattle.syntax.specs.Tokens.{word_text}
-use Rattle.syntax.specs.Grammar.{Position, Named, Names}
-use Rattle.syntax.specs.Spelled.{Piece, named, a_sign, names_pieces, after_colon, parameters_pieces, variables_pieces}
+use Rattle.syntax.specs.Grammar.{Named, Names}
+use Rattle.syntax.specs.Spelled.{named, names_pieces, after_colon, parameters_pieces, variables_pieces}
 use Rattle.syntax.specs.Limits.{name_limits, names_behind, all_names}
 use Rattle.syntax.specs.Tree.{IsName, AreAll}
 use Rattle.graph.specs.Textual.{IsGraphName}
-use Rattle.graph.specs.Canonical.{joined, with_colon, component_names, variables_line, line}
+use Rattle.graph.specs.Canonical.{joined, with_colon, component_names, variables_line}
 use Rattle.graph.proofs.PrintedTokens.{after_word, never, anything, Printed, behind, and, narrowed, nothing}
 use Rattle.graph.proofs.PrintedNames.{printed_name, no_name_limit}
-use Rattle.graph.proofs.PrintedLists.{OnePrinted, joined_printed, related_lengths, no_all}
+use Rattle.graph.proofs.PrintedLists.{OnePrinted, joined_printed, no_all}
 use Rattle.graph.proofs.PrintedKeys.{colon}
 use Rattle.graph.proofs.PrintedLines.{inside, lined, word_first, semicolon}
 use Rattle.graph.proofs.PrintedValues.{name_of}
@@ -58,10 +56,10 @@ a_name text place is = record { derived = (text, place); printed = printed_name 
 pub names_printed : (first : Text) (more : List Text) (place : ℕ) → AllByRecursion IsGraphName (first ∷ more) → NamesPrinted place first more
 names_printed first more place good =
     let it = joined_printed (λ (t : Text). t) (λ (n : Named). named n ∷ []) Bears IsGraphName a_name first more place good in record {
-  names = record { first = it.first; more = it.more };
-  printed = subst (λ (l : List Text). Printed after_word place (joined (first ∷ l)) (names_pieces (record { first = it.first; more = it.more }))) (map-id more) it.printed;
-  related = it.related;
-}
+      names = record { first = it.first; more = it.more };
+      printed = subst (λ (l : List Text). Printed after_word place (joined (first ∷ l)) (names_pieces (record { first = it.first; more = it.more }))) (map-id more) it.printed;
+      related = it.related;
+    }
 
 -- ---- behind a colon, in round brackets and on a line
 
@@ -74,10 +72,10 @@ pub head_printed : (collection : Text) (texts : List Text) (place : ℕ) → IsG
 head_printed collection [] place is good = record { names = None; printed = printed_name place collection is; related = tt }
 head_printed collection (first ∷ more) place is good =
     let it = names_printed first more (place + length (collection ++ codes ": ")) good in record {
-  names = Some it.names;
-  printed = and (behind (printed_name place collection is) (colon (place + length collection)) (λ rest may. refl)) it.printed;
-  related = it.related;
-}
+      names = Some it.names;
+      printed = and (behind (printed_name place collection is) (colon (place + length collection)) (λ rest may. refl)) it.printed;
+      related = it.related;
+    }
 
 pub record ParametersPrinted (place : ℕ) (texts : List Text) : Type 0 where
   pub names : Option Names
@@ -98,10 +96,10 @@ variables_printed [] place good = record { names = None; printed = nothing place
 variables_printed (first ∷ more) place good =
     let start : ℕ = inside 1 place in
     let it = names_printed first more (start + 4) good in record {
-  names = Some it.names;
-  printed = lined 1 place (behind (and (word_first start kept.Var) it.printed) (semicolon (start + length (codes "var " ++ joined (first ∷ more)))) (λ rest may. refl));
-  related = it.related;
-}
+      names = Some it.names;
+      printed = lined 1 place (behind (and (word_first start kept.Var) it.printed) (semicolon (start + length (codes "var " ++ joined (first ∷ more)))) (λ rest may. refl));
+      related = it.related;
+    }
 
 -- ---- the names of components
 

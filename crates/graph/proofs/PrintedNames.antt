@@ -1,5 +1,5 @@
 -- Names, words and numbers as printed texts; and where a name stands among others.
-use Rattle.std.proofs.Common.{◌≡◌, ◌≢◌, ℕ, zero, suc, ℤ, pos, ◌+◌, ◌^◌, ◌<◌, ◌≤◌, Bool, true, false, ◌||◌, ◌&&◌, ◌==◌, if◌then◌else◌, List, [], ◌∷◌, ◌++◌, length, get_or, map, codes, Option, Some, None, option_map, refl, sym, ap, subst, ◌∙◌, arith, nat_lt}
+use Rattle.std.proofs.Common.{◌≡◌, ◌≢◌, ℕ, zero, suc, ◌^◌, ◌<◌, ◌≤◌, Bool, true, false, ◌&&◌, ◌==◌, if◌then◌else◌, List, [], ◌∷◌, ◌++◌, length, get_or, Some, option_map, refl, ap, ◌∙◌, arith, nat_lt}
 use Rattle.std.specs.List.{AllByRecursion}
 use Rattle.std.specs.Fmt.{decimal}
 use Rattle.std.specs.Str.Parse.{digits_value}
@@ -10,13 +10,13 @@ use Rattle.std.proofs.lemmas.Str.Parse.{IsDigitsTest, IsNumeralModel, numerals_b
 use Rattle.syntax.specs.declared.token.Word.{Word}
 use Rattle.syntax.specs.declared.token.Word.TheVariants as reserved
 use Rattle.syntax.specs.declared.limits.TheConstants.{MOST_NAME_BYTES}
-use Rattle.syntax.specs.Tokens.{AreDigits, BeginsWithout, GREATEST, IsWordText, Stands, name, number, word, is_blank, is_letter, is_digit, word_text}
-use Rattle.syntax.specs.Spelled.{Piece, plain, at, named, a_word}
+use Rattle.syntax.specs.Tokens.{AreDigits, BeginsWithout, GREATEST, IsWordText, name, number, word, is_letter, is_digit, word_text}
+use Rattle.syntax.specs.Spelled.{plain, at, named, a_word}
 use Rattle.syntax.specs.Grammar.{Position}
 use Rattle.syntax.specs.Limits.{name_limits, one_more}
 use Rattle.steptree.specs.Names.{Text, is_text, place_of}
-use Rattle.graph.specs.Textual.{IsGraphName, AreNames}
-use Rattle.graph.proofs.PrintedTokens.{after_word, after_sign, never, anything, Printed, and, one_token, space}
+use Rattle.graph.specs.Textual.{IsGraphName}
+use Rattle.graph.proofs.PrintedTokens.{after_word, after_sign, Printed, one_token}
 
 -- ---- what a text begins with
 
@@ -54,15 +54,15 @@ word_is_text reserved.For = (refl, (refl, (refl, tt)))
 word_is_text reserved.In = (refl, (refl, tt))
 
 pub a_word_alone : (place : ℕ) (kept : Word) → Printed after_word place (word_text kept) (a_word kept)
-a_word_alone place kept = one_token after_word place (word_text kept) (word kept) (plain (word kept)) refl (λ rest may. (refl, (word_is_text kept, may)))
+a_word_alone place kept = one_token after_word place (word_text kept) (word kept) (plain (word kept)) tt refl (λ rest may. (refl, (word_is_text kept, may)))
 
 pub word_at : (place : ℕ) (kept : Word) → Printed after_word place (word_text kept) (at place (word kept) ∷ [])
-word_at place kept = one_token after_word place (word_text kept) (word kept) (at place (word kept)) (refl, refl) (λ rest may. (refl, (word_is_text kept, may)))
+word_at place kept = one_token after_word place (word_text kept) (word kept) (at place (word kept)) tt (refl, refl) (λ rest may. (refl, (word_is_text kept, may)))
 
 -- ---- names
 
 pub printed_name : (place : ℕ) (text : Text) → IsGraphName text → Printed after_word place text (named (text, place) ∷ [])
-printed_name place text is = one_token after_word place text (name text) (named (text, place)) (refl, refl) (λ rest may. (refl, (is.word, may), is.not_reserved))
+printed_name place text is = one_token after_word place text (name text) (named (text, place)) tt (refl, refl) (λ rest may. (refl, (is.word, may), is.not_reserved))
 
 pub name_fronts : (text : Text) → IsGraphName text → Fronts text
 name_fronts text is = word_fronts text is.word
@@ -108,7 +108,7 @@ number_fronts value small = digits_front (decimal value) (decimal_nonempty value
 pub printed_number : (place value : ℕ) → value ≤ GREATEST → Printed after_word place (decimal value) (at place (number value) ∷ [])
 printed_number place value small =
     let fits : value < 2 ^ 64 = omega arith in
-    one_token after_word place (decimal value) (number value) (at place (number value)) (refl, refl) (λ rest may. (
+    one_token after_word place (decimal value) (number value) (at place (number value)) tt (refl, refl) (λ rest may. (
       decimal value,
       refl,
       (not_empty (decimal value) (decimal_nonempty value fits), digits_decimal own value fits, begins_no_digit rest may, digits_value-decimal own value fits),

@@ -1,5 +1,5 @@
 -- The statements that both blocks of a step have, as they are printed.
-use Rattle.std.proofs.Common.{◌≡◌, ℕ, zero, suc, ◌+◌, ◌<◌, ◌≤◌, List, [], ◌∷◌, ◌++◌, length, get_or, codes, Some, refl, sym, ap, subst, ◌∙◌, arith, append_assoc}
+use Rattle.std.proofs.Common.{◌≡◌, ℕ, suc, ◌+◌, ◌<◌, List, [], ◌∷◌, ◌++◌, length, get_or, codes, refl, subst, append_assoc}
 use Rattle.std.specs.Prelude.{Box}
 use Rattle.std.specs.declared.alloc.Global.{Global}
 use Rattle.steptree.specs.declared.expression.Expression.{Expression}
@@ -14,16 +14,16 @@ use Rattle.syntax.specs.declared.limits.TheConstants.{MOST_BRACES}
 use Rattle.syntax.specs.declared.token.Word.TheVariants as kept
 use Rattle.syntax.specs.declared.token.Symbol.TheVariants as sign
 use Rattle.syntax.specs.Tokens.{name, symbol, word}
-use Rattle.syntax.specs.Grammar.{Position, sum_alone, prod_alone, unary_alone, Expr, Statement, own, assigned, if_else, for, Statements, no_more, and_then}
-use Rattle.syntax.specs.Spelled.{Piece, plain, at, a_sign, sign_at, a_word, expr_pieces, condition_pieces, in_braces_at, statement_pieces, statements_pieces}
-use Rattle.syntax.specs.Limits.{one_more, expr_limits, statement_limits, statements_limits}
-use Rattle.syntax.specs.Tree.{IsExpr, IsStatement, AreStatements}
+use Rattle.syntax.specs.Grammar.{Position, sum_alone, prod_alone, unary_alone, Expr, assigned, if_else, for, Statements, no_more, and_then}
+use Rattle.syntax.specs.Spelled.{Piece, plain, at, a_sign, a_word, expr_pieces, condition_pieces, statements_pieces}
+use Rattle.syntax.specs.Limits.{statements_limits}
+use Rattle.syntax.specs.Tree.{AreStatements}
 use Rattle.graph.specs.Graph.{Graph}
 use Rattle.graph.specs.Textual.{IsTextExpression, IsGraphName, AreNames}
 use Rattle.graph.specs.Canonical.{in_rounds, expression_text, block_text, line}
-use Rattle.graph.proofs.PrintedTokens.{after_word, never, anything, Printed, behind, and, nothing}
+use Rattle.graph.proofs.PrintedTokens.{never, Printed, behind, and, nothing}
 use Rattle.graph.proofs.PrintedNames.{printed_name, name_at, found_at, no_name_limit, no_more_limit}
-use Rattle.graph.proofs.PrintedExpressions.{IsPrinted, no_both, rounded_anywhere, expression_printed}
+use Rattle.graph.proofs.PrintedExpressions.{no_both, rounded_anywhere, expression_printed}
 use Rattle.graph.proofs.PrintedKeys.{no_limits}
 use Rattle.graph.proofs.PrintedLines.{inside, lined, word_first, semicolon, close_brace, open_brace, equals, dots, among, otherwise}
 use Rattle.graph.proofs.PrintedValues.{name_of}
@@ -64,13 +64,13 @@ module _ {B : Type 0} (own_pieces : B → List Piece) (own_limits : B → List P
         let it = expression_printed g names are value (start + length (variable ++ codes " = ")) is.0 in
         let head = behind (printed_name start variable good) (equals (start + length variable)) (λ more may. refl) in
         let all = behind (and head it.printed) (semicolon (start + length (variable ++ codes " = " ++ expression_text g names value))) (λ more may. refl) in record {
-      statements = and_then (assigned (variable, start) (sum_alone (prod_alone (unary_alone it.unary)))) later.statements;
-      printed = and (lined level place all) later.printed;
-      limits = no_both _ _ (no_both _ _ (no_name_limit variable start good) (no_limits it is.1)) later.limits;
-      value = tree.Assign' (name_of (variable, start)) it.value box later.value;
-      is = ((refl, refl), it.is, later.is);
-      resolves = (found_at names slot are.distinct within, it.resolves, later.resolves);
-    }
+          statements = and_then (assigned (variable, start) (sum_alone (prod_alone (unary_alone it.unary)))) later.statements;
+          printed = and (lined level place all) later.printed;
+          limits = no_both _ _ (no_both _ _ (no_name_limit variable start good) (no_limits it is.1)) later.limits;
+          value = tree.Assign' (name_of (variable, start)) it.value box later.value;
+          is = ((refl, refl), it.is, later.is);
+          resolves = (found_at names slot are.distinct within, it.resolves, later.resolves);
+        }
 
     -- a choice
     abbrev if_line : ℕ → Expression → Text
@@ -99,15 +99,15 @@ module _ {B : Type 0} (own_pieces : B → List Piece) (own_limits : B → List P
         let front = and (and head one.printed) (lined level (place + length (if_front level condition first)) (otherwise middle)) in
         let end = lined level (place + length (if_middle level condition first second)) (close_brace (inside level (place + length (if_middle level condition first second)))) in
         let all = and (and (and front two.printed) end) later.printed in record {
-      statements = and_then (if_else expr (brace + 1) one.statements other two.statements) later.statements;
-      printed = subst (λ (p : List Piece). Printed never place (block_text g names level (If' condition box first box2 second box3 rest)) p)
-          (both_in_order (condition_pieces expr) (statements_pieces own_pieces one.statements) (statements_pieces own_pieces two.statements) (statements_pieces own_pieces later.statements)
-          (at (brace + 1) (symbol sign.OpenBrace)) (plain (symbol sign.CloseBrace)) (plain (word kept.Else)) (at other (symbol sign.OpenBrace)) (plain (symbol sign.CloseBrace))) all;
-      limits = no_both _ _ (no_both _ _ (no_both _ _ (no_both _ _ (no_both _ _ (no_limits it is.1) (no_more_limit MOST_BRACES around (brace + 1) few)) one.limits) (no_more_limit MOST_BRACES around other few)) two.limits) later.limits;
-      value = tree.If' it.value box one.value box2 two.value box3 later.value;
-      is = (it.is, one.is, two.is, later.is);
-      resolves = (it.resolves, one.resolves, two.resolves, later.resolves);
-    }
+          statements = and_then (if_else expr (brace + 1) one.statements other two.statements) later.statements;
+          printed = subst (λ (p : List Piece). Printed never place (block_text g names level (If' condition box first box2 second box3 rest)) p)
+              (both_in_order (condition_pieces expr) (statements_pieces own_pieces one.statements) (statements_pieces own_pieces two.statements) (statements_pieces own_pieces later.statements)
+              (at (brace + 1) (symbol sign.OpenBrace)) (plain (symbol sign.CloseBrace)) (plain (word kept.Else)) (at other (symbol sign.OpenBrace)) (plain (symbol sign.CloseBrace))) all;
+          limits = no_both _ _ (no_both _ _ (no_both _ _ (no_both _ _ (no_both _ _ (no_limits it is.1) (no_more_limit MOST_BRACES around (brace + 1) few)) one.limits) (no_more_limit MOST_BRACES around other few)) two.limits) later.limits;
+          value = tree.If' it.value box one.value box2 two.value box3 later.value;
+          is = (it.is, one.is, two.is, later.is);
+          resolves = (it.resolves, one.resolves, two.resolves, later.resolves);
+        }
 
     -- a loop
     abbrev for_text : ℕ → Expression → Expression → Text
@@ -137,12 +137,12 @@ module _ {B : Type 0} (own_pieces : B → List Piece) (own_limits : B → List P
         let head = lined level place (behind (and lower it2.printed) (open_brace brace) (λ more may. refl)) in
         let end = lined level (place + length (for_line level slot from to ++ block_text g names (suc level) block)) (close_brace (inside level (place + length (for_line level slot from to ++ block_text g names (suc level) block)))) in
         let all = and (and (and head one.printed) end) later.printed in record {
-      statements = and_then (for (variable, start + 4) low high (brace + 1) one.statements) later.statements;
-      printed = subst (λ (p : List Piece). Printed never place (block_text g names level (For' slot from to box block box2 rest)) p)
-          (in_order (a_word kept.For ++ (at (start + 4) (name variable) ∷ a_word kept.In) ++ expr_pieces low ++ a_sign sign.DoubleDot ++ expr_pieces high) (statements_pieces own_pieces one.statements)
-          (statements_pieces own_pieces later.statements) (at (brace + 1) (symbol sign.OpenBrace)) (plain (symbol sign.CloseBrace))) all;
-      limits = no_both _ _ (no_both _ _ (no_both _ _ (no_both _ _ (no_both _ _ (no_name_limit variable (start + 4) good) (no_limits it is.1)) (no_limits it2 is2.1)) (no_more_limit MOST_BRACES around (brace + 1) few)) one.limits) later.limits;
-      value = tree.For' (name_of (variable, start + 4)) it.value it2.value box one.value box2 later.value;
-      is = ((refl, refl), it.is, it2.is, one.is, later.is);
-      resolves = (found_at names slot are.distinct within, it.resolves, it2.resolves, one.resolves, later.resolves);
-    }
+          statements = and_then (for (variable, start + 4) low high (brace + 1) one.statements) later.statements;
+          printed = subst (λ (p : List Piece). Printed never place (block_text g names level (For' slot from to box block box2 rest)) p)
+              (in_order (a_word kept.For ++ (at (start + 4) (name variable) ∷ a_word kept.In) ++ expr_pieces low ++ a_sign sign.DoubleDot ++ expr_pieces high) (statements_pieces own_pieces one.statements)
+              (statements_pieces own_pieces later.statements) (at (brace + 1) (symbol sign.OpenBrace)) (plain (symbol sign.CloseBrace))) all;
+          limits = no_both _ _ (no_both _ _ (no_both _ _ (no_both _ _ (no_both _ _ (no_name_limit variable (start + 4) good) (no_limits it is.1)) (no_limits it2 is2.1)) (no_more_limit MOST_BRACES around (brace + 1) few)) one.limits) later.limits;
+          value = tree.For' (name_of (variable, start + 4)) it.value it2.value box one.value box2 later.value;
+          is = ((refl, refl), it.is, it2.is, one.is, later.is);
+          resolves = (found_at names slot are.distinct within, it.resolves, it2.resolves, one.resolves, later.resolves);
+        }

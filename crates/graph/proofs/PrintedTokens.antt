@@ -1,13 +1,14 @@
 -- A text that is printed token by token: which tokens it is, wherever it stands and whatever is printed behind it.
-use Rattle.std.proofs.Common.{◌≡◌, ◌≢◌, ℕ, ◌+◌, ◌-◌, ◌<◌, ◌≤◌, Bool, true, false, ◌||◌, ◌==◌, List, [], ◌∷◌, ◌++◌, length, codes, refl, sym, ap, subst, ◌∙◌, arith, lit≤, append_assoc, length-append}
+use Rattle.std.proofs.Common.{◌≡◌, ◌≢◌, ℕ, ◌+◌, ◌-◌, ◌<◌, ◌≤◌, Bool, true, false, ◌||◌, ◌==◌, List, [], ◌∷◌, ◌++◌, length, codes, refl, sym, ap, subst, ◌∙◌, arith, lit≤, lit<, append_assoc, length-append}
+use Rattle.std.specs.Prelude.{⊤}
 use Rattle.std.specs.List.{AllByRecursion}
+use Rattle.std.proofs.lemmas.List.{append-nil}
 use Rattle.std.proofs.lemmas.Bool.{false≢true}
 use Rattle.std.proofs.lemmas.Bool.Decides.{nat_tests}
-use Rattle.syntax.specs.declared.token.Word.{Word}
 use Rattle.syntax.specs.declared.token.Symbol.{Symbol}
 use Rattle.syntax.specs.declared.token.Symbol.TheVariants.{DoubleColon, Arrow, DoubleDot, Equal, NotEqual, LessOrEqual, GreaterOrEqual}
-use Rattle.syntax.specs.Tokens.{AreBlank, AreTokens, Begins, BeginsWithout, Lexeme, symbol, Spot, Stands, is_blank, is_letter, is_digit, symbol_text}
-use Rattle.syntax.specs.Spelled.{Piece, plain, at, IsPiece, ArePieces}
+use Rattle.syntax.specs.Tokens.{AreBlank, AreDigits, AreTokens, Begins, BeginsWithout, IsWordText, Lexeme, name, number, word, symbol, unknown, Spot, Stands, is_blank, is_letter, is_digit, symbol_text, word_text}
+use Rattle.syntax.specs.Spelled.{Piece, IsPiece, ArePieces}
 
 -- ---- what may not stand behind a token
 
@@ -34,6 +35,11 @@ pub record Printed (stop : ℕ → Bool) (place : ℕ) (text : List ℕ) (pieces
   pub spots : List Spot
   pub lexes : (rest : List ℕ) (more : List Spot) → BeginsWithout stop rest → AreTokens (place + length text) rest more → AreTokens place (text ++ rest) (spots ++ more)
   pub are : ArePieces pieces spots
+  pub ascii : AllByRecursion (λ byte. byte < 128) text
+
+both_ascii : (a b : List ℕ) → AllByRecursion (λ byte. byte < 128) a → AllByRecursion (λ byte. byte < 128) b → AllByRecursion (λ byte. byte < 128) (a ++ b)
+both_ascii [] b one two = two
+both_ascii (first ∷ a) b one two = (one.0, both_ascii a b one.1 two)
 
 both_pieces : (p q : List Piece) (s r : List Spot) → ArePieces p s → ArePieces q r → ArePieces (p ++ q) (s ++ r)
 both_pieces [] q [] r one two = two
@@ -53,6 +59,7 @@ behind {stop} {other} {place} {a} {b} {p} {q} one two border = record {
       subst (λ (t : List ℕ). AreTokens place t ((one.spots ++ two.spots) ++ more)) (sym (append_assoc a b rest))
       (subst (λ (s : List Spot). AreTokens place (a ++ (b ++ rest)) s) (sym (append_assoc one.spots two.spots more)) whole);
   are = both_pieces p q one.spots two.spots one.are two.are;
+  ascii = both_ascii a b one.ascii two.ascii;
 }
 
 -- behind what anything may stand behind
@@ -61,7 +68,7 @@ and {other} {place} {a} {b} one two = behind one two (λ rest may. anything (b +
 
 -- what may stand behind it is less
 pub narrowed : {stop other : ℕ → Bool} {place : ℕ} {a : List ℕ} {p : List Piece} → ((rest : List ℕ) → BeginsWithout other rest → BeginsWithout stop rest) → Printed stop place a p → Printed other place a p
-narrowed border one = record { spots = one.spots; lexes = λ rest more may next. one.lexes rest more (border rest may) next; are = one.are }
+narrowed border one = record { spots = one.spots; lexes = λ rest more may next. one.lexes rest more (border rest may) next; are = one.are; ascii = one.ascii }
 
 -- the tokens of a whole text
 pub whole : {stop : ℕ → Bool} {text : List ℕ} {pieces : List Piece} → (text ++ [] ≡ text) → (one : Printed stop 0 text pieces) → (one.spots ++ [] ≡ one.spots) → AreTokens 0 text one.spots
@@ -87,8 +94,15 @@ blanks_first place blanks rest (spot ∷ more) blank next = (
   next.7,
 )
 
+blank_ascii : (byte : ℕ) → is_blank byte ≡ true → byte < 128
+blank_ascii byte h = grind (arith, nat_tests)
+
+blanks_ascii : (blanks : List ℕ) → AreBlank blanks → AllByRecursion (λ byte. byte < 128) blanks
+blanks_ascii [] h = tt
+blanks_ascii (first ∷ rest) h = (blank_ascii first h.0, blanks_ascii rest h.1)
+
 pub blank : (place : ℕ) (blanks : List ℕ) → AreBlank blanks → Printed never place blanks []
-blank place blanks are_blank = record { spots = []; lexes = λ rest more may next. blanks_first place blanks rest more are_blank next; are = tt }
+blank place blanks are_blank = record { spots = []; lexes = λ rest more may next. blanks_first place blanks rest more are_blank next; are = tt; ascii = blanks_ascii blanks are_blank }
 
 no_more_pieces : (p : List Piece) → p ++ [] ≡ p
 no_more_pieces [] = refl
@@ -114,9 +128,55 @@ nothing place = blank place [] tt
 
 -- ---- one token
 
-pub one_token : (stop : ℕ → Bool) (place : ℕ) (text : List ℕ) (lexeme : Lexeme) (piece : Piece) → IsPiece piece (lexeme, place)
+letter_ascii : (byte : ℕ) → is_letter byte ≡ true → byte < 128
+letter_ascii byte h = grind (arith, nat_tests)
+
+digit_ascii : (byte : ℕ) → is_digit byte ≡ true → byte < 128
+digit_ascii byte h = grind (arith, nat_tests)
+
+part_ascii : (byte : ℕ) → after_word byte ≡ true → byte < 128
+part_ascii byte h = grind (arith, nat_tests)
+
+parts_ascii : (bytes : List ℕ) → AllByRecursion (λ byte. (is_letter byte || is_digit byte) ≡ true) bytes → AllByRecursion (λ byte. byte < 128) bytes
+parts_ascii [] h = tt
+parts_ascii (first ∷ rest) h = (part_ascii first h.0, parts_ascii rest h.1)
+
+word_ascii : (bytes : List ℕ) → IsWordText bytes → AllByRecursion (λ byte. byte < 128) bytes
+word_ascii [] h = tt
+word_ascii (first ∷ rest) h = (letter_ascii first h.0, parts_ascii rest h.1)
+
+digits_ascii : (bytes : List ℕ) → AreDigits bytes → AllByRecursion (λ byte. byte < 128) bytes
+digits_ascii [] h = tt
+digits_ascii (first ∷ rest) h = (digit_ascii first h.0, digits_ascii rest h.1)
+
+sign_ascii : (sign : Symbol) → AllByRecursion (λ byte. byte < 128) (symbol_text sign)
+sign_ascii DoubleColon = (lit< tt, (lit< tt, tt))
+sign_ascii Arrow = (lit< tt, (lit< tt, tt))
+sign_ascii DoubleDot = (lit< tt, (lit< tt, tt))
+sign_ascii Equal = (lit< tt, (lit< tt, tt))
+sign_ascii NotEqual = (lit< tt, (lit< tt, tt))
+sign_ascii LessOrEqual = (lit< tt, (lit< tt, tt))
+sign_ascii GreaterOrEqual = (lit< tt, (lit< tt, tt))
+sign_ascii _ = (lit< tt, tt)
+
+-- not what is none of the tokens
+abbrev pub IsProper : Lexeme → Type 0
+IsProper unknown = ⊥
+IsProper lexeme = ⊤
+
+same_ascii : (one two : List ℕ) → one ++ [] ≡ two ++ [] → AllByRecursion (λ byte. byte < 128) two → AllByRecursion (λ byte. byte < 128) one
+same_ascii one two same h = subst (λ (t : List ℕ). AllByRecursion (λ byte. byte < 128) t) (sym (sym (append-nil one) ∙ same ∙ append-nil two)) h
+
+token_ascii : (lexeme : Lexeme) (text : List ℕ) → IsProper lexeme → Stands lexeme (text ++ []) [] → AllByRecursion (λ byte. byte < 128) text
+token_ascii (name it) text proper stands = same_ascii text it stands.0 (word_ascii it stands.1.0)
+token_ascii (word it) text proper stands = same_ascii text (word_text it) stands.0 (word_ascii (word_text it) stands.1.0)
+token_ascii (number it) text proper stands = same_ascii text stands.0 stands.1 (digits_ascii stands.0 stands.2.1)
+token_ascii (symbol it) text proper stands = same_ascii text (symbol_text it) stands.0 (sign_ascii it)
+token_ascii unknown text proper stands = absurd proper
+
+pub one_token : (stop : ℕ → Bool) (place : ℕ) (text : List ℕ) (lexeme : Lexeme) (piece : Piece) → IsProper lexeme → IsPiece piece (lexeme, place)
     → ((rest : List ℕ) → BeginsWithout stop rest → Stands lexeme (text ++ rest) rest) → Printed stop place text (piece ∷ [])
-one_token stop place text lexeme piece is stands = record {
+one_token stop place text lexeme piece proper is stands = record {
   spots = (lexeme, place) ∷ [];
   lexes = λ rest more may next.
       let moved : place + length text ≡ place + (length (text ++ rest) - length rest) = omega (arith, length-append text rest) in (
@@ -130,6 +190,7 @@ one_token stop place text lexeme piece is stands = record {
         subst (λ (k : ℕ). AreTokens k rest more) moved next,
       );
   are = (is, tt);
+  ascii = token_ascii lexeme text proper (stands [] tt);
 }
 
 -- ---- signs
@@ -175,7 +236,7 @@ double_longest _ = lit≤ tt
 -- a sign of one character that begins no longer one
 pub closed_sign : (place first : ℕ) (sign : Symbol) (piece : Piece) → IsPiece piece (symbol sign, place) → symbol_text sign ≡ first ∷ [] → leads first ≡ false → Printed never place (first ∷ []) (piece ∷ [])
 closed_sign place first sign piece is same h =
-    one_token never place (first ∷ []) (symbol sign) piece is (λ rest may. (
+    one_token never place (first ∷ []) (symbol sign) piece tt is (λ rest may. (
       ap (λ (t : List ℕ). t ++ rest) (sym same),
       λ other begins. subst (λ (t : List ℕ). length (symbol_text other) ≤ length t) (sym same) (closed_longest first rest h other begins),
     ))
@@ -183,7 +244,7 @@ closed_sign place first sign piece is same h =
 -- one that begins a longer one
 pub open_sign : (place first : ℕ) (sign : Symbol) (piece : Piece) → IsPiece piece (symbol sign, place) → symbol_text sign ≡ first ∷ [] → first ≢ 46 → Printed after_sign place (first ∷ []) (piece ∷ [])
 open_sign place first sign piece is same dot =
-    one_token after_sign place (first ∷ []) (symbol sign) piece is (λ rest may. (
+    one_token after_sign place (first ∷ []) (symbol sign) piece tt is (λ rest may. (
       ap (λ (t : List ℕ). t ++ rest) (sym same),
       λ other begins. subst (λ (t : List ℕ). length (symbol_text other) ≤ length t) (sym same) (open_longest first rest dot may other begins),
     ))
@@ -192,7 +253,7 @@ open_sign place first sign piece is same dot =
 pub double_sign : (place first second : ℕ) (sign : Symbol) (piece : Piece) → IsPiece piece (symbol sign, place) → symbol_text sign ≡ first ∷ second ∷ []
     → Printed never place (first ∷ second ∷ []) (piece ∷ [])
 double_sign place first second sign piece is same =
-    one_token never place (first ∷ second ∷ []) (symbol sign) piece is (λ rest may. (
+    one_token never place (first ∷ second ∷ []) (symbol sign) piece tt is (λ rest may. (
       ap (λ (t : List ℕ). t ++ rest) (sym same),
       λ other begins. subst (λ (t : List ℕ). length (symbol_text other) ≤ length t) (sym same) (double_longest other),
     ))

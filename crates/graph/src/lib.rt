@@ -20,5 +20,5 @@ mod tables;
 pub use examples::canonical_example;
 pub use fault::{GraphError, GraphFault};
 pub use graph::Graph;
-pub use law::one_canonical_text;
+pub use law::{canonical_reads, one_canonical_text};
 pub use limits::MOST_TEXT;

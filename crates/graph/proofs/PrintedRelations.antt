@@ -1,0 +1,171 @@
+-- The relations of a graph as they are printed.
+use Rattle.std.proofs.Common.{◌≡◌, ℕ, ◌+◌, Bool, false, List, [], ◌∷◌, ◌++◌, length, get_or, map, codes, refl, sym, ap, ◌∙◌, append_assoc}
+use Rattle.std.specs.List.{AllByRecursion, flat_map}
+use Rattle.steptree.specs.Names.{Text}
+use Rattle.syntax.specs.declared.token.Word.TheVariants as kept
+use Rattle.syntax.specs.declared.token.Symbol.TheVariants as sign
+use Rattle.syntax.specs.Grammar.{Relation, prescribes, reads, puts_item, puts_tag, environment_puts_item, environment_puts_tag, environment_gets}
+use Rattle.syntax.specs.Spelled.{Piece, a_sign, sign_at, relation_pieces}
+use Rattle.syntax.specs.Spelled.{arrow as arrow_pieces}
+use Rattle.syntax.specs.Limits.{name_limits, relation_limits}
+use Rattle.graph.specs.Graph.{Graph, Step}
+use Rattle.graph.specs.Tree.{names_in}
+use Rattle.graph.specs.Textual.{IsGraphName}
+use Rattle.graph.specs.Canonical.{in_brackets, in_angles, in_rounds, arrow, line, those, step_relations, environment_relations}
+use Rattle.graph.proofs.PrintedTokens.{after_word, never, anything, Printed, behind, and, and_blanks, closed_sign}
+use Rattle.graph.proofs.PrintedNames.{printed_name, name_fronts, no_name_limit, word_at, a_word_alone}
+use Rattle.graph.proofs.PrintedExpressions.{no_both, rounded, rounded_anywhere}
+use Rattle.graph.proofs.PrintedLists.{OnePrinted, AllPrinted, all_printed, flat_map-map}
+use Rattle.graph.proofs.PrintedLines.{semicolon, arrow_sign, colons}
+use Rattle.graph.proofs.PrintedDeclarations.{bracketed, angled}
+
+-- a relation by its names, at no place
+pub data Shape : Type 0 where
+  a_prescription : Text → Text → Shape
+  a_read : Text → Text → Shape
+  an_item_put : Text → Text → Shape
+  a_tag_put : Text → Text → Shape
+  an_environment_item : Text → Shape
+  an_environment_tag : Text → Shape
+  an_environment_get : Text → Shape
+
+abbrev pub shape_of : Relation → Shape
+shape_of (prescribes tag step) = a_prescription tag.0 step.0
+shape_of (reads position item step) = a_read item.0 step.0
+shape_of (puts_item position step item) = an_item_put step.0 item.0
+shape_of (puts_tag position step tag) = a_tag_put step.0 tag.0
+shape_of (environment_puts_item position item) = an_environment_item item.0
+shape_of (environment_puts_tag position tag) = an_environment_tag tag.0
+shape_of (environment_gets position item) = an_environment_get item.0
+
+abbrev pub shape_line : Shape → Text
+shape_line (a_prescription tag step) = line 0 (in_angles tag ++ codes " :: " ++ in_rounds step ++ codes ";")
+shape_line (a_read item step) = arrow (in_brackets item) (in_rounds step)
+shape_line (an_item_put step item) = arrow (in_rounds step) (in_brackets item)
+shape_line (a_tag_put step tag) = arrow (in_rounds step) (in_angles tag)
+shape_line (an_environment_item item) = arrow (codes "env") (in_brackets item)
+shape_line (an_environment_tag tag) = arrow (codes "env") (in_angles tag)
+shape_line (an_environment_get item) = arrow (in_brackets item) (codes "env")
+
+abbrev pub HasGoodNames : Shape → Type 0
+HasGoodNames (a_prescription tag step) = IsGraphName tag × IsGraphName step
+HasGoodNames (a_read item step) = IsGraphName item × IsGraphName step
+HasGoodNames (an_item_put step item) = IsGraphName step × IsGraphName item
+HasGoodNames (a_tag_put step tag) = IsGraphName step × IsGraphName tag
+HasGoodNames (an_environment_item item) = IsGraphName item
+HasGoodNames (an_environment_tag tag) = IsGraphName tag
+HasGoodNames (an_environment_get item) = IsGraphName item
+
+-- a derivation of this relation
+pub record Shaped (shape : Shape) (relation : Relation) : Type 0 where
+  pub is : shape_of relation ≡ shape
+  pub limits : relation_limits relation ≡ []
+
+-- ---- one relation
+
+bracketed_at : {place : ℕ} {text : Text} {pieces : List Piece} → Printed after_word (place + 1) text pieces → Printed never place (in_brackets text) (sign_at place sign.OpenBracket ++ pieces ++ a_sign sign.CloseBracket)
+bracketed_at {place} {text} one =
+    and (closed_sign place 91 sign.OpenBracket _ (refl, refl) refl refl) (behind one (closed_sign (place + 1 + length text) 93 sign.CloseBracket _ refl refl refl) (λ rest may. refl))
+
+arrow_printed : {stop other : ℕ → Bool} {place : ℕ} {from to : Text} {p q : List Piece} → Printed stop place from p → Printed other (place + length (from ++ codes " -> ")) to q → stop 32 ≡ false → other 59 ≡ false
+    → Printed never place (arrow from to) (arrow_pieces p q)
+arrow_printed {stop} {other} {place} {from} {to} one two space_may end_may =
+    let head = behind one (arrow_sign (place + length from)) (λ rest may. space_may) in
+    and_blanks (behind (and head two) (semicolon (place + length (from ++ codes " -> " ++ to))) (λ rest may. end_may)) (codes "\n") (refl, tt) (λ rest may. refl)
+
+both_names : (one two : Text) (place other : ℕ) → IsGraphName one → IsGraphName two → name_limits (one, place) ++ name_limits (two, other) ≡ []
+both_names one two place other is is2 = no_both _ _ (no_name_limit one place is) (no_name_limit two other is2)
+
+relation_printed : (shape : Shape) (place : ℕ) → HasGoodNames shape → OnePrinted never shape_line relation_pieces Shaped place shape
+relation_printed (a_prescription tag step) place good =
+    let there : ℕ = place + length (in_angles tag ++ codes " :: ") in
+    let head = behind (angled (name_fronts tag good.0) (printed_name (place + 1) tag good.0)) (colons (place + length (in_angles tag))) (λ rest may. refl) in
+    let all = and (and head (rounded_anywhere (printed_name (there + 1) step good.1))) (semicolon (place + length (in_angles tag ++ codes " :: " ++ in_rounds step))) in record {
+      derived = prescribes (tag, place + 1) (step, there + 1);
+      printed = and_blanks all (codes "\n") (refl, tt) (λ rest may. refl);
+      related = record { is = refl; limits = both_names tag step (place + 1) (there + 1) good.0 good.1 };
+    }
+relation_printed (a_read item step) place good = let there : ℕ = place + length (in_brackets item ++ codes " -> ") in record {
+  derived = reads place (item, place + 1) (step, there + 1);
+  printed = arrow_printed (bracketed_at (printed_name (place + 1) item good.0)) (rounded_anywhere (printed_name (there + 1) step good.1)) refl refl;
+  related = record { is = refl; limits = both_names item step (place + 1) (there + 1) good.0 good.1 };
+}
+relation_printed (an_item_put step item) place good = let there : ℕ = place + length (in_rounds step ++ codes " -> ") in record {
+  derived = puts_item place (step, place + 1) (item, there + 1);
+  printed = arrow_printed (rounded (printed_name (place + 1) step good.0)) (bracketed (printed_name (there + 1) item good.1)) refl refl;
+  related = record { is = refl; limits = both_names step item (place + 1) (there + 1) good.0 good.1 };
+}
+relation_printed (a_tag_put step tag) place good = let there : ℕ = place + length (in_rounds step ++ codes " -> ") in record {
+  derived = puts_tag place (step, place + 1) (tag, there + 1);
+  printed = arrow_printed (rounded (printed_name (place + 1) step good.0)) (angled (name_fronts tag good.1) (printed_name (there + 1) tag good.1)) refl refl;
+  related = record { is = refl; limits = both_names step tag (place + 1) (there + 1) good.0 good.1 };
+}
+relation_printed (an_environment_item item) place good = let there : ℕ = place + length (codes "env" ++ codes " -> ") in record {
+  derived = environment_puts_item place (item, there + 1);
+  printed = arrow_printed (word_at place kept.Env) (bracketed (printed_name (there + 1) item good)) refl refl;
+  related = record { is = refl; limits = no_name_limit item (there + 1) good };
+}
+relation_printed (an_environment_tag tag) place good = let there : ℕ = place + length (codes "env" ++ codes " -> ") in record {
+  derived = environment_puts_tag place (tag, there + 1);
+  printed = arrow_printed (word_at place kept.Env) (angled (name_fronts tag good) (printed_name (there + 1) tag good)) refl refl;
+  related = record { is = refl; limits = no_name_limit tag (there + 1) good };
+}
+relation_printed (an_environment_get item) place good = let there : ℕ = place + length (in_brackets item ++ codes " -> ") in record {
+  derived = environment_gets place (item, place + 1);
+  printed = arrow_printed (bracketed_at (printed_name (place + 1) item good)) (a_word_alone there kept.Env) refl refl;
+  related = record { is = refl; limits = no_name_limit item (place + 1) good };
+}
+
+pub relations_printed : (shapes : List Shape) (place : ℕ) → AllByRecursion HasGoodNames shapes → AllPrinted never shape_line relation_pieces Shaped place shapes
+relations_printed shapes place good = all_printed never shape_line relation_pieces Shaped HasGoodNames (λ x rest is. anything (shape_line x ++ rest)) relation_printed shapes place good
+
+-- ---- the relations of a graph
+
+abbrev pub step_shapes : Graph → Step → List Shape
+step_shapes g step =
+    a_prescription (get_or (names_in g.tags) step.prescriber []) step.name
+    ∷ (map (λ item. a_read item step.name) (those g.items step.reads) ++ map (λ item. an_item_put step.name item) (those g.items step.item_puts) ++ map (λ tag. a_tag_put step.name tag) (those g.tags step.tag_puts))
+
+abbrev pub environment_shapes : Graph → List Shape
+environment_shapes g =
+    map (λ item. an_environment_item item) (those g.items g.environment_item_puts) ++ map (λ tag. an_environment_tag tag) (those g.tags g.environment_tag_puts)
+    ++ map (λ item. an_environment_get item) (those g.items g.environment_gets)
+
+abbrev pub shapes : Graph → List Shape
+shapes g = flat_map (step_shapes g) g.steps ++ environment_shapes g
+
+pub flat_of_both : {X Y : Type 0} (f : X → List Y) (xs ys : List X) → flat_map f (xs ++ ys) ≡ flat_map f xs ++ flat_map f ys
+flat_of_both f [] ys = refl
+flat_of_both {X} {Y} f (x ∷ xs) ys = ap (λ (l : List Y). f x ++ l) (flat_of_both f xs ys) ∙ sym (append_assoc (f x) (flat_map f xs) (flat_map f ys))
+
+flat_of_flat : {X Y Z : Type 0} (f : Y → List Z) (h : X → List Y) (k : X → List Z) → ((x : X) → flat_map f (h x) ≡ k x) → (xs : List X) → flat_map f (flat_map h xs) ≡ flat_map k xs
+flat_of_flat f h k same [] = refl
+flat_of_flat {X} {Y} {Z} f h k same (x ∷ xs) =
+    flat_of_both f (h x) (flat_map h xs) ∙ ap (λ (l : List Z). l ++ flat_map f (flat_map h xs)) (same x) ∙ ap (λ (l : List Z). k x ++ l) (flat_of_flat f h k same xs)
+
+-- three lists of texts, each by its own lines
+three : (a b c : Text → Shape) (xs ys zs : List Text) → flat_map shape_line (map a xs ++ map b ys ++ map c zs)
+    ≡ flat_map (λ x. shape_line (a x)) xs ++ flat_map (λ x. shape_line (b x)) ys ++ flat_map (λ x. shape_line (c x)) zs
+three a b c xs ys zs =
+    flat_of_both shape_line (map a xs ++ map b ys) (map c zs)
+    ∙ ap (λ (l : Text). l ++ flat_map shape_line (map c zs)) (flat_of_both shape_line (map a xs) (map b ys))
+    ∙ ap (λ (l : Text). l ++ flat_map shape_line (map b ys) ++ flat_map shape_line (map c zs)) (flat_map-map shape_line a xs)
+    ∙ ap (λ (l : Text). flat_map (λ x. shape_line (a x)) xs ++ l ++ flat_map shape_line (map c zs)) (flat_map-map shape_line b ys)
+    ∙ ap (λ (l : Text). flat_map (λ x. shape_line (a x)) xs ++ flat_map (λ x. shape_line (b x)) ys ++ l) (flat_map-map shape_line c zs)
+
+regrouped : (a b c d : Text) → a ++ (b ++ c ++ d) ≡ a ++ b ++ c ++ d
+regrouped a b c d = simp append_assoc
+
+step_lines : (g : Graph) (step : Step) → flat_map shape_line (step_shapes g step) ≡ step_relations g step
+step_lines g step =
+    ap (λ (l : Text). shape_line (a_prescription (get_or (names_in g.tags) step.prescriber []) step.name) ++ l)
+    (three (λ item. a_read item step.name) (λ item. an_item_put step.name item) (λ tag. a_tag_put step.name tag) (those g.items step.reads) (those g.items step.item_puts) (those g.tags step.tag_puts))
+    ∙ regrouped (shape_line (a_prescription (get_or (names_in g.tags) step.prescriber []) step.name)) (flat_map (λ item. shape_line (a_read item step.name)) (those g.items step.reads))
+    (flat_map (λ item. shape_line (an_item_put step.name item)) (those g.items step.item_puts)) (flat_map (λ tag. shape_line (a_tag_put step.name tag)) (those g.tags step.tag_puts))
+
+pub relation_lines : (g : Graph) → flat_map shape_line (shapes g) ≡ flat_map (step_relations g) g.steps ++ environment_relations g
+relation_lines g =
+    flat_of_both shape_line (flat_map (step_shapes g) g.steps) (environment_shapes g)
+    ∙ ap (λ (l : Text). l ++ flat_map shape_line (environment_shapes g)) (flat_of_flat shape_line (step_shapes g) (step_relations g) (step_lines g) g.steps)
+    ∙ ap (λ (l : Text). flat_map (step_relations g) g.steps ++ l)
+    (three (λ item. an_environment_item item) (λ tag. an_environment_tag tag) (λ item. an_environment_get item) (those g.items g.environment_item_puts) (those g.tags g.environment_tag_puts) (those g.items g.environment_gets))

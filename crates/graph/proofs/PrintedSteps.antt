@@ -1,0 +1,185 @@
+-- A step as it is printed.
+use Rattle.std.proofs.Common.{◌≡◌, ℕ, zero, suc, ◌+◌, false, List, [], ◌∷◌, ◌++◌, length, map, take, drop, codes, Option, refl, sym, ap, subst, ◌∙◌, arith, append_assoc, length-append, length-take-le, take-append-drop}
+use Rattle.std.specs.Prelude.{is_some}
+use Rattle.std.specs.List.{AllByRecursion}
+use Rattle.std.proofs.lemmas.List.{map-append}
+use Rattle.terms.specs.declared.key.TheConstants.{MAX_COMPONENTS}
+use Rattle.steptree.specs.declared.slot.TheConstants.{MOST_NAMES}
+use Rattle.steptree.specs.declared.sheet.Sheet.{Sheet}
+use Rattle.steptree.specs.declared.step.Name.{Name}
+use Rattle.steptree.specs.declared.step.Step.{Step as NamedStep}
+use Rattle.steptree.specs.Names.{Text, is_text, names_of}
+use Rattle.steptree.specs.Resolved.{IsBlock}
+use Rattle.steptree.specs.Sheet.{BodyKeepsTo}
+use Rattle.syntax.specs.declared.token.Word.TheVariants as kept
+use Rattle.syntax.specs.declared.token.Symbol.TheVariants as sign
+use Rattle.syntax.specs.Tokens.{symbol, word}
+use Rattle.syntax.specs.Grammar.{Named, StepText}
+use Rattle.syntax.specs.Spelled.{Piece, plain, named, a_sign, a_word, parameters_pieces, variables_pieces, get_pieces, put_pieces, statements_pieces, step_pieces}
+use Rattle.syntax.specs.Limits.{all_names, step_limits}
+use Rattle.syntax.specs.Tree.{AreAll, IsStep}
+use Rattle.graph.specs.declared.fault.GraphError.TheVariants.{Redeclared}
+use Rattle.graph.specs.Graph.{Graph, Step, IsSheet, IsOfGraph, AreCollections}
+use Rattle.graph.specs.Tree.{text_of, names_in}
+use Rattle.graph.specs.Faults.{At, fault_if, has, repeated}
+use Rattle.graph.specs.Textual.{IsGraphName, AreNames, IsTextStep}
+use Rattle.graph.specs.Canonical.{in_rounds, joined, line, variables_line, block_text, step_text}
+use Rattle.graph.proofs.PrintedTokens.{never, Printed, behind, and}
+use Rattle.graph.proofs.PrintedNames.{printed_name, no_name_limit}
+use Rattle.graph.proofs.PrintedExpressions.{no_both, rounded_anywhere}
+use Rattle.graph.proofs.PrintedLists.{OnePrinted, related_lengths}
+use Rattle.graph.proofs.PrintedLines.{inside, lined, word_first, close_brace, plain_brace}
+use Rattle.graph.proofs.PrintedNameLists.{Bears, no_limits_of, none_behind, texts_of, names_of_all, parameters_printed, variables_printed}
+use Rattle.graph.proofs.PrintedNames.{a_word_alone}
+use Rattle.graph.proofs.PrintedCollections.{known}
+use Rattle.graph.proofs.PrintedBlocks.{read_printed, write_printed}
+use Rattle.graph.proofs.PrintedApart.{Apart, Clear, apart, nowhere, each}
+use Rattle.graph.proofs.PrintedDeclared.{one_before}
+use Rattle.graph.proofs.PrintedValues.{vec_of, name_of}
+
+-- ---- names of a step
+
+pub are_both : {X D : Type 0} (Rel : X → D → Type 0) (xs ys : List X) (ds es : List D) → AreAll Rel xs ds → AreAll Rel ys es → AreAll Rel (xs ++ ys) (ds ++ es)
+are_both Rel [] ys [] es one two = two
+are_both Rel [] ys (d ∷ ds) es one two = absurd one
+are_both Rel (x ∷ xs) ys [] es one two = absurd one
+are_both Rel (x ∷ xs) ys (d ∷ ds) es one two = (one.0, are_both Rel xs ys ds es one.1 two)
+
+pub many_mapped : {X Y : Type 0} (f : X → Y) (xs : List X) → length (map f xs) ≡ length xs
+many_mapped f [] = refl
+many_mapped f (x ∷ xs) = omega (arith, many_mapped f xs)
+
+texts_named : (those : List Named) → map (λ (it : Name). it.text.now) (map name_of those) ≡ map (λ (it : Named). it.0) those
+texts_named [] = refl
+texts_named (it ∷ those) = ap (λ (l : List Text). it.0 ∷ l) (texts_named those)
+
+both_named : (one two : List Named) (texts : List Text) → AreAll Bears texts (one ++ two) → map (λ (it : Name). it.text.now) (map name_of one ++ map name_of two) ≡ texts
+both_named one two texts all =
+    ap (λ (l : List Name). map (λ (it : Name). it.text.now) l) (sym (map-append name_of one two)) ∙ texts_named (one ++ two) ∙ texts_of texts (one ++ two) all
+
+not_repeated : (before texts : List Text) (those : List Named) → AreAll Bears texts those → Apart is_text texts → Clear is_text before texts → repeated before (map name_of those) ≡ []
+not_repeated before [] [] all apart clear = refl
+not_repeated before [] (it ∷ those) all apart clear = absurd all
+not_repeated before (text ∷ texts) [] all apart clear = absurd all
+not_repeated before (text ∷ texts) (it ∷ those) all apart clear =
+    let here : AllByRecursion (λ other. is_text it.0 other ≡ false) before = subst (λ (t : Text). AllByRecursion (λ other. is_text t other ≡ false) before) (sym all.0.same) clear.0 in
+    let first : fault_if (has before (name_of it)) Redeclared it.1 ≡ [] = ap (λ (o : Option ℕ). fault_if (is_some o) Redeclared it.1) (nowhere before it.0 here) in
+    let same : before ++ it.0 ∷ [] ≡ before ++ text ∷ [] = ap (λ (t : Text). before ++ t ∷ []) all.0.same in
+    let more : repeated (before ++ it.0 ∷ []) (map name_of those) ≡ [] =
+    ap (λ (l : List Text). repeated l (map name_of those)) same ∙ not_repeated (before ++ text ∷ []) texts those all.1 apart.1 (one_before before text texts clear.1 apart.0) in
+    ap (λ (l : List At). l ++ repeated (before ++ it.0 ∷ []) (map name_of those)) first ∙ more
+
+take_each : (P : Text → Type 0) (count : ℕ) (texts : List Text) → AllByRecursion P texts → AllByRecursion P (take count texts)
+take_each P zero texts all = tt
+take_each P (suc count) [] all = tt
+take_each P (suc count) (text ∷ texts) all = (all.0, take_each P count texts all.1)
+
+drop_each : (P : Text → Type 0) (count : ℕ) (texts : List Text) → AllByRecursion P texts → AllByRecursion P (drop count texts)
+drop_each P zero texts all = all
+drop_each P (suc count) [] all = tt
+drop_each P (suc count) (text ∷ texts) all = drop_each P count texts all.1
+
+-- ---- the pieces of a step in their order
+
+in_order : (head variables read write : List Piece) (a b c d e f g h : Piece)
+    → head ++ (a ∷ []) ++ variables ++ (b ∷ c ∷ []) ++ read ++ (d ∷ []) ++ (e ∷ f ∷ []) ++ write ++ (g ∷ []) ++ (h ∷ [])
+    ≡ head ++ (a ∷ (variables ++ (b ∷ []) ++ (c ∷ (read ++ (d ∷ []))) ++ (e ∷ []) ++ (f ∷ (write ++ (g ∷ []))) ++ (h ∷ [])))
+in_order head variables read write a b c d e f g h = simp append_assoc
+
+opened : (place : ℕ) → Printed never place (codes "read {") (a_word kept.Read ++ a_sign sign.OpenBrace)
+opened place = behind (a_word_alone place kept.Read) (plain_brace (place + 4)) (λ rest may. refl)
+
+opened_write : (place : ℕ) → Printed never place (codes "write {") (a_word kept.Write ++ a_sign sign.OpenBrace)
+opened_write place = behind (a_word_alone place kept.Write) (plain_brace (place + 5)) (λ rest may. refl)
+
+-- ---- a step
+
+-- a step of a graph that a text can have
+pub record IsGood (g : Graph) (step : Step) : Type 0 where
+  pub of_graph : IsOfGraph g step
+  pub textual : IsTextStep step
+
+-- what the derivation of a printed step is
+pub record DerivedStep (g : Graph) (step : Step) (text : StepText) : Type 0 where
+  pub sheet : Sheet
+  pub is_sheet : IsSheet g step sheet
+  pub limits : step_limits text ≡ []
+  pub value : NamedStep
+  pub is : IsStep text value
+  pub name : text_of value.name ≡ step.name
+  pub names : step.names ≡ names_of value
+  pub parameters : step.parameters ≡ length value.parameters.items
+  pub read : IsBlock (names_of value) sheet value.read step.body.read
+  pub write : IsBlock (names_of value) sheet value.write step.body.write
+  pub keeps : BodyKeepsTo sheet step.body
+  pub once : repeated [] (value.parameters.items ++ value.variables.items) ≡ []
+
+module _ (g : Graph) (items : AreCollections g.items) (tags : AreCollections g.tags) (item_names : AreNames (names_in g.items)) (tag_names : AreNames (names_in g.tags)) where
+  pub step_printed : (step : Step) (place : ℕ) → IsGood g step → OnePrinted never (step_text g) step_pieces (DerivedStep g) place step
+  step_printed step place good =
+      let sheet : Sheet = good.of_graph.sheet in
+      let is_sheet : IsSheet g step sheet = good.of_graph.is_sheet in
+      let inputs : List Text = take step.parameters step.names in
+      let locals : List Text = drop step.parameters step.names in
+      let head : Text = codes "step " ++ step.name in
+      let line0 : Text = line 0 (head ++ in_rounds (joined inputs) ++ codes " {") in
+      let text1 : Text = line0 ++ variables_line locals in
+      let text2 : Text = text1 ++ line 1 (codes "read {") in
+      let text3 : Text = text2 ++ block_text g step.names 2 step.body.read in
+      let text4 : Text = text3 ++ line 1 (codes "}") in
+      let text5 : Text = text4 ++ line 1 (codes "write {") in
+      let text6 : Text = text5 ++ block_text g step.names 2 step.body.write in
+      let text7 : Text = text6 ++ line 1 (codes "}") in
+      let parameters = parameters_printed inputs (place + length head + 1) (take_each IsGraphName step.parameters step.names good.textual.names.each) in
+      let variables = variables_printed locals (place + length line0) (drop_each IsGraphName step.parameters step.names good.textual.names.each) in
+      let read = read_printed g step.names sheet good.textual.names (λ allowed index components is. known sheet.items.now g.items allowed index components is_sheet.items items item_names is)
+      (λ allowed index components is. known sheet.tags.now g.tags allowed index components is_sheet.tags tags tag_names is) step.body.read 2 0 (place + length text2) good.textual.read good.of_graph.keeps.0 in
+      let write = write_printed g step.names sheet good.textual.names (λ allowed index components is. known sheet.items.now g.items allowed index components is_sheet.items items item_names is)
+      (λ allowed index components is. known sheet.tags.now g.tags allowed index components is_sheet.tags tags tag_names is) step.body.write 2 0 (place + length text5) good.textual.write good.of_graph.keeps.1 in
+      let title = behind (and (word_first place kept.Step) (printed_name (place + 5) step.name good.textual.name)) (rounded_anywhere parameters.printed) (λ rest may. refl) in
+      let first = lined 0 place (and title (plain_brace (place + length (head ++ in_rounds (joined inputs))))) in
+      let upto3 = and (and (and first variables.printed) (lined 1 (place + length text1) (opened (inside 1 (place + length text1))))) read.printed in
+      let upto5 = and (and upto3 (lined 1 (place + length text3) (close_brace (inside 1 (place + length text3))))) (lined 1 (place + length text4) (opened_write (inside 1 (place + length text4)))) in
+      let upto7 = and (and upto5 write.printed) (lined 1 (place + length text6) (close_brace (inside 1 (place + length text6)))) in
+      let all = and upto7 (lined 0 (place + length text7) (close_brace (place + length text7))) in
+      let text : StepText = record { name = (step.name, place + 5); parameters = parameters.names; variables = variables.names; read = read.statements; write = write.statements } in
+      let one : List Named = all_names parameters.names in
+      let two : List Named = all_names variables.names in
+      let whole : inputs ++ locals ≡ step.names = take-append-drop step.parameters step.names in
+      let bear : AreAll Bears step.names (one ++ two) = subst (λ (l : List Text). AreAll Bears l (one ++ two)) whole (are_both Bears inputs locals one two parameters.related variables.related) in
+      let many : length (one ++ two) ≡ length step.names = sym (related_lengths Bears step.names (one ++ two) bear) in
+      let few : length one ≡ step.parameters = sym (related_lengths Bears inputs one parameters.related) ∙ length-take-le step.parameters step.names good.of_graph.parameters in
+      let named_all : map (λ (it : Name). it.text.now) (map name_of one ++ map name_of two) ≡ step.names = both_named one two step.names bear in
+      let many_one : length (map name_of one) ≡ length one = many_mapped name_of one in
+      let many_two : length (map name_of two) ≡ length two = many_mapped name_of two in
+      let sum : length (one ++ two) ≡ length one + length two = length-append one two in
+      let no_names = no_both _ _ (no_both _ _ (no_both _ _ (no_name_limit step.name (place + 5) good.textual.name) (no_limits_of step.names (one ++ two) bear))
+      (none_behind MAX_COMPONENTS one (omega (arith, few, good.textual.few)))) (none_behind MOST_NAMES (one ++ two) (omega (arith, many, good.of_graph.names))) in
+      let value : NamedStep = record {
+        name = name_of (step.name, place + 5);
+        parameters = vec_of (map name_of one) (omega (arith, many_one, few, good.textual.few));
+        variables = vec_of (map name_of two) (omega (arith, many_two, many, sum, good.of_graph.names));
+        read = read.value;
+        write = write.value;
+      } in record {
+        derived = text;
+        printed = subst (λ (p : List Piece). Printed never place (step_text g step) p)
+            (in_order (a_word kept.Step ++ named (step.name, place + 5) ∷ a_sign sign.OpenRound ++ parameters_pieces parameters.names ++ a_sign sign.CloseRound) (variables_pieces variables.names) (statements_pieces get_pieces read.statements)
+            (statements_pieces put_pieces write.statements) (plain (symbol sign.OpenBrace)) (plain (word kept.Read)) (plain (symbol sign.OpenBrace)) (plain (symbol sign.CloseBrace)) (plain (word kept.Write)) (plain (symbol sign.OpenBrace))
+            (plain (symbol sign.CloseBrace)) (plain (symbol sign.CloseBrace))) all;
+        related = record {
+          sheet = sheet;
+          is_sheet = is_sheet;
+          limits = no_both _ _ (no_both _ _ no_names read.limits) write.limits;
+          value = value;
+          is = record { name = (refl, refl); parameters = names_of_all one; variables = names_of_all two; read = read.is; write = write.is };
+          name = refl;
+          names = sym named_all;
+          parameters = omega (arith, many_one, few);
+          read = subst (λ (l : List Text). IsBlock l sheet read.value step.body.read) (sym named_all) read.resolves;
+          write = subst (λ (l : List Text). IsBlock l sheet write.value step.body.write) (sym named_all) write.resolves;
+          keeps = good.of_graph.keeps;
+          once = ap (λ (l : List Name). repeated [] l) (sym (map-append name_of one two))
+              ∙ not_repeated [] step.names (one ++ two) bear (apart step.names good.textual.names.distinct) (each (λ text. AllByRecursion (λ other. is_text text other ≡ false) []) (λ text. tt) step.names);
+        };
+      }
