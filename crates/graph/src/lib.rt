@@ -1,7 +1,8 @@
 //! Graphs: their collections by numbers, and what stands between them.
 //!
-//! A `Graph` of `specs/Graph.antt` is what a text says of its collections; `Fits` is the rule by which an event fits a graph
-//! and facts, without a look at the bodies of steps.
+//! A `Graph` is seen as the `Graph` of `specs/Graph.antt`: what a text says of its collections. The layers above stand on
+//! its readers, each exact, and on `Fits`, the rule by which an event fits a graph and facts, without a look at the bodies
+//! of steps. `resolve` answers a tree's collections and relations, or its first fault in the order of places.
 #![tactic(auto)]
 
 mod declarations;
