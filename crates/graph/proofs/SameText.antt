@@ -96,10 +96,10 @@ module _ (g h : Graph) (same : SameGraph g h) where
       let read = same_block g h same.items same.tags one.names 2 one.body.read two.body.read it.read ∙ ap (λ (names : List Text). block_text h names 2 two.body.read) it.names in
       let write = same_block g h same.items same.tags one.names 2 one.body.write two.body.write it.write ∙ ap (λ (names : List Text). block_text h names 2 two.body.write) it.names in
       λ i. line 0 (codes "step " ++ it.name i ++ in_rounds (joined (take (it.parameters i) (it.names i))) ++ codes " {")
-          ++ variables_line (drop (it.parameters i) (it.names i))
-          ++ line 1 (codes "read {") ++ read i ++ line 1 (codes "}")
-          ++ line 1 (codes "write {") ++ write i ++ line 1 (codes "}")
-          ++ line 0 (codes "}")
+      ++ variables_line (drop (it.parameters i) (it.names i))
+      ++ line 1 (codes "read {") ++ read i ++ line 1 (codes "}")
+      ++ line 1 (codes "write {") ++ write i ++ line 1 (codes "}")
+      ++ line 0 (codes "}")
 
   same_environment : environment_relations g ≡ environment_relations h
   same_environment = λ i. environment_relations (record {
