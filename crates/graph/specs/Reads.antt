@@ -46,13 +46,17 @@ abbrev pub AreBodyFaults : Tree → List NamedStep → List CheckFault → Type 
 AreBodyFaults tree [] faults = faults ≡ []
 AreBodyFaults tree (step ∷ steps) faults = (sheet : Sheet) × IsSheetOf tree step sheet × ((more : List CheckFault) × (faults ≡ faults_of sheet step ++ more) × AreBodyFaults tree steps more)
 
+-- the first fault of a tree: of its names and relations, and behind them of its bodies
+pub record IsTreeFault (tree : Tree) (error : GraphError) (position : ℕ) : Type 0 where
+  pub bodies : List CheckFault
+  pub are_bodies : AreBodyFaults tree tree.steps.items bodies
+  pub first : slice_get (tree_faults tree ++ map body_fault bodies) 0 ≡ Some (error, position)
+
 -- the first fault of a text that is in the grammar and within the limits
 pub record IsFirstFault (text : List ℕ) (error : GraphError) (position : ℕ) : Type 0 where
   pub tree : Tree
   pub read : IsRead text tree
-  pub bodies : List CheckFault
-  pub are_bodies : AreBodyFaults tree tree.steps.items bodies
-  pub first : slice_get (tree_faults tree ++ map body_fault bodies) 0 ≡ Some (error, position)
+  pub first : IsTreeFault tree error position
 
 -- a graph whose canonical text is too long
 pub record HasLongText (text : List ℕ) : Type 0 where

@@ -1,5 +1,8 @@
 -- What a text is read as, and the cause of each fault.
 use Rattle.std.specs.Prelude.{◌≡◌, ◌≤◌, ℕ, suc, List, length, map, take, get_or, slice_get, Some}
+use Rattle.syntax.specs.declared.fault.TreeError.{TreeError}
+use Rattle.syntax.specs.declared.fault.TreeError.TheVariants as error
+use Rattle.syntax.specs.declared.fault.TreeFault.{TreeFault}
 use Rattle.syntax.specs.declared.tree.Tree.{Tree}
 use Rattle.syntax.specs.Tokens.{Spot, AreTokens}
 use Rattle.syntax.specs.Grammar.{Position, GraphText}
@@ -41,3 +44,12 @@ pub record IsLimitFault (text : List ℕ) (place : Position) : Type 0 where
   pub count : ℕ
   pub counted : count ≤ length spots
   pub passed : (graph : GraphText) → GoesOn spots count graph → (i : ℕ) × (slice_get (graph_limits graph) i ≡ Some place)
+
+-- the cause of a fault at its place; want of memory has none, and no place
+abbrev pub IsCause : List ℕ → TreeError → Position → Type 0
+IsCause text error.Syntax place = IsSyntaxFault text place
+IsCause text error.TooLarge place = IsLimitFault text place
+IsCause text error.NoMemory place = place ≡ 0
+
+abbrev pub HasCause : List ℕ → TreeFault → Type 0
+HasCause text fault = IsCause text fault.error fault.place
