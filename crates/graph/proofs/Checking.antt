@@ -30,7 +30,7 @@ use Rattle.graph.proofs.Naming.{one_more_named, so_many}
 -- ---- components
 
 -- the tags with a number have the components that are declared
-looked_up : (tags : List Declared) (tag : Text) (number : ℕ) → place_of (names_in (declared_collections tags)) tag ≡ Some number
+pub looked_up : (tags : List Declared) (tag : Text) (number : ℕ) → place_of (names_in (declared_collections tags)) tag ≡ Some number
     → components_of (declared_collections tags) tag ≡ option_map (λ declared. declared.components) (slice_get tags number)
 looked_up [] tag number there = absurd (cc)
 looked_up (first ∷ tags) tag number there = by (is_text first.name.now tag) refl number there (looked_up tags tag)
@@ -60,7 +60,7 @@ looked_up (first ∷ tags) tag number there = by (is_text first.name.now tag) re
         ap (λ (b : Bool). if b then Some first.components else components_of (declared_collections tags) tag) same
         ∙ deeper n (before_it (place_of (names_in (declared_collections tags)) tag) n (sym (ap (λ (b : Bool). if b then Some zero else option_map suc (place_of (names_in (declared_collections tags)) tag)) same) ∙ is))
 
-declared_there : (tags : List Declared) (number : ℕ) (tag : Text) → place_of (names_in (declared_collections tags)) tag ≡ Some number → (components : ℕ) × (option_map (λ declared. declared.components) (slice_get tags number) ≡ Some components)
+pub declared_there : (tags : List Declared) (number : ℕ) (tag : Text) → place_of (names_in (declared_collections tags)) tag ≡ Some number → (components : ℕ) × (option_map (λ declared. declared.components) (slice_get tags number) ≡ Some components)
 declared_there tags number tag there =
     by (slice_get tags number) (sym (slice_get-map (λ collection. collection.name) (declared_collections tags) number
     ∙ ap (option_map (λ collection. collection.name)) (slice_get-map (λ it. record { name = it.name.now; components = it.components }) tags number)) ∙ at_place (names_in (declared_collections tags)) tag number there)

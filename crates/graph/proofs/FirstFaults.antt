@@ -36,3 +36,7 @@ pub relation_passed_on : {X : Type 0} (P : X → Type 0) (faults : List At) (res
     → MatchResult result P (IsFirst faults)
 relation_passed_on P faults (Ok value) fault is first = absurd is
 relation_passed_on P faults (Err other) fault is first = subst (IsFirst faults) (sym is) first
+
+pub fault_passed_on : {X : Type 0} (P : X → Type 0) (Q : PlacedFault → Type 0) (result : Result X PlacedFault) (fault : PlacedFault) → IsErrAnd result (λ other. other ≡ fault) → Q fault → MatchResult result P Q
+fault_passed_on P Q (Ok value) fault is it = absurd is
+fault_passed_on P Q (Err other) fault is it = subst Q (sym is) it

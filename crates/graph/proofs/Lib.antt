@@ -1,9 +1,12 @@
+mod BodyFaults
 mod Checking
 mod Declaring
 mod Entries
 pub mod ExampleText
+mod Faultless
 mod FirstFaults
 mod Lists
+mod Made
 mod Marks
 mod Naming
 mod Places
@@ -34,6 +37,8 @@ mod Relating
 mod RelationKinds
 mod Resolving
 pub mod SameText
+mod Rising
 mod Seen
+mod Sheets
 mod Texts
 mod Unmarked

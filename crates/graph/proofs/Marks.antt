@@ -187,7 +187,7 @@ module _ (is : Text → Text → Relation → Bool) (steps names : List Text) (b
       in_row : place < length (get_or rows row [])
       in_row = omega (arith, slice_get_within names place name (at_place names name place there), width_at rows row (length names) within are.wide)
 
-stood : {X Y : Type 0} (f : X → Y) (xs : List X) (index : ℕ) (this : X) (default : Y) → index < length xs → this ≡ get_or xs index this → f this ≡ get_or (map f xs) index default
+pub stood : {X Y : Type 0} (f : X → Y) (xs : List X) (index : ℕ) (this : X) (default : Y) → index < length xs → this ≡ get_or xs index this → f this ≡ get_or (map f xs) index default
 stood f [] index this default within is = absurd (omega arith)
 stood f (x ∷ xs) zero this default within is = ap f is
 stood f (x ∷ xs) (suc index) this default within is = stood f xs index this default (omega arith) is

@@ -1,4 +1,5 @@
 pub mod Canonical
+pub mod CheckedSteps
 pub mod Collected
 pub mod Examples
 pub mod Faults

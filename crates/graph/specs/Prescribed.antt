@@ -1,5 +1,7 @@
 -- Which steps a collection of tags prescribes.
-use Rattle.std.specs.Prelude.{ℕ, suc, Bool, false, List, [], ◌∷◌, map, Option, Some, None, get_or, slice_get, ◌==◌, if◌then◌else◌}
+use Rattle.std.specs.Prelude.{◌≡◌, ◌<◌, ℕ, suc, Bool, false, List, [], ◌∷◌, map, length, Option, Some, None, get_or, slice_get, ◌==◌, if◌then◌else◌, Vec}
+use Rattle.std.specs.declared.alloc.Global.{Global}
+use Rattle.terms.specs.declared.name.StepCollection.{StepCollection}
 use Rattle.steptree.specs.Names.{Text}
 use Rattle.graph.specs.Graph.{Step, Graph}
 
@@ -23,3 +25,12 @@ mark_in marks (Some step) number = get_or (marks step) number false
 -- what a step of the graph is marked with at a number, and false where there is no such step or number
 abbrev pub mark_of : (Step → List Bool) → Graph → ℕ → ℕ → Bool
 mark_of marks g step number = mark_in marks (slice_get g.steps step) number
+
+-- the numbers of the steps in each list
+abbrev pub numbers_of : List (Vec StepCollection Global) → List (List ℕ)
+numbers_of lists = map (λ steps. map (λ step. step.0) steps.items) lists
+
+-- there is a list for each of so many tags, with the numbers of the steps that they prescribe, rising
+pub record ArePrescriptions (steps : List Step) (tags : ℕ) (lists : List (List ℕ)) : Type 0 where
+  pub long : length lists ≡ tags
+  pub each : (tag : ℕ) → tag < tags → get_or lists tag [] ≡ prescribed_from 0 steps tag

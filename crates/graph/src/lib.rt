@@ -5,6 +5,8 @@
 //! of steps. `resolve` answers a tree's collections and relations, or its first fault in the order of places.
 #![tactic(auto)]
 
+mod bodies;
+mod build;
 mod declarations;
 mod examples;
 mod fault;
@@ -13,6 +15,7 @@ mod law;
 mod limits;
 mod numbered;
 mod place;
+mod prescriptions;
 mod relations;
 mod resolved;
 mod steps;

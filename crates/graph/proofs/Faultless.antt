@@ -1,0 +1,151 @@
+-- What holds of a tree without a fault: its names differ, and its steps have the right number of parameters.
+use Rattle.std.proofs.Common.{◌≡◌, ℕ, zero, suc, Bool, true, false, if◌then◌else◌, List, [], ◌∷◌, ◌++◌, Option, Some, None, refl, sym, ap, subst, ◌∙◌, append_assoc, slice_get}
+use Rattle.std.specs.Prelude.{option_map, is_some}
+use Rattle.std.specs.List.{IsDistinct}
+use Rattle.std.specs.Str.{bytes_eq}
+use Rattle.steptree.specs.declared.step.Name.{Name}
+use Rattle.steptree.specs.declared.step.Step.{Step as NamedStep}
+use Rattle.steptree.specs.Names.{Text, is_text, place_of}
+use Rattle.syntax.specs.declared.tree.Declaration.{Declaration}
+use Rattle.syntax.specs.declared.tree.Declaration.TheVariants as declared
+use Rattle.syntax.specs.declared.tree.Relation.{Relation}
+use Rattle.syntax.specs.declared.tree.Tree.{Tree}
+use Rattle.graph.specs.declared.fault.GraphError.{GraphError}
+use Rattle.graph.specs.declared.fault.GraphError.TheVariants.{Redeclared, StepTwice}
+use Rattle.graph.specs.Graph.{Collection}
+use Rattle.graph.specs.Faults.{At, fault_if, or_else, has, repeated, declaration_faults, relation_faults, step_faults, arity_faults, tree_faults}
+use Rattle.graph.specs.Tree.{text_of, items_of, tags_of, names_in, step_names, prescriber_of}
+use Rattle.graph.proofs.Texts.{texts_are_bytes}
+use Rattle.graph.proofs.PrintedApart.{each_of_both}
+
+-- ---- lists that are empty
+
+pub first_empty : {X : Type 0} (xs ys : List X) → xs ++ ys ≡ [] → xs ≡ []
+first_empty [] ys none = refl
+first_empty (x ∷ xs) ys none = absurd (cc)
+
+pub second_empty : {X : Type 0} (xs ys : List X) → xs ++ ys ≡ [] → ys ≡ []
+second_empty [] ys none = none
+second_empty (x ∷ xs) ys none = absurd (cc)
+
+no_first : (xs ys : List At) → or_else xs ys ≡ [] → xs ≡ []
+no_first [] ys none = refl
+no_first (x ∷ xs) ys none = absurd (cc)
+
+no_second : (xs ys : List At) → or_else xs ys ≡ [] → ys ≡ []
+no_second [] ys none = none
+no_second (x ∷ xs) ys none = absurd (cc)
+
+pub not_so : (holds : Bool) (error : GraphError) (position : ℕ) → fault_if holds error position ≡ [] → holds ≡ false
+not_so false error position none = refl
+not_so true error position none = absurd (cc)
+
+-- ---- names that differ
+
+not_there : (place : Option ℕ) → is_some place ≡ false → place ≡ None
+not_there None none = refl
+not_there (Some place) none = absurd (cc)
+
+not_first : (same : Bool) (rest : Option ℕ) → (if same then Some zero else option_map suc rest) ≡ None → (same ≡ false) × (rest ≡ None)
+not_first true rest none = absurd (cc)
+not_first false None none = (refl, refl)
+not_first false (Some place) none = absurd (cc)
+
+one_more : (names : List Text) (name : Text) → IsDistinct bytes_eq names → place_of names name ≡ None → IsDistinct bytes_eq (names ++ name ∷ [])
+unfolding IsDistinct
+one_more [] name distinct none = (tt, tt)
+one_more (first ∷ names) name distinct none =
+    let other = not_first (is_text first name) (place_of names name) none in
+    (each_of_both (λ y. bytes_eq first y ≡ false) names (name ∷ []) distinct.0 (sym (texts_are_bytes first name) ∙ other.0, tt), one_more names name distinct.1 other.1)
+
+new_name : (names : List Text) (name : Name) (error : GraphError) → IsDistinct bytes_eq names → fault_if (has names name) error name.place ≡ [] → IsDistinct bytes_eq (names ++ text_of name ∷ [])
+new_name names name error distinct none =
+    one_more names (text_of name) distinct (not_there (place_of names (text_of name)) (not_so (has names name) error name.place none))
+
+-- ---- declarations
+
+behind : (names : List Text) (name : Text) (more : List Text) → IsDistinct bytes_eq ((names ++ name ∷ []) ++ more) → IsDistinct bytes_eq (names ++ name ∷ more)
+behind names name more distinct = subst (IsDistinct bytes_eq) (append_assoc names (name ∷ []) more) distinct
+
+at_end : (names : List Text) → IsDistinct bytes_eq names → IsDistinct bytes_eq (names ++ [])
+at_end names distinct = subst (IsDistinct bytes_eq) (sym (nothing names)) distinct
+  where
+    nothing : (l : List Text) → l ++ [] ≡ l
+    nothing [] = refl
+    nothing (x ∷ l) = ap (λ m. x ∷ m) (nothing l)
+
+abbrev Apart : List Text → List Text → List Declaration → Type 0
+Apart items tags ds = IsDistinct bytes_eq (items ++ names_in (items_of ds)) × IsDistinct bytes_eq (tags ++ names_in (tags_of ds))
+
+declared_apart : (items tags : List Text) (ds : List Declaration) → declaration_faults items tags ds ≡ [] → IsDistinct bytes_eq items → IsDistinct bytes_eq tags → Apart items tags ds
+declared_apart items tags [] none one two = (at_end items one, at_end tags two)
+declared_apart items tags (declared.Item name components ∷ more) none one two =
+    let first = first_empty (fault_if (has items name) Redeclared name.place) _ none in
+    let rest = declared_apart (items ++ text_of name ∷ []) tags more (second_empty (fault_if (has items name) Redeclared name.place) _ none) (new_name items name Redeclared one first) two in
+    (behind items (text_of name) (names_in (items_of more)) rest.0, rest.1)
+declared_apart items tags (declared.Tag name components ∷ more) none one two =
+    let first = first_empty (fault_if (has tags name) Redeclared name.place) _ none in
+    let rest = declared_apart items (tags ++ text_of name ∷ []) more (second_empty (fault_if (has tags name) Redeclared name.place) _ none) one (new_name tags name Redeclared two first) in
+    (rest.0, behind tags (text_of name) (names_in (tags_of more)) rest.1)
+
+-- ---- steps
+
+module _ (tags : List Collection) (relations : List Relation) where
+  abbrev heading : List Text → NamedStep → List At
+  heading before step = or_else (fault_if (has before step.name) StepTwice step.name.place) (arity_faults tags (prescriber_of relations (text_of step.name)) step)
+
+  abbrev naming : NamedStep → List At
+  naming step = repeated [] (step.parameters.items ++ step.variables.items)
+
+  later : (before : List Text) (step : NamedStep) (more : List NamedStep) → step_faults tags relations before (step ∷ more) ≡ [] → step_faults tags relations (before ++ text_of step.name ∷ []) more ≡ []
+  later before step more none = second_empty (heading before step ++ naming step) _ none
+
+  at_head : (before : List Text) (step : NamedStep) (more : List NamedStep) → step_faults tags relations before (step ∷ more) ≡ [] → heading before step ≡ []
+  at_head before step more none = first_empty (heading before step) (naming step) (first_empty (heading before step ++ naming step) _ none)
+
+  steps_apart : (before : List Text) (steps : List NamedStep) → step_faults tags relations before steps ≡ [] → IsDistinct bytes_eq before → IsDistinct bytes_eq (before ++ step_names steps)
+  steps_apart before [] none distinct = at_end before distinct
+  steps_apart before (step ∷ more) none distinct =
+      let once = no_first (fault_if (has before step.name) StepTwice step.name.place) _ (at_head before step more none) in
+      behind before (text_of step.name) (step_names more) (steps_apart (before ++ text_of step.name ∷ []) more (later before step more none) (new_name before step.name StepTwice distinct once))
+
+  right_arity : (before : List Text) (steps : List NamedStep) (number : ℕ) (step : NamedStep) → step_faults tags relations before steps ≡ [] → slice_get steps number ≡ Some step
+      → arity_faults tags (prescriber_of relations (text_of step.name)) step ≡ []
+  right_arity before [] number step none there = absurd (cc)
+  right_arity before (first ∷ more) zero step none there =
+      let same : first ≡ step = cc in
+      subst (λ (s : NamedStep). arity_faults tags (prescriber_of relations (text_of s.name)) s ≡ []) same
+      (no_second (fault_if (has before first.name) StepTwice first.name.place) _ (at_head before first more none))
+  right_arity before (first ∷ more) (suc number) step none there = right_arity (before ++ text_of first.name ∷ []) more number step (later before first more none) there
+
+-- ---- trees
+
+module _ (tree : Tree) (none : tree_faults tree ≡ []) where
+  abbrev of_declarations : List At
+  of_declarations = declaration_faults [] [] tree.declarations.items
+
+  abbrev of_relations : List At
+  of_relations = relation_faults (names_in (items_of tree.declarations.items)) (names_in (tags_of tree.declarations.items)) (step_names tree.steps.items) [] tree.relations.items
+
+  abbrev of_steps : List At
+  of_steps = step_faults (tags_of tree.declarations.items) tree.relations.items [] tree.steps.items
+
+  no_step : of_steps ≡ []
+  no_step = second_empty (of_declarations ++ of_relations) of_steps none
+
+  names_apart : Apart [] [] tree.declarations.items
+  unfolding IsDistinct
+  names_apart = declared_apart [] [] tree.declarations.items (first_empty of_declarations of_relations (first_empty (of_declarations ++ of_relations) of_steps none)) tt tt
+
+  pub items_apart : IsDistinct bytes_eq (names_in (items_of tree.declarations.items))
+  items_apart = names_apart.0
+
+  pub tags_apart : IsDistinct bytes_eq (names_in (tags_of tree.declarations.items))
+  tags_apart = names_apart.1
+
+  pub step_names_apart : IsDistinct bytes_eq (step_names tree.steps.items)
+  unfolding IsDistinct
+  step_names_apart = steps_apart (tags_of tree.declarations.items) tree.relations.items [] tree.steps.items no_step tt
+
+  pub no_arity : (number : ℕ) (step : NamedStep) → slice_get tree.steps.items number ≡ Some step → arity_faults (tags_of tree.declarations.items) (prescriber_of tree.relations.items (text_of step.name)) step ≡ []
+  no_arity number step there = right_arity (tags_of tree.declarations.items) tree.relations.items [] tree.steps.items number step no_step there
