@@ -40,5 +40,8 @@ pub mod SameText
 mod Rising
 mod Seen
 mod Sheets
+mod AsciiTexts
+mod SmallTrees
 mod Texts
+mod TreeFaultKinds
 mod Unmarked

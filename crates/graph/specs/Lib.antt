@@ -2,6 +2,7 @@ pub mod Canonical
 pub mod CheckedSteps
 pub mod Collected
 pub mod Examples
+pub mod FaultText
 pub mod Faults
 pub mod Fits
 pub mod Graph

@@ -1,8 +1,12 @@
 ghost use Rattle.std.specs.Prelude.{◌≡◌};
-ghost use Rattle.graph.specs.Placed.{no_memory};
+ghost use Rattle.std.specs.Prelude.{Some};
+ghost use Rattle.graph.specs.FaultText.{error_number, check_number as number_of_check, fault_text};
+ghost use Rattle.graph.specs.Placed.{no_memory, placed};
 
 use std::alloc::{AllocError, AllocFailed};
+use std::fmt;
 use steptree::CheckError;
+use syntax::{TreeError, TreeFault};
 use thiserror::Error;
 
 /// Why a text is no graph. Each but `NoMemory` has a place.
@@ -46,12 +50,63 @@ pub enum GraphError {
     NoMemory,
 }
 
+impl GraphError {
+    /// Its number, from 1 to 12.
+    pub fn number(self) -> u8
+        ensures { result ≡ error_number self }
+    {
+        match self {
+            GraphError::NotAscii => 1,
+            GraphError::Syntax => 2,
+            GraphError::Redeclared => 3,
+            GraphError::UnknownName => 4,
+            GraphError::Arity => 5,
+            GraphError::NoPrescriber => 6,
+            GraphError::TwoPrescribers => 7,
+            GraphError::StepMissing => 8,
+            GraphError::StepTwice => 9,
+            GraphError::TooLarge => 10,
+            GraphError::Check(_) => 11,
+            GraphError::NoMemory => 12,
+        }
+    }
+}
+
+// The number of a fault of a body, from 1 to 5.
+fn check_number(error: CheckError) -> u8
+    ensures { result ≡ number_of_check error }
+{
+    match error {
+        CheckError::UnknownName => 1,
+        CheckError::Arity => 2,
+        CheckError::UndeclaredRead => 3,
+        CheckError::UndeclaredPut => 4,
+        CheckError::NoMemory => 5,
+    }
+}
+
 /// A fault of a text, and where: lines and columns from 1, a column for each byte; 0 and 0 where memory was refused.
 #[derive(Clone, Copy, Debug, PartialEq, Eq)]
 pub struct GraphFault {
     pub error: GraphError,
     pub line: usize,
     pub column: usize,
+}
+
+impl fmt::Display for GraphFault {
+    ghost output = { λ fault. Some (fault_text fault) };
+
+    // Its number, its line and its column, as `2 at 1:3`; a fault of a body has its own number behind a dot, as `11.3 at 11:14`.
+    fn fmt<W: fmt::Write>(&self, f: &mut fmt::Formatter<W>) -> fmt::Result {
+        let line = self.line;
+        let column = self.column;
+        if let GraphError::Check(error) = self.error {
+            let number = check_number(error);
+            return write!(f, "11.{number} at {line}:{column}");
+        }
+        let number = self.error.number();
+        write!(f, "{number} at {line}:{column}")
+    }
 }
 
 /// A fault, and the position of the byte at which it stands; 0 where memory was refused.
@@ -79,6 +134,21 @@ impl<T: Drop> From<AllocFailed<T>> for PlacedFault {
         PlacedFault {
             error: GraphError::NoMemory,
             position: 0,
+        }
+    }
+}
+
+impl From<TreeFault> for PlacedFault {
+    ghost from_gives = { λ fault new. new ≡ placed fault };
+
+    fn from(fault: TreeFault) -> Self {
+        PlacedFault {
+            error: match fault.error {
+                TreeError::Syntax => GraphError::Syntax,
+                TreeError::TooLarge => GraphError::TooLarge,
+                TreeError::NoMemory => GraphError::NoMemory,
+            },
+            position: fault.place,
         }
     }
 }

@@ -7,6 +7,7 @@
 
 mod bodies;
 mod build;
+mod canonical_stub;
 mod declarations;
 mod examples;
 mod fault;
@@ -14,6 +15,7 @@ mod graph;
 mod law;
 mod limits;
 mod numbered;
+mod parse;
 mod place;
 mod prescriptions;
 mod relations;

@@ -1,15 +1,13 @@
 ghost use Rattle.std.specs.Prelude.{◌≡◌, ◌≤◌, ◌<◌, ◌+◌, ◌^◌, length, take};
 ghost use Rattle.graph.specs.Reads.{walked};
 
-/// The line and the column of the byte at a position, both from 1; only a line feed begins a line.
+/// The line and the column of the byte at a position, or behind the last one, both from 1; only a line feed begins a line.
 pub(crate) fn place(text: &[u8], position: usize) -> (usize, usize)
-    requires within { position ≤ length text.now }
-    requires fits { length text.now < 2 ^ 32 }
     ensures { walked 1 1 (take position text.now) ≡ result }
 {
     let mut line = 1;
     let mut column = 1;
-    for byte in &text[..position] {
+    for byte in &text[..position.min(text.len())] {
         if *byte == 10 {
             line += 1;
             column = 1;

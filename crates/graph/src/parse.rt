@@ -1,0 +1,94 @@
+//! Texts: the graph that one is, or its first fault.
+ghost use Rattle.std.specs.Prelude.{◌≡◌, ◌≤◌, ◌<◌, ◌⊎◌, length, take, MatchResult, IfOk, IfErr};
+ghost use Rattle.std.specs.List.{AllByRecursion};
+ghost use Rattle.graph.specs.Placed.{no_memory as refused};
+ghost use Rattle.graph.specs.Reads.{Reads, HasCause, IsCause, IsNotAscii, walked};
+ghost use Rattle.graph.specs.Tree.{IsGraphOf};
+
+use crate::build::graph_of;
+use crate::canonical_stub::canonical;
+use crate::fault::{GraphError, GraphFault, PlacedFault};
+use crate::graph::Graph;
+use crate::place::place;
+use crate::MOST_TEXT;
+use std::alloc::Global;
+use syntax::read_tree;
+
+/// The graph that a text is.
+///
+/// The first fault of the text is answered, at its line and column. First the whole text is looked at: one of more than
+/// `MOST_TEXT` bytes is too large at 1:1, and the first byte of 128 or more is not ASCII. Then comes the first token at
+/// fault from the left: one with which no graph text goes on (a text that ends too early has its fault at the place behind
+/// its last byte), or at which a limit is passed. Then the names and relations in the order of their places, then the
+/// bodies from the left. Last comes a graph whose canonical text has more than `MOST_TEXT` bytes, too large at 1:1.
+/// `NoMemory` may come anywhere, where a growth was refused.
+pub fn parse(alloc: Global, text: &[u8]) -> Result<Graph, GraphFault>
+    ensures reads { IfOk result (λ graph. Reads text.now graph) }
+    ensures cause { IfErr result (λ fault. HasCause text.now fault) }
+{
+    match read(alloc, text) {
+        Ok(graph) => Ok(graph),
+        Err(fault) => Err(located(text, fault)),
+    }
+}
+
+// The fault at its line and column.
+fn located(text: &[u8], fault: PlacedFault) -> GraphFault
+    requires cause { (fault ≡ refused) ⊎ IsCause text.now fault.error fault.position }
+    ensures { HasCause text.now result }
+{
+    if let GraphError::NoMemory = fault.error {
+        return GraphFault {
+            error: GraphError::NoMemory,
+            line: 0,
+            column: 0,
+        };
+    }
+    let (line, column) = place(text, fault.position);
+    GraphFault {
+        error: fault.error,
+        line,
+        column,
+    }
+}
+
+// The graph of a text, or its fault at a position.
+fn read(alloc: Global, text: &[u8]) -> Result<Graph, PlacedFault>
+    ensures { MatchResult result (Reads text.now) (λ fault. (fault ≡ refused) ⊎ IsCause text.now fault.error fault.position) }
+{
+    if text.len() > MOST_TEXT {
+        return Err(TOO_LARGE);
+    }
+    let plain = ascii(text)?;
+    let tree = read_tree(alloc, plain)?;
+    let graph = graph_of(alloc, &tree)?;
+    if canonical(alloc, &graph)?.len() > MOST_TEXT {
+        return Err(TOO_LARGE);
+    }
+    Ok(graph)
+}
+
+// A text that is too large as a whole.
+const TOO_LARGE: PlacedFault = PlacedFault {
+    error: GraphError::TooLarge,
+    position: 0,
+};
+
+// The text, if all its bytes are below 128.
+fn ascii(text: &[u8]) -> Result<&str, PlacedFault>
+    requires { length text.now ≤ MOST_TEXT }
+    ensures { MatchResult result (λ plain. (plain.now ≡ text.now) × AllByRecursion (λ byte. byte < 128) text.now) (λ fault. IsCause text.now fault.error fault.position) }
+{
+    for position in 0..text.len() {
+        if text[position] >= 128 {
+            return Err(PlacedFault {
+                error: GraphError::NotAscii,
+                position,
+            });
+        }
+    }
+    match str::from_utf8(text) {
+        Ok(plain) => Ok(plain),
+        Err(_) => Err(TOO_LARGE),
+    }
+}

@@ -1,0 +1,94 @@
+mod limits;
+mod rows;
+
+use crate::{canonical, canonical_example, parse};
+use rows::{ACCEPTED, BODIES, BYTES, CHECKS, FIBONACCI, LIMITS, NAMES, SYNTAX};
+use std::process::Abort;
+use std::test::Fail;
+
+// What a text is answered: its fault, or its canonical text.
+pub(crate) fn told<R: Abort + AllocGlobal>(rt: &R, text: &[u8]) -> Result<String, Fail> {
+    match parse(rt.alloc(), text) {
+        Ok(graph) => {
+            let canonical = canonical(rt.alloc(), &graph)?;
+            match str::from_utf8(&canonical) {
+                Ok(text) => Ok(String::from_str(rt.alloc(), text)?),
+                Err(_) => Ok(String::from_str(rt.alloc(), "not ASCII")?),
+            }
+        }
+        Err(fault) => Ok(format!(in rt.alloc(); "{fault}")?),
+    }
+}
+
+fn assert_rows<R: Abort + AllocGlobal>(rt: &R, rows: &[(&str, &str)]) -> Result<(), Fail> {
+    for (text, wanted) in rows {
+        let found = told(rt, text.as_bytes())?;
+        assert_eq!(rt; found.as_str(), *wanted, "in {text:?}");
+    }
+    Ok(())
+}
+
+#[test]
+fn texts_have_these_answers(rt: HostRuntime) -> Result<(), Fail> {
+    assert_rows(&rt, &SYNTAX)?;
+    assert_rows(&rt, &BODIES)?;
+    assert_rows(&rt, &LIMITS)?;
+    assert_rows(&rt, &NAMES)?;
+    assert_rows(&rt, &CHECKS)?;
+    assert_rows(&rt, &BYTES)?;
+    assert_rows(&rt, &ACCEPTED)
+}
+
+#[test]
+fn canonical_texts_read_back(rt: HostRuntime) -> Result<(), Fail> {
+    canonical_example();
+    for (_, text) in &ACCEPTED {
+        let found = told(&rt, text.as_bytes())?;
+        assert_eq!(&rt; found.as_str(), *text, "in {text:?}");
+    }
+    Ok(())
+}
+
+// Whether a text is a graph; what is accepted reads back from its canonical text.
+fn reads_back<R: Abort + AllocGlobal>(rt: &R, text: &[u8]) -> Result<bool, Fail> {
+    let Ok(graph) = parse(rt.alloc(), text) else {
+        return Ok(false);
+    };
+    let text = canonical(rt.alloc(), &graph)?;
+    let Ok(graph) = parse(rt.alloc(), &text) else {
+        assert!(rt; false, "{text:?}");
+        return Ok(false);
+    };
+    let again = canonical(rt.alloc(), &graph)?;
+    assert_eq!(rt; again.as_slice(), text.as_slice());
+    Ok(true)
+}
+
+#[test]
+fn every_beginning_is_answered(rt: HostRuntime) -> Result<(), Fail> {
+    let whole = FIBONACCI.as_bytes();
+    let mut accepted = 0;
+    for length in 0..=whole.len() {
+        if reads_back(&rt, &whole[..length])? {
+            accepted += 1;
+        }
+    }
+    // Nothing, the declarations with and without their line feeds, and all of it with and without its last line feed.
+    assert_eq!(&rt; accepted, 7);
+    Ok(())
+}
+
+#[test]
+fn every_other_byte_is_answered(rt: HostRuntime) -> Result<(), Fail> {
+    let mut text = FIBONACCI.as_bytes().to_vec(rt.alloc())?;
+    for place in 0..text.len() {
+        let old = text[place];
+        for byte in [0, b' ', b'(', b'0', b';', b'<', b'a', 255] {
+            text[place] = byte;
+            let accepted = reads_back(&rt, &text)?;
+            assert!(&rt; !accepted || byte != 0 && byte != 255, "{place} {byte}");
+        }
+        text[place] = old;
+    }
+    Ok(())
+}
