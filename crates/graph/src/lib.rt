@@ -7,6 +7,7 @@
 
 mod bodies;
 mod build;
+mod canonical_text;
 mod declarations;
 mod examples;
 mod fault;

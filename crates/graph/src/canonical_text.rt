@@ -1,0 +1,5 @@
+mod blocks;
+mod expressions;
+mod pieces;
+mod relations;
+mod words;
