@@ -1,11 +1,12 @@
 -- The canonical text, one part behind another.
-use Rattle.std.proofs.Common.{◌≡◌, ◌+◌, ℕ, zero, suc, Bool, true, false, List, [], ◌∷◌, ◌++◌, length, map, get_or, drop, Option, Some, None, refl, sym, ap, ◌∙◌, slice_get, arith, append_assoc}
+use Rattle.std.proofs.Common.{◌≡◌, ◌+◌, ◌-◌, ℕ, zero, suc, Bool, true, false, List, [], ◌∷◌, ◌++◌, length, map, get_or, drop, take, Option, Some, None, refl, sym, ap, ◌∙◌, slice_get, arith, append_assoc, length-drop}
 use Rattle.std.specs.Prelude.{codes, unwrap_or}
 use Rattle.std.proofs.lemmas.Option.{unwrap_or-slice_get}
 use Rattle.std.specs.List.{flat_map, zip}
 use Rattle.steptree.specs.Names.{Text}
-use Rattle.graph.specs.Canonical.{line, marked, joined, with_colon}
-use Rattle.graph.specs.Pieces.{indentation, where_marked, after_colon}
+use Rattle.graph.specs.Canonical.{line, marked, joined, with_colon, declaration_lines, in_rounds, variables_line}
+use Rattle.graph.specs.Collected.{collections_numbered}
+use Rattle.graph.specs.Pieces.{indentation, where_marked, after_colon, declaration_at, where_there}
 use Rattle.graph.proofs.Lists.{with_none}
 
 -- what is written, with what is still to come, stays as it is
@@ -80,3 +81,66 @@ colon_behind name (first ∷ more) = append_assoc name (codes ": ") (joined (fir
 pub no_name : (text : Text) (names : List Text) (number : ℕ) → None ≡ slice_get names number → text ≡ text ++ get_or names number []
 no_name text names number none =
     sym (ap (λ (t : Text). text ++ t) (sym (unwrap_or-slice_get names number []) ∙ ap (λ (o : Option Text). unwrap_or o []) (sym none)) ∙ with_none text)
+
+-- ---- declarations
+
+pub declarations_left : (brackets : Text → Text) (collections : List (Text × ℕ)) (number : ℕ)
+    → declaration_lines brackets (collections_numbered (drop number collections)) ≡ declaration_at brackets (slice_get collections number) ++ declaration_lines brackets (collections_numbered (drop (number + 1) collections))
+declarations_left brackets collections number =
+    let e : suc number ≡ number + 1 = omega arith in
+    at collections number ∙ ap (λ (n : ℕ). declaration_at brackets (slice_get collections number) ++ declaration_lines brackets (collections_numbered (drop n collections))) e
+  where
+    none_left : {X : Type 0} (number : ℕ) → drop {A = X} number [] ≡ []
+    none_left zero = refl
+    none_left (suc number) = refl
+
+    at : (collections : List (Text × ℕ)) (number : ℕ)
+        → declaration_lines brackets (collections_numbered (drop number collections)) ≡ declaration_at brackets (slice_get collections number) ++ declaration_lines brackets (collections_numbered (drop (suc number) collections))
+    at [] number = ap (λ (l : List (Text × ℕ)). declaration_lines brackets (collections_numbered l)) (none_left number)
+    at (first ∷ collections) zero = refl
+    at (first ∷ collections) (suc number) = at collections number
+
+-- ---- steps
+
+module _ {X : Type 0} (text_of : X → Text) where
+  taken : (count : ℕ) (names : List X) → map text_of (take count names) ≡ take count (map text_of names)
+  taken zero names = refl
+  taken (suc count) [] = refl
+  taken (suc count) (name ∷ names) = ap (λ l. text_of name ∷ l) (taken count names)
+
+  left : (count : ℕ) (names : List X) → map text_of (drop count names) ≡ drop count (map text_of names)
+  left zero names = refl
+  left (suc count) [] = refl
+  left (suc count) (name ∷ names) = left count names
+
+  whole : (names : List X) (count : ℕ) → count ≡ length names → take count names ≡ names
+  whole names count all = ap (λ (n : ℕ). take n names) all ∙ at names
+    where
+      at : (names : List X) → take (length names) names ≡ names
+      at [] = refl
+      at (name ∷ names) = ap (λ l. name ∷ l) (at names)
+
+  -- the first so many names are the parameters
+  pub heading : (text one two name : Text) (names : List X) (count : ℕ) → one ≡ text ++ line 0 (codes "step " ++ name ++ in_rounds (joined (map text_of (take count names))) ++ codes " {")
+      → two ≡ one ++ variables_line (map text_of (take (length names - count) (drop count names)))
+      → two ≡ text ++ (line 0 (codes "step " ++ name ++ in_rounds (joined (take count (map text_of names))) ++ codes " {") ++ variables_line (drop count (map text_of names)))
+  heading text one two name names count first second =
+      second ∙ ap (λ (l : List X). one ++ variables_line (map text_of l)) (whole (drop count names) (length names - count) (sym (length-drop count names)))
+      ∙ ap (λ (t : Text). t ++ variables_line (map text_of (drop count names))) first
+      ∙ append_assoc text (line 0 (codes "step " ++ name ++ in_rounds (joined (map text_of (take count names))) ++ codes " {")) (variables_line (map text_of (drop count names)))
+      ∙ ap (λ (l : List Text). text ++ (line 0 (codes "step " ++ name ++ in_rounds (joined l) ++ codes " {") ++ variables_line (map text_of (drop count names)))) (taken count names)
+      ∙ ap (λ (l : List Text). text ++ (line 0 (codes "step " ++ name ++ in_rounds (joined (take count (map text_of names))) ++ codes " {") ++ variables_line l)) (left count names)
+
+-- ---- lists of which each element is written
+
+-- what there is of the first of those that are left, and of those behind it
+pub steps_left : {X : Type 0} (text : X → Text) (steps : List X) (number : ℕ) → flat_map text (drop number steps) ≡ where_there text (slice_get steps number) ++ flat_map text (drop (number + 1) steps)
+steps_left text steps number =
+    let e : suc number ≡ number + 1 = omega arith in
+    at text steps number ∙ ap (λ (n : ℕ). where_there text (slice_get steps number) ++ flat_map text (drop n steps)) e
+  where
+    at : {X : Type 0} (text : X → Text) (steps : List X) (number : ℕ) → flat_map text (drop number steps) ≡ where_there text (slice_get steps number) ++ flat_map text (drop (suc number) steps)
+    at text [] zero = refl
+    at text [] (suc number) = refl
+    at text (step ∷ steps) zero = refl
+    at text (step ∷ steps) (suc number) = at text steps number

@@ -6,7 +6,7 @@ use Rattle.steptree.specs.declared.block.Block.TheVariants.{End, Assign', If', F
 use Rattle.graph.specs.declared.canonical_text.relations.Kind.{Kind}
 use Rattle.graph.specs.declared.canonical_text.relations.Kind.TheVariants as kind
 use Rattle.graph.specs.declared.canonical_text.words.Words.{Words}
-use Rattle.graph.specs.Canonical.{arrow, joined, in_brackets, in_angles, in_rounds}
+use Rattle.graph.specs.Canonical.{arrow, joined, in_brackets, in_angles, in_rounds, line, with_colon, component_names}
 
 -- the blanks in front of a line, so many levels in
 abbrev pub indentation : ℕ → Text
@@ -28,6 +28,11 @@ where_marked text None mark = []
 where_marked text (Some name) true = text name
 where_marked text (Some name) false = []
 
+-- the declaration of a collection, where there is one
+abbrev pub declaration_at : (Text → Text) → Option (Text × ℕ) → Text
+declaration_at brackets None = []
+declaration_at brackets (Some entry) = line 0 (brackets (with_colon entry.0 (component_names entry.1)) ++ codes ";")
+
 -- what there is behind a name: behind a colon, with ", " between them
 abbrev pub after_colon : List Text → Text
 after_colon [] = []
@@ -46,3 +51,8 @@ behind (For' slot from to p block q rest) = rest
 behind (Get' slot collection components p rest) = rest
 behind (PutItem' collection components value p rest) = rest
 behind (PutTag' collection components p rest) = rest
+
+-- what there is of an element, where there is one
+abbrev pub where_there : {X : Type 0} → (X → Text) → Option X → Text
+where_there text None = []
+where_there text (Some it) = text it

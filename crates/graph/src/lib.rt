@@ -22,6 +22,7 @@ mod resolved;
 mod steps;
 mod tables;
 
+pub use canonical_text::canonical;
 pub use examples::canonical_example;
 pub use fault::{GraphError, GraphFault};
 pub use graph::Graph;

@@ -10,6 +10,7 @@ use steptree::Slot;
 use terms::{ItemCollection, TagCollection};
 
 /// What the numbers in a body stand for: the collections of its graph, and the names of its step.
+#[derive(Clone, Copy)]
 pub(crate) struct Words<'a> {
     pub(crate) graph: &'a Graph,
     pub(crate) names: &'a [String],
