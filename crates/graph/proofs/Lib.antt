@@ -37,6 +37,7 @@ mod Relating
 mod RelationKinds
 mod Resolving
 pub mod SameText
+mod Written
 mod Rising
 mod Seen
 mod Sheets

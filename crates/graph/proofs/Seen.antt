@@ -1,14 +1,16 @@
 -- What a graph is seen as.
 use Rattle.std.proofs.Common.{◌≡◌, ℕ, zero, suc, Bool, true, false, List, [], ◌∷◌, map, Some, None, if◌then◌else◌, refl, sym, ap, ◌∙◌, slice_get, length, ◌≤◌, arith}
-use Rattle.std.specs.Prelude.{◌==◌}
+use Rattle.std.specs.Prelude.{◌==◌, option_map}
 use Rattle.std.proofs.Common.{eqb-true}
 use Rattle.steptree.specs.Names.{Text}
 use Rattle.graph.specs.declared.graph.Prescribed.{Prescribed}
+use Rattle.graph.specs.declared.graph.Graph.TheInside.{Inside}
 use Rattle.graph.specs.Graph.{Step, Graph, IsGraph}
-use Rattle.graph.specs.Inside.{collection_seen, step_seen}
+use Rattle.graph.specs.Inside.{collection_seen, step_seen, graph_seen}
 use Rattle.graph.specs.Numbered.{names_numbered}
 use Rattle.graph.specs.Prescribed.{prescribed_by, prescribed_from, names_of_steps}
 use Rattle.graph.specs.Tree.{names_in}
+use Rattle.graph.proofs.Rising.{as_many_mapped}
 
 fused : {X Y Z : Type 0} (f : X → Y) (g : Y → Z) (xs : List X) → map g (map f xs) ≡ map (λ x. g (f x)) xs
 fused f g [] = refl
@@ -42,3 +44,29 @@ pub past_seen : (tags : List (Text × ℕ)) (number : ℕ) → length tags ≤ n
 past_seen [] number past = refl
 past_seen (entry ∷ tags) zero past = absurd (omega arith)
 past_seen (entry ∷ tags) (suc number) past = past_seen tags number (omega arith)
+
+-- ---- steps by their numbers
+
+pub no_step_value : (steps : List (Text × Prescribed)) (number : ℕ) → None ≡ option_map (λ entry. entry.1) (slice_get steps number) → None ≡ slice_get (map step_seen steps) number
+no_step_value [] number none = refl
+no_step_value (entry ∷ steps) zero none = absurd (cc)
+no_step_value (entry ∷ steps) (suc number) none = no_step_value steps number none
+
+pub no_step_name : (steps : List (Text × Prescribed)) (number : ℕ) → None ≡ slice_get (names_numbered steps) number → None ≡ slice_get (map step_seen steps) number
+no_step_name [] number none = refl
+no_step_name (entry ∷ steps) zero none = absurd (cc)
+no_step_name (entry ∷ steps) (suc number) none = no_step_name steps number none
+
+its_entry : (steps : List (Text × Prescribed)) (number : ℕ) (it : Prescribed) → Some it ≡ option_map (λ entry. entry.1) (slice_get steps number) → (name : Text) × (slice_get (map step_seen steps) number ≡ Some (step_seen (name, it)))
+its_entry [] number it there = absurd (cc)
+its_entry (entry ∷ steps) zero it there =
+    let same : entry.1 ≡ it = cc in
+    (entry.0, ap (λ (value : Prescribed). Some (step_seen (entry.0, value))) same)
+its_entry (entry ∷ steps) (suc number) it there = its_entry steps number it there
+
+-- a step of a graph has at least as many names as parameters
+pub enough_names : (g : Inside) (number : ℕ) (it : Prescribed) → IsGraph (graph_seen g) → Some it ≡ option_map (λ entry. entry.1) (slice_get g.steps number) → it.checked.parameters ≤ length it.checked.names.items
+enough_names g number it graph there =
+    let entry = its_entry g.steps number it there in
+    let of_graph = graph.steps number (step_seen (entry.0, it)) entry.1 in
+    omega (arith, of_graph.parameters, as_many_mapped (λ name. name.bytes.items) it.checked.names.items)

@@ -9,6 +9,7 @@ pub mod Graph
 pub mod Inside
 pub mod Marks
 pub mod Numbered
+pub mod Pieces
 pub mod Placed
 pub mod Prescribed
 pub mod Reads

@@ -7,7 +7,7 @@
 
 mod bodies;
 mod build;
-mod canonical_stub;
+mod canonical_text;
 mod declarations;
 mod examples;
 mod fault;
@@ -22,9 +22,13 @@ mod relations;
 mod resolved;
 mod steps;
 mod tables;
+#[cfg(test)]
+mod tests;
 
+pub use canonical_text::canonical;
 pub use examples::canonical_example;
 pub use fault::{GraphError, GraphFault};
 pub use graph::Graph;
 pub use law::{canonical_reads, one_canonical_text};
 pub use limits::MOST_TEXT;
+pub use parse::parse;

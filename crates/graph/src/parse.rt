@@ -6,7 +6,7 @@ ghost use Rattle.graph.specs.Reads.{Reads, HasCause, IsCause, IsNotAscii, walked
 ghost use Rattle.graph.specs.Tree.{IsGraphOf};
 
 use crate::build::graph_of;
-use crate::canonical_stub::canonical;
+use crate::canonical_text::canonical;
 use crate::fault::{GraphError, GraphFault, PlacedFault};
 use crate::graph::Graph;
 use crate::place::place;

@@ -1,0 +1,100 @@
+ghost use Rattle.std.specs.Prelude.{◌≡◌, ◌≤◌, ◌++◌, [], IfOk, IfSome, OnOk, length, slice_get};
+ghost use Rattle.std.specs.List.{flat_map};
+ghost use Rattle.std.specs.Option.{option_map};
+ghost use Rattle.graph.specs.Canonical.{canonical, declaration_lines, in_angles, in_brackets, step_relations, step_text};
+ghost use Rattle.graph.specs.Inside.{step_seen};
+ghost use Rattle.graph.specs.Pieces.{where_there};
+
+mod blocks;
+mod declarations;
+mod expressions;
+mod pieces;
+mod relations;
+mod steps;
+mod ties;
+mod words;
+
+use crate::graph::{Graph, Prescribed};
+use declarations::put_declarations;
+use std::alloc::{AllocError, Global};
+use steps::put_step;
+use ties::{put_environment, put_step_relations};
+
+/// The name of the step with a number, and the step.
+fn step_at(graph: &Graph, number: usize) -> Option<(&str, &Prescribed)>
+    ensures step { option_map (λ both. step_seen (both.0.now, both.1.now)) result ≡ slice_get graph.now.steps number }
+    ensures parameters { IfSome result (λ both. both.1.now.checked.parameters ≤ length both.1.now.checked.names.items) }
+{
+    match graph.steps.name(number) {
+        Some(name) => match graph.steps.value(number) {
+            Some(step) => Some((name, step)),
+            None => None,
+        },
+        None => None,
+    }
+}
+
+/// The relations of the step with a number.
+fn put_relations_at(text: &mut Vec<u8>, graph: &Graph, number: usize) -> Result<(), AllocError>
+    ensures { OnOk result (text.new.items ≡ text.old.items ++ where_there (step_relations graph.now) (slice_get graph.now.steps number)) }
+{
+    match step_at(graph, number) {
+        Some((name, step)) => put_step_relations(text, graph, name, step),
+        None => Ok(()),
+    }
+}
+
+/// The text of the step with a number.
+fn put_step_at(text: &mut Vec<u8>, graph: &Graph, number: usize) -> Result<(), AllocError>
+    ensures { OnOk result (text.new.items ≡ text.old.items ++ where_there (step_text graph.now) (slice_get graph.now.steps number)) }
+{
+    match step_at(graph, number) {
+        Some((name, step)) => put_step(text, graph, name, step),
+        None => Ok(()),
+    }
+}
+
+/// The declarations of a graph.
+#[tactic(auto, using(std::proofs::Common::append_assoc))]
+fn put_collections(text: &mut Vec<u8>, graph: &Graph) -> Result<(), AllocError>
+    ensures { OnOk result (text.new.items ≡ text.old.items ++ (declaration_lines in_brackets graph.now.items ++ declaration_lines in_angles graph.now.tags)) }
+{
+    put_declarations(text, &graph.items, "[", "]")?;
+    put_declarations(text, &graph.tags, "<", ">")
+}
+
+/// The relations of all steps.
+fn put_all_relations(text: &mut Vec<u8>, graph: &Graph) -> Result<(), AllocError>
+    ensures { OnOk result (text.new.items ≡ text.old.items ++ flat_map (step_relations graph.now) graph.now.steps) }
+{
+    for number in 0..graph.step_count() {
+        put_relations_at(text, graph, number)?;
+    }
+    Ok(())
+}
+
+/// The texts of all steps.
+fn put_steps(text: &mut Vec<u8>, graph: &Graph) -> Result<(), AllocError>
+    ensures { OnOk result (text.new.items ≡ text.old.items ++ flat_map (step_text graph.now) graph.now.steps) }
+{
+    for number in 0..graph.step_count() {
+        put_step_at(text, graph, number)?;
+    }
+    Ok(())
+}
+
+/// The canonical text of a graph: its declarations, the relations of its steps and of its environment, and the texts of its
+/// steps, each in the order of the numbers, one to a line.
+///
+/// The error is that memory was refused; the graph is read alone.
+#[tactic(auto, using(std::proofs::Common::append_assoc))]
+pub fn canonical(alloc: Global, graph: &Graph) -> Result<Vec<u8>, AllocError>
+    ensures { IfOk result (λ text. text.items ≡ canonical graph.now) }
+{
+    let mut text = Vec::new(alloc);
+    put_collections(&mut text, graph)?;
+    put_all_relations(&mut text, graph)?;
+    put_environment(&mut text, graph)?;
+    put_steps(&mut text, graph)?;
+    Ok(text)
+}

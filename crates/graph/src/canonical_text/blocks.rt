@@ -1,0 +1,275 @@
+ghost use Rattle.std.specs.Prelude.{◌≡◌, ◌++◌, IfOk, OnOk, codes, suc};
+ghost use Rattle.graph.specs.Canonical.{in_rounds, line, variable_text, expression_text, item_text, tag_text, block_text};
+ghost use Rattle.graph.specs.Pieces.{behind, names_of_words};
+
+use super::expressions::{put_expression, put_item, put_tag};
+use super::pieces::{put, put_indentation};
+use super::words::Words;
+use std::alloc::AllocError;
+use steptree::{Block, Components, Expression, Slot};
+use terms::{ItemCollection, TagCollection};
+
+/// An assignment.
+#[tactic(auto, using(crate::proofs::Written::is_line, std::proofs::Common::append_assoc))]
+fn put_assignment(
+    text: &mut Vec<u8>,
+    words: &Words<'_>,
+    level: usize,
+    variable: Slot,
+    value: &Expression,
+) -> Result<(), AllocError>
+    ensures { OnOk result (text.new.items ≡ text.old.items ++ line level (variable_text words.now.graph.now (names_of_words words.now) variable ++ codes " = " ++ expression_text words.now.graph.now (names_of_words words.now) value.now ++ codes ";")) }
+{
+    put_indentation(text, level)?;
+    words.put_variable(text, variable)?;
+    put(text, &[" = "])?;
+    put_expression(text, words, value)?;
+    put(text, &[";\n"])
+}
+
+/// The first line of a choice.
+#[tactic(auto, using(crate::proofs::Written::is_line, std::proofs::Common::append_assoc))]
+fn put_condition(
+    text: &mut Vec<u8>,
+    words: &Words<'_>,
+    level: usize,
+    condition: &Expression,
+) -> Result<(), AllocError>
+    ensures { OnOk result (text.new.items ≡ text.old.items ++ line level (codes "if " ++ in_rounds (expression_text words.now.graph.now (names_of_words words.now) condition.now) ++ codes " {")) }
+{
+    put_indentation(text, level)?;
+    put(text, &["if ("])?;
+    put_expression(text, words, condition)?;
+    put(text, &[") {\n"])
+}
+
+/// The bounds of a loop.
+#[tactic(auto, using(std::proofs::Common::append_assoc))]
+fn put_bounds(
+    text: &mut Vec<u8>,
+    words: &Words<'_>,
+    from: &Expression,
+    to: &Expression,
+) -> Result<(), AllocError>
+    ensures { OnOk result (text.new.items ≡ text.old.items ++ (expression_text words.now.graph.now (names_of_words words.now) from.now ++ codes " .. " ++ expression_text words.now.graph.now (names_of_words words.now) to.now)) }
+{
+    put_expression(text, words, from)?;
+    put(text, &[" .. "])?;
+    put_expression(text, words, to)
+}
+
+/// The first line of a loop.
+#[tactic(auto, using(crate::proofs::Written::is_line, std::proofs::Common::append_assoc))]
+fn put_range(
+    text: &mut Vec<u8>,
+    words: &Words<'_>,
+    level: usize,
+    variable: Slot,
+    from: &Expression,
+    to: &Expression,
+) -> Result<(), AllocError>
+    ensures { OnOk result (text.new.items ≡ text.old.items ++ line level (codes "for " ++ variable_text words.now.graph.now (names_of_words words.now) variable ++ codes " in " ++ expression_text words.now.graph.now (names_of_words words.now) from.now ++ codes " .. " ++ expression_text words.now.graph.now (names_of_words words.now) to.now ++ codes " {")) }
+{
+    put_indentation(text, level)?;
+    put(text, &["for "])?;
+    words.put_variable(text, variable)?;
+    put(text, &[" in "])?;
+    put_bounds(text, words, from, to)?;
+    put(text, &[" {\n"])
+}
+
+/// A line that stands alone.
+#[tactic(auto, using(crate::proofs::Written::is_line, std::proofs::Common::append_assoc))]
+pub(crate) fn put_line(text: &mut Vec<u8>, level: usize, words: &str) -> Result<(), AllocError>
+    ensures { OnOk result (text.new.items ≡ text.old.items ++ line level words.now) }
+{
+    put_indentation(text, level)?;
+    put(text, &[words, "\n"])
+}
+
+/// A read of an item.
+#[tactic(auto, using(crate::proofs::Written::is_line, std::proofs::Common::append_assoc))]
+fn put_get(
+    text: &mut Vec<u8>,
+    words: &Words<'_>,
+    level: usize,
+    variable: Slot,
+    item: ItemCollection,
+    components: &Components,
+) -> Result<(), AllocError>
+    ensures { OnOk result (text.new.items ≡ text.old.items ++ line level (codes "get " ++ variable_text words.now.graph.now (names_of_words words.now) variable ++ codes " = " ++ item_text words.now.graph.now (names_of_words words.now) item.0 components.now ++ codes ";")) }
+{
+    put_indentation(text, level)?;
+    put(text, &["get "])?;
+    words.put_variable(text, variable)?;
+    put(text, &[" = "])?;
+    put_item(text, words, item, components)?;
+    put(text, &[";\n"])
+}
+
+/// A put of an item.
+#[tactic(auto, using(crate::proofs::Written::is_line, std::proofs::Common::append_assoc))]
+fn put_item_put(
+    text: &mut Vec<u8>,
+    words: &Words<'_>,
+    level: usize,
+    item: ItemCollection,
+    components: &Components,
+    value: &Expression,
+) -> Result<(), AllocError>
+    ensures { OnOk result (text.new.items ≡ text.old.items ++ line level (codes "put " ++ item_text words.now.graph.now (names_of_words words.now) item.0 components.now ++ codes " = " ++ expression_text words.now.graph.now (names_of_words words.now) value.now ++ codes ";")) }
+{
+    put_indentation(text, level)?;
+    put(text, &["put "])?;
+    put_item(text, words, item, components)?;
+    put(text, &[" = "])?;
+    put_expression(text, words, value)?;
+    put(text, &[";\n"])
+}
+
+/// A put of a tag.
+#[tactic(auto, using(crate::proofs::Written::is_line, std::proofs::Common::append_assoc))]
+fn put_tag_put(
+    text: &mut Vec<u8>,
+    words: &Words<'_>,
+    level: usize,
+    tag: TagCollection,
+    components: &Components,
+) -> Result<(), AllocError>
+    ensures { OnOk result (text.new.items ≡ text.old.items ++ line level (codes "put " ++ tag_text words.now.graph.now (names_of_words words.now) tag.0 components.now ++ codes ";")) }
+{
+    put_indentation(text, level)?;
+    put(text, &["put "])?;
+    put_tag(text, words, tag, components)?;
+    put(text, &[";\n"])
+}
+
+/// One level more.
+fn deeper(level: usize) -> Result<usize, AllocError>
+    ensures { IfOk result (λ next. next ≡ suc level) }
+{
+    // No block that memory holds is so deep that this fails.
+    match level.checked_add(1) {
+        Some(next) => Ok(next),
+        None => Err(AllocError),
+    }
+}
+
+/// A choice, with its blocks.
+#[cycle(blocks)]
+#[tactic(auto, using(std::proofs::Common::append_assoc))]
+fn put_choice(
+    text: &mut Vec<u8>,
+    words: &Words<'_>,
+    level: usize,
+    condition: &Expression,
+    first: &Block,
+    second: &Block,
+) -> Result<(), AllocError>
+    ensures { OnOk result (text.new.items ≡ text.old.items ++ (line level (codes "if " ++ in_rounds (expression_text words.now.graph.now (names_of_words words.now) condition.now) ++ codes " {") ++ block_text words.now.graph.now (names_of_words words.now) (suc level) first.now ++ line level (codes "} else {") ++ block_text words.now.graph.now (names_of_words words.now) (suc level) second.now ++ line level (codes "}"))) }
+{
+    let next = deeper(level)?;
+    put_condition(text, words, level, condition)?;
+    put_block(text, words, next, first)?;
+    put_line(text, level, "} else {")?;
+    put_block(text, words, next, second)?;
+    put_line(text, level, "}")
+}
+
+/// A loop, with its block.
+#[cycle(blocks)]
+#[tactic(auto, using(std::proofs::Common::append_assoc))]
+fn put_loop(
+    text: &mut Vec<u8>,
+    words: &Words<'_>,
+    level: usize,
+    variable: Slot,
+    from: &Expression,
+    to: &Expression,
+    block: &Block,
+) -> Result<(), AllocError>
+    ensures { OnOk result (text.new.items ≡ text.old.items ++ (line level (codes "for " ++ variable_text words.now.graph.now (names_of_words words.now) variable ++ codes " in " ++ expression_text words.now.graph.now (names_of_words words.now) from.now ++ codes " .. " ++ expression_text words.now.graph.now (names_of_words words.now) to.now ++ codes " {") ++ block_text words.now.graph.now (names_of_words words.now) (suc level) block.now ++ line level (codes "}"))) }
+{
+    let next = deeper(level)?;
+    put_range(text, words, level, variable, from, to)?;
+    put_block(text, words, next, block)?;
+    put_line(text, level, "}")
+}
+
+/// The first statement of a block, with the blocks inside of it.
+#[cycle(blocks)]
+#[tactic(auto, using(std::proofs::Common::append_assoc))]
+fn put_first(
+    text: &mut Vec<u8>,
+    words: &Words<'_>,
+    level: usize,
+    block: &Block,
+) -> Result<(), AllocError>
+    ensures { OnOk result (text.new.items ++ block_text words.now.graph.now (names_of_words words.now) level (behind block.now) ≡ text.old.items ++ block_text words.now.graph.now (names_of_words words.now) level block.now) }
+{
+    match block {
+        Block::End => Ok(()),
+        Block::Assign {
+            variable,
+            value,
+            ..
+        } => put_assignment(text, words, level, *variable, value),
+        Block::If {
+            condition,
+            first,
+            second,
+            ..
+        } => put_choice(text, words, level, condition, first, second),
+        Block::For {
+            variable,
+            from,
+            to,
+            block,
+            ..
+        } => put_loop(text, words, level, *variable, from, to, block),
+        Block::Get {
+            variable,
+            collection,
+            components,
+            ..
+        } => put_get(text, words, level, *variable, *collection, components),
+        Block::PutItem {
+            collection,
+            components,
+            value,
+            ..
+        } => put_item_put(text, words, level, *collection, components, value),
+        Block::PutTag {
+            collection,
+            components,
+            ..
+        } => put_tag_put(text, words, level, *collection, components),
+    }
+}
+
+/// A block, one statement a line, so many levels in.
+///
+/// It goes along the statements in a loop, and calls itself for the blocks inside of them.
+#[cycle(blocks)]
+pub(crate) fn put_block(
+    text: &mut Vec<u8>,
+    words: &Words<'_>,
+    level: usize,
+    block: &Block,
+) -> Result<(), AllocError>
+    ensures { OnOk result (text.new.items ≡ text.old.items ++ block_text words.now.graph.now (names_of_words words.now) level block.now) }
+{
+    let mut left = block;
+    loop {
+        put_first(text, words, level, left)?;
+        match left {
+            Block::End => return Ok(()),
+            Block::Assign { rest, .. } => left = rest,
+            Block::If { rest, .. } => left = rest,
+            Block::For { rest, .. } => left = rest,
+            Block::Get { rest, .. } => left = rest,
+            Block::PutItem { rest, .. } => left = rest,
+            Block::PutTag { rest, .. } => left = rest,
+        }
+    }
+}

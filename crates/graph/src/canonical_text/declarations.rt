@@ -1,0 +1,80 @@
+ghost use Rattle.std.specs.Prelude.{◌≡◌, ◌++◌, OnOk, codes, slice_get};
+ghost use Rattle.graph.specs.Canonical.{component_names, declaration_lines, line, with_colon};
+ghost use Rattle.graph.specs.Collected.{collections_numbered};
+ghost use Rattle.graph.specs.Pieces.{after_colon, declaration_at};
+
+use super::pieces::put;
+use crate::numbered::Numbered;
+use std::alloc::AllocError;
+
+/// The names of so many components, behind a colon where there are some.
+fn names_of_components(components: usize) -> &'static str
+    ensures { result.now ≡ after_colon (component_names components) }
+{
+    match components {
+        0 => "",
+        1 => ": i",
+        2 => ": i, j",
+        3 => ": i, j, k",
+        _ => ": i, j, k, l",
+    }
+}
+
+/// A name, and behind a colon the names of so many components.
+#[tactic(auto, using(crate::proofs::Written::colon_behind, std::proofs::Common::append_assoc))]
+fn put_name(text: &mut Vec<u8>, name: &str, components: usize) -> Result<(), AllocError>
+    ensures { OnOk result (text.new.items ≡ text.old.items ++ with_colon name.now (component_names components)) }
+{
+    put(text, &[name])?;
+    put(text, &[names_of_components(components)])
+}
+
+/// A declaration.
+#[tactic(auto, using(std::proofs::Common::append_assoc))]
+fn put_collection(
+    text: &mut Vec<u8>,
+    name: &str,
+    components: usize,
+    opening: &str,
+    closing: &str,
+) -> Result<(), AllocError>
+    ensures { OnOk result (text.new.items ≡ text.old.items ++ line 0 (opening.now ++ with_colon name.now (component_names components) ++ closing.now ++ codes ";")) }
+{
+    put(text, &[opening])?;
+    put_name(text, name, components)?;
+    put(text, &[closing, ";\n"])
+}
+
+/// The declaration of the collection with a number.
+fn put_declaration(
+    text: &mut Vec<u8>,
+    collections: &Numbered<usize>,
+    number: usize,
+    opening: &str,
+    closing: &str,
+) -> Result<(), AllocError>
+    ensures { OnOk result (text.new.items ≡ text.old.items ++ declaration_at (λ name. opening.now ++ name ++ closing.now) (slice_get collections.now number)) }
+{
+    match collections.name(number) {
+        Some(name) => match collections.value(number) {
+            Some(components) => put_collection(text, name, *components, opening, closing),
+            None => Ok(()),
+        },
+        None => Ok(()),
+    }
+}
+
+/// The declarations of collections, their names between these brackets.
+pub(crate) fn put_declarations(
+    text: &mut Vec<u8>,
+    collections: &Numbered<usize>,
+    opening: &str,
+    closing: &str,
+) -> Result<(), AllocError>
+    ensures { OnOk result (text.new.items ≡ text.old.items ++ declaration_lines (λ name. opening.now ++ name ++ closing.now) (collections_numbered collections.now)) }
+{
+    for number in 0..collections.len() {
+        put_declaration(text, collections, number, opening, closing)?;
+    }
+    Ok(())
+}

@@ -1,0 +1,35 @@
+ghost use Rattle.std.specs.Prelude.{◌≡◌, ◌++◌, OnOk, codes};
+ghost use Rattle.std.specs.List.{flat_map};
+ghost use Rattle.graph.specs.Canonical.{number_text};
+ghost use Rattle.graph.specs.Pieces.{indentation};
+
+use std::alloc::AllocError;
+
+/// Appends these texts, one behind another.
+pub(crate) fn put(text: &mut Vec<u8>, pieces: &[&str]) -> Result<(), AllocError>
+    ensures { OnOk result (text.new.items ≡ text.old.items ++ flat_map (λ piece. piece.now) pieces.now) }
+{
+    for piece in pieces {
+        text.extend_from_slice(piece.as_bytes())?;
+    }
+    Ok(())
+}
+
+/// Appends the blanks in front of a line, so many levels in.
+pub(crate) fn put_indentation(text: &mut Vec<u8>, level: usize) -> Result<(), AllocError>
+    ensures { OnOk result (text.new.items ≡ text.old.items ++ indentation level) }
+{
+    for _level in 0..level {
+        put(text, &["  "])?;
+    }
+    Ok(())
+}
+
+/// Appends a number.
+pub(crate) fn put_number(text: &mut Vec<u8>, number: i64) -> Result<(), AllocError>
+    ensures { OnOk result (text.new.items ≡ text.old.items ++ number_text number) }
+{
+    let alloc = *text.allocator();
+    let digits = format!(in alloc; "{number}")?;
+    put(text, &[digits.as_str()])
+}

@@ -1,0 +1,72 @@
+ghost use Rattle.std.specs.Prelude.{◌≡◌, ◌++◌, OnOk, get_or, slice_get, false};
+ghost use Rattle.std.specs.List.{flat_map, zip};
+ghost use Rattle.graph.specs.Canonical.{marked};
+ghost use Rattle.graph.specs.Numbered.{names_numbered};
+ghost use Rattle.graph.specs.Pieces.{relation_line, where_marked};
+
+use super::pieces::put;
+use crate::numbered::Numbered;
+use std::alloc::AllocError;
+
+/// A relation but for the collection of items or tags at one of its ends; of a step by its name.
+#[derive(Clone, Copy)]
+pub(crate) enum Kind<'a> {
+    Reads(&'a str),
+    PutsItem(&'a str),
+    PutsTag(&'a str),
+    EnvironmentPutsItem,
+    EnvironmentPutsTag,
+    EnvironmentGets,
+}
+
+/// The line of a relation.
+#[tactic(auto, using(std::proofs::Common::append_assoc))]
+fn put_relation(text: &mut Vec<u8>, kind: Kind<'_>, name: &str) -> Result<(), AllocError>
+    ensures { OnOk result (text.new.items ≡ text.old.items ++ relation_line kind.entry name.now) }
+{
+    match kind {
+        Kind::Reads(step) => put(text, &["[", name, "] -> (", step, ");\n"]),
+        Kind::PutsItem(step) => put(text, &["(", step, ") -> [", name, "];\n"]),
+        Kind::PutsTag(step) => put(text, &["(", step, ") -> <", name, ">;\n"]),
+        Kind::EnvironmentPutsItem => put(text, &["env -> [", name, "];\n"]),
+        Kind::EnvironmentPutsTag => put(text, &["env -> <", name, ">;\n"]),
+        Kind::EnvironmentGets => put(text, &["[", name, "] -> env;\n"]),
+    }
+}
+
+/// The line of a relation with the collection with a number, where it is marked.
+fn put_relation_at(
+    text: &mut Vec<u8>,
+    kind: Kind<'_>,
+    collections: &Numbered<usize>,
+    marks: &[bool],
+    number: usize,
+) -> Result<(), AllocError>
+    ensures { OnOk result (text.new.items ≡ text.old.items ++ where_marked (relation_line kind.entry) (slice_get (names_numbered collections.now) number) (get_or marks.now number false)) }
+{
+    match collections.name(number) {
+        Some(name) => {
+            if number < marks.len() && marks[number] {
+                put_relation(text, kind, name)
+            } else {
+                Ok(())
+            }
+        }
+        None => Ok(()),
+    }
+}
+
+/// The lines of the relations with those collections that are marked.
+pub(crate) fn put_relations(
+    text: &mut Vec<u8>,
+    kind: Kind<'_>,
+    collections: &Numbered<usize>,
+    marks: &[bool],
+) -> Result<(), AllocError>
+    ensures { OnOk result (text.new.items ≡ text.old.items ++ flat_map (relation_line kind.entry) (marked (zip (names_numbered collections.now) marks.now))) }
+{
+    for number in 0..collections.len() {
+        put_relation_at(text, kind, collections, marks, number)?;
+    }
+    Ok(())
+}

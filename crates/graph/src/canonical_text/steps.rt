@@ -1,0 +1,111 @@
+ghost use Rattle.std.specs.Prelude.{◌≡◌, ◌≤◌, ◌++◌, [], OnOk, codes, drop, get_or, length, map, take};
+ghost use Rattle.std.specs.List.{flat_map};
+ghost use Rattle.graph.specs.Canonical.{block_text, in_rounds, joined, line, step_text, variables_line};
+ghost use Rattle.graph.specs.Inside.{step_seen};
+ghost use Rattle.graph.specs.Pieces.{names_of_words};
+
+use super::blocks::{put_block, put_line};
+use super::pieces::put;
+use super::words::Words;
+use crate::graph::{Graph, Prescribed};
+use std::alloc::AllocError;
+use steptree::Block;
+
+/// Names, each behind a comma.
+#[tactic(auto, using(std::proofs::Common::append_assoc))]
+fn put_more_names(text: &mut Vec<u8>, names: &[String]) -> Result<(), AllocError>
+    ensures { OnOk result (text.new.items ≡ text.old.items ++ flat_map (λ text. codes ", " ++ text) (map (λ name. name.bytes.items) names.now)) }
+{
+    for name in names {
+        put(text, &[", ", name.as_str()])?;
+    }
+    Ok(())
+}
+
+/// Names, with commas between them.
+#[tactic(auto, using(std::proofs::Common::append_assoc))]
+fn put_names(text: &mut Vec<u8>, names: &[String]) -> Result<(), AllocError>
+    ensures { OnOk result (text.new.items ≡ text.old.items ++ joined (map (λ name. name.bytes.items) names.now)) }
+{
+    match names {
+        [] => Ok(()),
+        [first, more @ ..] => {
+            put(text, &[first.as_str()])?;
+            put_more_names(text, more)
+        }
+    }
+}
+
+/// The line of the variables, where there are some.
+#[tactic(auto, using(std::proofs::Common::append_assoc))]
+fn put_variables(text: &mut Vec<u8>, names: &[String]) -> Result<(), AllocError>
+    ensures { OnOk result (text.new.items ≡ text.old.items ++ variables_line (map (λ name. name.bytes.items) names.now)) }
+{
+    match names {
+        [] => Ok(()),
+        _ => {
+            put(text, &["  var "])?;
+            put_names(text, names)?;
+            put(text, &[";\n"])
+        }
+    }
+}
+
+/// The first line of a step.
+#[tactic(auto, using(crate::proofs::Written::is_line, std::proofs::Common::append_assoc))]
+fn put_head(text: &mut Vec<u8>, name: &str, parameters: &[String]) -> Result<(), AllocError>
+    ensures { OnOk result (text.new.items ≡ text.old.items ++ line 0 (codes "step " ++ name.now ++ in_rounds (joined (map (λ name. name.bytes.items) parameters.now)) ++ codes " {")) }
+{
+    put(text, &["step ", name, "("])?;
+    put_names(text, parameters)?;
+    put(text, &[") {\n"])
+}
+
+/// The read block or the write block of a step, with its first line and its last.
+#[tactic(auto, using(std::proofs::Common::append_assoc))]
+fn put_section(
+    text: &mut Vec<u8>,
+    words: &Words<'_>,
+    title: &str,
+    block: &Block,
+) -> Result<(), AllocError>
+    ensures { OnOk result (text.new.items ≡ text.old.items ++ (line 1 title.now ++ block_text words.now.graph.now (names_of_words words.now) 2 block.now ++ line 1 (codes "}"))) }
+{
+    put_line(text, 1, title)?;
+    put_block(text, words, 2, block)?;
+    put_line(text, 1, "}")
+}
+
+/// The first line of a step, and the line of its variables; the first so many names are the parameters.
+fn put_heading(
+    text: &mut Vec<u8>,
+    name: &str,
+    names: &[String],
+    parameters: usize,
+) -> Result<(), AllocError>
+    requires { parameters ≤ length names.now }
+    ensures { OnOk result (text.new.items ≡ text.old.items ++ (line 0 (codes "step " ++ name.now ++ in_rounds (joined (take parameters (map (λ name. name.bytes.items) names.now))) ++ codes " {") ++ variables_line (drop parameters (map (λ name. name.bytes.items) names.now)))) }
+{
+    put_head(text, name, &names[..parameters])?;
+    put_variables(text, &names[parameters..])?;
+    Ok(())
+}
+
+/// The text of a step.
+#[tactic(auto, using(std::proofs::Common::append_assoc))]
+pub(crate) fn put_step(
+    text: &mut Vec<u8>,
+    graph: &Graph,
+    name: &str,
+    step: &Prescribed,
+) -> Result<(), AllocError>
+    requires { step.now.checked.parameters ≤ length step.now.checked.names.items }
+    ensures { OnOk result (text.new.items ≡ text.old.items ++ step_text graph.now (step_seen (name.now, step.now))) }
+{
+    let names = step.checked.names.as_slice();
+    let words = Words { graph, names };
+    put_heading(text, name, names, step.checked.parameters)?;
+    put_section(text, &words, "read {", &step.checked.body.read)?;
+    put_section(text, &words, "write {", &step.checked.body.write)?;
+    put_line(text, 0, "}")
+}

@@ -1,0 +1,92 @@
+ghost use Rattle.std.specs.Prelude.{◌≡◌, ◌++◌, [], OnOk, codes, get_or};
+ghost use Rattle.std.specs.List.{flat_map};
+ghost use Rattle.graph.specs.Canonical.{environment_relations, in_angles, in_rounds, line, step_relations, those};
+ghost use Rattle.graph.specs.Inside.{step_seen};
+ghost use Rattle.graph.specs.Pieces.{relation_line};
+ghost use Rattle.graph.specs.Tree.{names_in};
+
+use super::pieces::put;
+use super::relations::{Kind, put_relations};
+use super::words::Words;
+use crate::graph::{Graph, Prescribed};
+use std::alloc::AllocError;
+use terms::TagCollection;
+
+/// The lines of the relations with those collections of items that are marked.
+fn put_item_relations(
+    text: &mut Vec<u8>,
+    graph: &Graph,
+    kind: Kind<'_>,
+    marks: &[bool],
+) -> Result<(), AllocError>
+    ensures { OnOk result (text.new.items ≡ text.old.items ++ flat_map (relation_line kind.entry) (those graph.now.items marks.now)) }
+{
+    put_relations(text, kind, &graph.items, marks)?;
+    Ok(())
+}
+
+/// The lines of the relations with those collections of tags that are marked.
+fn put_tag_relations(
+    text: &mut Vec<u8>,
+    graph: &Graph,
+    kind: Kind<'_>,
+    marks: &[bool],
+) -> Result<(), AllocError>
+    ensures { OnOk result (text.new.items ≡ text.old.items ++ flat_map (relation_line kind.entry) (those graph.now.tags marks.now)) }
+{
+    put_relations(text, kind, &graph.tags, marks)?;
+    Ok(())
+}
+
+/// The line of a prescription.
+#[tactic(auto, using(std::proofs::Common::append_assoc))]
+fn put_prescription(
+    text: &mut Vec<u8>,
+    words: &Words<'_>,
+    tag: TagCollection,
+    step: &str,
+) -> Result<(), AllocError>
+    ensures { OnOk result (text.new.items ≡ text.old.items ++ line 0 (in_angles (get_or (names_in words.now.graph.now.tags) tag.0 []) ++ codes " :: " ++ in_rounds step.now ++ codes ";")) }
+{
+    put(text, &["<"])?;
+    words.put_tag_name(text, tag)?;
+    put(text, &["> :: (", step, ");\n"])
+}
+
+/// The relations of a step.
+#[tactic(auto, using(std::proofs::Common::append_assoc))]
+pub(crate) fn put_step_relations(
+    text: &mut Vec<u8>,
+    graph: &Graph,
+    name: &str,
+    step: &Prescribed,
+) -> Result<(), AllocError>
+    ensures { OnOk result (text.new.items ≡ text.old.items ++ step_relations graph.now (step_seen (name.now, step.now))) }
+{
+    let names = step.checked.names.as_slice();
+    let words = Words { graph, names };
+    put_prescription(text, &words, step.prescriber, name)?;
+    put_item_relations(text, graph, Kind::Reads(name), &step.reads)?;
+    put_item_relations(text, graph, Kind::PutsItem(name), &step.item_puts)?;
+    put_tag_relations(text, graph, Kind::PutsTag(name), &step.tag_puts)
+}
+
+/// The relations of the environment.
+#[tactic(auto, using(std::proofs::Common::append_assoc))]
+pub(crate) fn put_environment(text: &mut Vec<u8>, graph: &Graph) -> Result<(), AllocError>
+    ensures { OnOk result (text.new.items ≡ text.old.items ++ environment_relations graph.now) }
+{
+    put_item_relations(
+        text,
+        graph,
+        Kind::EnvironmentPutsItem,
+        &graph.environment_item_puts,
+    )?;
+    put_tag_relations(
+        text,
+        graph,
+        Kind::EnvironmentPutsTag,
+        &graph.environment_tag_puts,
+    )?;
+    put_item_relations(text, graph, Kind::EnvironmentGets, &graph.environment_gets)
+}
