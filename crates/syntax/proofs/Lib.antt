@@ -14,6 +14,7 @@ pub mod Once
 pub mod Onward
 pub mod Operands
 pub mod Partials
+pub mod RelationParts
 pub mod Runs
 pub mod Signs
 pub mod Spelled

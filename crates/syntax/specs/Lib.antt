@@ -12,6 +12,7 @@ pub mod Natural
 pub mod Parsed
 pub mod Partial
 pub mod Reading
+pub mod Relations
 pub mod Spelled
 pub mod Tokens
 pub mod Tree

@@ -19,6 +19,7 @@ mod numbers;
 mod operand;
 mod own_statements;
 mod partial;
+mod relations;
 mod stop;
 mod symbols;
 #[cfg(test)]
