@@ -1,5 +1,6 @@
 pub mod Blocks
 pub mod ComponentNames
+pub mod Declarations
 pub mod Expected
 pub mod Front
 pub mod Grammar

@@ -9,7 +9,7 @@ use Rattle.syntax.specs.declared.tree.Relation.{Relation as Related}
 use Rattle.syntax.specs.Tokens.{Spot}
 use Rattle.syntax.specs.Grammar.{Position, Relation}
 use Rattle.syntax.specs.Limits.{relation_limits}
-use Rattle.syntax.specs.Spelled.{Piece, a_sign, bracketed_name, angled_name, relation_pieces}
+use Rattle.syntax.specs.Spelled.{Piece, bracketed_name, angled_name, relation_pieces}
 use Rattle.syntax.specs.Tree.{IsRelation}
 use Rattle.syntax.specs.Expected.{Expected, exactly, a_name, reader, related, relations, steps}
 use Rattle.syntax.specs.Parsed.{Reads, named_of}

@@ -1,6 +1,5 @@
 use Rattle.std.proofs.Common.{[], ◌≡◌, ◌∷◌, ◌++◌, refl, ap, subst, ◌∙◌}
 use Rattle.syntax.specs.declared.token.Symbol.TheVariants as sign
-use Rattle.syntax.specs.declared.relations.Target.TheVariants as target
 use Rattle.syntax.specs.Grammar.{puts_item, puts_tag}
 use Rattle.syntax.specs.Limits.{name_limits}
 use Rattle.syntax.specs.Spelled.{a_sign}
