@@ -2,6 +2,7 @@ pub mod Accepted
 pub mod AcceptedKeys
 pub mod Broken
 pub mod Chain
+pub mod DeclarationParts
 pub mod Example
 pub mod Forward
 pub mod Fronts
@@ -14,6 +15,7 @@ pub mod Once
 pub mod Onward
 pub mod Operands
 pub mod Partials
+pub mod PreambleParts
 pub mod Runs
 pub mod Signs
 pub mod Spelled

@@ -71,9 +71,9 @@ last_name start now behind after count name so_far room takes within taken =
     }
 
 -- whether there is room for one more
-pub full_names : (count : ℕ) (full : Bool) → (full ≡ true → MAX_COMPONENTS ≤ count) → (full ≡ false → count < MAX_COMPONENTS) → IsFull full (λ place. one_more MAX_COMPONENTS count place)
-full_names count true many few = λ place. too_many_more MAX_COMPONENTS count place (many refl)
-full_names count false many few = λ place. few_more MAX_COMPONENTS count place (few refl)
+pub full_names : (most count : ℕ) (full : Bool) → (full ≡ true → most ≤ count) → (full ≡ false → count < most) → IsFull full (λ place. one_more most count place)
+full_names most count true many few = λ place. too_many_more most count place (many refl)
+full_names most count false many few = λ place. few_more most count place (few refl)
 
 pub name_stops : (start now after : List Spot) (count : ℕ) (full : Bool) (cause : Stop) → NamesSoFar start now count → IsFull full (λ place. one_more MAX_COMPONENTS count place) → StopsAtName full now after cause
     → Stops (component_name 0 ∷ []) start after cause

@@ -1,5 +1,6 @@
 pub mod Blocks
 pub mod ComponentNames
+pub mod Declarations
 pub mod Expected
 pub mod Front
 pub mod Grammar
@@ -12,6 +13,7 @@ pub mod Natural
 pub mod Parsed
 pub mod Partial
 pub mod Reading
+pub mod Relations
 pub mod Spelled
 pub mod Tokens
 pub mod Tree

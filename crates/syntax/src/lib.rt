@@ -6,6 +6,7 @@
 
 mod characters;
 mod cursor;
+mod declarations;
 mod expressions;
 mod fault;
 mod grammar;
@@ -19,6 +20,8 @@ mod numbers;
 mod operand;
 mod own_statements;
 mod partial;
+mod preamble;
+mod relations;
 mod stop;
 mod symbols;
 #[cfg(test)]

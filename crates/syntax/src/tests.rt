@@ -1,4 +1,5 @@
 mod expressions;
+mod preambles;
 mod statements;
 
 use crate::{Placed, Token, tokens, tokens_once};

@@ -1,0 +1,102 @@
+-- Declarations that are read, and the relations behind them.
+use Rattle.std.specs.Prelude.{◌≡◌, ℕ, suc, Bool, true, false, List, [], ◌∷◌, ◌++◌, length, Option, Some, None}
+use Rattle.std.specs.List.{flat_map}
+use Rattle.terms.specs.declared.key.TheConstants.{MAX_COMPONENTS}
+use Rattle.syntax.specs.declared.declarations.Front.{Front}
+use Rattle.syntax.specs.declared.declarations.Front.TheVariants as begins
+use Rattle.syntax.specs.declared.preamble.Preamble.{Preamble}
+use Rattle.syntax.specs.declared.token.Symbol.{Symbol}
+use Rattle.syntax.specs.declared.token.Symbol.TheVariants as sign
+use Rattle.syntax.specs.declared.tree.Declaration.{Declaration as Declared}
+use Rattle.syntax.specs.declared.tree.Declaration.TheVariants as declares
+use Rattle.syntax.specs.declared.tree.Relation.{Relation as Related}
+use Rattle.syntax.specs.Tokens.{Spot}
+use Rattle.syntax.specs.Grammar.{Position, Names, Declaration, Relation}
+use Rattle.syntax.specs.Limits.{name_limits, names_behind, all_names, declarations_limits, relation_limits}
+use Rattle.syntax.specs.Spelled.{Piece, a_sign, names_pieces, after_colon, declaration_pieces, relation_pieces}
+use Rattle.syntax.specs.Tree.{AreAll, IsDeclaration, IsRelation}
+use Rattle.syntax.specs.Expected.{Kind, item, tag, Expected, exactly, declarations, front_named, front_closed, component_name, relations, declared, declared_limits, closing}
+use Rattle.syntax.specs.Parsed.{Reads}
+use Rattle.syntax.specs.NameLists.{IsFull}
+use Rattle.syntax.specs.Relations.{IsRelationRest, reader_rest, prescribed_step}
+
+-- whether there is room for no further collection of a kind, with so many items and tags before
+abbrev pub IsFullOf : Kind → ℕ → ℕ → Bool → Type 0
+IsFullOf kind items tags full = IsFull full (declared_limits kind items tags)
+
+-- the names of components, the closing bracket and a semicolon
+abbrev pub components_rest : Symbol → List Expected
+components_rest close = component_name 0 ∷ exactly close ∷ exactly sign.Semicolon ∷ []
+
+-- no name, or few enough, and so many
+pub record AreCounted (names : Option Names) (count : ℕ) : Type 0 where
+  pub counted : count ≡ length (all_names names)
+  pub within : flat_map name_limits (all_names names) ++ names_behind MAX_COMPONENTS (all_names names) ≡ []
+
+pub record IsComponentsRest (close : Symbol) (count : ℕ) (before after : List Spot) : Type 0 where
+  pub names : Names
+  pub reads : Reads (components_rest close) [] (names_pieces names ++ a_sign close ++ a_sign sign.Semicolon) before after
+  pub counted : AreCounted (Some names) count
+
+-- behind the collection of a relation
+abbrev pub relation_rest : Kind → List Expected
+relation_rest item = reader_rest
+relation_rest tag = prescribed_step
+
+-- behind the closing bracket: the end of a declaration, for which there is room, or a relation
+abbrev pub IsEnd : Kind → ℕ → ℕ → Position → Bool → List Spot → List Spot → Type 0
+IsEnd kind items tags place true before after =
+    Reads (front_closed kind items tags place ∷ []) (declared kind items tags ∷ []) (a_sign sign.Semicolon) before after × (declared_limits kind items tags place ≡ [])
+IsEnd kind items tags place false before after = Reads (front_closed kind items tags place ∷ []) (relation_rest kind ++ relations ∷ []) [] before after
+
+-- a declaration behind its name, with so many components
+pub record IsDeclaredRest (kind : Kind) (items tags : ℕ) (place : Position) (count : ℕ) (before after : List Spot) : Type 0 where
+  pub components : Option Names
+  pub reads : Reads (front_named kind items tags place ∷ []) (declared kind items tags ∷ []) (after_colon components ++ a_sign (closing kind) ++ a_sign sign.Semicolon) before after
+  pub counted : AreCounted components count
+  pub room : declared_limits kind items tags place ≡ []
+
+-- behind the name: a declaration, or else a relation
+abbrev pub IsBehindName : Kind → ℕ → ℕ → Position → Option ℕ → List Spot → List Spot → Type 0
+IsBehindName kind items tags place (Some count) before after = IsDeclaredRest kind items tags place count before after
+IsBehindName kind items tags place None before after = Reads (front_named kind items tags place ∷ []) (relation_rest kind ++ relations ∷ []) (a_sign (closing kind)) before after
+
+-- the rest of a declaration behind these pieces of it; with so many items and tags before, and so many then
+pub record IsDeclarationRest (expected : List Expected) (pieces : List Piece) (items tags more_items more_tags : ℕ) (tree : Declared) (before after : List Spot) : Type 0 where
+  pub declaration : Declaration
+  pub rest : List Piece
+  pub spelled : declaration_pieces declaration ≡ pieces ++ rest
+  pub reads : Reads expected (declarations more_items more_tags ∷ []) rest before after
+  pub is : IsDeclaration declaration tree
+  pub within : (more : List Declaration) → declarations_limits items tags (declaration ∷ more) ≡ declarations_limits more_items more_tags more
+
+-- a declaration behind these pieces of one, or a relation behind those of one
+abbrev pub IsFront : List Expected → List Piece → List Piece → ℕ → ℕ → Front → List Spot → List Spot → Type 0
+IsFront expected one two items tags (begins.Item name count) before after = IsDeclarationRest expected one items tags (suc items) tags (declares.Item name count) before after
+IsFront expected one two items tags (begins.Tag name count) before after = IsDeclarationRest expected one items tags items (suc tags) (declares.Tag name count) before after
+IsFront expected one two items tags (begins.Relation tree) before after = IsRelationRest expected (relations ∷ []) two [] tree before after
+
+-- where none begins so, relations may come
+abbrev pub IsFrontOrNone : ℕ → ℕ → Option Front → List Spot → List Spot → Type 0
+IsFrontOrNone items tags (Some front) before after = IsFront (declarations items tags ∷ []) [] [] items tags front before after
+IsFrontOrNone items tags None before after = Reads (declarations items tags ∷ []) (relations ∷ []) [] before after
+
+-- declarations so far, with so many items and tags among them
+pub record AreDeclared (items tags : ℕ) (trees : List Declared) (before after : List Spot) : Type 0 where
+  pub read : List Declaration
+  pub reads : Reads (declarations 0 0 ∷ []) (declarations items tags ∷ []) (flat_map declaration_pieces read) before after
+  pub are : AreAll IsDeclaration read trees
+  pub within : (more : List Declaration) → declarations_limits 0 0 (read ++ more) ≡ declarations_limits items tags more
+
+-- declarations and relations from the beginning of a text, where these may come behind them
+pub record ArePreamble (more : List Expected) (declarations_read : List Declared) (relations_read : List Related) (before after : List Spot) : Type 0 where
+  pub declared : List Declaration
+  pub related : List Relation
+  pub reads : Reads (declarations 0 0 ∷ []) more (flat_map declaration_pieces declared ++ flat_map relation_pieces related) before after
+  pub declarations : AreAll IsDeclaration declared declarations_read
+  pub relations : AreAll IsRelation related relations_read
+  pub declarations_within : declarations_limits 0 0 declared ≡ []
+  pub relations_within : flat_map relation_limits related ≡ []
+
+abbrev pub IsPreamble : List Expected → Preamble → List Spot → List Spot → Type 0
+IsPreamble more preamble before after = ArePreamble more preamble.declarations.items preamble.relations.items before after

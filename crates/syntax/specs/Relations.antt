@@ -1,0 +1,53 @@
+-- Relations that are read, and their parts.
+use Rattle.std.specs.Prelude.{◌≡◌, List, [], ◌∷◌, ◌++◌, Option, Some, None}
+use Rattle.steptree.specs.declared.step.Name.{Name}
+use Rattle.syntax.specs.declared.relations.Target.{Target}
+use Rattle.syntax.specs.declared.relations.Target.TheVariants as target
+use Rattle.syntax.specs.declared.token.Symbol.{Symbol}
+use Rattle.syntax.specs.declared.token.Symbol.TheVariants as sign
+use Rattle.syntax.specs.declared.tree.Relation.{Relation as Related}
+use Rattle.syntax.specs.Tokens.{Spot}
+use Rattle.syntax.specs.Grammar.{Position, Relation}
+use Rattle.syntax.specs.Limits.{relation_limits}
+use Rattle.syntax.specs.Spelled.{Piece, bracketed_name, angled_name, relation_pieces}
+use Rattle.syntax.specs.Tree.{IsRelation}
+use Rattle.syntax.specs.Expected.{Expected, exactly, a_name, reader, related, relations, steps}
+use Rattle.syntax.specs.Parsed.{Reads, named_of}
+
+-- a name, its closing bracket and a semicolon
+abbrev pub last_name_rest : Symbol → List Expected
+last_name_rest close = a_name ∷ exactly close ∷ exactly sign.Semicolon ∷ []
+
+-- an arrow, and what is put
+abbrev pub target_rest : List Expected
+target_rest = exactly sign.Arrow ∷ related ∷ exactly sign.Semicolon ∷ []
+
+-- behind an item: an arrow, and what reads it
+abbrev pub reader_rest : List Expected
+reader_rest = exactly sign.Arrow ∷ reader ∷ exactly sign.Semicolon ∷ []
+
+-- behind a tag: the step that it prescribes
+abbrev pub prescribed_step : List Expected
+prescribed_step = exactly sign.DoubleColon ∷ exactly sign.OpenRound ∷ last_name_rest sign.CloseRound
+
+abbrev pub target_name : Target → Name
+target_name (target.Item name) = name
+target_name (target.Tag name) = name
+
+abbrev pub target_pieces : Target → List Piece
+target_pieces (target.Item name) = bracketed_name (named_of name)
+target_pieces (target.Tag name) = angled_name (named_of name)
+
+-- the rest of a relation: behind these pieces of it, within which these limits are passed; these may come in place of those
+pub record IsRelationRest (expected more : List Expected) (front : List Piece) (limits : List Position) (tree : Related) (before after : List Spot) : Type 0 where
+  pub relation : Relation
+  pub rest : List Piece
+  pub spelled : relation_pieces relation ≡ front ++ rest
+  pub reads : Reads expected more rest before after
+  pub is : IsRelation relation tree
+  pub within : relation_limits relation ≡ limits
+
+-- a relation from its first token on; where none begins, steps may come
+abbrev pub IsRelationOrNone : Option Related → List Spot → List Spot → Type 0
+IsRelationOrNone (Some tree) before after = IsRelationRest (relations ∷ []) (relations ∷ []) [] [] tree before after
+IsRelationOrNone None before after = Reads (relations ∷ []) (steps 0 ∷ []) [] before after

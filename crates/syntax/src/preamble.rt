@@ -1,0 +1,48 @@
+//! What stands in front of the steps of a text.
+ghost use Rattle.std.specs.Prelude.{◌≤◌, ◌∷◌, [], length, IfOk, IfErr, OnOk};
+ghost use Rattle.syntax.specs.Expected.{declarations as some_declarations, steps};
+ghost use Rattle.syntax.specs.Parsed.{left, Stops};
+ghost use Rattle.syntax.specs.Declarations.{IsPreamble};
+
+use crate::cursor::Cursor;
+use crate::declarations::declarations;
+use crate::relations::next_relation;
+use crate::stop::Stop;
+use crate::{Declaration, Relation};
+use std::alloc::Global;
+
+/// Declarations, and the relations behind them.
+#[derive(Drop)]
+pub(crate) struct Preamble<'a> {
+    pub(crate) declarations: Vec<Declaration<'a>>,
+    pub(crate) relations: Vec<Relation<'a>>,
+}
+
+/// All declarations and relations from the beginning of a text.
+pub(crate) fn read_preamble<'a>(
+    alloc: Global,
+    cursor: &mut Cursor<'_, 'a>,
+) -> Result<Preamble<'a>, Stop>
+    ensures reads { IfOk result (λ preamble. IsPreamble (steps 0 ∷ []) preamble (left cursor.old) (left cursor.new)) }
+    ensures fewer { OnOk result (length (left cursor.new) ≤ length (left cursor.old)) }
+    ensures stops { IfErr result (Stops (some_declarations 0 0 ∷ []) (left cursor.old) (left cursor.new)) }
+{
+    let Preamble {
+        declarations,
+        mut relations,
+    } = declarations(alloc, cursor)?;
+    loop {
+        match next_relation(cursor)? {
+            Some(relation) => {
+                relations.reserve(1)?;
+                relations.push_reserved(relation);
+            }
+            None => {
+                return Ok(Preamble {
+                    declarations,
+                    relations,
+                });
+            }
+        }
+    }
+}

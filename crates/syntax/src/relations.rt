@@ -1,0 +1,179 @@
+//! Relations between collections, steps and the environment.
+ghost use Rattle.std.specs.Prelude.{◌≡◌, ◌<◌, ◌∷◌, ◌++◌, [], length, IfOk, IfErr, OnOk, IfSome};
+ghost use Rattle.syntax.specs.declared.token.Symbol.TheVariants.{Arrow, OpenBracket, CloseBracket, OpenRound, CloseRound, Less, Greater, Semicolon};
+ghost use Rattle.syntax.specs.Expected.{exactly, a_name, relations as some_relations};
+ghost use Rattle.syntax.specs.Limits.{name_limits};
+ghost use Rattle.syntax.specs.Spelled.{named, a_sign, sign_at, item_at, step_at, angled_name, environment_at};
+ghost use Rattle.syntax.specs.Parsed.{left, named_of, Reads, Stops};
+ghost use Rattle.syntax.specs.Relations.{last_name_rest, target_rest, target_name, target_pieces, reader_rest, prescribed_step, IsRelationRest, IsRelationOrNone};
+
+use crate::cursor::Cursor;
+use crate::stop::Stop;
+use crate::{Relation, Symbol, Token, Word};
+use steptree::Name;
+
+/// What a step or the environment puts.
+#[derive(Clone, Copy, Debug)]
+pub(crate) enum Target<'a> {
+    Item(Name<'a>),
+    Tag(Name<'a>),
+}
+
+// A name at the end of a relation, with its closing bracket and the semicolon.
+fn last_name<'a>(cursor: &mut Cursor<'_, 'a>, close: Symbol) -> Result<Name<'a>, Stop>
+    ensures reads { IfOk result (λ name. Reads (last_name_rest close) [] (named (named_of name) ∷ a_sign close ++ a_sign Semicolon) (left cursor.old) (left cursor.new)) }
+    ensures within { IfOk result (λ name. name_limits (named_of name) ≡ []) }
+    ensures fewer { OnOk result (length (left cursor.new) < length (left cursor.old)) }
+    ensures stops { IfErr result (Stops (last_name_rest close) (left cursor.old) (left cursor.new)) }
+{
+    let name = cursor.name()?;
+    cursor.sign(close)?;
+    cursor.sign(Symbol::Semicolon)?;
+    Ok(name)
+}
+
+// What is put, from the arrow on.
+fn arrow_target<'a>(cursor: &mut Cursor<'_, 'a>) -> Result<Target<'a>, Stop>
+    ensures reads { IfOk result (λ target. Reads target_rest [] (a_sign Arrow ++ target_pieces target ++ a_sign Semicolon) (left cursor.old) (left cursor.new)) }
+    ensures within { IfOk result (λ target. name_limits (named_of (target_name target)) ≡ []) }
+    ensures fewer { OnOk result (length (left cursor.new) < length (left cursor.old)) }
+    ensures stops { IfErr result (Stops target_rest (left cursor.old) (left cursor.new)) }
+{
+    cursor.sign(Symbol::Arrow)?;
+    match cursor.front() {
+        Token::Symbol(Symbol::OpenBracket) => {
+            cursor.advance();
+            let item = last_name(cursor, Symbol::CloseBracket)?;
+            Ok(Target::Item(item))
+        }
+        Token::Symbol(Symbol::Less) => {
+            cursor.advance();
+            let tag = last_name(cursor, Symbol::Greater)?;
+            Ok(Target::Tag(tag))
+        }
+        _ => Err(Stop::Syntax),
+    }
+}
+
+/// A relation that begins with this item, whose bracket is at this place, behind the item.
+pub(crate) fn behind_item<'a>(
+    cursor: &mut Cursor<'_, 'a>,
+    place: usize,
+    item: Name<'a>,
+) -> Result<Relation<'a>, Stop>
+    ensures reads { IfOk result (λ relation. IsRelationRest reader_rest [] (item_at place (named_of item.entry)) (name_limits (named_of item.entry)) relation (left cursor.old) (left cursor.new)) }
+    ensures fewer { OnOk result (length (left cursor.new) < length (left cursor.old)) }
+    ensures stops { IfErr result (Stops reader_rest (left cursor.old) (left cursor.new)) }
+{
+    cursor.sign(Symbol::Arrow)?;
+    match cursor.front() {
+        Token::Symbol(Symbol::OpenRound) => {
+            cursor.advance();
+            let step = last_name(cursor, Symbol::CloseRound)?;
+            Ok(Relation::Reads { place, item, step })
+        }
+        Token::Word(Word::Env) => {
+            cursor.advance();
+            cursor.sign(Symbol::Semicolon)?;
+            Ok(Relation::EnvironmentGets { place, item })
+        }
+        _ => Err(Stop::Syntax),
+    }
+}
+
+/// A prescription by this tag, behind the tag.
+pub(crate) fn behind_tag<'a>(
+    cursor: &mut Cursor<'_, 'a>,
+    tag: Name<'a>,
+) -> Result<Relation<'a>, Stop>
+    ensures reads { IfOk result (λ relation. IsRelationRest prescribed_step [] (angled_name (named_of tag.entry)) (name_limits (named_of tag.entry)) relation (left cursor.old) (left cursor.new)) }
+    ensures fewer { OnOk result (length (left cursor.new) < length (left cursor.old)) }
+    ensures stops { IfErr result (Stops prescribed_step (left cursor.old) (left cursor.new)) }
+{
+    cursor.sign(Symbol::DoubleColon)?;
+    cursor.sign(Symbol::OpenRound)?;
+    let step = last_name(cursor, Symbol::CloseRound)?;
+    Ok(Relation::Prescribes { tag, step })
+}
+
+// A relation that begins with an item, behind the bracket at this place.
+fn item_relation<'a>(cursor: &mut Cursor<'_, 'a>, place: usize) -> Result<Relation<'a>, Stop>
+    ensures reads { IfOk result (λ relation. IsRelationRest (a_name ∷ exactly CloseBracket ∷ reader_rest) [] (sign_at place OpenBracket) [] relation (left cursor.old) (left cursor.new)) }
+    ensures fewer { OnOk result (length (left cursor.new) < length (left cursor.old)) }
+    ensures stops { IfErr result (Stops (a_name ∷ exactly CloseBracket ∷ reader_rest) (left cursor.old) (left cursor.new)) }
+{
+    let item = cursor.name()?;
+    cursor.sign(Symbol::CloseBracket)?;
+    let relation = behind_item(cursor, place, item)?;
+    Ok(relation)
+}
+
+// A prescription, behind its first bracket.
+fn tag_relation<'a>(cursor: &mut Cursor<'_, 'a>) -> Result<Relation<'a>, Stop>
+    ensures reads { IfOk result (λ relation. IsRelationRest (a_name ∷ exactly Greater ∷ prescribed_step) [] (a_sign Less) [] relation (left cursor.old) (left cursor.new)) }
+    ensures fewer { OnOk result (length (left cursor.new) < length (left cursor.old)) }
+    ensures stops { IfErr result (Stops (a_name ∷ exactly Greater ∷ prescribed_step) (left cursor.old) (left cursor.new)) }
+{
+    let tag = cursor.name()?;
+    cursor.sign(Symbol::Greater)?;
+    let relation = behind_tag(cursor, tag)?;
+    Ok(relation)
+}
+
+// What a step puts, behind the bracket at this place.
+fn step_relation<'a>(cursor: &mut Cursor<'_, 'a>, place: usize) -> Result<Relation<'a>, Stop>
+    ensures reads { IfOk result (λ relation. IsRelationRest (a_name ∷ exactly CloseRound ∷ target_rest) [] (sign_at place OpenRound) [] relation (left cursor.old) (left cursor.new)) }
+    ensures fewer { OnOk result (length (left cursor.new) < length (left cursor.old)) }
+    ensures stops { IfErr result (Stops (a_name ∷ exactly CloseRound ∷ target_rest) (left cursor.old) (left cursor.new)) }
+{
+    let step = cursor.name()?;
+    cursor.sign(Symbol::CloseRound)?;
+    match arrow_target(cursor)? {
+        Target::Item(item) => Ok(Relation::PutsItem { place, step, item }),
+        Target::Tag(tag) => Ok(Relation::PutsTag { place, step, tag }),
+    }
+}
+
+// What the environment puts, behind the word at this place.
+fn environment_relation<'a>(cursor: &mut Cursor<'_, 'a>, place: usize) -> Result<Relation<'a>, Stop>
+    ensures reads { IfOk result (λ relation. IsRelationRest target_rest [] (environment_at place) [] relation (left cursor.old) (left cursor.new)) }
+    ensures fewer { OnOk result (length (left cursor.new) < length (left cursor.old)) }
+    ensures stops { IfErr result (Stops target_rest (left cursor.old) (left cursor.new)) }
+{
+    match arrow_target(cursor)? {
+        Target::Item(item) => Ok(Relation::EnvironmentPutsItem { place, item }),
+        Target::Tag(tag) => Ok(Relation::EnvironmentPutsTag { place, tag }),
+    }
+}
+
+/// A relation, if one begins with the token in front.
+pub(crate) fn next_relation<'a>(cursor: &mut Cursor<'_, 'a>) -> Result<Option<Relation<'a>>, Stop>
+    ensures reads { IfOk result (λ relation. IsRelationOrNone relation (left cursor.old) (left cursor.new)) }
+    ensures fewer { IfOk result (λ relation. IfSome relation (λ _. length (left cursor.new) < length (left cursor.old))) }
+    ensures stops { IfErr result (Stops (some_relations ∷ []) (left cursor.old) (left cursor.new)) }
+{
+    let place = cursor.place();
+    match cursor.front() {
+        Token::Symbol(Symbol::OpenBracket) => {
+            cursor.advance();
+            let relation = item_relation(cursor, place)?;
+            Ok(Some(relation))
+        }
+        Token::Symbol(Symbol::Less) => {
+            cursor.advance();
+            let relation = tag_relation(cursor)?;
+            Ok(Some(relation))
+        }
+        Token::Symbol(Symbol::OpenRound) => {
+            cursor.advance();
+            let relation = step_relation(cursor, place)?;
+            Ok(Some(relation))
+        }
+        Token::Word(Word::Env) => {
+            cursor.advance();
+            let relation = environment_relation(cursor, place)?;
+            Ok(Some(relation))
+        }
+        _ => Ok(None),
+    }
+}
