@@ -6,6 +6,7 @@ pub mod DeclarationParts
 pub mod Example
 pub mod Forward
 pub mod Fronts
+pub mod GraphParts
 pub mod Heads
 pub mod KeyParts
 pub mod Moves

@@ -4,6 +4,7 @@ pub mod Declarations
 pub mod Expected
 pub mod Front
 pub mod Grammar
+pub mod Graphs
 pub mod Joints
 pub mod Keys
 pub mod Limits

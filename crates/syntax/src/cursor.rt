@@ -15,7 +15,7 @@ pub(crate) struct Cursor<'t, 'a> {
 }
 
 impl<'t, 'a> Cursor<'t, 'a> {
-    ghost use Rattle.std.specs.Prelude.{◌∷◌, false, [], ◌≤◌, ◌<◌, length, IfOk, IfErr, OnOk};
+    ghost use Rattle.std.specs.Prelude.{◌∷◌, false, [], ◌≤◌, ◌<◌, ◌==◌, length, map, get_or, IfOk, IfErr, OnOk};
     ghost use Rattle.syntax.specs.Tokens.{spots_of, lexeme_of, word, symbol};
     ghost use Rattle.syntax.specs.Limits.{name_limits};
     ghost use Rattle.syntax.specs.Spelled.{plain, named};
@@ -50,6 +50,23 @@ impl<'t, 'a> Cursor<'t, 'a> {
             Some(placed) => placed.place,
             None => 0,
         }
+    }
+
+    /// Its position; that of the end where no token is left.
+    pub(crate) fn place_or(&self, end: usize) -> usize
+        ensures { result ≡ get_or (map (λ spot. spot.1) (left self.now)) 0 end }
+    {
+        match self.tokens.get(self.passed) {
+            Some(placed) => placed.place,
+            None => end,
+        }
+    }
+
+    /// Whether no token is left.
+    pub(crate) fn is_at_end(&self) -> bool
+        ensures { result ≡ (length (left self.now) == 0) }
+    {
+        self.passed >= self.tokens.len()
     }
 
     /// Goes behind the token in front.
