@@ -15,7 +15,10 @@ pub mod Onward
 pub mod Operands
 pub mod Partials
 pub mod Runs
+pub mod Sequence
 pub mod Signs
 pub mod Spelled
+pub mod StatementParts
+pub mod StatementSteps
 pub mod Stopping
 pub mod Wholes

@@ -13,6 +13,7 @@ pub mod Parsed
 pub mod Partial
 pub mod Reading
 pub mod Spelled
+pub mod Statements
 pub mod Tokens
 pub mod Tree
 pub mod Whole

@@ -4,6 +4,7 @@
 //! which answers that list, and on the law `tokens_once`.
 #![tactic(auto)]
 
+mod blocks;
 mod characters;
 mod cursor;
 mod expressions;
@@ -18,6 +19,7 @@ mod name_lists;
 mod numbers;
 mod operand;
 mod own_statements;
+mod part;
 mod partial;
 mod stop;
 mod symbols;
