@@ -7,6 +7,7 @@ pub mod Forward
 pub mod Fronts
 pub mod Heads
 pub mod KeyParts
+pub mod ListParts
 pub mod Moves
 pub mod NameParts
 pub mod Natural
@@ -20,5 +21,6 @@ pub mod Signs
 pub mod Spelled
 pub mod StatementParts
 pub mod StatementSteps
+pub mod StepParts
 pub mod Stopping
 pub mod Wholes

@@ -14,6 +14,8 @@ pub mod Partial
 pub mod Reading
 pub mod Spelled
 pub mod Statements
+pub mod StepNames
+pub mod Steps
 pub mod Tokens
 pub mod Tree
 pub mod Whole

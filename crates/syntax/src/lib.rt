@@ -21,6 +21,8 @@ mod operand;
 mod own_statements;
 mod part;
 mod partial;
+mod step_names;
+mod steps;
 mod stop;
 mod symbols;
 #[cfg(test)]

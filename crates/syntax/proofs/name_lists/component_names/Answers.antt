@@ -10,7 +10,7 @@ pub returns-in_err-counted_name-clause-stops : goal.returns-in_err-counted_name-
 returns-in_err-counted_name-clause-stops c =
     passed_on c.from_residual.result c.in_err-counted_name.field-0.0 _ c.from_residual.ensures.1
     (name_stops _ (left c.loop-count.cursor) _ c.loop-count.count _ c.in_err-counted_name.field-0.0 c.loop-count.invariant.0
-    (full_names c.loop-count.count _ (λ full. search rules) (λ full. search rules)) c.in_err-counted_name.ensures.stops)
+    (full_names MAX_COMPONENTS c.loop-count.count _ (λ full. search rules) (λ full. search rules)) c.in_err-counted_name.ensures.stops)
 
 pub returns-then-not-takes-clause-reads : goal.returns-then-not-takes-clause-reads
 returns-then-not-takes-clause-reads c =
