@@ -9,11 +9,10 @@ use Rattle.syntax.specs.declared.token.Symbol.TheVariants as sign
 use Rattle.syntax.specs.declared.token.Word.TheVariants as kept
 use Rattle.syntax.specs.declared.stop.Stop.{Stop}
 use Rattle.syntax.specs.Tokens.{Lexeme, symbol, Spot}
-use Rattle.syntax.specs.Grammar.{Position, Named}
-use Rattle.syntax.specs.Limits.{name_limits, all_names, one_more}
-use Rattle.syntax.specs.Spelled.{named, a_sign, names_pieces, a_word}
+use Rattle.syntax.specs.Limits.{name_limits, one_more}
+use Rattle.syntax.specs.Spelled.{named, a_sign, names_pieces}
 use Rattle.syntax.specs.Tree.{IsName, AreAll}
-use Rattle.syntax.specs.Expected.{Expected, exactly, look_name, look, look_behind_parameter, look_behind_variable, parameters, parameter, behind_parameter, variables, step_variable, behind_variable}
+use Rattle.syntax.specs.Expected.{exactly, look_name, look_behind_parameter, look_behind_variable, parameters, parameter, behind_parameter, variables, step_variable, behind_variable}
 use Rattle.syntax.specs.NameLists.{TakesName, IsFull, StopsAtName}
 use Rattle.syntax.specs.Parsed.{Spells, Goes, Reads, Tells, Stops, TakenIfWord, named_of}
 use Rattle.syntax.specs.ComponentNames.{pieces_of}

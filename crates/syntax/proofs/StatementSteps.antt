@@ -6,8 +6,8 @@ use Rattle.steptree.specs.declared.step.NamedBlock.TheVariants as block
 use Rattle.syntax.specs.declared.stop.Stop.{Stop}
 use Rattle.syntax.specs.declared.token.Word.{Word}
 use Rattle.syntax.specs.declared.token.Word.TheVariants as kept
-use Rattle.syntax.specs.Tokens.{Lexeme, name, word, Spot}
-use Rattle.syntax.specs.Grammar.{Position, Statement, own, assigned, if_alone, if_else, for, Statements, Get, Put, put_item, put_tag}
+use Rattle.syntax.specs.Tokens.{name, word, Spot}
+use Rattle.syntax.specs.Grammar.{Position, Statement, own, assigned, if_alone, if_else, for, put_item, put_tag}
 use Rattle.syntax.specs.Limits.{name_limits, statement_limits, statements_limits}
 use Rattle.syntax.specs.Spelled.{statement_pieces, statements_pieces}
 use Rattle.syntax.specs.Tree.{IsStatement, AreStatements, AreAll}

@@ -8,19 +8,17 @@ use Rattle.steptree.specs.declared.sheet.TheConstants.{MOST_COLLECTIONS}
 use Rattle.steptree.specs.declared.step.Name.{Name}
 use Rattle.steptree.specs.declared.step.Step.{Step}
 use Rattle.syntax.specs.declared.token.Symbol.TheVariants as sign
-use Rattle.syntax.specs.declared.token.Word.{Word}
 use Rattle.syntax.specs.declared.token.Word.TheVariants as kept
 use Rattle.syntax.specs.declared.stop.Stop.{Stop}
 use Rattle.syntax.specs.Tokens.{Spot}
-use Rattle.syntax.specs.Grammar.{Position, Named, Statements, Get, Put, StepText}
-use Rattle.syntax.specs.Limits.{one_more, name_limits, names_behind, all_names, get_limits, put_limits, statements_limits, step_limits, step_names, steps_limits}
-use Rattle.syntax.specs.Spelled.{Piece, named, a_sign, a_word, in_braces, statements_pieces, step_pieces}
+use Rattle.syntax.specs.Grammar.{Position, Named, StepText}
+use Rattle.syntax.specs.Limits.{one_more, name_limits, names_behind, all_names, get_limits, put_limits, statements_limits, step_limits, steps_limits}
+use Rattle.syntax.specs.Spelled.{Piece, named, a_sign, a_word, in_braces, step_pieces}
 use Rattle.syntax.specs.Tree.{IsName, AreAll, IsStep}
 use Rattle.syntax.specs.Expected.{Part, reading, writing, exactly, keyword, statements, step_name, parameters, variables, step_body, step_rest, steps}
 use Rattle.syntax.specs.NameLists.{TakesName, IsFull, StopsAtName}
 use Rattle.syntax.specs.Parsed.{Spells, Goes, Reads, Tells, Stops, TakenIfWord, named_of}
-use Rattle.syntax.specs.Statements.{own_pieces, part_word, AreRead}
-use Rattle.syntax.specs.StepNames.{AreParameters, AreVariables}
+use Rattle.syntax.specs.Statements.{part_word, AreRead}
 use Rattle.syntax.specs.Steps.{part_expected, IsPartRead, step_expected, IsStepRead, StepsSoFar, AreStepsRead}
 use Rattle.syntax.proofs.Moves.{spelled_on, reads_on}
 use Rattle.syntax.proofs.KeyParts.{flat_more, all_more}

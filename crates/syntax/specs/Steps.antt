@@ -1,23 +1,16 @@
 -- Steps that are read.
-use Rattle.std.specs.Prelude.{◌≡◌, ◌≤◌, ◌<◌, ℕ, suc, List, [], ◌∷◌, ◌++◌, drop, length, Option, Some}
+use Rattle.std.specs.Prelude.{◌≡◌, ℕ, List, [], ◌∷◌, ◌++◌, drop, length}
 use Rattle.std.specs.List.{flat_map}
-use Rattle.terms.specs.declared.key.TheConstants.{MAX_COMPONENTS}
-use Rattle.steptree.specs.declared.slot.TheConstants.{MOST_NAMES}
 use Rattle.steptree.specs.declared.sheet.TheConstants.{MOST_COLLECTIONS}
-use Rattle.steptree.specs.declared.step.Name.{Name}
 use Rattle.steptree.specs.declared.step.NamedBlock.{NamedBlock}
 use Rattle.steptree.specs.declared.step.Step.{Step}
-use Rattle.syntax.specs.declared.token.Symbol.{Symbol}
 use Rattle.syntax.specs.declared.token.Symbol.TheVariants as sign
-use Rattle.syntax.specs.declared.token.Word.TheVariants as kept
-use Rattle.syntax.specs.Tokens.{Lexeme, symbol, Spot}
-use Rattle.syntax.specs.Grammar.{Position, Named, Names, Statements, StepText}
-use Rattle.syntax.specs.Limits.{one_more, name_limits, names_behind, all_names, statements_limits, step_limits, steps_limits}
-use Rattle.syntax.specs.Spelled.{Piece, a_sign, a_word, named, names_pieces, in_braces, parameters_pieces, variables_pieces, statements_pieces, step_pieces}
-use Rattle.syntax.specs.Tree.{IsName, AreAll, AreStatements, IsStep}
-use Rattle.syntax.specs.Expected.{Part, Expected, exactly, keyword, statements, Move, taken, wrong, look, sign_number, step_name, parameters, variables, step_body, steps}
-use Rattle.syntax.specs.NameLists.{NameMayCome}
-use Rattle.syntax.specs.ComponentNames.{pieces_of}
+use Rattle.syntax.specs.Tokens.{Spot}
+use Rattle.syntax.specs.Grammar.{Statements, StepText}
+use Rattle.syntax.specs.Limits.{one_more, statements_limits, step_limits, steps_limits}
+use Rattle.syntax.specs.Spelled.{a_word, in_braces, statements_pieces, step_pieces}
+use Rattle.syntax.specs.Tree.{AreAll, AreStatements, IsStep}
+use Rattle.syntax.specs.Expected.{Part, Expected, exactly, keyword, statements, step_name, parameters, step_body, steps}
 use Rattle.syntax.specs.Statements.{Own, own_pieces, own_limits, is_own, part_word}
 use Rattle.syntax.specs.Parsed.{Spells, Goes, Reads}
 

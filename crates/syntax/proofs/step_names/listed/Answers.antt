@@ -1,4 +1,4 @@
-use Rattle.std.proofs.Common.{◌≡◌, ◌<◌, ◌++◌, ◌∷◌, [], true, false, length, sym, subst, arith, rules}
+use Rattle.std.proofs.Common.{◌≡◌, ◌<◌, ◌++◌, ◌∷◌, [], true, false, length, sym, subst, rules}
 use Rattle.syntax.specs.NameLists.{TakesName}
 use Rattle.syntax.specs.Parsed.{left}
 use Rattle.syntax.specs.StepNames.{TakesOn, ListSoFar, IsListRead}
