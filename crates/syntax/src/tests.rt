@@ -1,5 +1,7 @@
+mod blocks;
 mod expressions;
 mod statements;
+mod steps;
 
 use crate::{Placed, Token, tokens, tokens_once};
 use std::process::Abort;
