@@ -9,6 +9,7 @@ pub mod Fronts
 pub mod GraphParts
 pub mod Heads
 pub mod KeyParts
+pub mod ListParts
 pub mod Moves
 pub mod NameParts
 pub mod Natural
@@ -18,7 +19,11 @@ pub mod Operands
 pub mod Partials
 pub mod PreambleParts
 pub mod Runs
+pub mod Sequence
 pub mod Signs
 pub mod Spelled
+pub mod StatementParts
+pub mod StatementSteps
+pub mod StepParts
 pub mod Stopping
 pub mod Wholes

@@ -16,6 +16,9 @@ pub mod Partial
 pub mod Reading
 pub mod Relations
 pub mod Spelled
+pub mod Statements
+pub mod StepNames
+pub mod Steps
 pub mod Tokens
 pub mod Tree
 pub mod Whole

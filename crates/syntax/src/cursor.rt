@@ -21,7 +21,7 @@ impl<'t, 'a> Cursor<'t, 'a> {
     ghost use Rattle.syntax.specs.Spelled.{plain, named};
     ghost use Rattle.syntax.specs.Expected.{exactly, keyword as reserved, a_name};
     ghost use Rattle.syntax.specs.NameLists.{TakesName, StopsAtName};
-    ghost use Rattle.syntax.specs.Parsed.{left, named_of, Reads, Stops, TakenIf};
+    ghost use Rattle.syntax.specs.Parsed.{left, named_of, Reads, Stops, TakenIf, TakenIfWord};
     ghost use Rattle.syntax.specs.Front.{front_of, behind_front};
 
     /// In front of all of these tokens, which are those of a text.
@@ -135,6 +135,20 @@ impl<'t, 'a> Cursor<'t, 'a> {
     {
         match self.front() {
             Token::Symbol(other) if other == sign => {
+                self.advance();
+                true
+            }
+            _ => false,
+        }
+    }
+
+    /// Takes this reserved word, if it stands in front.
+    pub(crate) fn takes_word(&mut self, keyword: Word) -> bool
+        ensures taken { TakenIfWord keyword result (left self.old) (left self.new) }
+        ensures fewer { length (left self.new) ≤ length (left self.old) }
+    {
+        match self.front() {
+            Token::Word(other) if other == keyword => {
                 self.advance();
                 true
             }

@@ -4,6 +4,7 @@
 //! which answers that list, and on the law `tokens_once`.
 #![tactic(auto)]
 
+mod blocks;
 mod characters;
 mod cursor;
 mod declarations;
@@ -20,9 +21,12 @@ mod numbers;
 mod operand;
 mod own_statements;
 mod parser;
+mod part;
 mod partial;
 mod preamble;
 mod relations;
+mod step_names;
+mod steps;
 mod stop;
 mod symbols;
 #[cfg(test)]

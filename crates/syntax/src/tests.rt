@@ -1,6 +1,8 @@
+mod blocks;
 mod expressions;
 mod preambles;
 mod statements;
+mod steps;
 
 use crate::{Placed, Token, tokens, tokens_once};
 use std::process::Abort;
