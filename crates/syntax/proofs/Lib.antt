@@ -2,10 +2,17 @@ pub mod Accepted
 pub mod AcceptedKeys
 pub mod Broken
 pub mod Chain
+pub mod Covers
 pub mod Example
 pub mod Forward
 pub mod Fronts
 pub mod Heads
+pub mod Judged
+pub mod JudgedDeclarations
+pub mod JudgedExpressions
+pub mod JudgedKeys
+pub mod JudgedNames
+pub mod JudgedStatements
 pub mod KeyParts
 pub mod Moves
 pub mod NameParts
