@@ -5,7 +5,7 @@ use Rattle.syntax.specs.Tokens.{Lexeme}
 use Rattle.syntax.specs.Grammar.{Position}
 use Rattle.syntax.specs.Spelled.{Piece}
 use Rattle.syntax.specs.Expected.{Expected}
-use Rattle.syntax.proofs.Judged.{In, in_front, in_back, Judged, judged_among, Comes}
+use Rattle.syntax.proofs.Judged.{In, in_front, in_back, judged_among, Comes}
 
 pub both_none : (a b : List Position) → a ++ b ≡ [] → (a ≡ []) × (b ≡ [])
 both_none [] b none = (refl, none)

@@ -45,6 +45,10 @@ pub judged_among : {a b : List Position} {first second : Verdict} → (a ≡ [] 
 judged_among {a} {b} {first} {second} nothing some (goes none same) = goes (nothing none) same
 judged_among {a} {b} {first} {second} nothing some (breaks place there is) = breaks place (some place there) is
 
+pub judged_none : {limits : List Position} {first second : Verdict} → limits ≡ [] → Judged limits first second → first ≡ second
+judged_none {limits} {first} {second} none (goes nothing same) = same
+judged_none {limits} {first} {second} none (breaks place there is) = absurd (subst (In place) none there)
+
 -- ---- one part behind another
 
 -- where these may come and the tokens are these pieces, those may come behind them, in front of such a token

@@ -1,5 +1,5 @@
 -- Declarations that the grammar derives.
-use Rattle.std.proofs.Common.{◌≡◌, ℕ, suc, List, [], ◌∷◌, ◌++◌, Option, Some, None, refl, sym, ap, ◌∙◌}
+use Rattle.std.proofs.Common.{◌≡◌, ℕ, suc, List, [], ◌∷◌, ◌++◌, Some, None, refl, sym, ap, ◌∙◌}
 use Rattle.std.specs.List.{flat_map}
 use Rattle.std.proofs.lemmas.List.{append_assoc, append-nil}
 use Rattle.terms.specs.declared.key.TheConstants.{MAX_COMPONENTS}
@@ -7,9 +7,9 @@ use Rattle.steptree.specs.declared.sheet.TheConstants.{MOST_COLLECTIONS}
 use Rattle.syntax.specs.declared.token.Symbol.TheVariants as sign
 use Rattle.syntax.specs.Tokens.{symbol}
 use Rattle.syntax.specs.Grammar.{Position, Named, Names, Declaration, item_declared, tag_declared}
-use Rattle.syntax.specs.Spelled.{Piece, a_sign, named, after_colon, names_pieces, declaration_pieces}
+use Rattle.syntax.specs.Spelled.{a_sign, named, names_pieces, declaration_pieces}
 use Rattle.syntax.specs.Limits.{one_more, name_limits, names_behind, all_names, declared_limits}
-use Rattle.syntax.specs.Expected.{Expected, exactly, declarations, front, front_named, front_closed, component_name, closing, Kind, item, tag}
+use Rattle.syntax.specs.Expected.{exactly, declarations, front, front_named, front_closed, component_name, closing, Kind, item, tag}
 use Rattle.syntax.specs.Expected.{declared_limits as limits_declared, declared as next_declared}
 use Rattle.syntax.proofs.Judged.{Comes, Any, any_fronts, piece_fronts, comes_on, comes_plain, comes_limits, comes_with, token, token_at, token_limited}
 use Rattle.syntax.proofs.Covers.{covers_same, covers_then, covers_on, covers_swap, comes_covered}

@@ -1,15 +1,15 @@
 -- Expressions that the grammar derives: the limits within one are kept on the way, and told where it is whole.
-use Rattle.std.proofs.Common.{◌≡◌, inl, inr, ℕ, suc, List, [], ◌∷◌, ◌++◌, length, Option, Some, None, refl, sym, ap, subst, ◌∙◌}
+use Rattle.std.proofs.Common.{◌≡◌, inl, suc, List, [], ◌∷◌, ◌++◌, length, Option, Some, None, refl, ap, ◌∙◌}
 use Rattle.std.specs.Prelude.{⊤}
 use Rattle.std.proofs.lemmas.List.{append_assoc}
-use Rattle.syntax.specs.declared.token.Symbol.{Symbol}
 use Rattle.syntax.specs.declared.token.Symbol.TheVariants as sign
-use Rattle.syntax.specs.Tokens.{Lexeme, name, number, word, symbol, unknown, Spot}
+use Rattle.syntax.specs.Tokens.{Lexeme, name, number, symbol, Spot}
 use Rattle.syntax.specs.Grammar.{Position, Comparison, equal, not_equal, less, less_or_equal, greater, greater_or_equal, Addition, plus, minus, Multiplication, times, over, modulo}
 use Rattle.syntax.specs.Grammar.{Expr, sum_alone, compared, Sum, prod_alone, added, Prod, unary_alone, multiplied, Unary, negated, literal, variable, bracketed}
 use Rattle.syntax.specs.Spelled.{Piece, plain, at, ArePieces, comparison_sign, addition_sign, multiplication_sign, a_sign, expr_pieces, sum_pieces, prod_pieces, unary_pieces}
-use Rattle.syntax.specs.Limits.{one_more, name_limits, depth_limits, expr_depth, expr_first, sum_first, prod_first, unary_first, sum_depth, sum_limits, expr_limits, expr_within, sum_within, prod_within, unary_within}
+use Rattle.syntax.specs.Limits.{one_more, depth_limits, expr_depth, expr_first, sum_first, prod_first, unary_first, sum_depth, sum_limits, expr_limits, expr_within, sum_within, prod_within, unary_within}
 use Rattle.syntax.specs.declared.limits.TheConstants.{MOST_BRACKETS}
+use Rattle.syntax.specs.MayCome.{EndsExpression}
 use Rattle.syntax.specs.Front.{front_of}
 use Rattle.syntax.specs.Expected.{Comparing, never, possible, behind_left, Level, Expression, Expected, operand, behind_operand, earlier, negated_by, product_of, opened, sum_of, level_expr, whole, within, left_out, passed, finished, met, next, followed, run}
 use Rattle.syntax.proofs.Judged.{Judged, goes, breaks, judged_behind, split, Comes}
@@ -255,12 +255,9 @@ told [] (place ∷ limits) stack spot rest = breaks place (inl refl) refl
 told (place ∷ deep) limits stack spot rest = breaks place (inl refl) refl
 
 -- a token that may stand behind the expression of a statement, and behind a component
-abbrev pub EndsExpression : Lexeme → Type 0
-EndsExpression (symbol sign.Semicolon) = ⊤
-EndsExpression (symbol sign.CloseRound) = ⊤
-EndsExpression (symbol sign.DoubleDot) = ⊤
-EndsExpression (symbol sign.OpenBrace) = ⊤
-EndsExpression _ = ⊥
+abbrev pub AfterExpression : Lexeme → Type 0
+AfterExpression (symbol it) = EndsExpression it
+AfterExpression _ = ⊥
 
 abbrev pub EndsComponent : Lexeme → Type 0
 EndsComponent (symbol sign.Comma) = ⊤
@@ -268,7 +265,7 @@ EndsComponent (symbol sign.CloseBracket) = ⊤
 EndsComponent (symbol sign.Greater) = ⊤
 EndsComponent _ = ⊥
 
-at_end : (lexeme : Lexeme) → EndsExpression lexeme → (before : Option Position) (first position : Position) (level : Level) (prod : Prod) (rest : List Spot) (stack : List Expected)
+at_end : (lexeme : Lexeme) → AfterExpression lexeme → (before : Option Position) (first position : Position) (level : Level) (prod : Prod) (rest : List Spot) (stack : List Expected)
     → run (behind_operand (so_far before first level []) prod ∷ stack) ((lexeme, position) ∷ rest)
     ≡ followed (met (finished (so_far before first level []) (level_expr level prod)) stack (next stack (lexeme, position))) ((lexeme, position) ∷ rest) (λ after. run after rest)
 at_end (symbol sign.Semicolon) ends before first position level prod rest stack = refl
@@ -286,18 +283,18 @@ at_component_end (symbol sign.Greater) ends before first position sum prod rest 
 at_component_end _ ends before first position sum prod rest stack = absurd ends
 
 -- an expression of a statement
-pub expression_comes : (expr : Expr) → Comes EndsExpression (whole possible ∷ []) [] (expr_pieces expr) (expr_limits expr)
+pub expression_comes : (expr : Expr) → Comes AfterExpression (whole possible ∷ []) [] (expr_pieces expr) (expr_limits expr)
 expression_comes expr = record { comes = by }
   where
-    by : (tokens later : List Spot) (behind : List Expected) → EndsExpression (front_of later).0 → ArePieces (expr_pieces expr) tokens
+    by : (tokens later : List Spot) (behind : List Expected) → AfterExpression (front_of later).0 → ArePieces (expr_pieces expr) tokens
         → Judged (expr_limits expr) (run (whole possible ∷ behind) (tokens ++ later)) (run behind later)
     by tokens [] behind ends are = absurd ends
     by tokens (spot ∷ rest) behind ends are =
         judged_behind (
-          begins possible (expr_first expr) (expr_pieces expr) tokens (spot ∷ rest) behind (expr_begins expr) are
-          ∙ expr_comes (expr_first expr) expr None [] behind tokens (spot ∷ rest) are
-          ∙ at_end spot.0 ends (earlier None (expr_within 0 expr)) (expr_first expr) spot.1 (expr_level expr) (expr_last expr) rest behind
-          ∙ ap (λ (it : Expr). followed (met (finished (so_far (earlier None (expr_within 0 expr)) (expr_first expr) (expr_level expr) []) it) behind (next behind spot)) (spot ∷ rest) (λ after. run after rest)) (expr_is expr)
+        begins possible (expr_first expr) (expr_pieces expr) tokens (spot ∷ rest) behind (expr_begins expr) are
+        ∙ expr_comes (expr_first expr) expr None [] behind tokens (spot ∷ rest) are
+        ∙ at_end spot.0 ends (earlier None (expr_within 0 expr)) (expr_first expr) spot.1 (expr_level expr) (expr_last expr) rest behind
+        ∙ ap (λ (it : Expr). followed (met (finished (so_far (earlier None (expr_within 0 expr)) (expr_first expr) (expr_level expr) []) it) behind (next behind spot)) (spot ∷ rest) (λ after. run after rest)) (expr_is expr)
         ) (told (depth_limits (expr_depth expr) (expr_first expr)) (expr_within 0 expr) behind spot rest)
 
 -- a component of a key
@@ -309,8 +306,8 @@ component_comes sum = record { comes = by }
     by tokens [] behind ends are = absurd ends
     by tokens (spot ∷ rest) behind ends are =
         judged_behind (
-          begins never (sum_first sum) (sum_pieces sum) tokens (spot ∷ rest) behind (sum_begins sum) are
-          ∙ sum_comes (sum_first sum) sum never None [] behind tokens (spot ∷ rest) are
-          ∙ at_component_end spot.0 ends (earlier None (sum_within 0 sum)) (sum_first sum) spot.1 (sum_waits sum) (last_prod sum) rest behind
-          ∙ ap (λ (it : Sum). followed (met (finished (so_far (earlier None (sum_within 0 sum)) (sum_first sum) (at_product never (sum_waits sum)) []) (sum_alone it)) behind (next behind spot)) (spot ∷ rest) (λ after. run after rest)) (sum_is sum)
+        begins never (sum_first sum) (sum_pieces sum) tokens (spot ∷ rest) behind (sum_begins sum) are
+        ∙ sum_comes (sum_first sum) sum never None [] behind tokens (spot ∷ rest) are
+        ∙ at_component_end spot.0 ends (earlier None (sum_within 0 sum)) (sum_first sum) spot.1 (sum_waits sum) (last_prod sum) rest behind
+        ∙ ap (λ (it : Sum). followed (met (finished (so_far (earlier None (sum_within 0 sum)) (sum_first sum) (at_product never (sum_waits sum)) []) (sum_alone it)) behind (next behind spot)) (spot ∷ rest) (λ after. run after rest)) (sum_is sum)
         ) (told (depth_limits (sum_depth sum) (sum_first sum)) (sum_within 0 sum) behind spot rest)

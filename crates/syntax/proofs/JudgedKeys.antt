@@ -1,5 +1,5 @@
 -- Signs, words, names and keys that the grammar derives.
-use Rattle.std.proofs.Common.{◌≡◌, List, [], ◌∷◌, ◌++◌, ◌==◌, refl, ap, subst}
+use Rattle.std.proofs.Common.{◌≡◌, List, [], ◌∷◌, ◌++◌, ◌==◌, refl, subst}
 use Rattle.std.specs.Prelude.{⊤}
 use Rattle.std.specs.List.{flat_map}
 use Rattle.std.proofs.lemmas.List.{append-nil}
@@ -7,12 +7,12 @@ use Rattle.syntax.specs.declared.token.Word.{Word}
 use Rattle.syntax.specs.declared.token.Word.TheVariants as kept
 use Rattle.syntax.specs.declared.token.Symbol.{Symbol}
 use Rattle.syntax.specs.declared.token.Symbol.TheVariants as sign
-use Rattle.syntax.specs.Tokens.{Lexeme, name, number, word, symbol, unknown, Spot}
+use Rattle.syntax.specs.Tokens.{Lexeme, symbol, Spot}
 use Rattle.syntax.specs.Grammar.{Position, Named, Sum, Sums, no_sums, sums, Key}
 use Rattle.syntax.specs.Spelled.{Piece, ArePieces, named, a_sign, a_word, sum_pieces, sums_pieces}
 use Rattle.syntax.specs.Limits.{name_limits, sum_limits, sums_limits, key_limits}
 use Rattle.syntax.specs.Front.{front_of}
-use Rattle.syntax.specs.Expected.{Expected, exactly, keyword, a_name, whole, never, components, more_components, Kind, item, tag, closing, key_rest, sign_number, word_number, is_taken, taken, left_out, look}
+use Rattle.syntax.specs.Expected.{exactly, keyword, a_name, whole, never, components, more_components, Kind, item, tag, closing, key_rest, sign_number, word_number, is_taken, taken, left_out, look}
 use Rattle.syntax.proofs.Judged.{Comes, Any, Fronts, any_fronts, piece_fronts, comes_on, comes_plain, comes_with, token, token_at, nothing}
 use Rattle.syntax.proofs.JudgedExpressions.{EndsComponent, component_comes}
 

@@ -1,5 +1,5 @@
 -- Lists of names that the grammar derives, each with a limit on how many they are.
-use Rattle.std.proofs.Common.{◌≡◌, ◌<◌, ◌≤◌, ℕ, zero, suc, Bool, true, false, ◌-◌, arith, rules, List, [], ◌∷◌, ◌++◌, map, drop, Some, refl, sym, ap, subst, ◌∙◌}
+use Rattle.std.proofs.Common.{◌≡◌, ◌<◌, ◌≤◌, ℕ, zero, suc, Bool, true, false, ◌-◌, arith, rules, List, [], ◌∷◌, ◌++◌, Some, refl, sym, ap, ◌∙◌}
 use Rattle.std.specs.Prelude.{⊤}
 use Rattle.std.specs.List.{flat_map}
 use Rattle.std.proofs.Math.Dec.{ltb}
@@ -7,13 +7,12 @@ use Rattle.std.proofs.lemmas.Bool.{ltb-false}
 use Rattle.std.proofs.lemmas.List.{append_assoc}
 use Rattle.terms.specs.declared.key.TheConstants.{MAX_COMPONENTS}
 use Rattle.syntax.specs.declared.token.Symbol.TheVariants as sign
-use Rattle.syntax.specs.Tokens.{Lexeme, name, symbol, Spot}
+use Rattle.syntax.specs.Tokens.{Lexeme, symbol}
 use Rattle.syntax.specs.Grammar.{Position, Named, Names}
-use Rattle.syntax.specs.Spelled.{Piece, ArePieces, named, a_sign, names_pieces}
+use Rattle.syntax.specs.Spelled.{Piece, named, a_sign, names_pieces}
 use Rattle.syntax.specs.Limits.{one_more, name_limits, names_behind, all_names}
-use Rattle.syntax.specs.Front.{front_of}
-use Rattle.syntax.specs.Expected.{Expected, component_name, behind_component, taken, left_out, look}
-use Rattle.syntax.proofs.Judged.{Comes, Any, any_fronts, comes_on, comes_limits, comes_with, token, token_at, nothing}
+use Rattle.syntax.specs.Expected.{component_name, behind_component, left_out, look}
+use Rattle.syntax.proofs.Judged.{Comes, Any, any_fronts, comes_on, token, token_at, nothing}
 use Rattle.syntax.proofs.Partials.{few_more, too_many_more}
 use Rattle.syntax.proofs.Covers.{Covers, covers_same, covers_then, covers_on, covers_swap, covers_middle, comes_covered}
 

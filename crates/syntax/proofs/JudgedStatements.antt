@@ -10,9 +10,9 @@ use Rattle.syntax.specs.Spelled.{Piece, ArePieces, a_sign, a_word, in_braces_at,
 use Rattle.syntax.specs.Limits.{one_more, name_limits, key_limits, expr_limits, get_limits, put_limits, statement_limits, statements_limits}
 use Rattle.syntax.specs.declared.limits.TheConstants.{MOST_BRACES}
 use Rattle.syntax.specs.Front.{front_of}
-use Rattle.syntax.specs.Expected.{Expected, exactly, keyword, a_name, whole, possible, statements, nested_brace, nested, or_else, put_target, Part, reading, writing, item, tag, key_rest, get_rest, taken, left_out, look}
-use Rattle.syntax.proofs.Judged.{Comes, Any, Fronts, any_fronts, piece_fronts, lexeme_in, piece_is, comes_on, comes_plain, comes_before, comes_limits, comes_nothing, comes_with, token, token_at, nothing}
-use Rattle.syntax.proofs.JudgedExpressions.{EndsExpression, expression_comes}
+use Rattle.syntax.specs.Expected.{Expected, exactly, keyword, a_name, whole, possible, statements, nested_brace, nested, or_else, put_target, Part, reading, writing, item, tag, key_rest, taken, left_out, look}
+use Rattle.syntax.proofs.Judged.{Comes, Any, any_fronts, piece_fronts, lexeme_in, piece_is, comes_on, comes_plain, comes_before, comes_limits, comes_nothing, comes_with, token, token_at, nothing}
+use Rattle.syntax.proofs.JudgedExpressions.{AfterExpression, expression_comes}
 use Rattle.syntax.proofs.JudgedKeys.{sign_comes, word_comes, name_comes, key_comes}
 
 -- any token but `else`
@@ -122,7 +122,7 @@ five : (a b c d e : List Position) → (a ++ (b ++ c)) ++ (d ++ e) ≡ a ++ b ++
 five a b c d e = ap (λ (list : List Position). list ++ (d ++ e)) (sym (append_assoc a b c)) ∙ sym (append_assoc (a ++ b ++ c) d e)
 
 for_comes : (part : Part) (around : ℕ) (it : Named) (from to : Expr)
-    → Comes EndsExpression (statements part around ∷ []) (nested part around ++ statements part around ∷ []) (statement_head it from to) (name_limits it ++ expr_limits from ++ expr_limits to)
+    → Comes AfterExpression (statements part around ∷ []) (nested part around ++ statements part around ∷ []) (statement_head it from to) (name_limits it ++ expr_limits from ++ expr_limits to)
 for_comes part around it from to =
     let last = nested part around ++ statements part around ∷ [] in
     let behind_from = exactly sign.DoubleDot ∷ whole possible ∷ last in

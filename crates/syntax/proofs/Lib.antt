@@ -1,6 +1,5 @@
-pub mod Accepted
-pub mod AcceptedKeys
 pub mod Broken
+pub mod Causes
 pub mod Chain
 pub mod Covers
 pub mod Example
@@ -10,9 +9,12 @@ pub mod Heads
 pub mod Judged
 pub mod JudgedDeclarations
 pub mod JudgedExpressions
+pub mod JudgedGraphs
 pub mod JudgedKeys
 pub mod JudgedNames
+pub mod JudgedRelations
 pub mod JudgedStatements
+pub mod JudgedSteps
 pub mod KeyParts
 pub mod Moves
 pub mod NameParts
