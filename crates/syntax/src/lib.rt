@@ -1,7 +1,8 @@
 //! Graph texts: their tokens, and the tree that they are.
 //!
-//! A text is one list of tokens, each the longest that stands there (`AreTokens`). The layer above stands on `tokens`,
-//! which answers that list, and on the law `tokens_once`.
+//! A text is one list of tokens, each the longest that stands there (`AreTokens`), and the tree that the grammar derives
+//! from them within the limits (`IsRead`). The layer above stands on `read_tree`, which answers that tree or the cause of a
+//! fault, and on the law `tokens_once`.
 #![tactic(auto)]
 
 mod blocks;

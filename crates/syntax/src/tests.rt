@@ -3,6 +3,7 @@ mod expressions;
 mod preambles;
 mod statements;
 mod steps;
+mod trees;
 
 use crate::{Placed, Token, tokens, tokens_once};
 use std::process::Abort;
