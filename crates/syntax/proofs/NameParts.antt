@@ -24,7 +24,7 @@ no_names start = record { read = []; counted = refl; goes = λ behind. refl; spe
 names_more : (first : Named) (more : List Named) (next : Named) → pieces_of (first ∷ (more ++ next ∷ [])) ≡ pieces_of (first ∷ more) ++ (a_sign sign.Comma ++ (named next ∷ []))
 names_more first more next = ap (λ (pieces : List Piece). named first ∷ pieces) (flat_more (λ it. a_sign sign.Comma ++ named it ∷ []) more next)
 
-more_names : (read : List Named) (one next : Named) → pieces_of ((read ++ one ∷ []) ++ next ∷ []) ≡ pieces_of (read ++ one ∷ []) ++ (a_sign sign.Comma ++ (named next ∷ []))
+pub more_names : (read : List Named) (one next : Named) → pieces_of ((read ++ one ∷ []) ++ next ∷ []) ≡ pieces_of (read ++ one ∷ []) ++ (a_sign sign.Comma ++ (named next ∷ []))
 more_names [] one next = refl
 more_names (first ∷ read) one next = names_more first (read ++ one ∷ []) next
 
@@ -48,7 +48,7 @@ next_name start now behind after count name so_far room takes within taken =
       within = flat_more name_limits so_far.read (named_of name) ∙ ap (λ limits. limits ++ name_limits (named_of name)) so_far.within ∙ within;
     }
 
-names_of : (read : List Named) (last : Named) → (names : Names) × (all_names (Some names) ≡ read ++ last ∷ []) × (names_pieces names ≡ pieces_of (read ++ last ∷ []))
+pub names_of : (read : List Named) (last : Named) → (names : Names) × (all_names (Some names) ≡ read ++ last ∷ []) × (names_pieces names ≡ pieces_of (read ++ last ∷ []))
 names_of [] last = (record { first = last; more = [] }, refl, refl)
 names_of (first ∷ read) last = (record { first = first; more = read ++ last ∷ [] }, refl, refl)
 

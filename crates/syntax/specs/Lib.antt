@@ -4,6 +4,7 @@ pub mod Declarations
 pub mod Expected
 pub mod Front
 pub mod Grammar
+pub mod Graphs
 pub mod Joints
 pub mod Keys
 pub mod Limits
@@ -15,6 +16,9 @@ pub mod Partial
 pub mod Reading
 pub mod Relations
 pub mod Spelled
+pub mod Statements
+pub mod StepNames
+pub mod Steps
 pub mod Tokens
 pub mod Tree
 pub mod Whole

@@ -5,10 +5,11 @@ use Rattle.syntax.specs.declared.cursor.Cursor.{Cursor}
 use Rattle.syntax.specs.declared.stop.Stop.{Stop}
 use Rattle.syntax.specs.declared.stop.Stop.TheVariants as stop
 use Rattle.syntax.specs.declared.token.Symbol.{Symbol}
-use Rattle.syntax.specs.Tokens.{Lexeme, symbol, Spot, spots_of}
+use Rattle.syntax.specs.declared.token.Word.{Word}
+use Rattle.syntax.specs.Tokens.{Lexeme, symbol, word, Spot, spots_of}
 use Rattle.syntax.specs.Grammar.{Position, Named}
 use Rattle.syntax.specs.Spelled.{Piece, plain, IsPiece}
-use Rattle.syntax.specs.Expected.{Expected, Verdict, syntax, too_large, run, look, look_if}
+use Rattle.syntax.specs.Expected.{Expected, Verdict, syntax, too_large, run, look, look_if, look_if_word}
 
 -- the tokens that are left
 abbrev pub left : Cursor → List Spot
@@ -50,4 +51,11 @@ abbrev pub TakenIf : Symbol → Bool → List Spot → List Spot → Type 0
 TakenIf sign true before after = (first : Expected) (more : List Expected) → ((lexeme : Lexeme) (place : Position) → look first lexeme place ≡ look_if sign lexeme more)
     → Reads (first ∷ []) more (plain (symbol sign) ∷ []) before after
 TakenIf sign false before after = (after ≡ before) × ((first : Expected) (more : List Expected) → ((lexeme : Lexeme) (place : Position) → look first lexeme place ≡ look_if sign lexeme more)
+    → Goes (first ∷ []) [] before after)
+
+-- where a reserved word may stand, whether it is taken
+abbrev pub TakenIfWord : Word → Bool → List Spot → List Spot → Type 0
+TakenIfWord kept true before after = (first : Expected) (more : List Expected) → ((lexeme : Lexeme) (place : Position) → look first lexeme place ≡ look_if_word kept lexeme more)
+    → Reads (first ∷ []) more (plain (word kept) ∷ []) before after
+TakenIfWord kept false before after = (after ≡ before) × ((first : Expected) (more : List Expected) → ((lexeme : Lexeme) (place : Position) → look first lexeme place ≡ look_if_word kept lexeme more)
     → Goes (first ∷ []) [] before after)

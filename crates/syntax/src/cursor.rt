@@ -15,13 +15,13 @@ pub(crate) struct Cursor<'t, 'a> {
 }
 
 impl<'t, 'a> Cursor<'t, 'a> {
-    ghost use Rattle.std.specs.Prelude.{◌∷◌, false, [], ◌≤◌, ◌<◌, length, IfOk, IfErr, OnOk};
+    ghost use Rattle.std.specs.Prelude.{◌∷◌, false, [], ◌≤◌, ◌<◌, ◌==◌, length, map, get_or, IfOk, IfErr, OnOk};
     ghost use Rattle.syntax.specs.Tokens.{spots_of, lexeme_of, word, symbol};
     ghost use Rattle.syntax.specs.Limits.{name_limits};
     ghost use Rattle.syntax.specs.Spelled.{plain, named};
     ghost use Rattle.syntax.specs.Expected.{exactly, keyword as reserved, a_name};
     ghost use Rattle.syntax.specs.NameLists.{TakesName, StopsAtName};
-    ghost use Rattle.syntax.specs.Parsed.{left, named_of, Reads, Stops, TakenIf};
+    ghost use Rattle.syntax.specs.Parsed.{left, named_of, Reads, Stops, TakenIf, TakenIfWord};
     ghost use Rattle.syntax.specs.Front.{front_of, behind_front};
 
     /// In front of all of these tokens, which are those of a text.
@@ -50,6 +50,23 @@ impl<'t, 'a> Cursor<'t, 'a> {
             Some(placed) => placed.place,
             None => 0,
         }
+    }
+
+    /// Its position; that of the end where no token is left.
+    pub(crate) fn place_or(&self, end: usize) -> usize
+        ensures { result ≡ get_or (map (λ spot. spot.1) (left self.now)) 0 end }
+    {
+        match self.tokens.get(self.passed) {
+            Some(placed) => placed.place,
+            None => end,
+        }
+    }
+
+    /// Whether no token is left.
+    pub(crate) fn is_at_end(&self) -> bool
+        ensures { result ≡ (length (left self.now) == 0) }
+    {
+        self.passed >= self.tokens.len()
     }
 
     /// Goes behind the token in front.
@@ -118,6 +135,20 @@ impl<'t, 'a> Cursor<'t, 'a> {
     {
         match self.front() {
             Token::Symbol(other) if other == sign => {
+                self.advance();
+                true
+            }
+            _ => false,
+        }
+    }
+
+    /// Takes this reserved word, if it stands in front.
+    pub(crate) fn takes_word(&mut self, keyword: Word) -> bool
+        ensures taken { TakenIfWord keyword result (left self.old) (left self.new) }
+        ensures fewer { length (left self.new) ≤ length (left self.old) }
+    {
+        match self.front() {
+            Token::Word(other) if other == keyword => {
                 self.advance();
                 true
             }

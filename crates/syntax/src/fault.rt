@@ -1,4 +1,7 @@
-use std::alloc::{AllocError, AllocFailed};
+ghost use Rattle.std.specs.Prelude.{◌≡◌};
+ghost use Rattle.syntax.specs.declared.fault.TreeError.TheVariants.{NoMemory};
+
+use std::alloc::AllocError;
 use thiserror::Error;
 
 /// Why a text is no graph text.
@@ -21,4 +24,15 @@ pub enum TreeError {
 pub struct TreeFault {
     pub error: TreeError,
     pub place: usize,
+}
+
+impl From<AllocError> for TreeFault {
+    ghost from_gives = { λ _ fault. (fault.error ≡ NoMemory) × (fault.place ≡ 0) };
+
+    fn from(_error: AllocError) -> TreeFault {
+        TreeFault {
+            error: TreeError::NoMemory,
+            place: 0,
+        }
+    }
 }

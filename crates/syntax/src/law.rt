@@ -1,4 +1,4 @@
-ghost use Rattle.syntax.specs.MayCome.{ExpressionsMayCome, KeysMayCome};
+ghost use Rattle.syntax.specs.MayCome.{ExpressionsMayCome, KeysMayCome, GraphsAreJudged};
 ghost use Rattle.syntax.specs.Tokens.{TokensOnce, TokensExample};
 
 /// A text is one list of tokens at most; and a worked example.
@@ -7,8 +7,10 @@ pub fn tokens_once()
     ensures example { TokensExample }
 {}
 
-/// What the grammar derives within the limits may come, token by token: expressions, and keys.
+/// What the grammar derives within the limits may come, token by token: expressions, keys, and whole graph texts, of which
+/// each past the limits is told to pass one at a place where it does.
 pub fn derived_may_come()
     ensures expressions { ExpressionsMayCome }
     ensures keys { KeysMayCome }
+    ensures graphs { GraphsAreJudged }
 {}

@@ -1,9 +1,11 @@
 //! Graph texts: their tokens, and the tree that they are.
 //!
-//! A text is one list of tokens, each the longest that stands there (`AreTokens`). The layer above stands on `tokens`,
-//! which answers that list, and on the law `tokens_once`.
+//! A text is one list of tokens, each the longest that stands there (`AreTokens`), and the tree that the grammar derives
+//! from them within the limits (`IsRead`). The layer above stands on `read_tree`, which answers that tree or the cause of a
+//! fault, and on the law `tokens_once`.
 #![tactic(auto)]
 
+mod blocks;
 mod characters;
 mod cursor;
 mod declarations;
@@ -19,9 +21,13 @@ mod name_lists;
 mod numbers;
 mod operand;
 mod own_statements;
+mod parser;
+mod part;
 mod partial;
 mod preamble;
 mod relations;
+mod step_names;
+mod steps;
 mod stop;
 mod symbols;
 #[cfg(test)]
@@ -35,5 +41,6 @@ pub use grammar::grammar_example;
 pub use law::{derived_may_come, tokens_once};
 pub use lexer::tokens;
 pub use limits::{MOST_BRACES, MOST_BRACKETS, MOST_DEPTH, MOST_NAME_BYTES};
+pub use parser::read_tree;
 pub use token::{Placed, Symbol, Token, Word};
 pub use tree::{Declaration, Relation, Tree};

@@ -1,6 +1,9 @@
+mod blocks;
 mod expressions;
 mod preambles;
 mod statements;
+mod steps;
+mod trees;
 
 use crate::{Placed, Token, tokens, tokens_once};
 use std::process::Abort;

@@ -24,7 +24,7 @@ fn outcome<'a, R: Abort + AllocGlobal>(
 }
 
 // This text so often, and then that one.
-fn repeated<R: Abort + AllocGlobal>(
+pub(crate) fn repeated<R: Abort + AllocGlobal>(
     rt: &R,
     text: &str,
     times: usize,

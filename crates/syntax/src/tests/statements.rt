@@ -7,7 +7,7 @@ use std::process::Abort;
 use std::test::Fail;
 
 // A letter for where the parser stops, and how many tokens are passed or the place of the limit.
-fn told(stop: Stop, passed: usize) -> (char, usize) {
+pub(crate) fn told(stop: Stop, passed: usize) -> (char, usize) {
     match stop {
         Stop::Syntax => ('s', passed),
         Stop::TooLarge(place) => ('l', place),

@@ -1,0 +1,313 @@
+-- Expressions that the grammar derives: the limits within one are kept on the way, and told where it is whole.
+use Rattle.std.proofs.Common.{◌≡◌, inl, suc, List, [], ◌∷◌, ◌++◌, length, Option, Some, None, refl, ap, ◌∙◌}
+use Rattle.std.specs.Prelude.{⊤}
+use Rattle.std.proofs.lemmas.List.{append_assoc}
+use Rattle.syntax.specs.declared.token.Symbol.TheVariants as sign
+use Rattle.syntax.specs.Tokens.{Lexeme, name, number, symbol, Spot}
+use Rattle.syntax.specs.Grammar.{Position, Comparison, equal, not_equal, less, less_or_equal, greater, greater_or_equal, Addition, plus, minus, Multiplication, times, over, modulo}
+use Rattle.syntax.specs.Grammar.{Expr, sum_alone, compared, Sum, prod_alone, added, Prod, unary_alone, multiplied, Unary, negated, literal, variable, bracketed}
+use Rattle.syntax.specs.Spelled.{Piece, plain, at, ArePieces, comparison_sign, addition_sign, multiplication_sign, a_sign, expr_pieces, sum_pieces, prod_pieces, unary_pieces}
+use Rattle.syntax.specs.Limits.{one_more, depth_limits, expr_depth, expr_first, sum_first, prod_first, unary_first, sum_depth, sum_limits, expr_limits, expr_within, sum_within, prod_within, unary_within}
+use Rattle.syntax.specs.declared.limits.TheConstants.{MOST_BRACKETS}
+use Rattle.syntax.specs.MayCome.{EndsExpression}
+use Rattle.syntax.specs.Front.{front_of}
+use Rattle.syntax.specs.Expected.{Comparing, never, possible, behind_left, Level, Expression, Expected, operand, behind_operand, earlier, negated_by, product_of, opened, sum_of, level_expr, whole, within, left_out, passed, finished, met, next, followed, run}
+use Rattle.syntax.proofs.Judged.{Judged, goes, breaks, judged_behind, split, Comes}
+
+-- the first of some tokens
+pub record First (lexeme : Lexeme) (rest : List Piece) (tokens : List Spot) : Type 0 where
+  pub position : Position
+  pub more : List Spot
+  pub whole : tokens ≡ (lexeme, position) ∷ more
+  pub are : ArePieces rest more
+
+pub first_plain : (lexeme : Lexeme) (rest : List Piece) (tokens : List Spot) → ArePieces (plain lexeme ∷ rest) tokens → First lexeme rest tokens
+first_plain lexeme rest [] are = absurd are
+first_plain lexeme rest (spot ∷ more) are = record { position = spot.1; more = more; whole = λ i. (are.0 i, spot.1) ∷ more; are = are.1 }
+
+-- a token at its position
+pub record FirstAt (position : Position) (lexeme : Lexeme) (rest : List Piece) (tokens : List Spot) : Type 0 where
+  pub more : List Spot
+  pub whole : tokens ≡ (lexeme, position) ∷ more
+  pub are : ArePieces rest more
+
+pub first_at : (position : Position) (lexeme : Lexeme) (rest : List Piece) (tokens : List Spot) → ArePieces (at position lexeme ∷ rest) tokens → FirstAt position lexeme rest tokens
+first_at position lexeme rest [] are = absurd are
+first_at position lexeme rest (spot ∷ more) are = record { more = more; whole = λ i. (are.0.0 i, are.0.1 i) ∷ more; are = are.1 }
+
+pub none_left : (tokens : List Spot) → ArePieces [] tokens → tokens ≡ []
+none_left [] are = refl
+none_left (spot ∷ more) are = absurd are
+
+-- tokens, a sign and tokens
+three : (tokens front back inner sign_and more : List Spot) (lexeme : Lexeme) (position : Position) → tokens ≡ front ++ back → front ≡ inner ++ sign_and → sign_and ≡ (lexeme, position) ∷ more → more ≡ []
+    → tokens ≡ inner ++ ((lexeme, position) ∷ []) ++ back
+three tokens front back inner sign_and more lexeme position parts fronts signs none =
+    parts ∙ ap (λ (list : List Spot). list ++ back) (fronts ∙ ap (λ (list : List Spot). inner ++ list) (signs ∙ ap (λ (list : List Spot). (lexeme, position) ∷ list) none))
+
+regroup : (inner : List Spot) (lexeme : Lexeme) (position : Position) (back behind : List Spot) → inner ++ ((lexeme, position) ∷ []) ++ back ++ behind ≡ inner ++ ((lexeme, position) ∷ back ++ behind)
+regroup inner lexeme position back behind =
+    append_assoc (inner ++ ((lexeme, position) ∷ [])) back behind ∙ append_assoc inner ((lexeme, position) ∷ []) (back ++ behind)
+
+-- ---- expressions
+
+-- an expression so far; and a level at the beginning of a product
+abbrev pub so_far : Option Position → Position → Level → List (Level × Position) → Expression
+so_far before first level outer = record { first = first; passed = before; level = level; outer = outer }
+
+pub earlier_on : (before : Option Position) (a b : List Position) → earlier (earlier before a) b ≡ earlier before (a ++ b)
+earlier_on (Some place) a b = refl
+earlier_on None [] b = refl
+earlier_on None (place ∷ a) b = refl
+
+pub earlier_none : (before : Option Position) → before ≡ earlier before []
+earlier_none (Some place) = refl
+earlier_none None = refl
+
+abbrev pub at_product : Comparing → Option (Sum × Addition) → Level
+at_product comparing sum = record { comparing = comparing; sum = sum; product = None; negations = [] }
+
+-- what waits of a sum, and its last product
+abbrev pub sum_waits : Sum → Option (Sum × Addition)
+sum_waits (prod_alone prod) = None
+sum_waits (added left how right) = Some (left, how)
+
+abbrev pub last_prod : Sum → Prod
+last_prod (prod_alone prod) = prod
+last_prod (added left how right) = right
+
+pub sum_is : (sum : Sum) → sum_of (sum_waits sum) (last_prod sum) ≡ sum
+sum_is (prod_alone prod) = refl
+sum_is (added left how right) = refl
+
+abbrev expr_level : Expr → Level
+expr_level (sum_alone sum) = at_product possible (sum_waits sum)
+expr_level (compared left how right) = at_product (behind_left left how) (sum_waits right)
+
+abbrev expr_last : Expr → Prod
+expr_last (sum_alone sum) = last_prod sum
+expr_last (compared left how right) = last_prod right
+
+expr_is : (expr : Expr) → level_expr (expr_level expr) (expr_last expr) ≡ expr
+expr_is (sum_alone sum) = ap sum_alone (sum_is sum)
+expr_is (compared left how right) = ap (λ (sum : Sum). compared left how sum) (sum_is right)
+
+module _ (first : Position) where
+  -- an operator between two operands
+  multiplied_by : (how : Multiplication) (before : Option Position) (level : Level) (outer : List (Level × Position)) (prod : Prod) (stack : List Expected) (position : Position) (rest : List Spot)
+      → run (behind_operand (so_far before first level outer) prod ∷ stack) ((symbol (multiplication_sign how), position) ∷ rest)
+      ≡ run (operand (so_far before first (record level { product = Some (prod, how) }) outer) ∷ stack) rest
+  multiplied_by times before level outer prod stack position rest = refl
+  multiplied_by over before level outer prod stack position rest = refl
+  multiplied_by modulo before level outer prod stack position rest = refl
+
+  added_to : (how : Addition) (before : Option Position) (level : Level) (outer : List (Level × Position)) (prod : Prod) (stack : List Expected) (position : Position) (rest : List Spot)
+      → run (behind_operand (so_far before first level outer) prod ∷ stack) ((symbol (addition_sign how), position) ∷ rest)
+      ≡ run (operand (so_far before first (record level { sum = Some (sum_of level.sum prod, how) }) outer) ∷ stack) rest
+  added_to plus before level outer prod stack position rest = refl
+  added_to minus before level outer prod stack position rest = refl
+
+  compared_with : (how : Comparison) (before : Option Position) (sum : Option (Sum × Addition)) (outer : List (Level × Position)) (prod : Prod) (stack : List Expected) (position : Position) (rest : List Spot)
+      → run (behind_operand (so_far before first (at_product possible sum) outer) prod ∷ stack) ((symbol (comparison_sign how), position) ∷ rest)
+      ≡ run (operand (so_far before first (at_product (behind_left (sum_of sum prod) how) None) outer) ∷ stack) rest
+  compared_with equal before sum outer prod stack position rest = refl
+  compared_with not_equal before sum outer prod stack position rest = refl
+  compared_with less before sum outer prod stack position rest = refl
+  compared_with less_or_equal before sum outer prod stack position rest = refl
+  compared_with greater before sum outer prod stack position rest = refl
+  compared_with greater_or_equal before sum outer prod stack position rest = refl
+
+  mutual
+    pub expr_comes : (expr : Expr) (before : Option Position) (outer : List (Level × Position)) (stack : List Expected) (tokens behind : List Spot) → ArePieces (expr_pieces expr) tokens
+        → run (operand (so_far before first (opened possible) outer) ∷ stack) (tokens ++ behind)
+        ≡ run (behind_operand (so_far (earlier before (expr_within (length outer) expr)) first (expr_level expr) outer) (expr_last expr) ∷ stack) behind
+    expr_comes (sum_alone sum) before outer stack tokens behind are = sum_comes sum possible before outer stack tokens behind are
+    expr_comes (compared left how right) before outer stack tokens behind are =
+        let outer_split = split (sum_pieces left ++ a_sign (comparison_sign how)) (sum_pieces right) tokens are in
+        let inner_split = split (sum_pieces left) (a_sign (comparison_sign how)) outer_split.front outer_split.first in
+        let sign_token = first_plain (symbol (comparison_sign how)) [] inner_split.back inner_split.second in
+        let passed_left = earlier before (sum_within (length outer) left) in
+        ap (λ (list : List Spot). run (operand (so_far before first (opened possible) outer) ∷ stack) (list ++ behind))
+        (three tokens outer_split.front outer_split.back inner_split.front inner_split.back sign_token.more (symbol (comparison_sign how)) sign_token.position outer_split.whole inner_split.whole sign_token.whole (none_left sign_token.more sign_token.are))
+        ∙ ap (λ (list : List Spot). run (operand (so_far before first (opened possible) outer) ∷ stack) list) (regroup inner_split.front (symbol (comparison_sign how)) sign_token.position outer_split.back behind)
+        ∙ sum_comes left possible before outer stack inner_split.front ((symbol (comparison_sign how), sign_token.position) ∷ outer_split.back ++ behind) inner_split.first
+        ∙ compared_with how passed_left (sum_waits left) outer (last_prod left) stack sign_token.position (outer_split.back ++ behind)
+        ∙ ap (λ (sum : Sum). run (operand (so_far passed_left first (at_product (behind_left sum how) None) outer) ∷ stack) (outer_split.back ++ behind)) (sum_is left)
+        ∙ sum_comes right (behind_left left how) passed_left outer stack outer_split.back behind outer_split.second
+        ∙ ap (λ (places : Option Position). run (behind_operand (so_far places first (at_product (behind_left left how) (sum_waits right)) outer) (last_prod right) ∷ stack) behind)
+        (earlier_on before (sum_within (length outer) left) (sum_within (length outer) right))
+
+    pub sum_comes : (sum : Sum) (comparing : Comparing) (before : Option Position) (outer : List (Level × Position)) (stack : List Expected) (tokens behind : List Spot) → ArePieces (sum_pieces sum) tokens
+        → run (operand (so_far before first (at_product comparing None) outer) ∷ stack) (tokens ++ behind)
+        ≡ run (behind_operand (so_far (earlier before (sum_within (length outer) sum)) first (at_product comparing (sum_waits sum)) outer) (last_prod sum) ∷ stack) behind
+    sum_comes (prod_alone prod) comparing before outer stack tokens behind are = prod_comes prod comparing None before outer stack tokens behind are
+    sum_comes (added left how right) comparing before outer stack tokens behind are =
+        let outer_split = split (sum_pieces left ++ a_sign (addition_sign how)) (prod_pieces right) tokens are in
+        let inner_split = split (sum_pieces left) (a_sign (addition_sign how)) outer_split.front outer_split.first in
+        let sign_token = first_plain (symbol (addition_sign how)) [] inner_split.back inner_split.second in
+        let passed_left = earlier before (sum_within (length outer) left) in
+        ap (λ (list : List Spot). run (operand (so_far before first (at_product comparing None) outer) ∷ stack) (list ++ behind))
+        (three tokens outer_split.front outer_split.back inner_split.front inner_split.back sign_token.more (symbol (addition_sign how)) sign_token.position outer_split.whole inner_split.whole sign_token.whole (none_left sign_token.more sign_token.are))
+        ∙ ap (λ (list : List Spot). run (operand (so_far before first (at_product comparing None) outer) ∷ stack) list) (regroup inner_split.front (symbol (addition_sign how)) sign_token.position outer_split.back behind)
+        ∙ sum_comes left comparing before outer stack inner_split.front ((symbol (addition_sign how), sign_token.position) ∷ outer_split.back ++ behind) inner_split.first
+        ∙ added_to how passed_left (at_product comparing (sum_waits left)) outer (last_prod left) stack sign_token.position (outer_split.back ++ behind)
+        ∙ ap (λ (sum : Sum). run (operand (so_far passed_left first (at_product comparing (Some (sum, how))) outer) ∷ stack) (outer_split.back ++ behind)) (sum_is left)
+        ∙ prod_comes right comparing (Some (left, how)) passed_left outer stack outer_split.back behind outer_split.second
+        ∙ ap (λ (places : Option Position). run (behind_operand (so_far places first (at_product comparing (Some (left, how))) outer) right ∷ stack) behind)
+        (earlier_on before (sum_within (length outer) left) (prod_within (length outer) right))
+
+    prod_comes : (prod : Prod) (comparing : Comparing) (sum : Option (Sum × Addition)) (before : Option Position) (outer : List (Level × Position)) (stack : List Expected) (tokens behind : List Spot)
+        → ArePieces (prod_pieces prod) tokens
+        → run (operand (so_far before first (at_product comparing sum) outer) ∷ stack) (tokens ++ behind)
+        ≡ run (behind_operand (so_far (earlier before (prod_within (length outer) prod)) first (at_product comparing sum) outer) prod ∷ stack) behind
+    prod_comes (unary_alone unary) comparing sum before outer stack tokens behind are = unary_comes unary (at_product comparing sum) before outer stack tokens behind are
+    prod_comes (multiplied left how right) comparing sum before outer stack tokens behind are =
+        let outer_split = split (prod_pieces left ++ a_sign (multiplication_sign how)) (unary_pieces right) tokens are in
+        let inner_split = split (prod_pieces left) (a_sign (multiplication_sign how)) outer_split.front outer_split.first in
+        let sign_token = first_plain (symbol (multiplication_sign how)) [] inner_split.back inner_split.second in
+        let passed_left = earlier before (prod_within (length outer) left) in
+        ap (λ (list : List Spot). run (operand (so_far before first (at_product comparing sum) outer) ∷ stack) (list ++ behind))
+        (three tokens outer_split.front outer_split.back inner_split.front inner_split.back sign_token.more (symbol (multiplication_sign how)) sign_token.position outer_split.whole inner_split.whole sign_token.whole (none_left sign_token.more sign_token.are))
+        ∙ ap (λ (list : List Spot). run (operand (so_far before first (at_product comparing sum) outer) ∷ stack) list) (regroup inner_split.front (symbol (multiplication_sign how)) sign_token.position outer_split.back behind)
+        ∙ prod_comes left comparing sum before outer stack inner_split.front ((symbol (multiplication_sign how), sign_token.position) ∷ outer_split.back ++ behind) inner_split.first
+        ∙ multiplied_by how passed_left (at_product comparing sum) outer left stack sign_token.position (outer_split.back ++ behind)
+        ∙ unary_comes right (record (at_product comparing sum) { product = Some (left, how) }) passed_left outer stack outer_split.back behind outer_split.second
+        ∙ ap (λ (places : Option Position). run (behind_operand (so_far places first (at_product comparing sum) outer) (multiplied left how right) ∷ stack) behind)
+        (earlier_on before (prod_within (length outer) left) (unary_within (length outer) right))
+
+    unary_comes : (unary : Unary) (level : Level) (before : Option Position) (outer : List (Level × Position)) (stack : List Expected) (tokens behind : List Spot) → ArePieces (unary_pieces unary) tokens
+        → run (operand (so_far before first level outer) ∷ stack) (tokens ++ behind)
+        ≡ run (behind_operand (so_far (earlier before (unary_within (length outer) unary)) first (at_product level.comparing level.sum) outer) (product_of level.product (negated_by level.negations unary)) ∷ stack) behind
+    unary_comes (negated position unary) level before outer stack tokens behind are =
+        let token = first_at position (symbol sign.Minus) (unary_pieces unary) tokens are in
+        ap (λ (list : List Spot). run (operand (so_far before first level outer) ∷ stack) (list ++ behind)) token.whole
+        ∙ unary_comes unary (record level { negations = position ∷ level.negations }) before outer stack token.more behind token.are
+    unary_comes (literal position value) level before outer stack tokens behind are =
+        let token = first_at position (number value) [] tokens are in
+        ap (λ (list : List Spot). run (operand (so_far before first level outer) ∷ stack) (list ++ behind))
+        (token.whole ∙ ap (λ (list : List Spot). (number value, position) ∷ list) (none_left token.more token.are))
+        ∙ ap (λ (places : Option Position). run (behind_operand (so_far places first (at_product level.comparing level.sum) outer) (product_of level.product (negated_by level.negations (literal position value))) ∷ stack) behind) (earlier_none before)
+    unary_comes (variable it) level before outer stack tokens behind are =
+        let token = first_at it.1 (name it.0) [] tokens are in
+        ap (λ (list : List Spot). run (operand (so_far before first level outer) ∷ stack) (list ++ behind))
+        (token.whole ∙ ap (λ (list : List Spot). (name it.0, it.1) ∷ list) (none_left token.more token.are))
+    unary_comes (bracketed position expr) level before outer stack tokens behind are =
+        let token = first_at position (symbol sign.OpenRound) (expr_pieces expr ++ a_sign sign.CloseRound) tokens are in
+        let parts = split (expr_pieces expr) (a_sign sign.CloseRound) token.more token.are in
+        let close = first_plain (symbol sign.CloseRound) [] parts.back parts.second in
+        let passed_open = earlier before (one_more MOST_BRACKETS (length outer) position) in
+        ap (λ (list : List Spot). run (operand (so_far before first level outer) ∷ stack) (list ++ behind))
+        (token.whole ∙ ap (λ (list : List Spot). (symbol sign.OpenRound, position) ∷ list) (parts.whole ∙ ap (λ (list : List Spot). parts.front ++ list) (close.whole ∙ ap (λ (list : List Spot). (symbol sign.CloseRound, close.position) ∷ list) (none_left close.more close.are))))
+        ∙ ap (λ (list : List Spot). run (operand (so_far passed_open first (opened possible) ((level, position) ∷ outer)) ∷ stack) list) (append_assoc parts.front ((symbol sign.CloseRound, close.position) ∷ []) behind)
+        ∙ expr_comes expr passed_open ((level, position) ∷ outer) stack parts.front ((symbol sign.CloseRound, close.position) ∷ behind) parts.first
+        ∙ ap (λ (inner : Expr). run (behind_operand (so_far (earlier passed_open (expr_within (suc (length outer)) expr)) first (at_product level.comparing level.sum) outer) (product_of level.product (negated_by level.negations (bracketed position inner))) ∷ stack) behind) (expr_is expr)
+        ∙ ap (λ (places : Option Position). run (behind_operand (so_far places first (at_product level.comparing level.sum) outer) (product_of level.product (negated_by level.negations (bracketed position expr))) ∷ stack) behind)
+        (earlier_on before (one_more MOST_BRACKETS (length outer) position) (expr_within (suc (length outer)) expr))
+
+-- ---- whole expressions
+
+-- the pieces begin at this position
+abbrev pub BeginsAt : Position → List Piece → Type 0
+BeginsAt position [] = ⊥
+BeginsAt position (plain lexeme ∷ pieces) = ⊥
+BeginsAt position (at there lexeme ∷ pieces) = there ≡ position
+
+begins_more : (position : Position) (a b : List Piece) → BeginsAt position a → BeginsAt position (a ++ b)
+begins_more position [] b begins = absurd begins
+begins_more position (plain lexeme ∷ a) b begins = absurd begins
+begins_more position (at there lexeme ∷ a) b begins = begins
+
+unary_begins : (unary : Unary) → BeginsAt (unary_first unary) (unary_pieces unary)
+unary_begins (negated position unary) = refl
+unary_begins (literal position value) = refl
+unary_begins (variable it) = refl
+unary_begins (bracketed position expr) = refl
+
+prod_begins : (prod : Prod) → BeginsAt (prod_first prod) (prod_pieces prod)
+prod_begins (unary_alone unary) = unary_begins unary
+prod_begins (multiplied left how right) =
+    begins_more (prod_first left) (prod_pieces left ++ a_sign (multiplication_sign how)) (unary_pieces right) (begins_more (prod_first left) (prod_pieces left) (a_sign (multiplication_sign how)) (prod_begins left))
+
+sum_begins : (sum : Sum) → BeginsAt (sum_first sum) (sum_pieces sum)
+sum_begins (prod_alone prod) = prod_begins prod
+sum_begins (added left how right) =
+    begins_more (sum_first left) (sum_pieces left ++ a_sign (addition_sign how)) (prod_pieces right) (begins_more (sum_first left) (sum_pieces left) (a_sign (addition_sign how)) (sum_begins left))
+
+expr_begins : (expr : Expr) → BeginsAt (expr_first expr) (expr_pieces expr)
+expr_begins (sum_alone sum) = sum_begins sum
+expr_begins (compared left how right) =
+    begins_more (sum_first left) (sum_pieces left ++ a_sign (comparison_sign how)) (sum_pieces right) (begins_more (sum_first left) (sum_pieces left) (a_sign (comparison_sign how)) (sum_begins left))
+
+-- where one is expected it begins at its first token
+begins : (comparing : Comparing) (position : Position) (pieces : List Piece) (tokens behind : List Spot) (stack : List Expected) → BeginsAt position pieces → ArePieces pieces tokens
+    → run (whole comparing ∷ stack) (tokens ++ behind) ≡ run (operand (so_far None position (opened comparing) []) ∷ stack) (tokens ++ behind)
+begins comparing position [] tokens behind stack there are = absurd there
+begins comparing position (plain lexeme ∷ pieces) tokens behind stack there are = absurd there
+begins comparing position (at first lexeme ∷ pieces) [] behind stack there are = absurd are
+begins comparing position (at first lexeme ∷ pieces) (spot ∷ tokens) behind stack there are =
+    ap (λ (it : Position). run (operand (so_far None it (opened comparing) []) ∷ stack) (spot ∷ tokens ++ behind)) (are.0.1 ∙ there)
+
+-- a whole expression, whose depth and whose limits are told
+told : (deep limits : List Position) (stack : List Expected) (spot : Spot) (rest : List Spot)
+    → Judged (deep ++ limits) (followed (met (within deep (elim (earlier None limits) [ None ↦ left_out | Some place ↦ passed place ])) stack (next stack spot)) (spot ∷ rest) (λ after. run after rest)) (run stack (spot ∷ rest))
+told [] [] stack spot rest = goes refl refl
+told [] (place ∷ limits) stack spot rest = breaks place (inl refl) refl
+told (place ∷ deep) limits stack spot rest = breaks place (inl refl) refl
+
+-- a token that may stand behind the expression of a statement, and behind a component
+abbrev pub AfterExpression : Lexeme → Type 0
+AfterExpression (symbol it) = EndsExpression it
+AfterExpression _ = ⊥
+
+abbrev pub EndsComponent : Lexeme → Type 0
+EndsComponent (symbol sign.Comma) = ⊤
+EndsComponent (symbol sign.CloseBracket) = ⊤
+EndsComponent (symbol sign.Greater) = ⊤
+EndsComponent _ = ⊥
+
+at_end : (lexeme : Lexeme) → AfterExpression lexeme → (before : Option Position) (first position : Position) (level : Level) (prod : Prod) (rest : List Spot) (stack : List Expected)
+    → run (behind_operand (so_far before first level []) prod ∷ stack) ((lexeme, position) ∷ rest)
+    ≡ followed (met (finished (so_far before first level []) (level_expr level prod)) stack (next stack (lexeme, position))) ((lexeme, position) ∷ rest) (λ after. run after rest)
+at_end (symbol sign.Semicolon) ends before first position level prod rest stack = refl
+at_end (symbol sign.CloseRound) ends before first position level prod rest stack = refl
+at_end (symbol sign.DoubleDot) ends before first position level prod rest stack = refl
+at_end (symbol sign.OpenBrace) ends before first position level prod rest stack = refl
+at_end _ ends before first position level prod rest stack = absurd ends
+
+at_component_end : (lexeme : Lexeme) → EndsComponent lexeme → (before : Option Position) (first position : Position) (sum : Option (Sum × Addition)) (prod : Prod) (rest : List Spot) (stack : List Expected)
+    → run (behind_operand (so_far before first (at_product never sum) []) prod ∷ stack) ((lexeme, position) ∷ rest)
+    ≡ followed (met (finished (so_far before first (at_product never sum) []) (sum_alone (sum_of sum prod))) stack (next stack (lexeme, position))) ((lexeme, position) ∷ rest) (λ after. run after rest)
+at_component_end (symbol sign.Comma) ends before first position sum prod rest stack = refl
+at_component_end (symbol sign.CloseBracket) ends before first position sum prod rest stack = refl
+at_component_end (symbol sign.Greater) ends before first position sum prod rest stack = refl
+at_component_end _ ends before first position sum prod rest stack = absurd ends
+
+-- an expression of a statement
+pub expression_comes : (expr : Expr) → Comes AfterExpression (whole possible ∷ []) [] (expr_pieces expr) (expr_limits expr)
+expression_comes expr = record { comes = by }
+  where
+    by : (tokens later : List Spot) (behind : List Expected) → AfterExpression (front_of later).0 → ArePieces (expr_pieces expr) tokens
+        → Judged (expr_limits expr) (run (whole possible ∷ behind) (tokens ++ later)) (run behind later)
+    by tokens [] behind ends are = absurd ends
+    by tokens (spot ∷ rest) behind ends are =
+        judged_behind (
+        begins possible (expr_first expr) (expr_pieces expr) tokens (spot ∷ rest) behind (expr_begins expr) are
+        ∙ expr_comes (expr_first expr) expr None [] behind tokens (spot ∷ rest) are
+        ∙ at_end spot.0 ends (earlier None (expr_within 0 expr)) (expr_first expr) spot.1 (expr_level expr) (expr_last expr) rest behind
+        ∙ ap (λ (it : Expr). followed (met (finished (so_far (earlier None (expr_within 0 expr)) (expr_first expr) (expr_level expr) []) it) behind (next behind spot)) (spot ∷ rest) (λ after. run after rest)) (expr_is expr)
+        ) (told (depth_limits (expr_depth expr) (expr_first expr)) (expr_within 0 expr) behind spot rest)
+
+-- a component of a key
+pub component_comes : (sum : Sum) → Comes EndsComponent (whole never ∷ []) [] (sum_pieces sum) (sum_limits sum)
+component_comes sum = record { comes = by }
+  where
+    by : (tokens later : List Spot) (behind : List Expected) → EndsComponent (front_of later).0 → ArePieces (sum_pieces sum) tokens
+        → Judged (sum_limits sum) (run (whole never ∷ behind) (tokens ++ later)) (run behind later)
+    by tokens [] behind ends are = absurd ends
+    by tokens (spot ∷ rest) behind ends are =
+        judged_behind (
+        begins never (sum_first sum) (sum_pieces sum) tokens (spot ∷ rest) behind (sum_begins sum) are
+        ∙ sum_comes (sum_first sum) sum never None [] behind tokens (spot ∷ rest) are
+        ∙ at_component_end spot.0 ends (earlier None (sum_within 0 sum)) (sum_first sum) spot.1 (sum_waits sum) (last_prod sum) rest behind
+        ∙ ap (λ (it : Sum). followed (met (finished (so_far (earlier None (sum_within 0 sum)) (sum_first sum) (at_product never (sum_waits sum)) []) (sum_alone it)) behind (next behind spot)) (spot ∷ rest) (λ after. run after rest)) (sum_is sum)
+        ) (told (depth_limits (sum_depth sum) (sum_first sum)) (sum_within 0 sum) behind spot rest)

@@ -1,0 +1,174 @@
+-- Blocks that are read, statement by statement.
+use Rattle.std.specs.Prelude.{◌≡◌, ℕ, suc, List, [], ◌∷◌, ◌++◌, Option, Some, None}
+use Rattle.std.specs.List.{flat_map}
+use Rattle.steptree.specs.declared.step.NamedExpression.{NamedExpression}
+use Rattle.steptree.specs.declared.step.NamedBlock.{NamedBlock}
+use Rattle.steptree.specs.declared.step.NamedBlock.TheVariants.{End}
+use Rattle.syntax.specs.declared.limits.TheConstants.{MOST_BRACES}
+use Rattle.syntax.specs.declared.part.Part.{Part as Told}
+use Rattle.syntax.specs.declared.part.Part.TheVariants as told
+use Rattle.syntax.specs.declared.part.Beginning.{Beginning}
+use Rattle.syntax.specs.declared.part.Beginning.TheVariants as beginning
+use Rattle.syntax.specs.declared.token.Word.{Word}
+use Rattle.syntax.specs.declared.token.Word.TheVariants as kept
+use Rattle.syntax.specs.declared.token.Symbol.TheVariants as sign
+use Rattle.syntax.specs.Tokens.{Lexeme, name, word, Spot}
+use Rattle.syntax.specs.Grammar.{Position, Expr, Statement, if_alone, if_else, Statements, no_more, and_then, Get, Put}
+use Rattle.syntax.specs.Limits.{one_more, expr_limits, statement_limits, statements_limits, get_limits, put_limits}
+use Rattle.syntax.specs.Spelled.{Piece, a_sign, a_word, sign_at, in_braces_at, expr_pieces, statement_pieces, statements_pieces, get_pieces, put_pieces}
+use Rattle.syntax.specs.Tree.{IsExpr, IsStatement, AreStatements, IsGet, IsPut, AreAll}
+use Rattle.syntax.specs.Expected.{Part, reading, writing, Expected, exactly, keyword, a_name, whole, possible, statements, nested_brace, nested, or_else, put_target, get_rest, left_out, look_statement}
+use Rattle.syntax.specs.Blocks.{with_rest, assignment_rest}
+use Rattle.syntax.specs.Parsed.{Goes, Reads}
+
+-- ---- the parts of a step
+
+-- the part that is told
+abbrev pub part_of : Told → Part
+part_of told.Reading = reading
+part_of told.Writing = writing
+
+-- the word in front of a part
+abbrev pub part_word : Part → Word
+part_word reading = kept.Read
+part_word writing = kept.Write
+
+-- the statements that a part has of its own
+abbrev pub Own : Part → Type 0
+Own reading = Get
+Own writing = Put
+
+-- the word that they begin with, and what may come behind it
+abbrev pub own_word : Part → Word
+own_word reading = kept.Get
+own_word writing = kept.Put
+
+abbrev pub own_rest : Part → List Expected
+own_rest reading = get_rest
+own_rest writing = put_target ∷ []
+
+abbrev pub own_pieces : (part : Part) → Own part → List Piece
+own_pieces reading = get_pieces
+own_pieces writing = put_pieces
+
+abbrev pub own_limits : (part : Part) → Own part → List Position
+own_limits reading = get_limits
+own_limits writing = put_limits
+
+abbrev pub is_own : (part : Part) → Own part → NamedBlock → (NamedBlock → Type 0) → Type 0
+is_own reading = IsGet
+is_own writing = IsPut
+
+-- ---- one statement
+
+-- what a statement begins with, at a token
+abbrev pub Begins : Part → Lexeme → Beginning → Type 0
+Begins part lexeme beginning.Assignment = (text : List ℕ) × (lexeme ≡ name text)
+Begins part lexeme beginning.Choice = lexeme ≡ word kept.If
+Begins part lexeme beginning.Repetition = lexeme ≡ word kept.For
+Begins part lexeme beginning.Own = lexeme ≡ word (own_word part)
+Begins part lexeme beginning.Other = (around : ℕ) (place : Position) → look_statement part around lexeme place ≡ left_out
+
+-- what may come where a statement begins so
+abbrev pub choice_expected : Part → ℕ → List Expected
+choice_expected part around = keyword kept.If ∷ exactly sign.OpenRound ∷ whole possible ∷ exactly sign.CloseRound ∷ nested part around ++ or_else part around ∷ []
+
+abbrev pub repetition_expected : Part → ℕ → List Expected
+repetition_expected part around = keyword kept.For ∷ a_name ∷ keyword kept.In ∷ whole possible ∷ exactly sign.DoubleDot ∷ whole possible ∷ nested part around
+
+abbrev pub own_expected : Part → List Expected
+own_expected part = keyword (own_word part) ∷ own_rest part
+
+abbrev pub assignment_expected : List Expected
+assignment_expected = a_name ∷ assignment_rest
+
+-- the first statement of the tree is this one, whatever stands behind it
+abbrev pub IsFirst : (part : Part) → Statement (Own part) → NamedBlock → Type 0
+IsFirst part statement tree = (rest : NamedBlock) → IsStatement (is_own part) statement (with_rest tree rest) (λ other. other ≡ rest)
+
+-- one statement, with so many braces around
+pub record IsStatementRead (part : Part) (around : ℕ) (expected more : List Expected) (tree : NamedBlock) (before after : List Spot) : Type 0 where
+  pub statement : Statement (Own part)
+  pub reads : Reads expected more (statement_pieces (own_pieces part) statement) before after
+  pub is : IsFirst part statement tree
+  pub within : statement_limits (own_limits part) around statement ≡ []
+
+-- no statement begins here
+pub record NoneBegins (part : Part) (around : ℕ) (before after : List Spot) : Type 0 where
+  pub same : after ≡ before
+  pub goes : Goes (statements part around ∷ []) [] before after
+
+-- ---- parts of a statement
+
+-- an expression in brackets
+pub record IsConditionRead (tree : NamedExpression) (before after : List Spot) : Type 0 where
+  pub expr : Expr
+  pub reads : Reads (exactly sign.OpenRound ∷ whole possible ∷ exactly sign.CloseRound ∷ []) [] (a_sign sign.OpenRound ++ expr_pieces expr ++ a_sign sign.CloseRound) before after
+  pub is : IsExpr expr tree
+  pub within : expr_limits expr ≡ []
+
+-- an opening brace, with so many around
+pub record IsBraceRead (around : ℕ) (before after : List Spot) : Type 0 where
+  pub position : Position
+  pub reads : Reads (nested_brace around ∷ []) [] (sign_at position sign.OpenBrace) before after
+  pub within : one_more MOST_BRACES around position ≡ []
+
+-- a block in braces
+pub record IsNestedRead (part : Part) (around : ℕ) (tree : NamedBlock) (before after : List Spot) : Type 0 where
+  pub position : Position
+  pub block : Statements (Own part)
+  pub reads : Reads (nested part around) [] (in_braces_at position (statements_pieces (own_pieces part) block)) before after
+  pub are : AreStatements (is_own part) block tree
+  pub within : one_more MOST_BRACES around position ++ statements_limits (own_limits part) (suc around) block ≡ []
+
+-- the second block of a choice, if it has one, with the position of its brace
+abbrev pub Second : Part → Type 0
+Second part = Option (Position × Statements (Own part))
+
+abbrev pub second_pieces : (part : Part) → Second part → List Piece
+second_pieces part None = []
+second_pieces part (Some second) = a_word kept.Else ++ in_braces_at second.0 (statements_pieces (own_pieces part) second.1)
+
+abbrev pub second_limits : (part : Part) → ℕ → Second part → List Position
+second_limits part around None = []
+second_limits part around (Some second) = one_more MOST_BRACES around second.0 ++ statements_limits (own_limits part) (suc around) second.1
+
+abbrev pub IsSecond : (part : Part) → Second part → NamedBlock → Type 0
+IsSecond part None tree = tree ≡ End
+IsSecond part (Some second) tree = AreStatements (is_own part) second.1 tree
+
+abbrev pub choice_of : (part : Part) → Expr → Position → Statements (Own part) → Second part → Statement (Own part)
+choice_of part condition brace first None = if_alone condition brace first
+choice_of part condition brace first (Some second) = if_else condition brace first second.0 second.1
+
+pub record IsSecondRead (part : Part) (around : ℕ) (tree : NamedBlock) (before after : List Spot) : Type 0 where
+  pub second : Second part
+  pub reads : Reads (or_else part around ∷ []) [] (second_pieces part second) before after
+  pub is : IsSecond part second tree
+  pub within : second_limits part around second ≡ []
+
+-- ---- all statements of a block
+
+-- the first statements of these, one behind another, with a block behind them
+abbrev pub joined : List NamedBlock → NamedBlock → NamedBlock
+joined [] block = block
+joined (first ∷ others) block = with_rest first (joined others block)
+
+-- these statements, one behind another
+abbrev pub statements_of : {B : Type 0} → List (Statement B) → Statements B
+statements_of [] = no_more
+statements_of (first ∷ more) = and_then first (statements_of more)
+
+-- in front of a statement, these are read
+pub record StatementsSoFar (part : Part) (around : ℕ) (start now : List Spot) (trees : List NamedBlock) : Type 0 where
+  pub read : List (Statement (Own part))
+  pub reads : Reads (statements part around ∷ []) (statements part around ∷ []) (flat_map (statement_pieces (own_pieces part)) read) start now
+  pub are : AreAll (IsFirst part) read trees
+  pub within : flat_map (statement_limits (own_limits part) around) read ≡ []
+
+-- the statements of a block, with so many braces around
+pub record AreRead (part : Part) (around : ℕ) (block : NamedBlock) (before after : List Spot) : Type 0 where
+  pub read : Statements (Own part)
+  pub reads : Reads (statements part around ∷ []) [] (statements_pieces (own_pieces part) read) before after
+  pub are : AreStatements (is_own part) read block
+  pub within : statements_limits (own_limits part) around read ≡ []

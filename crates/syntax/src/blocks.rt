@@ -1,0 +1,264 @@
+//! Blocks: statements one behind another, and blocks inside of them.
+ghost use Rattle.std.specs.Prelude.{◌≡◌, ℕ, ◌<◌, ◌≤◌, ◌∷◌, [], length, MatchOption, IfSome, IfOk, IfErr, OnOk};
+ghost use Rattle.steptree.specs.declared.step.NamedBlock.TheVariants.{End};
+ghost use Rattle.syntax.specs.declared.limits.TheConstants.{MOST_BRACES};
+ghost use Rattle.syntax.specs.declared.token.Symbol.TheVariants as expected_sign;
+ghost use Rattle.syntax.specs.Expected.{Part as PartRead, exactly, whole, possible, statements as some_statements, nested_brace, nested as nested_rest, or_else};
+ghost use Rattle.syntax.specs.Parsed.{left, Stops};
+ghost use Rattle.syntax.specs.Blocks.{with_rest};
+ghost use Rattle.syntax.specs.Statements.{part_of, assignment_expected, choice_expected, repetition_expected, own_expected, IsStatementRead, NoneBegins};
+ghost use Rattle.syntax.specs.Statements.{IsConditionRead, IsBraceRead, IsNestedRead, IsSecondRead, joined, AreRead};
+
+use crate::cursor::Cursor;
+use crate::expressions::value;
+use crate::own_statements::{assignment, get, put};
+use crate::part::{Beginning, Part};
+use crate::stop::Stop;
+use crate::{MOST_BRACES, Symbol, Token, Word};
+use std::alloc::Global;
+use steptree::{NamedBlock, NamedExpression};
+
+// Puts a block behind the first statement of another, in place of what stood there.
+fn put_behind<'a>(statement: &mut NamedBlock<'a>, block: NamedBlock<'a>)
+    ensures { statement.new ≡ with_rest statement.old block.entry }
+{
+    match statement {
+        NamedBlock::End => *statement = block,
+        NamedBlock::Assign { rest, .. } => **rest = block,
+        NamedBlock::If { rest, .. } => **rest = block,
+        NamedBlock::For { rest, .. } => **rest = block,
+        NamedBlock::Get { rest, .. } => **rest = block,
+        NamedBlock::PutItem { rest, .. } => **rest = block,
+        NamedBlock::PutTag { rest, .. } => **rest = block,
+    }
+}
+
+// The first statements of these blocks, one behind another.
+#[tactic(auto, using(crate::proofs::Sequence::joined_last))]
+fn join<'a>(mut statements: Vec<NamedBlock<'a>>) -> NamedBlock<'a>
+    ensures { result ≡ joined statements.entry.items End }
+{
+    let mut block = NamedBlock::End;
+    while let Some(mut statement) = statements.pop() {
+        put_behind(&mut statement, block);
+        block = statement;
+    }
+    block
+}
+
+// An assignment.
+fn assigned<'a>(alloc: Global, cursor: &mut Cursor<'_, 'a>) -> Result<NamedBlock<'a>, Stop>
+    ensures reads { IfOk result (λ tree. (part : PartRead) (around : ℕ) → IsStatementRead part around assignment_expected [] tree (left cursor.old) (left cursor.new)) }
+    ensures fewer { OnOk result (length (left cursor.new) < length (left cursor.old)) }
+    ensures stops { IfErr result (Stops assignment_expected (left cursor.old) (left cursor.new)) }
+{
+    let variable = cursor.name()?;
+    let block = assignment(alloc, cursor, variable)?;
+    Ok(block)
+}
+
+// A statement that only this part has.
+fn own<'a>(alloc: Global, cursor: &mut Cursor<'_, 'a>, part: Part) -> Result<NamedBlock<'a>, Stop>
+    ensures reads { IfOk result (λ tree. (around : ℕ) → IsStatementRead (part_of part) around (own_expected (part_of part)) [] tree (left cursor.old) (left cursor.new)) }
+    ensures fewer { OnOk result (length (left cursor.new) < length (left cursor.old)) }
+    ensures stops { IfErr result (Stops (own_expected (part_of part)) (left cursor.old) (left cursor.new)) }
+{
+    match part {
+        Part::Reading => {
+            cursor.keyword(Word::Get)?;
+            let block = get(alloc, cursor)?;
+            Ok(block)
+        }
+        Part::Writing => {
+            cursor.keyword(Word::Put)?;
+            let block = put(alloc, cursor)?;
+            Ok(block)
+        }
+    }
+}
+
+// The condition of a choice, with its brackets.
+fn condition<'a>(alloc: Global, cursor: &mut Cursor<'_, 'a>) -> Result<NamedExpression<'a>, Stop>
+    ensures reads { IfOk result (λ tree. IsConditionRead tree (left cursor.old) (left cursor.new)) }
+    ensures fewer { OnOk result (length (left cursor.new) < length (left cursor.old)) }
+    ensures stops { IfErr result (Stops (exactly expected_sign.OpenRound ∷ whole possible ∷ exactly expected_sign.CloseRound ∷ []) (left cursor.old) (left cursor.new)) }
+{
+    cursor.sign(Symbol::OpenRound)?;
+    let condition = value(alloc, cursor)?;
+    cursor.sign(Symbol::CloseRound)?;
+    Ok(condition)
+}
+
+// The opening brace of a block, where so many are open around it.
+fn brace(cursor: &mut Cursor<'_, '_>, around: usize) -> Result<(), Stop>
+    ensures reads { OnOk result (IsBraceRead around (left cursor.old) (left cursor.new)) }
+    ensures room { OnOk result (around < MOST_BRACES) }
+    ensures fewer { OnOk result (length (left cursor.new) < length (left cursor.old)) }
+    ensures stops { IfErr result (Stops (nested_brace around ∷ []) (left cursor.old) (left cursor.new)) }
+{
+    let place = cursor.place();
+    match cursor.front() {
+        Token::Symbol(Symbol::OpenBrace) => {
+            if around >= MOST_BRACES {
+                return Err(Stop::TooLarge(place));
+            }
+            cursor.advance();
+            Ok(())
+        }
+        _ => Err(Stop::Syntax),
+    }
+}
+
+// A block in braces, where so many are open around it.
+#[cycle(blocks)]
+fn nested<'a>(
+    alloc: Global,
+    cursor: &mut Cursor<'_, 'a>,
+    part: Part,
+    around: usize,
+) -> Result<NamedBlock<'a>, Stop>
+    ensures reads { IfOk result (λ tree. IsNestedRead (part_of part) around tree (left cursor.old) (left cursor.new)) }
+    ensures fewer { OnOk result (length (left cursor.new) < length (left cursor.old)) }
+    ensures stops { IfErr result (Stops (nested_rest (part_of part) around) (left cursor.old) (left cursor.new)) }
+{
+    brace(cursor, around)?;
+    let block = statements(alloc, cursor, part, around + 1)?;
+    cursor.sign(Symbol::CloseBrace)?;
+    Ok(block)
+}
+
+// The second block of a choice; an empty one where the choice has none.
+#[cycle(blocks)]
+fn second<'a>(
+    alloc: Global,
+    cursor: &mut Cursor<'_, 'a>,
+    part: Part,
+    around: usize,
+) -> Result<NamedBlock<'a>, Stop>
+    ensures reads { IfOk result (λ tree. IsSecondRead (part_of part) around tree (left cursor.old) (left cursor.new)) }
+    ensures fewer { OnOk result (length (left cursor.new) ≤ length (left cursor.old)) }
+    ensures stops { IfErr result (Stops (or_else (part_of part) around ∷ []) (left cursor.old) (left cursor.new)) }
+{
+    if !cursor.takes_word(Word::Else) {
+        return Ok(NamedBlock::End);
+    }
+    let block = nested(alloc, cursor, part, around)?;
+    Ok(block)
+}
+
+// A choice.
+#[cycle(blocks)]
+fn choice<'a>(
+    alloc: Global,
+    cursor: &mut Cursor<'_, 'a>,
+    part: Part,
+    around: usize,
+) -> Result<NamedBlock<'a>, Stop>
+    ensures reads { IfOk result (λ tree. IsStatementRead (part_of part) around (choice_expected (part_of part) around) [] tree (left cursor.old) (left cursor.new)) }
+    ensures fewer { OnOk result (length (left cursor.new) < length (left cursor.old)) }
+    ensures stops { IfErr result (Stops (choice_expected (part_of part) around) (left cursor.old) (left cursor.new)) }
+{
+    cursor.keyword(Word::If)?;
+    let condition = condition(alloc, cursor)?;
+    let first = nested(alloc, cursor, part, around)?;
+    let second = second(alloc, cursor, part, around)?;
+    let first = Box::new(alloc, first)?;
+    let second = Box::new(alloc, second)?;
+    let rest = Box::new(alloc, NamedBlock::End)?;
+    Ok(NamedBlock::If {
+        condition,
+        first,
+        second,
+        rest,
+    })
+}
+
+// A repetition.
+#[cycle(blocks)]
+fn repetition<'a>(
+    alloc: Global,
+    cursor: &mut Cursor<'_, 'a>,
+    part: Part,
+    around: usize,
+) -> Result<NamedBlock<'a>, Stop>
+    ensures reads { IfOk result (λ tree. IsStatementRead (part_of part) around (repetition_expected (part_of part) around) [] tree (left cursor.old) (left cursor.new)) }
+    ensures fewer { OnOk result (length (left cursor.new) < length (left cursor.old)) }
+    ensures stops { IfErr result (Stops (repetition_expected (part_of part) around) (left cursor.old) (left cursor.new)) }
+{
+    cursor.keyword(Word::For)?;
+    let variable = cursor.name()?;
+    cursor.keyword(Word::In)?;
+    let from = value(alloc, cursor)?;
+    cursor.sign(Symbol::DoubleDot)?;
+    let to = value(alloc, cursor)?;
+    let block = nested(alloc, cursor, part, around)?;
+    let block = Box::new(alloc, block)?;
+    let rest = Box::new(alloc, NamedBlock::End)?;
+    Ok(NamedBlock::For {
+        variable,
+        from,
+        to,
+        block,
+        rest,
+    })
+}
+
+// One statement, if one begins here, as a block that ends behind it.
+#[cycle(blocks)]
+fn statement<'a>(
+    alloc: Global,
+    cursor: &mut Cursor<'_, 'a>,
+    part: Part,
+    around: usize,
+) -> Result<Option<NamedBlock<'a>>, Stop>
+    ensures reads { IfOk result (λ found. MatchOption found (NoneBegins (part_of part) around (left cursor.old) (left cursor.new))
+        (λ tree. IsStatementRead (part_of part) around (some_statements (part_of part) around ∷ []) (some_statements (part_of part) around ∷ []) tree (left cursor.old) (left cursor.new))) }
+    ensures fewer { IfOk result (λ found. IfSome found (λ tree. length (left cursor.new) < length (left cursor.old))) }
+    ensures stops { IfErr result (Stops (some_statements (part_of part) around ∷ []) (left cursor.old) (left cursor.new)) }
+{
+    match part.beginning(cursor.front()) {
+        Beginning::Assignment => {
+            let block = assigned(alloc, cursor)?;
+            Ok(Some(block))
+        }
+        Beginning::Choice => {
+            let block = choice(alloc, cursor, part, around)?;
+            Ok(Some(block))
+        }
+        Beginning::Repetition => {
+            let block = repetition(alloc, cursor, part, around)?;
+            Ok(Some(block))
+        }
+        Beginning::Own => {
+            let block = own(alloc, cursor, part)?;
+            Ok(Some(block))
+        }
+        Beginning::Other => Ok(None),
+    }
+}
+
+/// The statements of a block, up to a token with which none begins, where so many braces are open around.
+///
+/// It goes along the statements in a loop, and calls itself for the blocks inside of them.
+#[cycle(blocks)]
+pub(crate) fn statements<'a>(
+    alloc: Global,
+    cursor: &mut Cursor<'_, 'a>,
+    part: Part,
+    around: usize,
+) -> Result<NamedBlock<'a>, Stop>
+    ensures reads { IfOk result (λ block. AreRead (part_of part) around block (left cursor.old) (left cursor.new)) }
+    ensures fewer { OnOk result (length (left cursor.new) ≤ length (left cursor.old)) }
+    ensures stops { IfErr result (Stops (some_statements (part_of part) around ∷ []) (left cursor.old) (left cursor.new)) }
+{
+    let mut read = Vec::new(alloc);
+    loop {
+        match statement(alloc, cursor, part, around)? {
+            Some(statement) => {
+                read.reserve(1)?;
+                read.push_reserved(statement);
+            }
+            None => return Ok(join(read)),
+        }
+    }
+}

@@ -1,0 +1,75 @@
+//! The tree of a graph text.
+ghost use Rattle.std.specs.Prelude.{◌≡◌, ◌<◌, ℕ, List, length, IfOk, IfErr};
+ghost use Rattle.std.specs.List.{AllByRecursion};
+ghost use Rattle.syntax.specs.Tokens.{Spot, AreTokens};
+ghost use Rattle.syntax.specs.Expected.{run, graph_expected};
+ghost use Rattle.syntax.specs.Parsed.{left, Tells};
+ghost use Rattle.syntax.specs.Graphs.{IsGraphRead};
+ghost use Rattle.syntax.specs.Reading.{IsRead, HasCause};
+
+use crate::cursor::Cursor;
+use crate::lexer::tokens;
+use crate::preamble::{Preamble, read_preamble};
+use crate::steps::steps;
+use crate::stop::Stop;
+use crate::{Tree, TreeError, TreeFault};
+use std::alloc::Global;
+
+// The tree of all tokens that are left.
+fn whole_tree<'a>(alloc: Global, cursor: &mut Cursor<'_, 'a>) -> Result<Tree<'a>, Stop>
+    ensures reads { IfOk result (λ tree. IsGraphRead tree (left cursor.old)) }
+    ensures stops { IfErr result (λ stop. Tells stop (left cursor.new) (run graph_expected (left cursor.old))) }
+{
+    let Preamble {
+        declarations,
+        relations,
+    } = read_preamble(alloc, cursor)?;
+    let steps = steps(alloc, cursor)?;
+    if !cursor.is_at_end() {
+        return Err(Stop::Syntax);
+    }
+    Ok(Tree {
+        declarations,
+        relations,
+        steps,
+    })
+}
+
+// The fault of a text of so many bytes where the parser stops so.
+fn fault_of(cursor: &Cursor<'_, '_>, stop: Stop, end: usize) -> TreeFault
+    ensures { (text : List ℕ) (spots : List Spot) → AreTokens 0 text spots → end ≡ length text → Tells stop (left cursor.now) (run graph_expected spots) → HasCause text result }
+{
+    match stop {
+        Stop::Syntax => TreeFault {
+            error: TreeError::Syntax,
+            place: cursor.place_or(end),
+        },
+        Stop::TooLarge(place) => TreeFault {
+            error: TreeError::TooLarge,
+            place,
+        },
+        Stop::NoMemory => TreeFault {
+            error: TreeError::NoMemory,
+            place: 0,
+        },
+    }
+}
+
+/// The tree of a graph text, which is ASCII.
+///
+/// `Syntax` comes at the first token with which no graph text goes on behind those in front of it, and at the end of the
+/// text where it ends too early. `TooLarge` comes where a limit is passed at its place, whatever follows: a name too many or
+/// too long, an expression that is too deep, a bracket or a brace too many. `NoMemory` comes where a growth is refused.
+#[tactic(auto, using(crate::proofs::Natural::natural_tokens))]
+pub fn read_tree<'a>(alloc: Global, text: &'a str) -> Result<Tree<'a>, TreeFault>
+    requires ascii { AllByRecursion (λ byte. byte < 128) text.now }
+    ensures read { IfOk result (λ tree. IsRead text.now tree) }
+    ensures fault { IfErr result (λ fault. HasCause text.now fault) }
+{
+    let tokens = tokens(alloc, text)?;
+    let mut cursor = Cursor::begin(&tokens);
+    match whole_tree(alloc, &mut cursor) {
+        Ok(tree) => Ok(tree),
+        Err(stop) => Err(fault_of(&cursor, stop, text.len())),
+    }
+}

@@ -1,0 +1,107 @@
+//! The names of a step: its parameters and its variables.
+ghost use Rattle.std.specs.Prelude.{◌≡◌, ◌<◌, ◌≤◌, ◌-◌, ◌∷◌, [], length, IfOk, IfErr, OnOk};
+ghost use Rattle.terms.specs.declared.key.TheConstants.{MAX_COMPONENTS};
+ghost use Rattle.steptree.specs.declared.slot.TheConstants.{MOST_NAMES};
+ghost use Rattle.syntax.specs.Expected.{parameters as some_parameters, variables as some_variables};
+ghost use Rattle.syntax.specs.Parsed.{left, Stops};
+ghost use Rattle.syntax.specs.StepNames.{TakesOn, StopsOn, NameList, IsListRead, NoParameters, AreParameters, AreVariables};
+
+use crate::cursor::Cursor;
+use crate::stop::Stop;
+use crate::{Symbol, Token, Word};
+use std::alloc::Global;
+use steptree::{MOST_NAMES, Name};
+use terms::MAX_COMPONENTS;
+
+// Takes what stands behind a name: a comma, and a name is to follow, or else the sign behind the list.
+fn goes_on(cursor: &mut Cursor<'_, '_>, close: Symbol) -> Result<bool, Stop>
+    ensures reads { IfOk result (λ more. TakesOn close more (left cursor.old) (left cursor.new)) }
+    ensures fewer { OnOk result (length (left cursor.new) < length (left cursor.old)) }
+    ensures stops { IfErr result (StopsOn close (left cursor.old) (left cursor.new)) }
+{
+    let Token::Symbol(sign) = cursor.front() else {
+        return Err(Stop::Syntax);
+    };
+    if sign == Symbol::Comma {
+        cursor.advance();
+        return Ok(true);
+    }
+    if sign == close {
+        cursor.advance();
+        return Ok(false);
+    }
+    Err(Stop::Syntax)
+}
+
+// At least one name and at most so many, up to this sign.
+fn listed<'a>(
+    alloc: Global,
+    cursor: &mut Cursor<'_, 'a>,
+    most: usize,
+    close: Symbol,
+) -> Result<Vec<Name<'a>>, Stop>
+    ensures reads { IfOk result (λ names. (list : NameList most close) → IsListRead most close names.items (left cursor.old) (left cursor.new) list) }
+    ensures few { IfOk result (λ names. length names.items ≤ most) }
+    ensures fewer { OnOk result (length (left cursor.new) < length (left cursor.old)) }
+    ensures stops { IfErr result (λ stop. (list : NameList most close) → Stops (list.name_at 0 ∷ []) (left cursor.old) (left cursor.new) stop) }
+{
+    let mut names = Vec::new(alloc);
+    loop {
+        let name = cursor.counted_name(names.len() >= most)?;
+        names.reserve(1)?;
+        names.push_reserved(name);
+        if !goes_on(cursor, close)? {
+            return Ok(names);
+        }
+    }
+}
+
+// Takes the bracket behind the parameters, if there are none.
+fn no_parameters(cursor: &mut Cursor<'_, '_>) -> bool
+    ensures taken { NoParameters result (left cursor.old) (left cursor.new) }
+    ensures fewer { length (left cursor.new) ≤ length (left cursor.old) }
+{
+    match cursor.front() {
+        Token::Symbol(sign) if sign == Symbol::CloseRound => {
+            cursor.advance();
+            true
+        }
+        _ => false,
+    }
+}
+
+/// The parameters of a step behind their bracket, up to the one behind them.
+pub(crate) fn parameters<'a>(
+    alloc: Global,
+    cursor: &mut Cursor<'_, 'a>,
+) -> Result<Vec<Name<'a>>, Stop>
+    ensures reads { IfOk result (λ names. AreParameters names.items (left cursor.old) (left cursor.new)) }
+    ensures few { IfOk result (λ names. length names.items ≤ MAX_COMPONENTS) }
+    ensures fewer { OnOk result (length (left cursor.new) ≤ length (left cursor.old)) }
+    ensures stops { IfErr result (Stops (some_parameters ∷ []) (left cursor.old) (left cursor.new)) }
+{
+    if no_parameters(cursor) {
+        return Ok(Vec::new(alloc));
+    }
+    let names = listed(alloc, cursor, MAX_COMPONENTS, Symbol::CloseRound)?;
+    Ok(names)
+}
+
+/// The variables of a step, where it has so many names before them.
+pub(crate) fn variables<'a>(
+    alloc: Global,
+    cursor: &mut Cursor<'_, 'a>,
+    before: usize,
+) -> Result<Vec<Name<'a>>, Stop>
+    ensures reads { IfOk result (λ names. AreVariables before names.items (left cursor.old) (left cursor.new)) }
+    ensures few { IfOk result (λ names. length names.items ≤ MOST_NAMES - before) }
+    ensures fewer { OnOk result (length (left cursor.new) ≤ length (left cursor.old)) }
+    ensures stops { IfErr result (Stops (some_variables before ∷ []) (left cursor.old) (left cursor.new)) }
+{
+    if !cursor.takes_word(Word::Var) {
+        return Ok(Vec::new(alloc));
+    }
+    let most = MOST_NAMES.saturating_sub(before);
+    let names = listed(alloc, cursor, most, Symbol::Semicolon)?;
+    Ok(names)
+}
