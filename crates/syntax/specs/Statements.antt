@@ -47,6 +47,7 @@ abbrev pub own_rest : Part → List Expected
 own_rest reading = get_rest
 own_rest writing = put_target ∷ []
 
+-- what one of them spells, the limits that are passed in it, and the block that begins with it
 abbrev pub own_pieces : (part : Part) → Own part → List Piece
 own_pieces reading = get_pieces
 own_pieces writing = put_pieces
@@ -69,16 +70,19 @@ Begins part lexeme beginning.Repetition = lexeme ≡ word kept.For
 Begins part lexeme beginning.Own = lexeme ≡ word (own_word part)
 Begins part lexeme beginning.Other = (around : ℕ) (place : Position) → look_statement part around lexeme place ≡ left_out
 
--- what may come where a statement begins so
+-- what may come where a statement is this: a condition, a block, and one more if there is an `else`
 abbrev pub choice_expected : Part → ℕ → List Expected
 choice_expected part around = keyword kept.If ∷ exactly sign.OpenRound ∷ whole possible ∷ exactly sign.CloseRound ∷ nested part around ++ or_else part around ∷ []
 
+-- for a variable, between two bounds
 abbrev pub repetition_expected : Part → ℕ → List Expected
 repetition_expected part around = keyword kept.For ∷ a_name ∷ keyword kept.In ∷ whole possible ∷ exactly sign.DoubleDot ∷ whole possible ∷ nested part around
 
+-- the word of the part's own, and what may come behind it
 abbrev pub own_expected : Part → List Expected
 own_expected part = keyword (own_word part) ∷ own_rest part
 
+-- a name, and what may come behind it
 abbrev pub assignment_expected : List Expected
 assignment_expected = a_name ∷ assignment_rest
 
@@ -125,6 +129,7 @@ pub record IsNestedRead (part : Part) (around : ℕ) (tree : NamedBlock) (before
 abbrev pub Second : Part → Type 0
 Second part = Option (Position × Statements (Own part))
 
+-- what it spells, the limits that are passed in it, and the tree that it is: an empty one where there is none
 abbrev pub second_pieces : (part : Part) → Second part → List Piece
 second_pieces part None = []
 second_pieces part (Some second) = a_word kept.Else ++ in_braces_at second.0 (statements_pieces (own_pieces part) second.1)
@@ -137,10 +142,12 @@ abbrev pub IsSecond : (part : Part) → Second part → NamedBlock → Type 0
 IsSecond part None tree = tree ≡ End
 IsSecond part (Some second) tree = AreStatements (is_own part) second.1 tree
 
+-- the choice with this second block
 abbrev pub choice_of : (part : Part) → Expr → Position → Statements (Own part) → Second part → Statement (Own part)
 choice_of part condition brace first None = if_alone condition brace first
 choice_of part condition brace first (Some second) = if_else condition brace first second.0 second.1
 
+-- the second block, or none, behind the first
 pub record IsSecondRead (part : Part) (around : ℕ) (tree : NamedBlock) (before after : List Spot) : Type 0 where
   pub second : Second part
   pub reads : Reads (or_else part around ∷ []) [] (second_pieces part second) before after

@@ -29,6 +29,7 @@ abbrev pub TakesOn : Symbol → Bool → List Spot → List Spot → Type 0
 TakesOn close true before after = (first : Expected) (next end : List Expected) → MayGoOn close first next end → Reads (first ∷ []) next (a_sign sign.Comma) before after
 TakesOn close false before after = (first : Expected) (next end : List Expected) → MayGoOn close first next end → Reads (first ∷ []) end (a_sign close) before after
 
+-- neither stands in front, and this tells it
 abbrev pub StopsOn : Symbol → List Spot → List Spot → Stop → Type 0
 StopsOn close before after cause = (first : Expected) (next end : List Expected) → MayGoOn close first next end → Stops (first ∷ []) before after cause
 

@@ -20,6 +20,7 @@ use Rattle.syntax.specs.Parsed.{Spells, Goes, Reads}
 abbrev pub part_expected : Part → List Expected
 part_expected part = keyword (part_word part) ∷ exactly sign.OpenBrace ∷ statements part 0 ∷ exactly sign.CloseBrace ∷ []
 
+-- such a part, which is this tree
 pub record IsPartRead (part : Part) (tree : NamedBlock) (before after : List Spot) : Type 0 where
   pub block : Statements (Own part)
   pub reads : Reads (part_expected part) [] (a_word (part_word part) ++ in_braces (statements_pieces (own_pieces part) block)) before after
@@ -30,6 +31,7 @@ pub record IsPartRead (part : Part) (tree : NamedBlock) (before after : List Spo
 abbrev pub step_expected : ℕ → List Expected
 step_expected count = step_name count ∷ exactly sign.OpenRound ∷ parameters ∷ step_body
 
+-- such a step, within the limits
 pub record IsStepRead (count : ℕ) (step : Step) (before after : List Spot) : Type 0 where
   pub text : StepText
   pub reads : Reads (step_expected count) [] (drop 1 (step_pieces text)) before after
