@@ -43,7 +43,13 @@ fn expressions_have_limits(rt: HostRuntime) -> Result<(), Fail> {
     assert_fault(&rt, &repeated(&rt, &front, "+1", 64, &back)?, "10 at 1:36")?;
     // Depth comes before a limit that is passed further right, and a token at fault before the depth of what is not whole.
     let deep = repeated(&rt, &front, "+1", 64, "")?;
-    let long = repeated(&rt, &deep, "+a", 1, "23456789012345678901234567890123;}write{}}")?;
+    let long = repeated(
+        &rt,
+        &deep,
+        "+a",
+        1,
+        "23456789012345678901234567890123;}write{}}",
+    )?;
     assert_fault(&rt, &long, "10 at 1:36")?;
     let broken = repeated(&rt, &deep, "+", 1, ";}write{}}")?;
     assert_fault(&rt, &broken, "2 at 1:166")?;
@@ -62,8 +68,16 @@ fn blocks_and_names_have_limits(rt: HostRuntime) -> Result<(), Fail> {
     assert_fault(&rt, &repeated(&rt, &open, "}", 17, TAIL)?, "10 at 1:135")?;
     // Counted as written: repeated names too.
     let front = "<t>;<t>::(s);step s(){var a";
-    assert_fault(&rt, &repeated(&rt, front, ",a", 63, ";read{}write{}}")?, "3 at 1:29")?;
-    assert_fault(&rt, &repeated(&rt, front, ",a", 64, ";read{}write{}}")?, "10 at 1:155")?;
+    assert_fault(
+        &rt,
+        &repeated(&rt, front, ",a", 63, ";read{}write{}}")?,
+        "3 at 1:29",
+    )?;
+    assert_fault(
+        &rt,
+        &repeated(&rt, front, ",a", 64, ";read{}write{}}")?,
+        "10 at 1:155",
+    )?;
     assert_fault(&rt, &repeated(&rt, "", "[x];", 64, "")?, "3 at 1:6")?;
     assert_fault(&rt, &repeated(&rt, "", "[x];", 65, "")?, "10 at 1:258")?;
     assert_fault(&rt, &repeated(&rt, "", "<x:i>;", 64, "")?, "3 at 1:8")?;
@@ -82,7 +96,11 @@ fn texts_have_limits(rt: HostRuntime) -> Result<(), Fail> {
     assert_fault(&rt, &repeated(&rt, HEAD, "a=a;", 5_951, back)?, "")?;
     assert_fault(&rt, &repeated(&rt, HEAD, "a=a;", 5_952, back)?, "10 at 1:1")?;
     // As deep as a text of this size can be.
-    assert_fault(&rt, &repeated(&rt, HEAD, "if(a){", 10_000, "")?, "10 at 1:135")?;
+    assert_fault(
+        &rt,
+        &repeated(&rt, HEAD, "if(a){", 10_000, "")?,
+        "10 at 1:135",
+    )?;
     let brackets = repeated(&rt, &format!(in rt.alloc(); "{HEAD}a=")?, "(", 60_000, "")?;
     assert_fault(&rt, &brackets, "10 at 1:100")
 }

@@ -5,12 +5,12 @@ ghost use Rattle.graph.specs.Placed.{no_memory as refused};
 ghost use Rattle.graph.specs.Reads.{Reads, HasCause, IsCause, IsNotAscii, walked};
 ghost use Rattle.graph.specs.Tree.{IsGraphOf};
 
+use crate::MOST_TEXT;
 use crate::build::graph_of;
 use crate::canonical_text::canonical;
 use crate::fault::{GraphError, GraphFault, PlacedFault};
 use crate::graph::Graph;
 use crate::place::place;
-use crate::MOST_TEXT;
 use std::alloc::Global;
 use syntax::read_tree;
 

@@ -1,5 +1,5 @@
 use Rattle.std.proofs.Common.{◌<◌, ℕ, get_or}
-use Rattle.graph.proofs.parse.ascii.Given as goal
+use Rattle.graph.proofs.parser.ascii.Given as goal
 
 -- the bytes so far are below 128
 abbrev pub invariant-loop-position : goal.invariant-loop-position
