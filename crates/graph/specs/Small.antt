@@ -7,6 +7,9 @@ use Rattle.steptree.specs.declared.slot.TheConstants.{MOST_NAMES}
 use Rattle.steptree.specs.declared.step.Step.{Step as NamedStep}
 use Rattle.steptree.specs.Names.{names_of}
 use Rattle.syntax.specs.declared.tree.Tree.{Tree}
+use Rattle.syntax.specs.Grammar.{GraphText}
+use Rattle.syntax.specs.Limits.{IsWithin}
+use Rattle.syntax.specs.Tree.{IsTree}
 use Rattle.graph.specs.Graph.{AreCollections}
 use Rattle.graph.specs.Tree.{items_of, tags_of}
 
@@ -21,3 +24,7 @@ pub record IsSmall (tree : Tree) : Type 0 where
   pub tags : AreCollections (tags_of tree.declarations.items)
   pub few : length tree.steps.items ≤ MOST_COLLECTIONS
   pub steps : AllByRecursion IsSmallStep tree.steps.items
+
+-- a tree that is derived within the limits is small
+abbrev pub DerivedAreSmall : Type 0
+DerivedAreSmall = (graph : GraphText) (tree : Tree) → IsTree graph tree → IsWithin graph → IsSmall tree
