@@ -37,6 +37,7 @@ mod Relating
 mod RelationKinds
 mod Resolving
 pub mod SameText
+mod SmallTrees
 mod Written
 mod Rising
 mod Seen

@@ -2,7 +2,7 @@
 //!
 //! A `Graph` is seen as the `Graph` of `specs/Graph.antt`: what a text says of its collections. The layers above stand on
 //! its readers, each exact, and on `Fits`, the rule by which an event fits a graph and facts, without a look at the bodies
-//! of steps. `resolve` answers a tree's collections and relations, or its first fault in the order of places.
+//! of steps. `graph_of` answers the graph of a tree, or its first fault; `canonical` writes the canonical text of a graph.
 #![tactic(auto)]
 
 mod bodies;

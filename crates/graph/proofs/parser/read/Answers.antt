@@ -5,12 +5,12 @@ use Rattle.graph.specs.Canonical.{canonical}
 use Rattle.graph.specs.Placed.{no_memory}
 use Rattle.graph.specs.Reads.{IsPlain}
 use Rattle.graph.proofs.FirstFaults.{fault_passed_on}
-use Rattle.graph.proofs.SmallTrees.{small_tree}
+use Rattle.graph.proofs.SmallTrees.{is_small}
 use Rattle.graph.proofs.TreeFaultKinds.{tree_causes}
 use Rattle.graph.proofs.parser.read.Goals as goal
 
 pub graph_of-requires : goal.graph_of-requires
-graph_of-requires c = let read = c.in_ok-tree.ensures.read in small_tree read.graph c.in_ok-tree.tree read.is read.within
+graph_of-requires c = let read = c.in_ok-tree.ensures.read in is_small read.graph c.in_ok-tree.tree read.is read.within
 
 pub returns-in_err-graph : goal.returns-in_err-graph
 returns-in_err-graph c =
