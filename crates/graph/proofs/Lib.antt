@@ -43,7 +43,6 @@ mod Rising
 mod Seen
 mod Sheets
 mod AsciiTexts
-mod SmallTrees
 mod Texts
 mod TreeFaultKinds
 mod Unmarked
