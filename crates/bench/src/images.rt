@@ -33,8 +33,12 @@ pub(crate) fn measure<R: Clock + Print + AllocGlobal>(rt: &R, items: u32) -> Res
     Ok(())
 }
 
-// The seconds that so many copies take, each into room that is there.
-fn copying<R: Clock + AllocGlobal>(rt: &R, bytes: &[u8], rounds: u32) -> Result<f64, Error> {
+/// The seconds that so many copies take, each into room that is there.
+pub(crate) fn copying<R: Clock + AllocGlobal>(
+    rt: &R,
+    bytes: &[u8],
+    rounds: u32,
+) -> Result<f64, Error> {
     let mut out = Vec::with_capacity(rt.alloc(), bytes.len())?;
     let start = Instant::now(rt)?;
     for _ in 0..rounds {

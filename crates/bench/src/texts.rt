@@ -1,0 +1,64 @@
+//! Graph texts: their canonical text, and how fast one is parsed.
+use crate::images::copying;
+use anyhow::Error;
+use graph::{GraphError, canonical, parse};
+use std::fs;
+use std::io::{Print, Write};
+use std::num::nearest_usize_to_f64;
+use std::process::ExitCode;
+use std::time::Instant;
+
+/// So many bytes are parsed, over as many rounds as that takes.
+const BYTES: u32 = 20_000_000;
+
+/// Prints the canonical text of the graph text in a file, or why it is refused; that ends with status 2, and 5 for want of
+/// memory.
+pub(crate) fn print_canonical(rt: &HostRuntime, path: &str) -> Result<ExitCode, Error> {
+    let text = fs::read(rt, path)?;
+    match parse(rt.alloc(), &text) {
+        Ok(graph) => {
+            rt.stdout().write_all(&canonical(rt.alloc(), &graph)?)?;
+            Ok(ExitCode::from(0))
+        }
+        Err(fault) if fault.error == GraphError::NoMemory => {
+            eprintln!(rt; "no memory")?;
+            Ok(ExitCode::from(5))
+        }
+        Err(fault) => {
+            eprintln!(rt; "graph refused {fault}")?;
+            Ok(ExitCode::from(2))
+        }
+    }
+}
+
+/// Parses the text in a file again and again, and copies it as often, and prints the megabytes of the text that each takes in
+/// a second, and the ratio of the times. A text that is refused is parsed up to its fault.
+pub(crate) fn measure(rt: &HostRuntime, path: &str) -> Result<(), Error> {
+    let text = fs::read(rt, path)?;
+    let rounds = BYTES / u32::try_from(text.len())?.max(1) + 1;
+    let told = match parse(rt.alloc(), &text) {
+        Ok(_) => "accepted",
+        Err(_) => "refused",
+    };
+    let copy = copying(rt, &text, rounds)?;
+    let parse = parsing(rt, &text, rounds)?;
+    let megabytes = nearest_usize_to_f64(text.len()) * f64::from(rounds) / 1e6;
+    println!(rt; "{} bytes, {told}, {rounds} rounds", text.len())?;
+    println!(rt; "copy {:.0} MB/s", megabytes / copy)?;
+    println!(rt;
+        "parse {:.1} MB/s, {:.3} milliseconds, {:.0} copies",
+        megabytes / parse,
+        parse * 1e3 / f64::from(rounds),
+        parse / copy
+    )?;
+    Ok(())
+}
+
+// The seconds that so many rounds of parsing take.
+fn parsing(rt: &HostRuntime, text: &[u8], rounds: u32) -> Result<f64, Error> {
+    let start = Instant::now(rt)?;
+    for _ in 0..rounds {
+        let _graph = parse(rt.alloc(), text);
+    }
+    Ok(start.elapsed(rt)?.as_secs_f64())
+}
