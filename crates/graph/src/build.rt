@@ -36,3 +36,6 @@ pub(crate) fn graph_of(alloc: Global, tree: &Tree<'_>) -> Result<Graph, PlacedFa
         environment_gets: relations.environment_gets,
     })
 }
+
+#[cfg(test)]
+mod tests;
