@@ -10,7 +10,7 @@ use Rattle.graph.specs.declared.fault.GraphError.TheVariants.{Redeclared, Unknow
 use Rattle.graph.specs.Graph.{Graph, Step}
 use Rattle.graph.specs.Tree.{names_in, prescriber_of}
 use Rattle.graph.specs.Faults.{At, fault_if, or_else, same_relation, again, unknown, missing, prescribed_before, relation_fault, relation_faults}
-use Rattle.graph.specs.Textual.{names_of_steps}
+use Rattle.graph.specs.Prescribed.{names_of_steps}
 use Rattle.graph.specs.Canonical.{those}
 use Rattle.graph.proofs.PrintedApart.{each, each_weaker, each_of_both, each_mapped, each_flat, and_false, Apart, Clear, apart_both, clear_both, clear_of_both, marked_apart, flipped}
 use Rattle.graph.proofs.PrintedRelations.{Shape, a_prescription, a_read, an_item_put, a_tag_put, an_environment_item, an_environment_tag, an_environment_get, shape_of, step_shapes, environment_shapes, shapes}

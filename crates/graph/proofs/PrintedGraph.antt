@@ -11,7 +11,8 @@ use Rattle.syntax.specs.Tree.{AreAll}
 use Rattle.graph.specs.Graph.{Collection, Graph, Step, IsOfGraph}
 use Rattle.graph.specs.Tree.{names_in}
 use Rattle.graph.specs.Faults.{relation_faults}
-use Rattle.graph.specs.Textual.{IsGraphName, IsTextStep, IsTextual, names_of_steps}
+use Rattle.graph.specs.Textual.{IsGraphName, IsTextStep, IsTextual}
+use Rattle.graph.specs.Prescribed.{names_of_steps}
 use Rattle.graph.specs.Canonical.{those}
 use Rattle.graph.proofs.PrintedNames.{name_at, found_at, same_text}
 use Rattle.graph.proofs.PrintedCollections.{many_names}

@@ -8,7 +8,7 @@ use Rattle.syntax.specs.Grammar.{Relation, prescribes, reads, puts_item, puts_ta
 use Rattle.syntax.specs.Tree.{AreAll}
 use Rattle.graph.specs.Graph.{Graph, Step}
 use Rattle.graph.specs.Tree.{names_in, is_read, is_item_put, is_tag_put, is_environment_item_put, is_environment_tag_put, is_environment_get, each_of, prescriber_of}
-use Rattle.graph.specs.Textual.{names_of_steps}
+use Rattle.graph.specs.Prescribed.{names_of_steps}
 use Rattle.graph.specs.Canonical.{those}
 use Rattle.graph.proofs.PrintedNames.{same_text}
 use Rattle.graph.proofs.PrintedApart.{each, each_of_both, each_mapped, any_agree, any_and, Apart, flipped, is_among, maps_agree, marks_back}

@@ -13,7 +13,8 @@ use Rattle.syntax.specs.Tree.{AreAll}
 use Rattle.graph.specs.Graph.{Collection, Graph, Step}
 use Rattle.graph.specs.Tree.{text_of, items_of, tags_of, names_in, step_names, is_read, is_item_put, is_tag_put, each_of, IsStepOf}
 use Rattle.graph.specs.Faults.{At, declaration_faults, relation_faults, step_faults}
-use Rattle.graph.specs.Textual.{IsTextual, names_of_steps, CanonicalReads}
+use Rattle.graph.specs.Textual.{IsTextual, CanonicalReads}
+use Rattle.graph.specs.Prescribed.{names_of_steps}
 use Rattle.graph.specs.Canonical.{in_brackets, in_angles, step_text, step_relations, environment_relations, canonical}
 use Rattle.graph.proofs.PrintedTokens.{never, anything, Printed, and, whole}
 use Rattle.graph.proofs.PrintedExpressions.{no_both}

@@ -9,7 +9,7 @@ use Rattle.syntax.specs.Grammar.{Relation, prescribes, reads, puts_item, puts_ta
 use Rattle.syntax.specs.Tree.{AreAll, IsRelation}
 use Rattle.graph.specs.Graph.{Graph, Step}
 use Rattle.graph.specs.Tree.{names_in}
-use Rattle.graph.specs.Textual.{names_of_steps}
+use Rattle.graph.specs.Prescribed.{names_of_steps}
 use Rattle.graph.specs.Canonical.{those}
 use Rattle.graph.proofs.PrintedNames.{same_text}
 use Rattle.graph.proofs.PrintedApart.{each, each_mapped, any_none, any_agree, any_of_both, any_mapped, any_flat, or_false, and_true, and_false, Apart, flipped}

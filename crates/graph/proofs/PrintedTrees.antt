@@ -17,7 +17,7 @@ use Rattle.graph.specs.declared.fault.GraphError.TheVariants.{StepTwice, Arity}
 use Rattle.graph.specs.Graph.{Collection, Graph, Step, IsSheet}
 use Rattle.graph.specs.Tree.{text_of, names_in, step_names, is_read, is_item_put, is_tag_put, each_of, prescriber_of}
 use Rattle.graph.specs.Faults.{At, fault_if, or_else, has, repeated, components_of, is_other, arity_faults, step_faults}
-use Rattle.graph.specs.Textual.{names_of_steps}
+use Rattle.graph.specs.Prescribed.{names_of_steps}
 use Rattle.graph.proofs.PrintedNames.{no_more_limit, same_text}
 use Rattle.graph.proofs.PrintedExpressions.{no_both}
 use Rattle.graph.proofs.PrintedApart.{Apart, Clear, nowhere, flipped}

@@ -17,6 +17,7 @@ use Rattle.syntax.specs.declared.tree.Tree.{Tree}
 use Rattle.syntax.specs.Reading.{IsRead}
 use Rattle.syntax.specs.Tree.{AreAll}
 use Rattle.graph.specs.declared.fault.GraphFault.{GraphFault}
+use Rattle.graph.specs.Prescribed.{names_of_steps}
 use Rattle.graph.specs.Tree.{names_in, IsGraphOf}
 use Rattle.graph.specs.Reads.{Reads, HasCause, no_memory}
 use Rattle.graph.specs.Canonical.{canonical}
@@ -88,10 +89,6 @@ pub record IsTextStep (step : Step) : Type 0 where
   pub few : step.parameters ≤ MAX_COMPONENTS
   pub read : IsReadBlock (length step.names) 0 step.body.read
   pub write : IsWriteBlock (length step.names) 0 step.body.write
-
-abbrev pub names_of_steps : List Step → List Text
-names_of_steps [] = []
-names_of_steps (step ∷ steps) = step.name ∷ names_of_steps steps
 
 -- a graph that a text can give, but for the text's length
 pub record IsTextual (g : Graph) : Type 0 where
