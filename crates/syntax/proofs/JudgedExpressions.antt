@@ -11,7 +11,7 @@ use Rattle.syntax.specs.Limits.{one_more, depth_limits, expr_depth, expr_first, 
 use Rattle.syntax.specs.declared.limits.TheConstants.{MOST_BRACKETS}
 use Rattle.syntax.specs.MayCome.{EndsExpression}
 use Rattle.syntax.specs.Front.{front_of}
-use Rattle.syntax.specs.Expected.{Comparing, never, possible, behind_left, Level, Expression, Expected, operand, behind_operand, earlier, negated_by, product_of, opened, sum_of, level_expr, whole, within, left_out, passed, finished, met, next, followed, run}
+use Rattle.syntax.specs.Expected.{Comparing, never, possible, behind_left, Level, Expression, Expected, operand, behind_operand, earlier, negated_by, product_of, opened, sum_of, level_expr, whole, within, left_out, passed, finished, met, Next, on, next, followed, run}
 use Rattle.syntax.proofs.Judged.{Judged, goes, breaks, judged_behind, split, Comes}
 
 -- the first of some tokens
@@ -80,128 +80,134 @@ pub sum_is : (sum : Sum) → sum_of (sum_waits sum) (last_prod sum) ≡ sum
 sum_is (prod_alone prod) = refl
 sum_is (added left how right) = refl
 
-abbrev expr_level : Expr → Level
+abbrev pub expr_level : Expr → Level
 expr_level (sum_alone sum) = at_product possible (sum_waits sum)
 expr_level (compared left how right) = at_product (behind_left left how) (sum_waits right)
 
-abbrev expr_last : Expr → Prod
+abbrev pub expr_last : Expr → Prod
 expr_last (sum_alone sum) = last_prod sum
 expr_last (compared left how right) = last_prod right
 
-expr_is : (expr : Expr) → level_expr (expr_level expr) (expr_last expr) ≡ expr
+pub expr_is : (expr : Expr) → level_expr (expr_level expr) (expr_last expr) ≡ expr
 expr_is (sum_alone sum) = ap sum_alone (sum_is sum)
 expr_is (compared left how right) = ap (λ (sum : Sum). compared left how sum) (sum_is right)
 
-module _ (first : Position) where
+-- on a machine that goes on as `next` says
+module _ {R : Type 0} (go : List Expected → List Spot → R) (step : (stack more : List Expected) (spot : Spot) (spots : List Spot) → next stack spot ≡ on more → go stack (spot ∷ spots) ≡ go more spots) (first : Position) where
   -- an operator between two operands
   multiplied_by : (how : Multiplication) (before : Option Position) (level : Level) (outer : List (Level × Position)) (prod : Prod) (stack : List Expected) (position : Position) (rest : List Spot)
-      → run (behind_operand (so_far before first level outer) prod ∷ stack) ((symbol (multiplication_sign how), position) ∷ rest)
-      ≡ run (operand (so_far before first (record level { product = Some (prod, how) }) outer) ∷ stack) rest
-  multiplied_by times before level outer prod stack position rest = refl
-  multiplied_by over before level outer prod stack position rest = refl
-  multiplied_by modulo before level outer prod stack position rest = refl
+      → go (behind_operand (so_far before first level outer) prod ∷ stack) ((symbol (multiplication_sign how), position) ∷ rest)
+      ≡ go (operand (so_far before first (record level { product = Some (prod, how) }) outer) ∷ stack) rest
+  multiplied_by times before level outer prod stack position rest = step _ _ _ _ refl
+  multiplied_by over before level outer prod stack position rest = step _ _ _ _ refl
+  multiplied_by modulo before level outer prod stack position rest = step _ _ _ _ refl
 
   added_to : (how : Addition) (before : Option Position) (level : Level) (outer : List (Level × Position)) (prod : Prod) (stack : List Expected) (position : Position) (rest : List Spot)
-      → run (behind_operand (so_far before first level outer) prod ∷ stack) ((symbol (addition_sign how), position) ∷ rest)
-      ≡ run (operand (so_far before first (record level { sum = Some (sum_of level.sum prod, how) }) outer) ∷ stack) rest
-  added_to plus before level outer prod stack position rest = refl
-  added_to minus before level outer prod stack position rest = refl
+      → go (behind_operand (so_far before first level outer) prod ∷ stack) ((symbol (addition_sign how), position) ∷ rest)
+      ≡ go (operand (so_far before first (record level { sum = Some (sum_of level.sum prod, how) }) outer) ∷ stack) rest
+  added_to plus before level outer prod stack position rest = step _ _ _ _ refl
+  added_to minus before level outer prod stack position rest = step _ _ _ _ refl
 
   compared_with : (how : Comparison) (before : Option Position) (sum : Option (Sum × Addition)) (outer : List (Level × Position)) (prod : Prod) (stack : List Expected) (position : Position) (rest : List Spot)
-      → run (behind_operand (so_far before first (at_product possible sum) outer) prod ∷ stack) ((symbol (comparison_sign how), position) ∷ rest)
-      ≡ run (operand (so_far before first (at_product (behind_left (sum_of sum prod) how) None) outer) ∷ stack) rest
-  compared_with equal before sum outer prod stack position rest = refl
-  compared_with not_equal before sum outer prod stack position rest = refl
-  compared_with less before sum outer prod stack position rest = refl
-  compared_with less_or_equal before sum outer prod stack position rest = refl
-  compared_with greater before sum outer prod stack position rest = refl
-  compared_with greater_or_equal before sum outer prod stack position rest = refl
+      → go (behind_operand (so_far before first (at_product possible sum) outer) prod ∷ stack) ((symbol (comparison_sign how), position) ∷ rest)
+      ≡ go (operand (so_far before first (at_product (behind_left (sum_of sum prod) how) None) outer) ∷ stack) rest
+  compared_with equal before sum outer prod stack position rest = step _ _ _ _ refl
+  compared_with not_equal before sum outer prod stack position rest = step _ _ _ _ refl
+  compared_with less before sum outer prod stack position rest = step _ _ _ _ refl
+  compared_with less_or_equal before sum outer prod stack position rest = step _ _ _ _ refl
+  compared_with greater before sum outer prod stack position rest = step _ _ _ _ refl
+  compared_with greater_or_equal before sum outer prod stack position rest = step _ _ _ _ refl
 
   mutual
-    pub expr_comes : (expr : Expr) (before : Option Position) (outer : List (Level × Position)) (stack : List Expected) (tokens behind : List Spot) → ArePieces (expr_pieces expr) tokens
-        → run (operand (so_far before first (opened possible) outer) ∷ stack) (tokens ++ behind)
-        ≡ run (behind_operand (so_far (earlier before (expr_within (length outer) expr)) first (expr_level expr) outer) (expr_last expr) ∷ stack) behind
-    expr_comes (sum_alone sum) before outer stack tokens behind are = sum_comes sum possible before outer stack tokens behind are
-    expr_comes (compared left how right) before outer stack tokens behind are =
+    pub expr_goes : (expr : Expr) (before : Option Position) (outer : List (Level × Position)) (stack : List Expected) (tokens behind : List Spot) → ArePieces (expr_pieces expr) tokens
+        → go (operand (so_far before first (opened possible) outer) ∷ stack) (tokens ++ behind)
+        ≡ go (behind_operand (so_far (earlier before (expr_within (length outer) expr)) first (expr_level expr) outer) (expr_last expr) ∷ stack) behind
+    expr_goes (sum_alone sum) before outer stack tokens behind are = sum_goes sum possible before outer stack tokens behind are
+    expr_goes (compared left how right) before outer stack tokens behind are =
         let outer_split = split (sum_pieces left ++ a_sign (comparison_sign how)) (sum_pieces right) tokens are in
         let inner_split = split (sum_pieces left) (a_sign (comparison_sign how)) outer_split.front outer_split.first in
         let sign_token = first_plain (symbol (comparison_sign how)) [] inner_split.back inner_split.second in
         let passed_left = earlier before (sum_within (length outer) left) in
-        ap (λ (list : List Spot). run (operand (so_far before first (opened possible) outer) ∷ stack) (list ++ behind))
+        ap (λ (list : List Spot). go (operand (so_far before first (opened possible) outer) ∷ stack) (list ++ behind))
         (three tokens outer_split.front outer_split.back inner_split.front inner_split.back sign_token.more (symbol (comparison_sign how)) sign_token.position outer_split.whole inner_split.whole sign_token.whole (none_left sign_token.more sign_token.are))
-        ∙ ap (λ (list : List Spot). run (operand (so_far before first (opened possible) outer) ∷ stack) list) (regroup inner_split.front (symbol (comparison_sign how)) sign_token.position outer_split.back behind)
-        ∙ sum_comes left possible before outer stack inner_split.front ((symbol (comparison_sign how), sign_token.position) ∷ outer_split.back ++ behind) inner_split.first
+        ∙ ap (λ (list : List Spot). go (operand (so_far before first (opened possible) outer) ∷ stack) list) (regroup inner_split.front (symbol (comparison_sign how)) sign_token.position outer_split.back behind)
+        ∙ sum_goes left possible before outer stack inner_split.front ((symbol (comparison_sign how), sign_token.position) ∷ outer_split.back ++ behind) inner_split.first
         ∙ compared_with how passed_left (sum_waits left) outer (last_prod left) stack sign_token.position (outer_split.back ++ behind)
-        ∙ ap (λ (sum : Sum). run (operand (so_far passed_left first (at_product (behind_left sum how) None) outer) ∷ stack) (outer_split.back ++ behind)) (sum_is left)
-        ∙ sum_comes right (behind_left left how) passed_left outer stack outer_split.back behind outer_split.second
-        ∙ ap (λ (places : Option Position). run (behind_operand (so_far places first (at_product (behind_left left how) (sum_waits right)) outer) (last_prod right) ∷ stack) behind)
+        ∙ ap (λ (sum : Sum). go (operand (so_far passed_left first (at_product (behind_left sum how) None) outer) ∷ stack) (outer_split.back ++ behind)) (sum_is left)
+        ∙ sum_goes right (behind_left left how) passed_left outer stack outer_split.back behind outer_split.second
+        ∙ ap (λ (places : Option Position). go (behind_operand (so_far places first (at_product (behind_left left how) (sum_waits right)) outer) (last_prod right) ∷ stack) behind)
         (earlier_on before (sum_within (length outer) left) (sum_within (length outer) right))
 
-    pub sum_comes : (sum : Sum) (comparing : Comparing) (before : Option Position) (outer : List (Level × Position)) (stack : List Expected) (tokens behind : List Spot) → ArePieces (sum_pieces sum) tokens
-        → run (operand (so_far before first (at_product comparing None) outer) ∷ stack) (tokens ++ behind)
-        ≡ run (behind_operand (so_far (earlier before (sum_within (length outer) sum)) first (at_product comparing (sum_waits sum)) outer) (last_prod sum) ∷ stack) behind
-    sum_comes (prod_alone prod) comparing before outer stack tokens behind are = prod_comes prod comparing None before outer stack tokens behind are
-    sum_comes (added left how right) comparing before outer stack tokens behind are =
+    pub sum_goes : (sum : Sum) (comparing : Comparing) (before : Option Position) (outer : List (Level × Position)) (stack : List Expected) (tokens behind : List Spot) → ArePieces (sum_pieces sum) tokens
+        → go (operand (so_far before first (at_product comparing None) outer) ∷ stack) (tokens ++ behind)
+        ≡ go (behind_operand (so_far (earlier before (sum_within (length outer) sum)) first (at_product comparing (sum_waits sum)) outer) (last_prod sum) ∷ stack) behind
+    sum_goes (prod_alone prod) comparing before outer stack tokens behind are = prod_goes prod comparing None before outer stack tokens behind are
+    sum_goes (added left how right) comparing before outer stack tokens behind are =
         let outer_split = split (sum_pieces left ++ a_sign (addition_sign how)) (prod_pieces right) tokens are in
         let inner_split = split (sum_pieces left) (a_sign (addition_sign how)) outer_split.front outer_split.first in
         let sign_token = first_plain (symbol (addition_sign how)) [] inner_split.back inner_split.second in
         let passed_left = earlier before (sum_within (length outer) left) in
-        ap (λ (list : List Spot). run (operand (so_far before first (at_product comparing None) outer) ∷ stack) (list ++ behind))
+        ap (λ (list : List Spot). go (operand (so_far before first (at_product comparing None) outer) ∷ stack) (list ++ behind))
         (three tokens outer_split.front outer_split.back inner_split.front inner_split.back sign_token.more (symbol (addition_sign how)) sign_token.position outer_split.whole inner_split.whole sign_token.whole (none_left sign_token.more sign_token.are))
-        ∙ ap (λ (list : List Spot). run (operand (so_far before first (at_product comparing None) outer) ∷ stack) list) (regroup inner_split.front (symbol (addition_sign how)) sign_token.position outer_split.back behind)
-        ∙ sum_comes left comparing before outer stack inner_split.front ((symbol (addition_sign how), sign_token.position) ∷ outer_split.back ++ behind) inner_split.first
+        ∙ ap (λ (list : List Spot). go (operand (so_far before first (at_product comparing None) outer) ∷ stack) list) (regroup inner_split.front (symbol (addition_sign how)) sign_token.position outer_split.back behind)
+        ∙ sum_goes left comparing before outer stack inner_split.front ((symbol (addition_sign how), sign_token.position) ∷ outer_split.back ++ behind) inner_split.first
         ∙ added_to how passed_left (at_product comparing (sum_waits left)) outer (last_prod left) stack sign_token.position (outer_split.back ++ behind)
-        ∙ ap (λ (sum : Sum). run (operand (so_far passed_left first (at_product comparing (Some (sum, how))) outer) ∷ stack) (outer_split.back ++ behind)) (sum_is left)
-        ∙ prod_comes right comparing (Some (left, how)) passed_left outer stack outer_split.back behind outer_split.second
-        ∙ ap (λ (places : Option Position). run (behind_operand (so_far places first (at_product comparing (Some (left, how))) outer) right ∷ stack) behind)
+        ∙ ap (λ (sum : Sum). go (operand (so_far passed_left first (at_product comparing (Some (sum, how))) outer) ∷ stack) (outer_split.back ++ behind)) (sum_is left)
+        ∙ prod_goes right comparing (Some (left, how)) passed_left outer stack outer_split.back behind outer_split.second
+        ∙ ap (λ (places : Option Position). go (behind_operand (so_far places first (at_product comparing (Some (left, how))) outer) right ∷ stack) behind)
         (earlier_on before (sum_within (length outer) left) (prod_within (length outer) right))
 
-    prod_comes : (prod : Prod) (comparing : Comparing) (sum : Option (Sum × Addition)) (before : Option Position) (outer : List (Level × Position)) (stack : List Expected) (tokens behind : List Spot)
+    prod_goes : (prod : Prod) (comparing : Comparing) (sum : Option (Sum × Addition)) (before : Option Position) (outer : List (Level × Position)) (stack : List Expected) (tokens behind : List Spot)
         → ArePieces (prod_pieces prod) tokens
-        → run (operand (so_far before first (at_product comparing sum) outer) ∷ stack) (tokens ++ behind)
-        ≡ run (behind_operand (so_far (earlier before (prod_within (length outer) prod)) first (at_product comparing sum) outer) prod ∷ stack) behind
-    prod_comes (unary_alone unary) comparing sum before outer stack tokens behind are = unary_comes unary (at_product comparing sum) before outer stack tokens behind are
-    prod_comes (multiplied left how right) comparing sum before outer stack tokens behind are =
+        → go (operand (so_far before first (at_product comparing sum) outer) ∷ stack) (tokens ++ behind)
+        ≡ go (behind_operand (so_far (earlier before (prod_within (length outer) prod)) first (at_product comparing sum) outer) prod ∷ stack) behind
+    prod_goes (unary_alone unary) comparing sum before outer stack tokens behind are = unary_goes unary (at_product comparing sum) before outer stack tokens behind are
+    prod_goes (multiplied left how right) comparing sum before outer stack tokens behind are =
         let outer_split = split (prod_pieces left ++ a_sign (multiplication_sign how)) (unary_pieces right) tokens are in
         let inner_split = split (prod_pieces left) (a_sign (multiplication_sign how)) outer_split.front outer_split.first in
         let sign_token = first_plain (symbol (multiplication_sign how)) [] inner_split.back inner_split.second in
         let passed_left = earlier before (prod_within (length outer) left) in
-        ap (λ (list : List Spot). run (operand (so_far before first (at_product comparing sum) outer) ∷ stack) (list ++ behind))
+        ap (λ (list : List Spot). go (operand (so_far before first (at_product comparing sum) outer) ∷ stack) (list ++ behind))
         (three tokens outer_split.front outer_split.back inner_split.front inner_split.back sign_token.more (symbol (multiplication_sign how)) sign_token.position outer_split.whole inner_split.whole sign_token.whole (none_left sign_token.more sign_token.are))
-        ∙ ap (λ (list : List Spot). run (operand (so_far before first (at_product comparing sum) outer) ∷ stack) list) (regroup inner_split.front (symbol (multiplication_sign how)) sign_token.position outer_split.back behind)
-        ∙ prod_comes left comparing sum before outer stack inner_split.front ((symbol (multiplication_sign how), sign_token.position) ∷ outer_split.back ++ behind) inner_split.first
+        ∙ ap (λ (list : List Spot). go (operand (so_far before first (at_product comparing sum) outer) ∷ stack) list) (regroup inner_split.front (symbol (multiplication_sign how)) sign_token.position outer_split.back behind)
+        ∙ prod_goes left comparing sum before outer stack inner_split.front ((symbol (multiplication_sign how), sign_token.position) ∷ outer_split.back ++ behind) inner_split.first
         ∙ multiplied_by how passed_left (at_product comparing sum) outer left stack sign_token.position (outer_split.back ++ behind)
-        ∙ unary_comes right (record (at_product comparing sum) { product = Some (left, how) }) passed_left outer stack outer_split.back behind outer_split.second
-        ∙ ap (λ (places : Option Position). run (behind_operand (so_far places first (at_product comparing sum) outer) (multiplied left how right) ∷ stack) behind)
+        ∙ unary_goes right (record (at_product comparing sum) { product = Some (left, how) }) passed_left outer stack outer_split.back behind outer_split.second
+        ∙ ap (λ (places : Option Position). go (behind_operand (so_far places first (at_product comparing sum) outer) (multiplied left how right) ∷ stack) behind)
         (earlier_on before (prod_within (length outer) left) (unary_within (length outer) right))
 
-    unary_comes : (unary : Unary) (level : Level) (before : Option Position) (outer : List (Level × Position)) (stack : List Expected) (tokens behind : List Spot) → ArePieces (unary_pieces unary) tokens
-        → run (operand (so_far before first level outer) ∷ stack) (tokens ++ behind)
-        ≡ run (behind_operand (so_far (earlier before (unary_within (length outer) unary)) first (at_product level.comparing level.sum) outer) (product_of level.product (negated_by level.negations unary)) ∷ stack) behind
-    unary_comes (negated position unary) level before outer stack tokens behind are =
+    unary_goes : (unary : Unary) (level : Level) (before : Option Position) (outer : List (Level × Position)) (stack : List Expected) (tokens behind : List Spot) → ArePieces (unary_pieces unary) tokens
+        → go (operand (so_far before first level outer) ∷ stack) (tokens ++ behind)
+        ≡ go (behind_operand (so_far (earlier before (unary_within (length outer) unary)) first (at_product level.comparing level.sum) outer) (product_of level.product (negated_by level.negations unary)) ∷ stack) behind
+    unary_goes (negated position unary) level before outer stack tokens behind are =
         let token = first_at position (symbol sign.Minus) (unary_pieces unary) tokens are in
-        ap (λ (list : List Spot). run (operand (so_far before first level outer) ∷ stack) (list ++ behind)) token.whole
-        ∙ unary_comes unary (record level { negations = position ∷ level.negations }) before outer stack token.more behind token.are
-    unary_comes (literal position value) level before outer stack tokens behind are =
+        ap (λ (list : List Spot). go (operand (so_far before first level outer) ∷ stack) (list ++ behind)) token.whole
+        ∙ step _ _ _ _ refl
+        ∙ unary_goes unary (record level { negations = position ∷ level.negations }) before outer stack token.more behind token.are
+    unary_goes (literal position value) level before outer stack tokens behind are =
         let token = first_at position (number value) [] tokens are in
-        ap (λ (list : List Spot). run (operand (so_far before first level outer) ∷ stack) (list ++ behind))
+        ap (λ (list : List Spot). go (operand (so_far before first level outer) ∷ stack) (list ++ behind))
         (token.whole ∙ ap (λ (list : List Spot). (number value, position) ∷ list) (none_left token.more token.are))
-        ∙ ap (λ (places : Option Position). run (behind_operand (so_far places first (at_product level.comparing level.sum) outer) (product_of level.product (negated_by level.negations (literal position value))) ∷ stack) behind) (earlier_none before)
-    unary_comes (variable it) level before outer stack tokens behind are =
+        ∙ step _ _ _ _ refl
+        ∙ ap (λ (places : Option Position). go (behind_operand (so_far places first (at_product level.comparing level.sum) outer) (product_of level.product (negated_by level.negations (literal position value))) ∷ stack) behind) (earlier_none before)
+    unary_goes (variable it) level before outer stack tokens behind are =
         let token = first_at it.1 (name it.0) [] tokens are in
-        ap (λ (list : List Spot). run (operand (so_far before first level outer) ∷ stack) (list ++ behind))
+        ap (λ (list : List Spot). go (operand (so_far before first level outer) ∷ stack) (list ++ behind))
         (token.whole ∙ ap (λ (list : List Spot). (name it.0, it.1) ∷ list) (none_left token.more token.are))
-    unary_comes (bracketed position expr) level before outer stack tokens behind are =
+        ∙ step _ _ _ _ refl
+    unary_goes (bracketed position expr) level before outer stack tokens behind are =
         let token = first_at position (symbol sign.OpenRound) (expr_pieces expr ++ a_sign sign.CloseRound) tokens are in
         let parts = split (expr_pieces expr) (a_sign sign.CloseRound) token.more token.are in
         let close = first_plain (symbol sign.CloseRound) [] parts.back parts.second in
         let passed_open = earlier before (one_more MOST_BRACKETS (length outer) position) in
-        ap (λ (list : List Spot). run (operand (so_far before first level outer) ∷ stack) (list ++ behind))
+        ap (λ (list : List Spot). go (operand (so_far before first level outer) ∷ stack) (list ++ behind))
         (token.whole ∙ ap (λ (list : List Spot). (symbol sign.OpenRound, position) ∷ list) (parts.whole ∙ ap (λ (list : List Spot). parts.front ++ list) (close.whole ∙ ap (λ (list : List Spot). (symbol sign.CloseRound, close.position) ∷ list) (none_left close.more close.are))))
-        ∙ ap (λ (list : List Spot). run (operand (so_far passed_open first (opened possible) ((level, position) ∷ outer)) ∷ stack) list) (append_assoc parts.front ((symbol sign.CloseRound, close.position) ∷ []) behind)
-        ∙ expr_comes expr passed_open ((level, position) ∷ outer) stack parts.front ((symbol sign.CloseRound, close.position) ∷ behind) parts.first
-        ∙ ap (λ (inner : Expr). run (behind_operand (so_far (earlier passed_open (expr_within (suc (length outer)) expr)) first (at_product level.comparing level.sum) outer) (product_of level.product (negated_by level.negations (bracketed position inner))) ∷ stack) behind) (expr_is expr)
-        ∙ ap (λ (places : Option Position). run (behind_operand (so_far places first (at_product level.comparing level.sum) outer) (product_of level.product (negated_by level.negations (bracketed position expr))) ∷ stack) behind)
+        ∙ step _ _ _ _ refl
+        ∙ ap (λ (list : List Spot). go (operand (so_far passed_open first (opened possible) ((level, position) ∷ outer)) ∷ stack) list) (append_assoc parts.front ((symbol sign.CloseRound, close.position) ∷ []) behind)
+        ∙ expr_goes expr passed_open ((level, position) ∷ outer) stack parts.front ((symbol sign.CloseRound, close.position) ∷ behind) parts.first
+        ∙ step _ _ _ _ refl
+        ∙ ap (λ (inner : Expr). go (behind_operand (so_far (earlier passed_open (expr_within (suc (length outer)) expr)) first (at_product level.comparing level.sum) outer) (product_of level.product (negated_by level.negations (bracketed position inner))) ∷ stack) behind) (expr_is expr)
+        ∙ ap (λ (places : Option Position). go (behind_operand (so_far places first (at_product level.comparing level.sum) outer) (product_of level.product (negated_by level.negations (bracketed position expr))) ∷ stack) behind)
         (earlier_on before (one_more MOST_BRACKETS (length outer) position) (expr_within (suc (length outer)) expr))
 
 -- ---- whole expressions
@@ -265,22 +271,24 @@ EndsComponent (symbol sign.CloseBracket) = ⊤
 EndsComponent (symbol sign.Greater) = ⊤
 EndsComponent _ = ⊥
 
-at_end : (lexeme : Lexeme) → AfterExpression lexeme → (before : Option Position) (first position : Position) (level : Level) (prod : Prod) (rest : List Spot) (stack : List Expected)
-    → run (behind_operand (so_far before first level []) prod ∷ stack) ((lexeme, position) ∷ rest)
-    ≡ followed (met (finished (so_far before first level []) (level_expr level prod)) stack (next stack (lexeme, position))) ((lexeme, position) ∷ rest) (λ after. run after rest)
-at_end (symbol sign.Semicolon) ends before first position level prod rest stack = refl
-at_end (symbol sign.CloseRound) ends before first position level prod rest stack = refl
-at_end (symbol sign.DoubleDot) ends before first position level prod rest stack = refl
-at_end (symbol sign.OpenBrace) ends before first position level prod rest stack = refl
-at_end _ ends before first position level prod rest stack = absurd ends
+pub at_end : (lexeme : Lexeme) → AfterExpression lexeme → (before : Option Position) (first position : Position) (level : Level) (prod : Prod) (stack : List Expected)
+    → next (behind_operand (so_far before first level []) prod ∷ stack) (lexeme, position) ≡ met (finished (so_far before first level []) (level_expr level prod)) stack (next stack (lexeme, position))
+at_end (symbol sign.Semicolon) ends before first position level prod stack = refl
+at_end (symbol sign.CloseRound) ends before first position level prod stack = refl
+at_end (symbol sign.DoubleDot) ends before first position level prod stack = refl
+at_end (symbol sign.OpenBrace) ends before first position level prod stack = refl
+at_end _ ends before first position level prod stack = absurd ends
 
-at_component_end : (lexeme : Lexeme) → EndsComponent lexeme → (before : Option Position) (first position : Position) (sum : Option (Sum × Addition)) (prod : Prod) (rest : List Spot) (stack : List Expected)
-    → run (behind_operand (so_far before first (at_product never sum) []) prod ∷ stack) ((lexeme, position) ∷ rest)
-    ≡ followed (met (finished (so_far before first (at_product never sum) []) (sum_alone (sum_of sum prod))) stack (next stack (lexeme, position))) ((lexeme, position) ∷ rest) (λ after. run after rest)
-at_component_end (symbol sign.Comma) ends before first position sum prod rest stack = refl
-at_component_end (symbol sign.CloseBracket) ends before first position sum prod rest stack = refl
-at_component_end (symbol sign.Greater) ends before first position sum prod rest stack = refl
-at_component_end _ ends before first position sum prod rest stack = absurd ends
+pub at_component_end : (lexeme : Lexeme) → EndsComponent lexeme → (before : Option Position) (first position : Position) (sum : Option (Sum × Addition)) (prod : Prod) (stack : List Expected)
+    → next (behind_operand (so_far before first (at_product never sum) []) prod ∷ stack) (lexeme, position)
+    ≡ met (finished (so_far before first (at_product never sum) []) (sum_alone (sum_of sum prod))) stack (next stack (lexeme, position))
+at_component_end (symbol sign.Comma) ends before first position sum prod stack = refl
+at_component_end (symbol sign.CloseBracket) ends before first position sum prod stack = refl
+at_component_end (symbol sign.Greater) ends before first position sum prod stack = refl
+at_component_end _ ends before first position sum prod stack = absurd ends
+
+run_on : (stack more : List Expected) (spot : Spot) (spots : List Spot) → next stack spot ≡ on more → run stack (spot ∷ spots) ≡ run more spots
+run_on stack more spot spots is = ap (λ (after : Next). followed after (spot ∷ spots) (λ then_on. run then_on spots)) is
 
 -- an expression of a statement
 pub expression_comes : (expr : Expr) → Comes AfterExpression (whole possible ∷ []) [] (expr_pieces expr) (expr_limits expr)
@@ -292,8 +300,9 @@ expression_comes expr = record { comes = by }
     by tokens (spot ∷ rest) behind ends are =
         judged_behind (
         begins possible (expr_first expr) (expr_pieces expr) tokens (spot ∷ rest) behind (expr_begins expr) are
-        ∙ expr_comes (expr_first expr) expr None [] behind tokens (spot ∷ rest) are
-        ∙ at_end spot.0 ends (earlier None (expr_within 0 expr)) (expr_first expr) spot.1 (expr_level expr) (expr_last expr) rest behind
+        ∙ expr_goes run run_on (expr_first expr) expr None [] behind tokens (spot ∷ rest) are
+        ∙ ap (λ (after : Next). followed after (spot ∷ rest) (λ then_on. run then_on rest))
+        (at_end spot.0 ends (earlier None (expr_within 0 expr)) (expr_first expr) spot.1 (expr_level expr) (expr_last expr) behind)
         ∙ ap (λ (it : Expr). followed (met (finished (so_far (earlier None (expr_within 0 expr)) (expr_first expr) (expr_level expr) []) it) behind (next behind spot)) (spot ∷ rest) (λ after. run after rest)) (expr_is expr)
         ) (told (depth_limits (expr_depth expr) (expr_first expr)) (expr_within 0 expr) behind spot rest)
 
@@ -307,7 +316,8 @@ component_comes sum = record { comes = by }
     by tokens (spot ∷ rest) behind ends are =
         judged_behind (
         begins never (sum_first sum) (sum_pieces sum) tokens (spot ∷ rest) behind (sum_begins sum) are
-        ∙ sum_comes (sum_first sum) sum never None [] behind tokens (spot ∷ rest) are
-        ∙ at_component_end spot.0 ends (earlier None (sum_within 0 sum)) (sum_first sum) spot.1 (sum_waits sum) (last_prod sum) rest behind
+        ∙ sum_goes run run_on (sum_first sum) sum never None [] behind tokens (spot ∷ rest) are
+        ∙ ap (λ (after : Next). followed after (spot ∷ rest) (λ then_on. run then_on rest))
+        (at_component_end spot.0 ends (earlier None (sum_within 0 sum)) (sum_first sum) spot.1 (sum_waits sum) (last_prod sum) behind)
         ∙ ap (λ (it : Sum). followed (met (finished (so_far (earlier None (sum_within 0 sum)) (sum_first sum) (at_product never (sum_waits sum)) []) (sum_alone it)) behind (next behind spot)) (spot ∷ rest) (λ after. run after rest)) (sum_is sum)
         ) (told (depth_limits (sum_depth sum) (sum_first sum)) (sum_within 0 sum) behind spot rest)

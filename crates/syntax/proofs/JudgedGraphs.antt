@@ -15,7 +15,7 @@ use Rattle.syntax.proofs.JudgedRelations.{relation_comes, first_relation_comes}
 use Rattle.syntax.proofs.JudgedSteps.{step_comes}
 
 -- no token
-abbrev IsEnd : Lexeme → Type 0
+abbrev pub IsEnd : Lexeme → Type 0
 IsEnd unknown = ⊤
 IsEnd _ = ⊥
 

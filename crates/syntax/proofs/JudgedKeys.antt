@@ -36,12 +36,12 @@ name_comes it = subst (λ (limits : List Position). Comes Any (a_name ∷ []) []
 -- ---- keys
 
 -- a token that ends a key
-abbrev EndsKey : Lexeme → Type 0
+abbrev pub EndsKey : Lexeme → Type 0
 EndsKey (symbol sign.CloseBracket) = ⊤
 EndsKey (symbol sign.Greater) = ⊤
 EndsKey _ = ⊥
 
-ends_component : (lexeme : Lexeme) → EndsKey lexeme → EndsComponent lexeme
+pub ends_component : (lexeme : Lexeme) → EndsKey lexeme → EndsComponent lexeme
 ends_component (symbol sign.CloseBracket) ends = tt
 ends_component (symbol sign.Greater) ends = tt
 ends_component _ ends = absurd ends
@@ -56,7 +56,7 @@ no_components (symbol sign.CloseBracket) position ends = refl
 no_components (symbol sign.Greater) position ends = refl
 no_components _ position ends = absurd ends
 
-abbrev comma_and : Sum → List Piece
+abbrev pub comma_and : Sum → List Piece
 comma_and sum = a_sign sign.Comma ++ sum_pieces sum
 
 more_fronts : (more : List Sum) → Fronts EndsComponent (flat_map comma_and more) EndsKey

@@ -86,7 +86,7 @@ no_statement : (part : Part) (around : ℕ) (lexeme : Lexeme) (position : Positi
 no_statement part around (symbol sign.CloseBrace) position ends = refl
 no_statement part around _ position ends = absurd ends
 
-block_not_else : (lexeme : Lexeme) → EndsBlock lexeme → NotElse lexeme
+pub block_not_else : (lexeme : Lexeme) → EndsBlock lexeme → NotElse lexeme
 block_not_else (symbol sign.CloseBrace) ends = tt
 block_not_else _ ends = absurd ends
 

@@ -23,6 +23,13 @@ pub mod Moves
 pub mod NameParts
 pub mod Natural
 pub mod Once
+pub mod Only
+pub mod OnlyExpressions
+pub mod OnlyGraphs
+pub mod OnlyKeys
+pub mod OnlyRelations
+pub mod OnlyStatements
+pub mod OnlySteps
 pub mod Onward
 pub mod Operands
 pub mod Partials

@@ -21,4 +21,5 @@ pub mod StepNames
 pub mod Steps
 pub mod Tokens
 pub mod Tree
+pub mod Unambiguous
 pub mod Whole

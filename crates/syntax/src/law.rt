@@ -1,5 +1,6 @@
 ghost use Rattle.syntax.specs.MayCome.{ExpressionsMayCome, KeysMayCome, GraphsAreJudged};
 ghost use Rattle.syntax.specs.Tokens.{TokensOnce, TokensExample};
+ghost use Rattle.syntax.specs.Unambiguous.{OneDerivation};
 
 /// A text is one list of tokens at most; and a worked example.
 pub fn tokens_once()
@@ -13,4 +14,9 @@ pub fn derived_may_come()
     ensures expressions { ExpressionsMayCome }
     ensures keys { KeysMayCome }
     ensures graphs { GraphsAreJudged }
+{}
+
+/// Tokens have one derivation of the grammar at most.
+pub fn one_derivation()
+    ensures { OneDerivation }
 {}

@@ -5,7 +5,7 @@ mod statements;
 mod steps;
 mod trees;
 
-use crate::{Placed, Token, tokens, tokens_once};
+use crate::{Placed, Token, one_derivation, tokens, tokens_once};
 use std::process::Abort;
 use std::test::Fail;
 
@@ -75,6 +75,7 @@ fn texts_have_these_tokens(rt: HostRuntime) -> Result<(), Fail> {
         assert_tokens(&rt, text, wanted)?;
     }
     tokens_once();
+    one_derivation();
     Ok(())
 }
 

@@ -1,0 +1,9 @@
+-- The grammar is unambiguous.
+use Rattle.std.specs.Prelude.{◌≡◌, List}
+use Rattle.syntax.specs.Tokens.{Spot}
+use Rattle.syntax.specs.Grammar.{GraphText}
+use Rattle.syntax.specs.Spelled.{Derives}
+
+-- tokens have one derivation at most
+abbrev pub OneDerivation : Type 0
+OneDerivation = (spots : List Spot) (one two : GraphText) → Derives one spots → Derives two spots → one ≡ two
