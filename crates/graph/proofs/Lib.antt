@@ -1,3 +1,6 @@
+mod AlikeGraphs
+mod AlikeBodies
+mod AlikeTrees
 mod BodyFaults
 mod Checking
 mod Declaring

@@ -8,6 +8,7 @@ use Rattle.syntax.specs.Reading.{position_behind, IsSyntaxFault, IsLimitFault}
 use Rattle.syntax.specs.Expected.{Expected, Next, on, nothing_left, at_fault, limit_passed, next, ended, followed, accepted, syntax, too_large, run, graph_expected}
 use Rattle.syntax.proofs.Judged.{In, Judged, goes, breaks}
 use Rattle.syntax.proofs.JudgedGraphs.{graph_judged}
+use Rattle.syntax.proofs.Completed.{Before, before_none, before_one, begins_graph}
 
 -- these begin with the tokens before the fault and with the one at fault
 abbrev pub Alike : ℕ → List Spot → List Spot → Type 0
@@ -30,11 +31,12 @@ one_alike spot spots (first ∷ more) same = let is : first ≡ spot = cc in (mo
 
 -- ---- syntax
 
--- so many tokens stand before the one at fault, and what goes on so has the fault too
+-- so many tokens stand before the one at fault and were taken, and what goes on so has the fault too
 pub record Broken (stack : List Expected) (spots rest : List Spot) : Type 0 where
   pub count : ℕ
   pub counted : count ≤ length spots
   pub there : rest ≡ drop count spots
+  pub before : Before stack count spots
   pub too : (others : List Spot) → Alike count others spots → (later : List Spot) × (run stack others ≡ syntax later)
 
 behind : (spot : Spot) (spots : List Spot) (stack : List Expected) (rest : List Spot) (it : Next) → next stack spot ≡ it → run stack (spot ∷ spots) ≡ syntax rest
@@ -45,6 +47,7 @@ behind spot spots stack rest (on after) e is further =
       count = suc inner.count;
       counted = omega (arith, inner.counted);
       there = inner.there;
+      before = before_one stack after spot spots inner.count e inner.before;
       too = λ others same.
           let more = first_alike inner.count spot spots others same in
           let later = inner.too more.0 more.2 in
@@ -56,6 +59,7 @@ behind spot spots stack rest nothing_left e is further =
       count = 0;
       counted = search arith;
       there = cc;
+      before = before_none stack (spot ∷ spots);
       too = λ others same.
           let more = one_alike spot spots others same in
           (spot ∷ more.0, ap (run stack) more.1 ∙ ap (λ (it : Next). followed it (spot ∷ more.0) (λ after. run after more.0)) e);
@@ -66,6 +70,7 @@ behind spot spots stack rest at_fault e is further =
       count = 0;
       counted = search arith;
       there = cc;
+      before = before_none stack (spot ∷ spots);
       too = λ others same.
           let more = one_alike spot spots others same in
           (spot ∷ more.0, ap (run stack) more.1 ∙ ap (λ (it : Next). followed it (spot ∷ more.0) (λ after. run after more.0)) e);
@@ -85,6 +90,7 @@ broken [] stack rest is = record {
   count = 0;
   counted = search arith;
   there = nowhere rest (next stack (unknown, 0)) is;
+  before = before_none stack [];
   too = λ others same. (rest, ap (run stack) (none_alike others same) ∙ is);
 }
 broken (spot ∷ spots) stack rest is = behind spot spots stack rest (next stack spot) refl is (λ after. broken spots after rest)
@@ -102,6 +108,7 @@ syntax_cause text spots rest tokens is =
         count = fault.count;
         counted = fault.counted;
         there = refl;
+        before = begins_graph fault.count spots fault.before;
         none = λ graph goes_on. never graph goes_on.0 goes_on.1 (fault.too goes_on.0 goes_on.2);
       },
     )
@@ -118,6 +125,7 @@ syntax_cause text spots rest tokens is =
 pub record Limited (stack : List Expected) (spots : List Spot) (place : Position) : Type 0 where
   pub count : ℕ
   pub counted : count ≤ length spots
+  pub before : Before stack count spots
   pub too : (others : List Spot) → Alike count others spots → run stack others ≡ too_large place
 
 limit_behind : (spot : Spot) (spots : List Spot) (stack : List Expected) (place : Position) (it : Next) → next stack spot ≡ it → run stack (spot ∷ spots) ≡ too_large place
@@ -127,6 +135,7 @@ limit_behind spot spots stack place (on after) e is further =
     record {
       count = suc inner.count;
       counted = omega (arith, inner.counted);
+      before = before_one stack after spot spots inner.count e inner.before;
       too = λ others same.
           let more = first_alike inner.count spot spots others same in
           ap (run stack) more.1 ∙ ap (λ (it : Next). followed it (spot ∷ more.0) (λ after. run after more.0)) e ∙ inner.too more.0 more.2;
@@ -142,13 +151,14 @@ limit_behind spot spots stack place (limit_passed other) e is further =
     record {
       count = 0;
       counted = search arith;
+      before = before_none stack (spot ∷ spots);
       too = λ others same.
           let more = one_alike spot spots others same in
           ap (run stack) more.1 ∙ ap (λ (it : Next). followed it (spot ∷ more.0) (λ after. run after more.0)) e ∙ told;
     }
 
 pub limited : (spots : List Spot) (stack : List Expected) (place : Position) → run stack spots ≡ too_large place → Limited stack spots place
-limited [] stack place is = record { count = 0; counted = search arith; too = λ others same. ap (run stack) (none_alike others same) ∙ is }
+limited [] stack place is = record { count = 0; counted = search arith; before = before_none stack []; too = λ others same. ap (run stack) (none_alike others same) ∙ is }
 limited (spot ∷ spots) stack place is = limit_behind spot spots stack place (next stack spot) refl is (λ after. limited spots after place)
 
 pub found : (place : Position) (places : List Position) → In place places → (i : ℕ) × (slice_get places i ≡ Some place)
@@ -164,6 +174,7 @@ limit_cause text spots place tokens is =
       tokens = tokens;
       count = fault.count;
       counted = fault.counted;
+      before = begins_graph fault.count spots fault.before;
       passed = λ graph goes_on. there graph goes_on.0 (fault.too goes_on.0 goes_on.2) (graph_judged graph goes_on.0 goes_on.1);
     }
   where

@@ -28,21 +28,26 @@ GoesOn spots count graph = (others : List Spot) × Derives graph others × (take
 abbrev pub position_behind : List ℕ → List Spot → ℕ → Position
 position_behind text spots count = get_or (map (λ spot. spot.1) spots) count (length text)
 
--- no graph text goes on with the token at this place, or ends there
+-- some graph text begins with the tokens before this place, and none goes on with the token at it, or ends there
 pub record IsSyntaxFault (text : List ℕ) (place : Position) : Type 0 where
   pub spots : List Spot
   pub tokens : AreTokens 0 text spots
   pub count : ℕ
   pub counted : count ≤ length spots
   pub there : place ≡ position_behind text spots count
+  -- some graph text has the tokens before
+  pub before : (graph : GraphText) × (others : List Spot) × Derives graph others × (take count others ≡ take count spots)
   pub none : (graph : GraphText) → GoesOn spots count graph → ⊥
 
--- each graph text that goes on as this one passes a limit at this place
+-- some graph text begins with the tokens before one, and each that goes on with that one too, or ends there, passes a limit
+-- at this place
 pub record IsLimitFault (text : List ℕ) (place : Position) : Type 0 where
   pub spots : List Spot
   pub tokens : AreTokens 0 text spots
   pub count : ℕ
   pub counted : count ≤ length spots
+  -- some graph text has the tokens before
+  pub before : (graph : GraphText) × (others : List Spot) × Derives graph others × (take count others ≡ take count spots)
   pub passed : (graph : GraphText) → GoesOn spots count graph → (i : ℕ) × (slice_get (graph_limits graph) i ≡ Some place)
 
 -- the cause of a fault at its place; want of memory has none, and no place
