@@ -3,104 +3,295 @@ use super::told;
 use std::process::Abort;
 use std::test::Fail;
 
-// So many of one part, between a front and a back.
-fn repeated<R: Abort + AllocGlobal>(
-    rt: &R,
-    front: &str,
-    part: &str,
+// A text of a front, so many of a part, a middle, so many of another part, and a back; and its fault, or none.
+struct Row {
+    front: &'static str,
+    part: &'static str,
     count: usize,
-    back: &str,
-) -> Result<String, Fail> {
-    let mut text = String::from_str(rt.alloc(), front)?;
-    for _ in 0..count {
-        text.push_str(part)?;
+    middle: &'static str,
+    other: &'static str,
+    others: usize,
+    back: &'static str,
+    fault: &'static str,
+}
+
+// Depth: each further operand of a sum adds 1.
+const DEPTH: [Row; 2] = [
+    Row {
+        front: "<t>;<t>::(s);step s(){var a;read{a=1",
+        part: "+1",
+        count: 63,
+        middle: "",
+        other: "",
+        others: 0,
+        back: ";}write{}}",
+        fault: "",
+    },
+    Row {
+        front: "<t>;<t>::(s);step s(){var a;read{a=1",
+        part: "+1",
+        count: 64,
+        middle: "",
+        other: "",
+        others: 0,
+        back: ";}write{}}",
+        fault: "10 at 1:36",
+    },
+];
+
+// Depth comes before a limit that is passed further right, and a token at fault before the depth of what is not whole.
+const ORDER: [Row; 2] = [
+    Row {
+        front: "<t>;<t>::(s);step s(){var a;read{a=1",
+        part: "+1",
+        count: 64,
+        middle: "+a23456789012345678901234567890123",
+        other: "",
+        others: 0,
+        back: ";}write{}}",
+        fault: "10 at 1:36",
+    },
+    Row {
+        front: "<t>;<t>::(s);step s(){var a;read{a=1",
+        part: "+1",
+        count: 64,
+        middle: "+",
+        other: "",
+        others: 0,
+        back: ";}write{}}",
+        fault: "2 at 1:166",
+    },
+];
+
+// Brackets add no depth, and have a limit of their own, which comes before a token at fault behind it.
+const BRACKETS: [Row; 3] = [
+    Row {
+        front: "<t>;<t>::(s);step s(){var a;read{a=",
+        part: "(",
+        count: 64,
+        middle: "1",
+        other: ")",
+        others: 64,
+        back: ";}write{}}",
+        fault: "",
+    },
+    Row {
+        front: "<t>;<t>::(s);step s(){var a;read{a=",
+        part: "(",
+        count: 65,
+        middle: "1",
+        other: ")",
+        others: 65,
+        back: ";}write{}}",
+        fault: "10 at 1:100",
+    },
+    Row {
+        front: "<t>;<t>::(s);step s(){var a;read{a=",
+        part: "(",
+        count: 60_000,
+        middle: "",
+        other: "",
+        others: 0,
+        back: "",
+        fault: "10 at 1:100",
+    },
+];
+
+// Braces.
+const BRACES: [Row; 3] = [
+    Row {
+        front: "<t>;<t>::(s);step s(){var a;read{",
+        part: "if(a){",
+        count: 16,
+        middle: "",
+        other: "}",
+        others: 16,
+        back: "}write{}}",
+        fault: "",
+    },
+    Row {
+        front: "<t>;<t>::(s);step s(){var a;read{",
+        part: "if(a){",
+        count: 17,
+        middle: "",
+        other: "}",
+        others: 17,
+        back: "}write{}}",
+        fault: "10 at 1:135",
+    },
+    Row {
+        front: "<t>;<t>::(s);step s(){var a;read{",
+        part: "if(a){",
+        count: 10_000,
+        middle: "",
+        other: "",
+        others: 0,
+        back: "",
+        fault: "10 at 1:135",
+    },
+];
+
+// Names of a step, collections and steps, counted as they are written.
+const COUNTS: [Row; 8] = [
+    Row {
+        front: "<t>;<t>::(s);step s(){var a",
+        part: ",a",
+        count: 63,
+        middle: "",
+        other: "",
+        others: 0,
+        back: ";read{}write{}}",
+        fault: "3 at 1:29",
+    },
+    Row {
+        front: "<t>;<t>::(s);step s(){var a",
+        part: ",a",
+        count: 64,
+        middle: "",
+        other: "",
+        others: 0,
+        back: ";read{}write{}}",
+        fault: "10 at 1:155",
+    },
+    Row {
+        front: "",
+        part: "[x];",
+        count: 64,
+        middle: "",
+        other: "",
+        others: 0,
+        back: "",
+        fault: "3 at 1:6",
+    },
+    Row {
+        front: "",
+        part: "[x];",
+        count: 65,
+        middle: "",
+        other: "",
+        others: 0,
+        back: "",
+        fault: "10 at 1:258",
+    },
+    Row {
+        front: "",
+        part: "<x:i>;",
+        count: 64,
+        middle: "",
+        other: "",
+        others: 0,
+        back: "",
+        fault: "3 at 1:8",
+    },
+    Row {
+        front: "",
+        part: "<x:i>;",
+        count: 65,
+        middle: "",
+        other: "",
+        others: 0,
+        back: "",
+        fault: "10 at 1:386",
+    },
+    Row {
+        front: "",
+        part: "step s(){read{}write{}}",
+        count: 64,
+        middle: "",
+        other: "",
+        others: 0,
+        back: "",
+        fault: "6 at 1:6",
+    },
+    Row {
+        front: "",
+        part: "step s(){read{}write{}}",
+        count: 65,
+        middle: "",
+        other: "",
+        others: 0,
+        back: "",
+        fault: "10 at 1:1478",
+    },
+];
+
+// The bytes of a text, and of its canonical text, which has an indented line for each statement.
+const BYTES: [Row; 4] = [
+    Row {
+        front: "[x];",
+        part: " ",
+        count: 65_532,
+        middle: "",
+        other: "",
+        others: 0,
+        back: "",
+        fault: "",
+    },
+    Row {
+        front: "[x];",
+        part: " ",
+        count: 65_533,
+        middle: "",
+        other: "",
+        others: 0,
+        back: "",
+        fault: "10 at 1:1",
+    },
+    Row {
+        front: "<t>;<t>::(s);step s(){var a;read{",
+        part: "a=a;",
+        count: 5_951,
+        middle: "",
+        other: "",
+        others: 0,
+        back: "}write{}}",
+        fault: "",
+    },
+    Row {
+        front: "<t>;<t>::(s);step s(){var a;read{",
+        part: "a=a;",
+        count: 5_952,
+        middle: "",
+        other: "",
+        others: 0,
+        back: "}write{}}",
+        fault: "10 at 1:1",
+    },
+];
+
+fn text_of<R: AllocGlobal>(rt: &R, row: &Row) -> Result<String, Fail> {
+    let mut text = String::from_str(rt.alloc(), row.front)?;
+    for _ in 0..row.count {
+        text.push_str(row.part)?;
     }
-    text.push_str(back)?;
+    text.push_str(row.middle)?;
+    for _ in 0..row.others {
+        text.push_str(row.other)?;
+    }
+    text.push_str(row.back)?;
     Ok(text)
 }
 
-// Asserts that a text is accepted, or that it has this fault.
-fn assert_fault<R: Abort + AllocGlobal>(rt: &R, text: &str, fault: &str) -> Result<(), Fail> {
-    let found = told(rt, text.as_bytes())?;
-    if fault == "" {
-        assert!(rt; !found.as_str().starts_with("10 at"), "{found}");
-    } else {
-        assert_eq!(rt; found.as_str(), fault, "in {text:?}");
+fn assert_rows<R: Abort + AllocGlobal>(rt: &R, rows: &[Row]) -> Result<(), Fail> {
+    for row in rows {
+        let text = text_of(rt, row)?;
+        let found = told(rt, text.as_bytes())?;
+        if row.fault.is_empty() {
+            assert!(rt; !found.as_str().contains(" at "), "{found}");
+        } else {
+            assert_eq!(rt; found.as_str(), row.fault);
+        }
     }
     Ok(())
 }
 
-const HEAD: &str = "<t>;<t>::(s);step s(){var a;read{";
-
-const TAIL: &str = "}write{}}";
-
 #[test]
-fn expressions_have_limits(rt: HostRuntime) -> Result<(), Fail> {
-    let front = format!(in rt.alloc(); "{HEAD}a=1")?;
-    let back = format!(in rt.alloc(); ";{TAIL}")?;
-    // Each further operand of a sum adds 1 to its depth.
-    assert_fault(&rt, &repeated(&rt, &front, "+1", 63, &back)?, "")?;
-    assert_fault(&rt, &repeated(&rt, &front, "+1", 64, &back)?, "10 at 1:36")?;
-    // Depth comes before a limit that is passed further right, and a token at fault before the depth of what is not whole.
-    let deep = repeated(&rt, &front, "+1", 64, "")?;
-    let long = repeated(
-        &rt,
-        &deep,
-        "+a",
-        1,
-        "23456789012345678901234567890123;}write{}}",
-    )?;
-    assert_fault(&rt, &long, "10 at 1:36")?;
-    let broken = repeated(&rt, &deep, "+", 1, ";}write{}}")?;
-    assert_fault(&rt, &broken, "2 at 1:166")?;
-    // Brackets add no depth, and have a limit of their own.
-    let open = repeated(&rt, &format!(in rt.alloc(); "{HEAD}a=")?, "(", 64, "1")?;
-    assert_fault(&rt, &repeated(&rt, &open, ")", 64, &back)?, "")?;
-    let open = repeated(&rt, &format!(in rt.alloc(); "{HEAD}a=")?, "(", 65, "1")?;
-    assert_fault(&rt, &repeated(&rt, &open, ")", 65, &back)?, "10 at 1:100")
-}
-
-#[test]
-fn blocks_and_names_have_limits(rt: HostRuntime) -> Result<(), Fail> {
-    let open = repeated(&rt, HEAD, "if(a){", 16, "")?;
-    assert_fault(&rt, &repeated(&rt, &open, "}", 16, TAIL)?, "")?;
-    let open = repeated(&rt, HEAD, "if(a){", 17, "")?;
-    assert_fault(&rt, &repeated(&rt, &open, "}", 17, TAIL)?, "10 at 1:135")?;
-    // Counted as written: repeated names too.
-    let front = "<t>;<t>::(s);step s(){var a";
-    assert_fault(
-        &rt,
-        &repeated(&rt, front, ",a", 63, ";read{}write{}}")?,
-        "3 at 1:29",
-    )?;
-    assert_fault(
-        &rt,
-        &repeated(&rt, front, ",a", 64, ";read{}write{}}")?,
-        "10 at 1:155",
-    )?;
-    assert_fault(&rt, &repeated(&rt, "", "[x];", 64, "")?, "3 at 1:6")?;
-    assert_fault(&rt, &repeated(&rt, "", "[x];", 65, "")?, "10 at 1:258")?;
-    assert_fault(&rt, &repeated(&rt, "", "<x:i>;", 64, "")?, "3 at 1:8")?;
-    assert_fault(&rt, &repeated(&rt, "", "<x:i>;", 65, "")?, "10 at 1:386")?;
-    let step = "step s(){read{}write{}}";
-    assert_fault(&rt, &repeated(&rt, "", step, 64, "")?, "6 at 1:6")?;
-    assert_fault(&rt, &repeated(&rt, "", step, 65, "")?, "10 at 1:1478")
-}
-
-#[test]
-fn texts_have_limits(rt: HostRuntime) -> Result<(), Fail> {
-    assert_fault(&rt, &repeated(&rt, "[x];", " ", 65_532, "")?, "")?;
-    assert_fault(&rt, &repeated(&rt, "[x];", " ", 65_533, "")?, "10 at 1:1")?;
-    // A text that is short enough, whose canonical text is too long: an indented line for each statement.
-    let back = TAIL;
-    assert_fault(&rt, &repeated(&rt, HEAD, "a=a;", 5_951, back)?, "")?;
-    assert_fault(&rt, &repeated(&rt, HEAD, "a=a;", 5_952, back)?, "10 at 1:1")?;
-    // As deep as a text of this size can be.
-    assert_fault(
-        &rt,
-        &repeated(&rt, HEAD, "if(a){", 10_000, "")?,
-        "10 at 1:135",
-    )?;
-    let brackets = repeated(&rt, &format!(in rt.alloc(); "{HEAD}a=")?, "(", 60_000, "")?;
-    assert_fault(&rt, &brackets, "10 at 1:100")
+fn limits_are_kept(rt: HostRuntime) -> Result<(), Fail> {
+    assert_rows(&rt, &DEPTH)?;
+    assert_rows(&rt, &ORDER)?;
+    assert_rows(&rt, &BRACKETS)?;
+    assert_rows(&rt, &BRACES)?;
+    assert_rows(&rt, &COUNTS)?;
+    assert_rows(&rt, &BYTES)?;
+    Ok(())
 }
