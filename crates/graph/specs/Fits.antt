@@ -68,6 +68,13 @@ PutIsOf g (put.Tag name) = TagIsOf g name
 
 -- ---- events
 
+-- the environment may put the item, or the tag, and it is absent
+abbrev pub ItemMayCome : Graph → Facts → Addr → Type 0
+ItemMayCome g X address = EnvironmentMayPutItem g address × IsAbsent X address
+
+abbrev pub TagMayCome : Graph → Facts → Tag → Type 0
+TagMayCome g X name = EnvironmentMayPutTag g name × (X (tag name) ≡ false)
+
 -- the instance can be ended: it is of the graph, prescribed, and not done
 pub record MayEnd (g : Graph) (X : Facts) (instance : Inst) : Type 0 where
   pub of_graph : InstanceIsOf g instance
@@ -75,8 +82,8 @@ pub record MayEnd (g : Graph) (X : Facts) (instance : Inst) : Type 0 where
   pub not_done : X (done instance) ≡ false
 
 abbrev pub FitsAs : Graph → Facts → Event → Type 0
-FitsAs g X (EnvItem address value) = EnvironmentMayPutItem g address × IsAbsent X address
-FitsAs g X (EnvTag name) = EnvironmentMayPutTag g name × (X (tag name) ≡ false)
+FitsAs g X (EnvItem address value) = ItemMayCome g X address
+FitsAs g X (EnvTag name) = TagMayCome g X name
 FitsAs g X (Done instance puts) = MayEnd g X instance × AllByRecursion (PutIsOf g) puts × AreNew X puts
 FitsAs g X (Stopped instance kind) = MayEnd g X instance
 

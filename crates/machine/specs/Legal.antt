@@ -11,8 +11,8 @@ use Rattle.terms.specs.declared.event.Event.TheVariants.{EnvItem, EnvTag, Done, 
 use Rattle.terms.specs.Facts.{Fact, tag, item, done, event_facts}
 use Rattle.terms.specs.Sets.{Facts, among}
 use Rattle.steptree.specs.Bodies.{Asks}
-use Rattle.graph.specs.Graph.{Graph, BodyMeans, EnvironmentMayPutItem, EnvironmentMayPutTag}
-use Rattle.graph.specs.Fits.{IsAbsent, IsPrescribed, HasNoFault, addresses, IsIn, IsTwiceIn, AreNew}
+use Rattle.graph.specs.Graph.{Graph, BodyMeans}
+use Rattle.graph.specs.Fits.{IsPrescribed, HasNoFault, addresses, IsIn, IsTwiceIn, AreNew, ItemMayCome, TagMayCome}
 use Rattle.machine.specs.Meaning.{items, BodyGives, BodyFaults}
 
 -- An item of these puts is there, or stands twice among them. Whoever put it: an instance that is not done has put none.
@@ -25,8 +25,8 @@ abbrev pub IsAtFault : Graph → Facts → Inst → FaultKind → Type 0
 IsAtFault g X instance kind = BodyFaults g X instance kind ⊎ ((kind ≡ DoublePut) × ((puts : List Put) × BodyGives g X instance puts × Conflicts X puts))
 
 abbrev pub IsLegalAs : Graph → Facts → Event → Type 0
-IsLegalAs g X (EnvItem address value) = EnvironmentMayPutItem g address × IsAbsent X address
-IsLegalAs g X (EnvTag name) = EnvironmentMayPutTag g name × (X (tag name) ≡ false)
+IsLegalAs g X (EnvItem address value) = ItemMayCome g X address
+IsLegalAs g X (EnvTag name) = TagMayCome g X name
 IsLegalAs g X (Done instance puts) = IsPrescribed g X instance × (X (done instance) ≡ false) × BodyGives g X instance puts × AreNew X puts
 IsLegalAs g X (Stopped instance kind) = IsPrescribed g X instance × (X (done instance) ≡ false) × IsAtFault g X instance kind
 
