@@ -52,3 +52,4 @@ pub mod StatementSteps
 pub mod StepParts
 pub mod Stopping
 pub mod Wholes
+pub mod WithoutFault

@@ -58,3 +58,7 @@ IsCause text error.NoMemory place = place ≡ 0
 
 abbrev pub HasCause : List ℕ → TreeFault → Type 0
 HasCause text fault = IsCause text fault.error fault.place
+
+-- a text that is read as a tree has no fault but want of memory
+abbrev pub ReadWithoutFault : Type 0
+ReadWithoutFault = (text : List ℕ) (tree : Tree) (fault : TreeFault) → IsRead text tree → HasCause text fault → fault.error ≡ error.NoMemory

@@ -1,4 +1,5 @@
 ghost use Rattle.syntax.specs.MayCome.{ExpressionsMayCome, KeysMayCome, GraphsAreJudged};
+ghost use Rattle.syntax.specs.Reading.{ReadWithoutFault};
 ghost use Rattle.syntax.specs.Tokens.{TokensOnce, TokensExample};
 ghost use Rattle.syntax.specs.Unambiguous.{OneDerivation};
 
@@ -20,3 +21,10 @@ pub fn derived_may_come()
 pub fn one_derivation()
     ensures { OneDerivation }
 {}
+
+/// A text that is in the grammar and within the limits has no fault but want of memory.
+pub fn read_without_fault()
+    ensures { ReadWithoutFault }
+{
+    tokens_once();
+}

@@ -5,7 +5,9 @@ mod statements;
 mod steps;
 mod trees;
 
-use crate::{Placed, Token, one_derivation, tokens, tokens_once};
+use crate::{
+    Placed, Token, derived_may_come, one_derivation, read_without_fault, tokens, tokens_once,
+};
 use std::process::Abort;
 use std::test::Fail;
 
@@ -76,6 +78,8 @@ fn texts_have_these_tokens(rt: HostRuntime) -> Result<(), Fail> {
     }
     tokens_once();
     one_derivation();
+    derived_may_come();
+    read_without_fault();
     Ok(())
 }
 
