@@ -89,6 +89,7 @@ fn ascii(text: &[u8]) -> Result<&str, PlacedFault>
     }
     match str::from_utf8(text) {
         Ok(plain) => Ok(plain),
+        // Never: each byte is below 128.
         Err(_) => Err(TOO_LARGE),
     }
 }

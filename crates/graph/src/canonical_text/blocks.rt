@@ -148,7 +148,7 @@ fn put_tag_put(
 fn deeper(level: usize) -> Result<usize, AllocError>
     ensures { IfOk result (λ next. next ≡ suc level) }
 {
-    // No block that memory holds is so deep that this fails.
+    // The indentation of a level that cannot be counted fits into no memory; no block that memory holds is so deep.
     match level.checked_add(1) {
         Some(next) => Ok(next),
         None => Err(AllocError),
