@@ -1,14 +1,18 @@
 -- What an image says: facts, and which of them the environment put.
-use Rattle.std.specs.Prelude.{ℤ, true, false, List, [], ◌∷◌, ◌++◌, map, Option, Some, None}
-use Rattle.std.specs.List.{flat_map}
+use Rattle.std.specs.Prelude.{◌≡◌, ℤ, true, false, List, [], ◌∷◌, ◌++◌, map, Option, Some, None}
+use Rattle.std.specs.List.{flat_map, AllByRecursion}
 use Rattle.terms.specs.declared.name.Addr.{Addr}
 use Rattle.terms.specs.declared.name.Inst.{Inst}
 use Rattle.terms.specs.declared.fault.FaultKind.{FaultKind}
 use Rattle.terms.specs.declared.producer.Producer.{Producer}
 use Rattle.terms.specs.declared.producer.Producer.TheVariants.{Env, By}
-use Rattle.terms.specs.Facts.{Fact, tag, item, done, bad}
+use Rattle.terms.specs.declared.event.Event.{Event}
+use Rattle.terms.specs.Facts.{Fact, tag, item, done, bad, event_facts, environment_facts}
+use Rattle.terms.specs.Name.{inst_cmp}
+use Rattle.terms.specs.Sets.{Facts, among}
 use Rattle.codec.specs.declared.image.Image.{Image}
-use Rattle.codec.specs.Entries.{MarkedTag}
+use Rattle.codec.specs.Entries.{Item, MarkedTag, item_cmp, marked_cmp, Rises}
+use Rattle.codec.specs.Spelling.{HasPutNumber}
 
 abbrev pub fault_facts : Option (Inst × FaultKind) → List Fact
 fault_facts None = []
@@ -30,3 +34,30 @@ environment_tag (name, false) = []
 
 abbrev pub image_environment : Image → List Fact
 image_environment image = flat_map (λ it. environment_item it.0 it.1 it.2) image.items ++ flat_map environment_tag image.tags
+
+-- an item by its address
+abbrev pub named : Addr × (ℤ × Producer) → Item
+named entry = (entry.0, entry.1.0, entry.1.1)
+
+-- what is held by name, as the image that lists it
+abbrev pub listed : Option (Inst × FaultKind) → List (Addr × (ℤ × Producer)) → List MarkedTag → List Inst → Image
+listed fault items tags ended = record { fault = fault; items = map named items; tags = tags; done = ended }
+
+-- the same as sets
+abbrev pub facts_in : Image → Facts
+facts_in image = among (image_facts image)
+
+abbrev pub environment_in : Image → Facts
+environment_in image = among (image_environment image)
+
+-- the new image has what the old one has and what the event states, and nothing else
+pub record IsGrownBy (event : Event) (old new : Image) : Type 0 where
+  pub facts : (fact : Fact) → facts_in new fact ≡ among (image_facts old ++ event_facts event) fact
+  pub environment : (fact : Fact) → environment_in new fact ≡ among (image_environment old ++ environment_facts event) fact
+
+-- the image's lists rise, and the numbers of its puts are such as a put may have
+pub record IsListed (image : Image) : Type 0 where
+  pub items_rise : Rises item_cmp image.items
+  pub tags_rise : Rises marked_cmp image.tags
+  pub done_rise : Rises inst_cmp image.done
+  pub numbered : AllByRecursion HasPutNumber image.items

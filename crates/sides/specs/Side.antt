@@ -1,5 +1,5 @@
 -- What the bytes of one side stand for.
-use Rattle.std.specs.Prelude.{◌≡◌, ◌<◌, ◌^◌, ℕ, List, ◌∷◌, ◌++◌, length, map}
+use Rattle.std.specs.Prelude.{◌≡◌, ◌<◌, ◌^◌, ◌+◌, ℕ, List, [], ◌∷◌, ◌++◌, length, map}
 use Rattle.std.specs.List.{AllByRecursion}
 use Rattle.byteorder.specs.Endian.{little_bytes}
 use Rattle.terms.specs.declared.event.Event.{Event}
@@ -7,7 +7,7 @@ use Rattle.terms.specs.Facts.{Fact, facts, environment}
 use Rattle.terms.specs.Sets.{Facts, among}
 use Rattle.codec.specs.declared.image.Image.{Image}
 use Rattle.codec.specs.Spelling.{image_bytes, event_bytes, IsImage, IsEvent}
-use Rattle.journal.specs.Records.{StandsFor}
+use Rattle.journal.specs.Records.{StandsFor, records}
 use Rattle.graph.specs.Graph.{Graph}
 use Rattle.graph.specs.Canonical.{canonical}
 use Rattle.graph.specs.Reads.{Reads}
@@ -51,6 +51,13 @@ pub record IsSide (bytes : List ℕ) (g : Graph) (generation : ℕ) (E X : Facts
   pub events_fit : AllFit g (image_facts image) events
   pub environment : (fact : Fact) → E fact ≡ among (image_environment image ++ environment events) fact
   pub facts : (fact : Fact) → X fact ≡ among (image_facts image ++ facts events) fact
+
+-- where its journal begins, and where the closed gate stands that ends it
+abbrev pub start_of : {bytes : List ℕ} {g : Graph} {generation : ℕ} {E X : Facts} → IsSide bytes g generation E X → ℕ
+start_of {g} {generation} side = length (1 ∷ behind_gate generation (canonical g) (image_bytes side.image) [])
+
+abbrev pub end_of : {bytes : List ℕ} {g : Graph} {generation : ℕ} {E X : Facts} → IsSide bytes g generation E X → ℕ
+end_of side = start_of side + length (records (map event_bytes side.events))
 
 -- ---- laws
 
