@@ -3,8 +3,12 @@
 //! A side is a gate, a head, the canonical text of its graph, an image and a journal (`IsSide` of `specs/Side.antt`).
 #![tactic(auto)]
 
+mod gate;
 mod holdings;
 mod law;
+mod reading;
 
+pub use gate::{Gate, HEAD, gate_of};
 pub use holdings::Holdings;
 pub use law::one_meaning_of_a_side;
+pub use reading::Standing;

@@ -1,0 +1,52 @@
+-- What reading the bytes of a side finds there, part by part.
+use Rattle.std.specs.Prelude.{◌≡◌, ◌≤◌, ◌<◌, ◌+◌, ◌^◌, ℕ, List, ◌++◌, length, drop, map, take}
+use Rattle.std.specs.List.{AllByRecursion}
+use Rattle.terms.specs.declared.event.Event.{Event}
+use Rattle.terms.specs.Facts.{Fact, facts, environment}
+use Rattle.terms.specs.Sets.{among}
+use Rattle.codec.specs.declared.image.Image.{Image}
+use Rattle.codec.specs.Spelling.{event_bytes, IsEvent, HasPutNumber}
+use Rattle.journal.specs.Records.{StandsFor, records}
+use Rattle.graph.specs.Graph.{Graph}
+use Rattle.graph.specs.Fits.{AllFit}
+use Rattle.sides.specs.declared.gate.Gate.{Gate}
+use Rattle.sides.specs.declared.gate.Gate.TheVariants.{Closed, Short, Open}
+use Rattle.sides.specs.declared.reading.Standing.{Standing}
+use Rattle.sides.specs.Image.{image_facts, image_environment, facts_in, environment_in}
+use Rattle.sides.specs.Side.{counted, IsOpen, HasGeneration, IsSide, end_of}
+
+-- what the first ten bytes of a file, or all of fewer, tell of its side
+abbrev pub Tells : Gate → List ℕ → Type 0
+Tells Closed bytes = IsOpen bytes → ⊥
+Tells Short bytes = IsOpen bytes × (length bytes < 10)
+Tells (Open generation) bytes = HasGeneration bytes generation
+
+-- at this position stands the part, behind its length in four bytes
+pub record IsCountedAt (bytes : List ℕ) (at : ℕ) (part : List ℕ) : Type 0 where
+  pub short : length part < 2 ^ 32
+  pub within : at + 4 + length part ≤ length bytes
+  pub spelled : drop at bytes ≡ counted part ++ drop (at + 4 + length part) bytes
+
+-- no part stands there whole
+abbrev pub HasNoneAt : List ℕ → ℕ → Type 0
+HasNoneAt bytes at = (part rest : List ℕ) → length part < 2 ^ 32 → drop at bytes ≡ counted part ++ rest → ⊥
+
+-- bytes stand for these events, one a record, each of which fits behind what the image has
+pub record AreEvents (g : Graph) (image : Image) (bytes : List ℕ) (events : List Event) : Type 0 where
+  pub are_events : AllByRecursion IsEvent events
+  pub stands : StandsFor bytes (map event_bytes events)
+  pub fit : AllFit g (image_facts image) events
+
+-- such events stand there, up to this position, and the new image has what the old one has and what they state
+pub record IsReplayed (g : Graph) (old new : Image) (bytes : List ℕ) (end : ℕ) : Type 0 where
+  pub events : List Event
+  pub are : AreEvents g old bytes events
+  pub ends : end ≡ length (records (map event_bytes events))
+  pub facts : (fact : Fact) → facts_in new fact ≡ among (image_facts old ++ facts events) fact
+  pub environment : (fact : Fact) → environment_in new fact ≡ among (image_environment old ++ environment events) fact
+
+-- the bytes of the side stand for what was read of them, and the journal ends where it says
+pub record IsRead (bytes : List ℕ) (generation : ℕ) (standing : Standing) : Type 0 where
+  pub is_side : IsSide bytes standing.graph generation (environment_in standing.holdings) (facts_in standing.holdings)
+  pub ends : standing.end ≡ end_of is_side
+  pub numbered : AllByRecursion HasPutNumber standing.holdings.items
