@@ -1,0 +1,43 @@
+-- The laws of fitting: what stays when an event comes, and what plays no part in it.
+use Rattle.std.specs.Prelude.{◌≡◌, ◌↔◌, List, ◌++◌}
+use Rattle.terms.specs.declared.event.Event.{Event}
+use Rattle.terms.specs.Facts.{Fact, facts, environment, event_facts, environment_facts}
+use Rattle.terms.specs.Sets.{Facts, among}
+use Rattle.graph.specs.Graph.{Graph}
+use Rattle.graph.specs.Fits.{Fits, AllFit, FitsState}
+use Rattle.graph.specs.Textual.{SameGraph}
+
+-- two sets with the same facts
+abbrev pub SameSet : Facts → Facts → Type 0
+SameSet X Y = (fact : Fact) → X fact ≡ Y fact
+
+-- what an event that fits leaves fits
+abbrev pub FitKeeps : Type 0
+FitKeeps = (g : Graph) (given before : List Fact) (event : Event) → FitsState g (among given) (among before) → Fits g (among before) event
+    → FitsState g (among (given ++ environment_facts event)) (among (before ++ event_facts event))
+
+-- and so does what events leave that fit one after another
+abbrev pub AllFitKeep : Type 0
+AllFitKeep = (g : Graph) (given before : List Fact) (events : List Event) → FitsState g (among given) (among before) → AllFit g before events
+    → FitsState g (among (given ++ environment events)) (among (before ++ facts events))
+
+-- events fit one after another where those of a first part do, and behind them those of the second
+abbrev pub AllFitInParts : Type 0
+AllFitInParts = (g : Graph) (before : List Fact) (one two : List Event) → AllFit g before (one ++ two) ↔ (AllFit g before one × AllFit g (before ++ facts one) two)
+
+-- how the facts are listed plays no part
+abbrev pub StateAsSet : Type 0
+StateAsSet = (g : Graph) (E F X Y : Facts) → SameSet E F → SameSet X Y → FitsState g E X → FitsState g F Y
+
+abbrev pub EventAsSet : Type 0
+EventAsSet = (g : Graph) (X Y : Facts) (event : Event) → SameSet X Y → Fits g X event → Fits g Y event
+
+abbrev pub EventsAsSet : Type 0
+EventsAsSet = (g : Graph) (before other : List Fact) (events : List Event) → SameSet (among before) (among other) → AllFit g before events → AllFit g other events
+
+-- nor does where a graph's parts lie in memory
+abbrev pub StateOfAlike : Type 0
+StateOfAlike = (g h : Graph) (E X : Facts) → SameGraph g h → FitsState g E X → FitsState h E X
+
+abbrev pub EventsOfAlike : Type 0
+EventsOfAlike = (g h : Graph) (before : List Fact) (events : List Event) → SameGraph g h → AllFit g before events → AllFit h before events
