@@ -1,8 +1,11 @@
 //! The laws of what a side stands for. Each is a contract, with nothing to run.
 ghost use Rattle.sides.specs.Side.{OneMeaning, StandsWithGeneration, OneGeneration, AnyRest};
+ghost use Rattle.sides.specs.SideLaws.{HasJournal, StaysAlike, GrowsByEvent, SideAsSet, SideFits, BeginsSide};
 
 use codec::{spellings_of_events, spellings_of_images};
+use graph::fitting;
 use journal::one_meaning;
+use terms::facts_are_told_apart;
 
 /// The bytes of a side stand for one graph text, one generation and one set of facts at most, whatever lies behind the gate
 /// that ends its journal.
@@ -17,6 +20,20 @@ pub fn one_meaning_of_a_side()
     one_meaning();
 }
 
+/// What a side's bytes stand for when others follow its image: the same where they are a journal of the same events, what an
+/// event more leaves where they are a journal of one event more. Its facts fit its graph, and an image that fits makes a side.
+pub fn sides_go_on()
+    ensures journal { HasJournal }
+    ensures alike { StaysAlike }
+    ensures grows { GrowsByEvent }
+    ensures as_set { SideAsSet }
+    ensures fits { SideFits }
+    ensures begins { BeginsSide }
+{
+    facts_are_told_apart();
+    fitting();
+}
+
 #[cfg(test)]
 mod tests {
     use super::*;
@@ -24,5 +41,6 @@ mod tests {
     #[test]
     fn laws_are_there() {
         one_meaning_of_a_side();
+        sides_go_on();
     }
 }

@@ -10,5 +10,5 @@ mod reading;
 
 pub use gate::{Gate, HEAD, gate_of};
 pub use holdings::Holdings;
-pub use law::one_meaning_of_a_side;
+pub use law::{one_meaning_of_a_side, sides_go_on};
 pub use reading::Standing;

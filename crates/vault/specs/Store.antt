@@ -1,5 +1,5 @@
 -- What a vault keeps between two calls, and what its calls leave.
-use Rattle.std.specs.Prelude.{◌≡◌, ◌≢◌, ◌⊎◌, ◌||◌, ◌+◌, ◌≤◌, ◌^◌, ℕ, false, List, [], ◌∷◌, length, None, Result, Ok, Err}
+use Rattle.std.specs.Prelude.{◌≡◌, ◌≢◌, ◌⊎◌, ◌+◌, ◌≤◌, ◌^◌, ℕ, false, List, [], ◌∷◌, length, None, Result, Ok, Err}
 use Rattle.disk.specs.declared.side.Side.{Side}
 use Rattle.disk.specs.declared.side.Side.TheVariants.{A, B}
 use Rattle.disk.specs.File.{File, at_rest}
@@ -13,7 +13,7 @@ use Rattle.journal.specs.declared.journal.TheConstants.{LIMIT}
 use Rattle.graph.specs.Graph.{Graph}
 use Rattle.graph.specs.Canonical.{canonical}
 use Rattle.graph.specs.Reads.{Reads}
-use Rattle.sides.specs.Image.{facts_in, environment_in}
+use Rattle.sides.specs.Image.{facts_in, environment_in, with_facts}
 use Rattle.sides.specs.Side.{behind_gate, end_of}
 use Rattle.vault.specs.declared.vault.Vault.{Vault}
 use Rattle.vault.specs.declared.refused.Refused.{Refused}
@@ -27,10 +27,6 @@ use Rattle.vault.specs.Stands.{Stands, IsLive, other_side}
 -- nothing, as a set
 abbrev pub nothing : Facts
 nothing = among []
-
--- the set with these facts too
-abbrev pub with_facts : Facts → List Fact → Facts
-with_facts X facts fact = X fact || among facts fact
 
 -- the image has the facts X, of which the environment put E
 pub record Lists (image : Image) (E X : Facts) : Type 0 where

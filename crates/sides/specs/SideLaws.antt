@@ -1,0 +1,48 @@
+-- The laws of a side that a store stands on: what other bytes stand for that begin as a side does, and what a side is made of.
+use Rattle.std.specs.Prelude.{◌≡◌, ◌<◌, ◌+◌, ◌^◌, ◌||◌, ℕ, List, [], ◌∷◌, ◌++◌, length, map, take, drop}
+use Rattle.terms.specs.declared.event.Event.{Event}
+use Rattle.terms.specs.Facts.{Fact, event_facts, environment_facts}
+use Rattle.terms.specs.Sets.{Facts, among}
+use Rattle.codec.specs.declared.image.Image.{Image}
+use Rattle.codec.specs.Spelling.{image_bytes, event_bytes, IsImage, IsEvent}
+use Rattle.journal.specs.Records.{StandsFor, record_of}
+use Rattle.graph.specs.Graph.{Graph}
+use Rattle.graph.specs.Canonical.{canonical}
+use Rattle.graph.specs.Reads.{Reads}
+use Rattle.graph.specs.Fits.{Fits, FitsState}
+use Rattle.graph.specs.FitLaws.{SameSet}
+use Rattle.sides.specs.Image.{facts_in, environment_in, with_facts}
+use Rattle.sides.specs.Side.{behind_gate, IsSide, start_of, end_of}
+
+-- from where its journal begins on, a side's bytes are a journal of its events
+abbrev pub HasJournal : Type 0
+HasJournal = (bytes : List ℕ) (g : Graph) (generation : ℕ) (E X : Facts) (side : IsSide bytes g generation E X) → StandsFor (drop (start_of side) bytes) (map event_bytes side.events)
+
+-- bytes that begin as a side does, up to its journal, and go on with a journal of the same events, stand for the same
+abbrev pub StaysAlike : Type 0
+StaysAlike = (bytes other : List ℕ) (g : Graph) (generation : ℕ) (E X : Facts) (side : IsSide bytes g generation E X)
+    → take (start_of side) other ≡ take (start_of side) bytes → StandsFor (drop (start_of side) other) (map event_bytes side.events)
+    → (same : IsSide other g generation E X) × (end_of same ≡ end_of side)
+
+-- those that go on with a journal of one event more, which fits, stand for what it leaves
+abbrev pub GrowsByEvent : Type 0
+GrowsByEvent = (bytes other : List ℕ) (g : Graph) (generation : ℕ) (E X : Facts) (side : IsSide bytes g generation E X) (event : Event)
+    → IsEvent event → Fits g X event
+    → take (start_of side) other ≡ take (start_of side) bytes → StandsFor (drop (start_of side) other) (map event_bytes side.events ++ event_bytes event ∷ [])
+    → (grown : IsSide other g generation (with_facts E (environment_facts event)) (with_facts X (event_facts event))) × (end_of grown ≡ end_of side + length (record_of (event_bytes event)))
+
+-- how the facts are listed plays no part
+abbrev pub SideAsSet : Type 0
+SideAsSet = (bytes : List ℕ) (g : Graph) (generation : ℕ) (E F X Y : Facts) → SameSet E F → SameSet X Y → (side : IsSide bytes g generation E X)
+    → (same : IsSide bytes g generation F Y) × (end_of same ≡ end_of side)
+
+-- the facts of a side fit its graph
+abbrev pub SideFits : Type 0
+SideFits = (bytes : List ℕ) (g : Graph) (generation : ℕ) (E X : Facts) → IsSide bytes g generation E X → FitsState g E X
+
+-- an image that fits, behind the text of its graph, and a closed gate are a side without records
+abbrev pub BeginsSide : Type 0
+BeginsSide = (g : Graph) (generation : ℕ) (image : Image) → generation < 2 ^ 64 → Reads (canonical g) g → IsImage image → length (image_bytes image) < 2 ^ 32
+    → FitsState g (environment_in image) (facts_in image)
+    → (side : IsSide (1 ∷ behind_gate generation (canonical g) (image_bytes image) (0 ∷ [])) g generation (environment_in image) (facts_in image))
+    × (end_of side ≡ length (1 ∷ behind_gate generation (canonical g) (image_bytes image) []))
