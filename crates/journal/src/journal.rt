@@ -29,8 +29,8 @@ pub struct Journal {
 impl Journal {
     ghost use Rattle.journal.specs.Journal.{IsAt, BeforeOrAfter};
 
-    /// The journal that ends at a position.
-    pub(crate) fn ending(alloc: Global, side: Side, end: u64) -> Self
+    /// The journal whose closed gate is at a position of a file: for a layer that has read its records itself.
+    pub fn ending(alloc: Global, side: Side, end: u64) -> Self
         ensures side { result.side ≡ side }
         ensures end { result.end ≡ end }
     {

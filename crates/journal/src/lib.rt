@@ -17,6 +17,6 @@ mod tests;
 
 pub use error::JournalError;
 pub use journal::{Journal, LIMIT};
-pub use law::one_meaning;
+pub use law::{one_meaning, records_lead};
 pub use payloads::Payloads;
-pub use records::record_length;
+pub use records::{begins_closed, first_payload, record_length};

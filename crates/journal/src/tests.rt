@@ -1,4 +1,6 @@
-use crate::{Journal, JournalError, Payloads, one_meaning};
+use crate::{
+    Journal, JournalError, Payloads, begins_closed, first_payload, one_meaning, records_lead,
+};
 use disk::{Disk, MemDisk, Side};
 use std::alloc::Global;
 use std::test::Fail;
@@ -103,5 +105,31 @@ fn scan_hands_on_what_the_device_answers(rt: HostRuntime) -> Result<(), Fail> {
         };
         assert_eq!(rt; failed, Some(JournalError::Device), "at call {call}");
     }
+    Ok(())
+}
+
+#[test]
+fn bytes_begin_with_a_record_or_a_closed_gate(rt: HostRuntime) -> Result<(), Fail> {
+    let rows: [(&[u8], Option<&[u8]>, bool); 10] = [
+        (&[], None, false),
+        // A closed gate, and anything behind it.
+        (&[0], None, true),
+        (&[255, 1, 0, 0, 0, 0, 0], None, true),
+        // A record with a next gate, open or closed, and an empty one.
+        (&[1, 2, 0, 0, 0, 7, 8, 0], Some(&[7, 8]), false),
+        (&[1, 2, 0, 0, 0, 7, 8, 1, 9], Some(&[7, 8]), false),
+        (&[1, 0, 0, 0, 0, 5], Some(&[]), false),
+        // A record that is cut off: in its length, in its payload, in front of the next gate.
+        (&[1, 2, 0], None, false),
+        (&[1, 2, 0, 0, 0, 7], None, false),
+        (&[1, 2, 0, 0, 0, 7, 8], None, false),
+        // The largest length.
+        (&[1, 255, 255, 255, 255, 7, 8, 0], None, false),
+    ];
+    for (bytes, payload, closed) in rows {
+        assert_eq!(rt; first_payload(bytes), payload, "in {bytes:?}");
+        assert_eq!(rt; begins_closed(bytes), closed, "in {bytes:?}");
+    }
+    records_lead();
     Ok(())
 }
