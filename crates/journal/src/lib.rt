@@ -15,7 +15,7 @@ mod scan;
 #[cfg(test)]
 mod tests;
 
-pub use error::JournalError;
+pub use error::{AppendError, JournalError};
 pub use journal::{Journal, LIMIT};
 pub use law::{one_meaning, records_lead};
 pub use payloads::Payloads;

@@ -1,7 +1,8 @@
 use crate::{
-    Journal, JournalError, Payloads, begins_closed, first_payload, one_meaning, records_lead,
+    AppendError, Journal, JournalError, Payloads, begins_closed, first_payload, one_meaning,
+    records_lead,
 };
-use disk::{Disk, MemDisk, Side};
+use disk::{Disk, DiskError, MemDisk, Side};
 use std::alloc::Global;
 use std::test::Fail;
 
@@ -105,6 +106,27 @@ fn scan_hands_on_what_the_device_answers(rt: HostRuntime) -> Result<(), Fail> {
         };
         assert_eq!(rt; failed, Some(JournalError::Device), "at call {call}");
     }
+    Ok(())
+}
+
+#[test]
+fn try_append_tells_where_it_was_refused(rt: HostRuntime) -> Result<(), Fail> {
+    // Two writes, each with its sync.
+    for call in 1..=4u64 {
+        let mut disk = disk_with(rt.alloc(), &[])?;
+        let mut journal = Journal::start(rt.alloc(), &mut disk, Side::A, 0)?;
+        disk.fail_call(call);
+        let refused = journal.try_append(&mut disk, &[7, 8]).err();
+        let wanted = Some(AppendError::Within(DiskError::Device));
+        assert_eq!(rt; refused, wanted, "at call {call}");
+        assert_eq!(rt; journal.end, 0, "at call {call}");
+    }
+    let mut disk = disk_with(rt.alloc(), &[])?;
+    let mut journal = Journal::start(rt.alloc(), &mut disk, Side::A, 0)?;
+    assert_eq!(rt; journal.try_append(&mut disk, &[7, 8]), Ok(()));
+    assert_eq!(rt; journal.end, 7);
+    let (_, payloads) = Journal::scan(rt.alloc(), &mut disk, Side::A, 0)?;
+    assert_eq!(rt; text_of(rt.alloc(), &payloads)?.as_str(), "[7, 8]");
     Ok(())
 }
 
