@@ -1,7 +1,7 @@
 use crate::calls::content;
 use crate::dishonest::Liar;
 use disk::{Disk, MemDisk, Side};
-use journal::{Journal, JournalError};
+use journal::{AppendError, Journal, JournalError};
 use std::test::Fail;
 
 #[test]
@@ -47,9 +47,12 @@ fn the_last_gate_lies_below_the_limit(rt: HostRuntime) -> Result<(), Fail> {
         let mut journal = Journal::start(rt.alloc(), &mut disk, Side::A, 0)?;
         journal.end = end;
         let before = disk.calls;
-        let refused = journal.append(&mut disk, payload).err();
+        let refused = journal.try_append(&mut disk, payload).err();
         if full {
-            assert_eq!(rt; refused, Some(JournalError::Full), "at {end}");
+            let wanted = Some(AppendError::Before(JournalError::Full));
+            assert_eq!(rt; refused, wanted, "at {end}");
+            let flat = journal.append(&mut disk, payload).err();
+            assert_eq!(rt; flat, Some(JournalError::Full), "at {end}");
             assert_eq!(rt; disk.calls, before, "at {end}");
             assert_eq!(rt; journal.end, end);
         } else {

@@ -1,13 +1,13 @@
 -- How the bytes of a record are read: each record by its length, and none in two ways.
 use Rattle.std.proofs.Common.{◌≡◌, ◌≤◌, ◌<◌, ◌+◌, ◌-◌, ◌^◌, ℕ, zero, suc, List, [], ◌∷◌, ◌++◌, length, take, drop, get_or, sym, ◌∙◌, ap, refl, arith}
 use Rattle.std.specs.Prelude.{slice_range}
-use Rattle.std.proofs.lemmas.List.{append_assoc, length-take-le, length-drop, take-append-drop, take_at, drop_at, drop-drop, get_or-drop}
+use Rattle.std.proofs.lemmas.List.{append_assoc, length-take-le, length-drop, take-append-drop, take_at, drop_at, drop_more, drop-drop}
 use Rattle.std.proofs.lemmas.List.Elements.{All-head, All-tail}
 use Rattle.std.proofs.lemmas.Nat.{le_bytes_4}
 use Rattle.byteorder.specs.Endian.{little_bytes, little_number}
 use Rattle.byteorder.specs.Numbers.{little_number-reads_back}
 use Rattle.journal.specs.Records.{record_of, records, IsShort, StandsFor}
-use Rattle.journal.specs.WholeRecords.{IsRecordAt}
+use Rattle.journal.specs.WholeRecords.{BeginsWith, IsRecordAt}
 
 -- two lists whose fronts are as long have one front and one rest
 same_front : (a b xs ys : List ℕ) → length a ≡ length b → a ++ xs ≡ b ++ ys → (a ≡ b) × (xs ≡ ys)
@@ -62,22 +62,31 @@ spells_record (gate ∷ a ∷ b ∷ c ∷ d ∷ rest) count low fits begins is =
     ∙ ap (λ (front : List ℕ). 1 ∷ front ++ (take count rest ++ drop count rest)) (sym spelled)
     ∙ ap (λ (n : ℕ). 1 ∷ little_bytes 4 n ++ (take count rest ++ drop count rest)) (sym long)
 
--- the record whose length the bytes from a gate on spell stands there
-pub record_stands : (bytes : List ℕ) (gate count : ℕ) → ((k : ℕ) → get_or bytes k 0 < 256) → gate + 5 + count < length bytes → count < 2 ^ 32 → get_or (drop gate bytes) 0 0 ≡ 1
-    → count ≡ little_number 4 (drop 1 (drop gate bytes)) → IsRecordAt bytes gate (record { start = gate + 5; end = gate + 5 + count })
-record_stands bytes gate count low fits short begins is =
-    let rest = drop gate bytes in
-    let low_rest : (k : ℕ) → get_or rest k 0 < 256 = λ k. rw (get_or-drop gate bytes k 0) (low (gate + k)) in
-    let room : 5 + count ≤ length rest = rw length-drop (omega arith) in
-    let payload_is : slice_range bytes (gate + 5) (gate + 5 + count) ≡ take count (drop 5 rest) =
-    ap (λ (n : ℕ). take n (drop (gate + 5) bytes)) (let n : gate + 5 + count - (gate + 5) ≡ count = omega arith in n) ∙ ap (take count) (sym (drop-drop 5 gate bytes)) in
-    let long : length (take count (drop 5 rest)) ≡ count = length-take-le count (drop 5 rest) (rw length-drop (omega arith)) in
-    let behind : drop count (drop 5 rest) ≡ drop (gate + 5 + count) bytes = ap (drop count) (drop-drop 5 gate bytes) ∙ drop-drop count (gate + 5) bytes in
+-- and with the gate of a next one, where they are longer
+pub first_stands : (bytes : List ℕ) (count : ℕ) → ((k : ℕ) → get_or bytes k 0 < 256) → 5 + count < length bytes → count < 2 ^ 32 → get_or bytes 0 0 ≡ 1 → count ≡ little_number 4 (drop 1 bytes)
+    → BeginsWith (take count (drop 5 bytes)) bytes
+first_stands bytes count low fits short begins is =
+    let behind = drop 5 bytes in
+    let room : 5 + count ≤ length bytes = omega arith in
+    record {
+      short = rw (length-take-le count behind (rw length-drop (omega arith))) short;
+      gate = get_or behind count 0;
+      rest = drop (count + 1) behind;
+      spelled = spells_record bytes count low room begins is ∙ ap (λ (back : List ℕ). record_of (take count behind) ++ back) (drop_more behind count 0 (rw length-drop (omega arith)));
+    }
+
+-- the record with which the bytes from a gate on begin stands there
+pub record_stands : (bytes payload : List ℕ) (gate : ℕ) → gate ≤ length bytes → BeginsWith payload (drop gate bytes) → IsRecordAt bytes gate (record { start = gate + 5; end = gate + 5 + length payload })
+record_stands bytes payload gate within begins =
+    let behind : drop (gate + 5) bytes ≡ payload ++ begins.gate ∷ begins.rest = sym (drop-drop 5 gate bytes) ∙ ap (drop 5) begins.spelled in
+    let payload_is : slice_range bytes (gate + 5) (gate + 5 + length payload) ≡ payload =
+    ap (λ (n : ℕ). take n (drop (gate + 5) bytes)) (let n : gate + 5 + length payload - (gate + 5) ≡ length payload = omega arith in n) ∙ ap (take (length payload)) behind ∙ take_at payload (begins.gate ∷ begins.rest) (length payload) refl in
+    let back : begins.gate ∷ begins.rest ≡ drop (gate + 5 + length payload) bytes =
+    sym (drop_at payload (begins.gate ∷ begins.rest) (length payload) refl) ∙ ap (drop (length payload)) (sym behind) ∙ drop-drop (length payload) (gate + 5) bytes in
     record {
       ordered = omega arith;
-      within = fits;
-      short = rw (payload_is, long) short;
-      leads = rw (payload_is, long) (omega arith);
-      spelled = spells_record rest count low_rest room begins is ∙ ap (λ (back : List ℕ). record_of (take count (drop 5 rest)) ++ back) behind
-          ∙ ap (λ (payload : List ℕ). record_of payload ++ drop (gate + 5 + count) bytes) (sym payload_is);
+      within = omega (arith, within, ap length back, length-drop (gate + 5 + length payload) bytes);
+      short = rw payload_is begins.short;
+      leads = rw payload_is (omega arith);
+      spelled = begins.spelled ∙ ap (λ (rest : List ℕ). record_of payload ++ rest) back ∙ ap (λ (p : List ℕ). record_of p ++ drop (gate + 5 + length payload) bytes) (sym payload_is);
     }

@@ -1,7 +1,7 @@
 -- Records that stand whole among some bytes.
-use Rattle.std.specs.Prelude.{◌≡◌, ◌≤◌, ◌<◌, ◌+◌, ℕ, List, ◌∷◌, ◌++◌, length, drop, All, slice_range}
+use Rattle.std.specs.Prelude.{◌≡◌, ◌↔◌, ◌≤◌, ◌<◌, ◌+◌, ℕ, List, [], ◌∷◌, ◌++◌, length, drop, All, slice_range}
 use Rattle.journal.specs.declared.payloads.Place.{Place}
-use Rattle.journal.specs.Records.{record_of, records, IsShort}
+use Rattle.journal.specs.Records.{record_of, records, IsShort, StandsFor}
 
 -- bytes begin with the record of this payload, and with the gate of a next one behind it
 pub record BeginsWith (payload bytes : List ℕ) : Type 0 where
@@ -28,3 +28,26 @@ pub record LeadsTo (bytes : List ℕ) (end : ℕ) (payloads : List (List ℕ)) :
   pub within : end ≤ length bytes
   pub leads : end ≡ length (records payloads)
   pub spelled : bytes ≡ records payloads ++ drop end bytes
+
+-- ---- what the record in front says of the payloads that bytes stand for
+
+-- bytes with a record in front stand for its payload and others behind it exactly where four bytes can spell the payload's
+-- length, and what follows the record stands for the others
+abbrev pub FirstLeadsOthers : Type 0
+FirstLeadsOthers = (payload : List ℕ) (payloads : List (List ℕ)) (rest : List ℕ) → StandsFor (record_of payload ++ rest) (payload ∷ payloads) ↔ (IsShort payload × StandsFor rest payloads)
+
+-- bytes that stand for payloads begin with the record of the first of them
+abbrev pub BeginWithFirst : Type 0
+BeginWithFirst = (bytes payload : List ℕ) (payloads : List (List ℕ)) → StandsFor bytes (payload ∷ payloads) → BeginsWith payload bytes
+
+-- bytes begin with the record of one payload at most
+abbrev pub OneInFront : Type 0
+OneInFront = (bytes one two : List ℕ) → BeginsWith one bytes → BeginsWith two bytes → one ≡ two
+
+-- a closed gate begins no record
+abbrev pub ClosedBeginsNone : Type 0
+ClosedBeginsNone = (bytes : List ℕ) → StandsFor bytes [] → BeginsWithNone bytes
+
+-- bytes that stand for payloads do not begin with a closed gate
+abbrev pub NoneIsNotSome : Type 0
+NoneIsNotSome = (bytes payload : List ℕ) (payloads : List (List ℕ)) → StandsFor bytes (payload ∷ payloads) → StandsFor bytes [] → ⊥

@@ -1,7 +1,8 @@
 ghost use Rattle.std.specs.Prelude.{◌≡◌};
 ghost use Rattle.disk.specs.declared.error.DiskError.{DiskError};
-ghost use Rattle.journal.specs.Errors.{journal_error};
+ghost use Rattle.journal.specs.Errors.{journal_error, cause_of};
 ghost use Rattle.journal.specs.declared.error.JournalError.TheVariants.{NoMemory};
+ghost use Rattle.journal.specs.declared.error.AppendError.TheVariants.{Before, Within};
 
 use disk::DiskError;
 use std::alloc::{AllocError, AllocFailed};
@@ -22,6 +23,17 @@ pub enum JournalError {
     /// The new closed gate would not lie below the limit.
     #[error("full")]
     Full,
+}
+
+/// Where an append was refused.
+#[derive(Clone, Copy, Debug, PartialEq, Eq, Error)]
+pub enum AppendError {
+    /// Before any call of the disk: nothing of it changed, and the journal ends where it did. It is `Full` or `NoMemory`.
+    #[error("{0}")]
+    Before(JournalError),
+    /// By a call of the disk: the payload may be there or not.
+    #[error("{0}")]
+    Within(DiskError),
 }
 
 impl From<DiskError> for JournalError {
@@ -48,5 +60,32 @@ impl<T: Drop> From<AllocFailed<T>> for JournalError {
 
     fn from(_: AllocFailed<T>) -> Self {
         JournalError::NoMemory
+    }
+}
+
+impl From<AppendError> for JournalError {
+    ghost from_gives = { λ refused error. error ≡ cause_of refused };
+
+    fn from(error: AppendError) -> Self {
+        match error {
+            AppendError::Before(cause) => cause,
+            AppendError::Within(cause) => cause.into(),
+        }
+    }
+}
+
+impl From<DiskError> for AppendError {
+    ghost from_gives = { λ cause error. error ≡ Within cause };
+
+    fn from(error: DiskError) -> Self {
+        AppendError::Within(error)
+    }
+}
+
+impl From<AllocError> for AppendError {
+    ghost from_gives = { λ _ error. error ≡ Before NoMemory };
+
+    fn from(_: AllocError) -> Self {
+        AppendError::Before(JournalError::NoMemory)
     }
 }

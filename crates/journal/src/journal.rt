@@ -1,13 +1,16 @@
-ghost use Rattle.std.specs.Prelude.{◌≡◌, ◌≤◌, ◌<◌, ◌+◌, ◌^◌, ◌↔◌, [], ◌∷◌, ◌++◌, List, ℕ, length, take, drop, IsTrue, IfOk, OnOk, OnErr, IsErrOf, Err};
+ghost use Rattle.std.specs.Prelude.{◌≡◌, ◌≤◌, ◌<◌, ◌+◌, ◌^◌, ◌↔◌, ◌⊎◌, [], ◌∷◌, ◌++◌, List, ℕ, length, take, drop, IsTrue, IfOk, OnOk, OnErr, IsErrOf, Err};
 ghost use Rattle.disk.specs.File.{WriteLeaves, at_rest, overwritten};
 ghost use Rattle.disk.specs.Time.{Contents, MayLeaveNow, OtherStays, OtherMayBe, LeavesOnly, KeepsAll, AtOnce};
 ghost use Rattle.byteorder.specs.Endian.{little_bytes};
 ghost use Rattle.journal.specs.Records.{record_of};
 ghost use Rattle.journal.specs.declared.journal.TheConstants.{LIMIT};
+ghost use Rattle.journal.specs.declared.error.JournalError.{JournalError};
 ghost use Rattle.journal.specs.declared.error.JournalError.TheVariants.{Device, NoMemory, Damaged, Full};
+ghost use Rattle.journal.specs.declared.error.AppendError.TheVariants.{Before, Within};
+ghost use Rattle.disk.specs.declared.error.DiskError.TheVariants as DiskError;
 
-use crate::JournalError;
 use crate::records::HEAD;
+use crate::{AppendError, JournalError};
 use byteorder::{ByteOrder, LittleEndian};
 use disk::{Disk, Side, write_synced};
 use std::alloc::{AllocError, Global};
@@ -29,8 +32,8 @@ pub struct Journal {
 impl Journal {
     ghost use Rattle.journal.specs.Journal.{IsAt, BeforeOrAfter};
 
-    /// The journal that ends at a position.
-    pub(crate) fn ending(alloc: Global, side: Side, end: u64) -> Self
+    /// The journal whose closed gate is at a position of a file: for a layer that has read its records itself.
+    pub fn ending(alloc: Global, side: Side, end: u64) -> Self
         ensures side { result.side ≡ side }
         ensures end { result.end ≡ end }
     {
@@ -106,8 +109,37 @@ impl Journal {
         ensures device { IsErrOf result Device ↔ (D.failures disk.old < D.failures disk.new) }
         ensures failures { D.failures disk.old ≤ D.failures disk.new }
     {
+        self.try_append(disk, payload)?;
+        Ok(())
+    }
+
+    /// `append`, which tells whether an error came before any call of the disk.
+    ///
+    /// After `Before` the next append may follow, after `Within` scan the file again first.
+    pub fn try_append<D: Disk>(&mut self, disk: &mut D, payload: &[u8]) -> Result<(), AppendError>
+        requires { IsTrue D.is_honest → self.old.end < length (D.files disk.old self.old.side).content }
+
+        ensures added { IsTrue D.is_honest → (start : ℕ) (payloads : List (List ℕ)) → IsAt self.old start (D.files disk.old self.old.side).content payloads
+            → OnOk result (IsAt self.new start (D.files disk.new self.old.side).content (payloads ++ payload.now ∷ [])) }
+        ensures file { IsTrue D.is_honest → OnOk result (D.files disk.new self.old.side ≡ at_rest (overwritten (D.files disk.old self.old.side).content self.old.end (record_of payload.now ++ 0 ∷ []))) }
+        ensures other { IsTrue D.is_honest → OtherStays self.old.side (D.files disk.old) (D.files disk.new) }
+        ensures side { self.new.side ≡ self.old.side }
+        ensures end { OnErr result (self.new.end ≡ self.old.end) }
+        ensures moved { OnOk result (self.new.end ≡ self.old.end + length (record_of payload.now)) }
+
+        // A crash at any moment of the call, on a file of which all is on the disk, leaves the payloads before it or after it.
+        ensures any_moment { IsTrue D.is_honest → (start : ℕ) (payloads : List (List ℕ)) (content : List ℕ) → D.files disk.old self.old.side ≡ at_rest content → IsAt self.old start content payloads
+            → LeavesOnly D.moment D.left_at disk.old disk.new (λ contents. BeforeOrAfter start content payloads payload.now (contents self.old.side) × OtherMayBe self.old.side (D.files disk.old) contents) }
+        ensures other_moments { IsTrue D.is_honest → LeavesOnly D.moment D.left_at disk.old disk.new (OtherMayBe self.old.side (D.files disk.old)) }
+
+        ensures before { (cause : JournalError) → IsErrOf result (Before cause) → disk.new ≡ disk.old }
+        ensures full { IsErrOf result (Before Full) ↔ (LIMIT ≤ self.old.end + 5 + length payload.now) }
+        ensures refused { (cause : JournalError) → IsErrOf result (Before cause) → (cause ≡ Full) ⊎ (cause ≡ NoMemory) }
+        ensures device { IsErrOf result (Within DiskError.Device) ↔ (D.failures disk.old < D.failures disk.new) }
+        ensures failures { D.failures disk.old ≤ D.failures disk.new }
+    {
         if !fits(self.end, payload.len()) {
-            return Err(JournalError::Full);
+            return Err(AppendError::Before(JournalError::Full));
         }
         spell(&mut self.buffer, payload)?;
         write_synced(disk, self.side, self.end + 1, &self.buffer)?;

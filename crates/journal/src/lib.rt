@@ -15,8 +15,8 @@ mod scan;
 #[cfg(test)]
 mod tests;
 
-pub use error::JournalError;
+pub use error::{AppendError, JournalError};
 pub use journal::{Journal, LIMIT};
-pub use law::one_meaning;
+pub use law::{one_meaning, records_lead};
 pub use payloads::Payloads;
-pub use records::record_length;
+pub use records::{begins_closed, first_payload, record_length};

@@ -1,5 +1,5 @@
 ghost use Rattle.std.specs.Prelude.{◌≡◌, ◌≤◌, ◌↔◌, [], length, drop, IsTrue, IfOk, MatchOption};
-ghost use Rattle.journal.specs.WholeRecords.{BeginsWithNone, IsRecordAt, LeadsTo};
+ghost use Rattle.journal.specs.WholeRecords.{BeginsWith, BeginsWithNone, IsRecordAt, LeadsTo};
 ghost use Rattle.journal.specs.Places.{payloads_at, AreWithin};
 ghost use Rattle.journal.specs.Records.{record_of, StandsFor};
 
@@ -18,6 +18,27 @@ pub fn record_length(payload: &[u8]) -> u64
     ensures { result ≡ length (record_of payload.now) }
 {
     HEAD as u64 + payload.len() as u64
+}
+
+/// The payload of the record that stands whole at the front of the bytes, with a next gate behind it.
+pub fn first_payload(bytes: &[u8]) -> Option<&[u8]>
+    ensures { MatchOption result (BeginsWithNone bytes.now) (λ payload. BeginsWith payload.now bytes.now) }
+{
+    if bytes.len() < HEAD || bytes[0] != OPEN {
+        return None;
+    }
+    let count = LittleEndian::read_u32(&bytes[1..]) as usize;
+    if bytes.len() - HEAD <= count {
+        return None;
+    }
+    Some(&bytes[HEAD..HEAD + count])
+}
+
+/// Whether the bytes begin with a closed gate.
+pub fn begins_closed(bytes: &[u8]) -> bool
+    ensures { IsTrue result ↔ StandsFor bytes.now [] }
+{
+    !bytes.is_empty() && bytes[0] != OPEN
 }
 
 /// The records that stand whole at the front of some bytes.
@@ -44,30 +65,15 @@ pub(crate) fn find_records(alloc: Global, bytes: &[u8]) -> Result<Records, Alloc
     Ok(Records { places, end })
 }
 
-/// Whether a gate stands there, and is closed.
-pub(crate) fn is_closed(bytes: &[u8], gate: usize) -> bool
-    requires { gate ≤ length bytes.now }
-    ensures { IsTrue result ↔ StandsFor (drop gate bytes.now) [] }
-{
-    gate < bytes.len() && bytes[gate] != OPEN
-}
-
 // Where the payload of the record at a gate stands, if the gate is open, and the record and a next gate are there.
 fn find_payload(bytes: &[u8], gate: usize) -> Option<Place>
     requires { gate ≤ length bytes.now }
     ensures { MatchOption result (BeginsWithNone (drop gate bytes.now)) (IsRecordAt bytes.now gate) }
 {
-    let record = &bytes[gate..];
-    if record.len() < HEAD || record[0] != OPEN {
-        return None;
-    }
-    let count = LittleEndian::read_u32(&record[1..]) as usize;
-    if record.len() - HEAD <= count {
-        return None;
-    }
+    let payload = first_payload(&bytes[gate..])?;
     let start = gate + HEAD;
     Some(Place {
         start,
-        end: start + count,
+        end: start + payload.len(),
     })
 }

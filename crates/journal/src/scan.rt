@@ -4,8 +4,8 @@ ghost use Rattle.disk.specs.Time.{LeavesOnly, MayLeaveNow, HasCause};
 ghost use Rattle.journal.specs.Records.{StandsFor};
 ghost use Rattle.journal.specs.declared.error.JournalError.TheVariants.{Device, Damaged, Full};
 
-use crate::records::{find_records, is_closed};
-use crate::{Journal, JournalError, Payloads};
+use crate::records::find_records;
+use crate::{Journal, JournalError, Payloads, begins_closed};
 use disk::{Disk, DiskError, Side};
 use std::alloc::Global;
 
@@ -40,7 +40,7 @@ impl Journal {
         let bytes = read_from(alloc, disk, side, at)?;
         let found = find_records(alloc, &bytes)?;
         let end = at + found.end as u64;
-        if !is_closed(&bytes, found.end) {
+        if !begins_closed(&bytes[found.end..]) {
             return Err(JournalError::Damaged(end));
         }
         Ok((

@@ -1,5 +1,8 @@
-use crate::{Journal, JournalError, Payloads, one_meaning};
-use disk::{Disk, MemDisk, Side};
+use crate::{
+    AppendError, Journal, JournalError, Payloads, begins_closed, first_payload, one_meaning,
+    records_lead,
+};
+use disk::{Disk, DiskError, MemDisk, Side};
 use std::alloc::Global;
 use std::test::Fail;
 
@@ -103,5 +106,52 @@ fn scan_hands_on_what_the_device_answers(rt: HostRuntime) -> Result<(), Fail> {
         };
         assert_eq!(rt; failed, Some(JournalError::Device), "at call {call}");
     }
+    Ok(())
+}
+
+#[test]
+fn try_append_tells_where_it_was_refused(rt: HostRuntime) -> Result<(), Fail> {
+    // Two writes, each with its sync.
+    for call in 1..=4u64 {
+        let mut disk = disk_with(rt.alloc(), &[])?;
+        let mut journal = Journal::start(rt.alloc(), &mut disk, Side::A, 0)?;
+        disk.fail_call(call);
+        let refused = journal.try_append(&mut disk, &[7, 8]).err();
+        let wanted = Some(AppendError::Within(DiskError::Device));
+        assert_eq!(rt; refused, wanted, "at call {call}");
+        assert_eq!(rt; journal.end, 0, "at call {call}");
+    }
+    let mut disk = disk_with(rt.alloc(), &[])?;
+    let mut journal = Journal::start(rt.alloc(), &mut disk, Side::A, 0)?;
+    assert_eq!(rt; journal.try_append(&mut disk, &[7, 8]), Ok(()));
+    assert_eq!(rt; journal.end, 7);
+    let (_, payloads) = Journal::scan(rt.alloc(), &mut disk, Side::A, 0)?;
+    assert_eq!(rt; text_of(rt.alloc(), &payloads)?.as_str(), "[7, 8]");
+    Ok(())
+}
+
+#[test]
+fn bytes_begin_with_a_record_or_a_closed_gate(rt: HostRuntime) -> Result<(), Fail> {
+    let rows: [(&[u8], Option<&[u8]>, bool); 10] = [
+        (&[], None, false),
+        // A closed gate, and anything behind it.
+        (&[0], None, true),
+        (&[255, 1, 0, 0, 0, 0, 0], None, true),
+        // A record with a next gate, open or closed, and an empty one.
+        (&[1, 2, 0, 0, 0, 7, 8, 0], Some(&[7, 8]), false),
+        (&[1, 2, 0, 0, 0, 7, 8, 1, 9], Some(&[7, 8]), false),
+        (&[1, 0, 0, 0, 0, 5], Some(&[]), false),
+        // A record that is cut off: in its length, in its payload, in front of the next gate.
+        (&[1, 2, 0], None, false),
+        (&[1, 2, 0, 0, 0, 7], None, false),
+        (&[1, 2, 0, 0, 0, 7, 8], None, false),
+        // The largest length.
+        (&[1, 255, 255, 255, 255, 7, 8, 0], None, false),
+    ];
+    for (bytes, payload, closed) in rows {
+        assert_eq!(rt; first_payload(bytes), payload, "in {bytes:?}");
+        assert_eq!(rt; begins_closed(bytes), closed, "in {bytes:?}");
+    }
+    records_lead();
     Ok(())
 }

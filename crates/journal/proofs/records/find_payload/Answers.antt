@@ -1,15 +1,12 @@
-use Rattle.std.proofs.Common.{◌≡◌, ◌<◌, ◌+◌, length, drop, get_or, ap, ◌∙◌, arith}
-use Rattle.std.proofs.lemmas.List.{take_rest, length-drop}
-use Rattle.byteorder.specs.Endian.{little_number}
+use Rattle.std.proofs.Common.{subst}
+use Rattle.std.proofs.lemmas.List.{take_rest}
+use Rattle.journal.specs.WholeRecords.{BeginsWith, BeginsWithNone}
 use Rattle.journal.proofs.Spelling.{record_stands}
 use Rattle.journal.proofs.records.find_payload.Goals as goal
 
+pub returns-in_err-payload : goal.returns-in_err-payload
+returns-in_err-payload c = rw c.from_residual.ensures (subst BeginsWithNone (take_rest c.args.bytes.now c.args.gate) c.in_err-payload.ensures)
+
 pub returns : goal.returns
 returns c =
-    let bytes = c.args.bytes.now in
-    let gate = c.args.gate in
-    let count = c.read_u32-count.result in
-    let rest = take_rest bytes gate in
-    let fits : gate + 5 + count < length bytes = omega (arith, ap length rest, length-drop gate bytes) in
-    let begins : get_or (drop gate bytes) 0 0 ≡ 1 = rw (← rest) (omega arith) in
-    record_stands bytes gate count (λ k. omega (arith, c.type_inv.bytes k)) fits c.read_u32-count.type_inv begins (rw rest at c.read_u32-count.ensures ∙ ap (little_number 4) (take_rest (drop gate bytes) 1))
+    record_stands c.args.bytes.now c.in_ok-payload.payload.now c.args.gate c.requires (subst (BeginsWith c.in_ok-payload.payload.now) (take_rest c.args.bytes.now c.args.gate) c.in_ok-payload.ensures)

@@ -4,7 +4,7 @@ use Rattle.disk.specs.Settled.{settled_only}
 use Rattle.disk.specs.Moments.{begun, weakened}
 use Rattle.journal.specs.Records.{StandsFor}
 use Rattle.journal.proofs.Appending.{crash_now, crash_behind, appended, end_after, body_of, moments_of_both, other_moments}
-use Rattle.journal.proofs.journal.Journal.append.Goals as goal
+use Rattle.journal.proofs.journal.Journal.try_append.Goals as goal
 
 -- no call of the disk was made
 pub returns-then-not-fits-clause-any_moment : goal.returns-then-not-fits-clause-any_moment
