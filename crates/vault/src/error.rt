@@ -1,7 +1,9 @@
 ghost use Rattle.std.specs.Prelude.{◌≡◌};
+ghost use Rattle.disk.specs.declared.error.DiskError.{DiskError};
+ghost use Rattle.vault.specs.Errors.{vault_error};
 ghost use Rattle.vault.specs.declared.error.VaultError.TheVariants.{NoMemory};
 
-use disk::Side;
+use disk::{DiskError, Side};
 use std::alloc::{AllocError, AllocFailed};
 use thiserror::Error;
 
@@ -15,7 +17,7 @@ pub enum VaultError {
     #[error("no memory")]
     NoMemory,
     /// The two files stand for nothing: of this side, at this place.
-    #[error("damaged at {1}")]
+    #[error("damaged {0:?} at {1}")]
     Damaged(Side, u64),
     /// The record or the side would reach past the limit, or the generation is the greatest.
     #[error("full")]
@@ -29,4 +31,31 @@ pub enum VaultError {
     /// A file is not empty.
     #[error("exists")]
     Exists,
+}
+
+impl From<DiskError> for VaultError {
+    ghost from_gives = { λ cause error. error ≡ vault_error cause };
+
+    fn from(error: DiskError) -> Self {
+        match error {
+            DiskError::Device => VaultError::Device,
+            DiskError::NoMemory => VaultError::NoMemory,
+        }
+    }
+}
+
+impl From<AllocError> for VaultError {
+    ghost from_gives = { λ _ error. error ≡ NoMemory };
+
+    fn from(_: AllocError) -> Self {
+        VaultError::NoMemory
+    }
+}
+
+impl<T: Drop> From<AllocFailed<T>> for VaultError {
+    ghost from_gives = { λ _ error. error ≡ NoMemory };
+
+    fn from(_: AllocFailed<T>) -> Self {
+        VaultError::NoMemory
+    }
 }
