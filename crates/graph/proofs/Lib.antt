@@ -1,5 +1,7 @@
+mod AlikeFaults
 mod AlikeGraphs
 mod AlikeBodies
+mod AlikeSheets
 mod AlikeTrees
 mod BodyFaults
 mod Checking
@@ -47,5 +49,6 @@ mod Seen
 mod Sheets
 mod AsciiTexts
 mod Texts
+mod Ties
 mod TreeFaultKinds
 mod Unmarked
