@@ -1,5 +1,5 @@
 -- Trees of one derivation have the same faults of names and relations.
-use Rattle.std.proofs.Common.{◌≡◌, ℕ, Bool, true, false, not, ◌&&◌, List, [], ◌∷◌, ◌++◌, length, map, Option, Some, None, refl, sym, ap, ◌∙◌}
+use Rattle.std.proofs.Common.{◌≡◌, ℕ, Bool, true, false, not, ◌&&◌, List, [], ◌∷◌, ◌++◌, map, Option, Some, None, refl, sym, ap, ◌∙◌}
 use Rattle.std.specs.Prelude.{is_some}
 use Rattle.std.specs.List.{list_any}
 use Rattle.std.proofs.lemmas.List.{map-append}
@@ -18,10 +18,10 @@ use Rattle.graph.specs.declared.fault.GraphError.{GraphError}
 use Rattle.graph.specs.declared.fault.GraphError.TheVariants as error
 use Rattle.graph.specs.Graph.{Collection}
 use Rattle.graph.specs.Tree.{text_of, items_of, tags_of, names_in, step_names, prescriber_of}
-use Rattle.graph.specs.Faults.{At, fault_if, or_else, has, repeated, declaration_faults, same_relation, again, unknown, missing, prescribed_before, relation_fault, relation_faults, components_of, is_other, arity_faults, step_faults, tree_faults}
+use Rattle.graph.specs.Faults.{fault_if, or_else, has, repeated, declaration_faults, same_relation, again, unknown, missing, prescribed_before, relation_fault, relation_faults, components_of, is_other, arity_faults, step_faults, tree_faults}
 use Rattle.graph.proofs.AlikeGraphs.{so_many}
 use Rattle.graph.proofs.AlikeSheets.{shared}
-use Rattle.graph.proofs.Ties.{Tie, a_prescription, a_read, an_item_put, a_tag_put, an_environment_item_put, an_environment_tag_put, an_environment_get, tie, tie_is, any_tie, prescriber_tie, prescriber_told}
+use Rattle.graph.proofs.Ties.{Tie, a_read, an_item_put, a_tag_put, an_environment_item_put, an_environment_tag_put, an_environment_get, tie, tie_is, any_tie, prescriber_tie, prescriber_told}
 use Rattle.graph.proofs.PrintedSteps.{are_both}
 
 -- ---- names
@@ -231,7 +231,7 @@ faults_same graph t u a b =
     let steps : step_names t.steps.items ≡ step_names u.steps.items = step_names_same graph.steps t.steps.items u.steps.items a.steps b.steps in
     let of_declarations = declarations_same [] [] [] [] refl refl graph.declarations t.declarations.items u.declarations.items a.declarations b.declarations in
     let of_relations : relation_faults (names_in (items_of t.declarations.items)) (names_in (tags_of t.declarations.items)) (step_names t.steps.items) [] t.relations.items
-        ≡ relation_faults (names_in (items_of u.declarations.items)) (names_in (tags_of u.declarations.items)) (step_names u.steps.items) [] u.relations.items =
+    ≡ relation_faults (names_in (items_of u.declarations.items)) (names_in (tags_of u.declarations.items)) (step_names u.steps.items) [] u.relations.items =
     (λ i. relation_faults (names_in (same.items i)) (names_in (same.tags i)) (steps i) [] t.relations.items)
     ∙ relations_same (names_in (items_of u.declarations.items)) (names_in (tags_of u.declarations.items)) (step_names u.steps.items) [] [] refl graph.relations t.relations.items u.relations.items a.relations b.relations in
     let of_steps : step_faults (tags_of t.declarations.items) t.relations.items [] t.steps.items ≡ step_faults (tags_of u.declarations.items) u.relations.items [] u.steps.items =

@@ -3,6 +3,7 @@ mod AlikeGraphs
 mod AlikeBodies
 mod AlikeSheets
 mod AlikeTrees
+mod BodiesWithoutFault
 mod BodyFaults
 mod Checking
 mod Declaring
@@ -43,6 +44,7 @@ mod RelationKinds
 mod Resolving
 pub mod SameText
 mod SmallTrees
+mod WithoutFault
 mod Written
 mod Rising
 mod Seen
