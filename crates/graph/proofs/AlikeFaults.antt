@@ -19,8 +19,8 @@ use Rattle.graph.specs.declared.fault.GraphError.TheVariants as error
 use Rattle.graph.specs.Graph.{Collection}
 use Rattle.graph.specs.Tree.{text_of, items_of, tags_of, names_in, step_names, prescriber_of}
 use Rattle.graph.specs.Faults.{fault_if, or_else, has, repeated, declaration_faults, same_relation, again, unknown, missing, prescribed_before, relation_fault, relation_faults, components_of, is_other, arity_faults, step_faults, tree_faults}
-use Rattle.graph.proofs.AlikeGraphs.{so_many}
 use Rattle.graph.proofs.AlikeSheets.{shared}
+use Rattle.graph.proofs.SmallTrees.{as_many}
 use Rattle.graph.proofs.Ties.{Tie, a_read, an_item_put, a_tag_put, an_environment_item_put, an_environment_tag_put, an_environment_get, tie, tie_is, any_tie, prescriber_tie, prescriber_told}
 use Rattle.graph.proofs.PrintedSteps.{are_both}
 
@@ -193,7 +193,7 @@ module _ (items tags steps : List Text) where
 arity_same : (tags : List Collection) (prescriber : Option Text) (text : StepText) (one two : NamedStep) → IsStep text one → IsStep text two → arity_faults tags prescriber one ≡ arity_faults tags prescriber two
 arity_same tags None text one two a b = ap (λ (place : ℕ). fault_if true error.NoPrescriber place) (placed text.name one.name two.name a.name b.name)
 arity_same tags (Some tag) text one two a b =
-    let counted = so_many (all_names text.parameters) one.parameters.items a.parameters ∙ sym (so_many (all_names text.parameters) two.parameters.items b.parameters) in
+    let counted = as_many IsName (all_names text.parameters) one.parameters.items a.parameters ∙ sym (as_many IsName (all_names text.parameters) two.parameters.items b.parameters) in
     let place = placed text.name one.name two.name a.name b.name in
     λ i. fault_if (is_other (components_of tags tag) (counted i)) error.Arity (place i)
 

@@ -15,6 +15,7 @@ use Rattle.graph.specs.Textual.{SameStep, SameGraph}
 use Rattle.graph.proofs.AlikeTrees.{statements_alike, get_alike, put_alike}
 use Rattle.graph.proofs.AlikeBodies.{block_same}
 use Rattle.graph.proofs.AlikeSheets.{SharesNames, shared, sheet_same, declared_same}
+use Rattle.graph.proofs.SmallTrees.{as_many}
 use Rattle.graph.proofs.Ties.{prescriber_tie, prescriber_told, each_same, environment_item_tie, environment_item_told, environment_tag_tie, environment_tag_told, environment_get_tie, environment_get_told}
 
 -- ---- steps
@@ -24,12 +25,6 @@ texts_are [] [] are = refl
 texts_are [] (name ∷ names) are = absurd are
 texts_are (it ∷ texts) [] are = absurd are
 texts_are (it ∷ texts) (name ∷ names) are = λ i. are.0.0 i ∷ texts_are texts names are.1 i
-
-pub so_many : (texts : List Named) (names : List Name) → AreAll IsName texts names → length names ≡ length texts
-so_many [] [] are = refl
-so_many [] (name ∷ names) are = absurd are
-so_many (it ∷ texts) [] are = absurd are
-so_many (it ∷ texts) (name ∷ names) are = ap suc (so_many texts names are.1)
 
 pub names_are : (text : StepText) (step : NamedStep) → IsStep text step → names_of step ≡ map (λ (it : Named). it.0) (all_names text.parameters) ++ map (λ (it : Named). it.0) (all_names text.variables)
 names_are text step is =
@@ -55,7 +50,7 @@ module _ (t u : Tree) (g h : Graph) (same : SharesNames t u) (tags_are_same : g.
         name = step_named;
         prescriber = cc;
         names = c.names ∙ names ∙ sym d.names;
-        parameters = c.parameters ∙ so_many (all_names text.parameters) one.parameters.items a.parameters ∙ sym (so_many (all_names text.parameters) two.parameters.items b.parameters) ∙ sym d.parameters;
+        parameters = c.parameters ∙ as_many IsName (all_names text.parameters) one.parameters.items a.parameters ∙ sym (as_many IsName (all_names text.parameters) two.parameters.items b.parameters) ∙ sym d.parameters;
         reads = c.reads ∙ sheets.reads ∙ sym d.reads;
         item_puts = c.item_puts ∙ sheets.item_puts ∙ sym d.item_puts;
         tag_puts = c.tag_puts ∙ sheets.tag_puts ∙ sym d.tag_puts;

@@ -11,6 +11,7 @@ mod Entries
 pub mod ExampleText
 mod Faultless
 mod FirstFaults
+mod GraphsOfTrees
 mod Lists
 mod Made
 mod Marks
@@ -39,11 +40,17 @@ pub mod PrintedSteps
 pub mod PrintedTokens
 pub mod PrintedTrees
 pub mod PrintedValues
+mod ReadBlocks
+mod ReadExpressions
+mod ReadGraphs
+mod ReadNames
+mod ReadSteps
 mod Relating
 mod RelationKinds
 mod Resolving
 pub mod SameText
 mod SmallTrees
+mod SoundTokens
 mod WithoutFault
 mod Written
 mod Rising

@@ -1,5 +1,5 @@
 //! The laws between texts and graphs. Each is a contract, with nothing to run.
-ghost use Rattle.graph.specs.Textual.{CanonicalReads, OneCanonical, OneGraph, ReadsWithoutFault};
+ghost use Rattle.graph.specs.Textual.{CanonicalReads, OneCanonical, OneGraph, ReadsTextual, ReadsWithoutFault};
 
 use syntax::{one_derivation, read_without_fault, tokens_once};
 
@@ -21,6 +21,11 @@ pub fn one_graph()
     one_derivation();
 }
 
+/// What a text reads as can be written.
+pub fn reads_textual()
+    ensures { ReadsTextual }
+{}
+
 /// A text that reads as a graph has no fault but want of memory: so `parse` answers the graph of such a text, memory aside.
 pub fn reads_without_fault()
     ensures { ReadsWithoutFault }
@@ -41,6 +46,7 @@ mod tests {
         canonical_reads();
         one_canonical_text();
         one_graph();
+        reads_textual();
         reads_without_fault();
     }
 }
