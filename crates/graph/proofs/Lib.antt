@@ -1,6 +1,9 @@
+mod AlikeFaults
 mod AlikeGraphs
 mod AlikeBodies
+mod AlikeSheets
 mod AlikeTrees
+mod BodiesWithoutFault
 mod BodyFaults
 mod Checking
 mod Declaring
@@ -8,6 +11,7 @@ mod Entries
 pub mod ExampleText
 mod Faultless
 mod FirstFaults
+mod GraphsOfTrees
 mod Lists
 mod Made
 mod Marks
@@ -36,16 +40,24 @@ pub mod PrintedSteps
 pub mod PrintedTokens
 pub mod PrintedTrees
 pub mod PrintedValues
+mod ReadBlocks
+mod ReadExpressions
+mod ReadGraphs
+mod ReadNames
+mod ReadSteps
 mod Relating
 mod RelationKinds
 mod Resolving
 pub mod SameText
 mod SmallTrees
+mod SoundTokens
+mod WithoutFault
 mod Written
 mod Rising
 mod Seen
 mod Sheets
 mod AsciiTexts
 mod Texts
+mod Ties
 mod TreeFaultKinds
 mod Unmarked
