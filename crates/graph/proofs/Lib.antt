@@ -1,6 +1,7 @@
 mod AlikeGraphs
 mod AlikeBodies
 mod AlikeTrees
+mod Among
 mod BodyFaults
 mod Checking
 mod Declaring
@@ -8,6 +9,9 @@ mod Entries
 pub mod ExampleText
 mod Faultless
 mod FirstFaults
+mod FitKept
+mod FitsAlike
+mod FitsInParts
 mod Lists
 mod Made
 mod Marks
