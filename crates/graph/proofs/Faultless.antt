@@ -1,5 +1,5 @@
 -- What holds of a tree without a fault: its names differ, and its steps have the right number of parameters.
-use Rattle.std.proofs.Common.{◌≡◌, ℕ, zero, suc, Bool, true, false, if◌then◌else◌, List, [], ◌∷◌, ◌++◌, Option, Some, None, refl, sym, ap, subst, ◌∙◌, append_assoc, slice_get}
+use Rattle.std.proofs.Common.{◌≡◌, ℕ, zero, suc, Bool, true, false, if◌then◌else◌, List, [], ◌∷◌, ◌++◌, Option, Some, None, map, refl, sym, ap, subst, ◌∙◌, append_assoc, slice_get}
 use Rattle.std.specs.Prelude.{option_map, is_some}
 use Rattle.std.specs.List.{IsDistinct}
 use Rattle.std.specs.Str.{bytes_eq}
@@ -88,17 +88,33 @@ declared_apart items tags (declared.Tag name components ∷ more) none one two =
     let rest = declared_apart items (tags ++ text_of name ∷ []) more (second_empty (fault_if (has tags name) Redeclared name.place) _ none) one (new_name tags name Redeclared two first) in
     (rest.0, behind tags (text_of name) (names_in (tags_of more)) rest.1)
 
+-- ---- names in a step
+
+names_apart_behind : (before : List Text) (names : List Name) → repeated before names ≡ [] → IsDistinct bytes_eq before → IsDistinct bytes_eq (before ++ map text_of names)
+names_apart_behind before [] none distinct = at_end before distinct
+names_apart_behind before (name ∷ names) none distinct =
+    let first = first_empty (fault_if (has before name) Redeclared name.place) _ none in
+    let rest = names_apart_behind (before ++ text_of name ∷ []) names (second_empty (fault_if (has before name) Redeclared name.place) _ none) (new_name before name Redeclared distinct first) in
+    behind before (text_of name) (map text_of names) rest
+
+pub names_in_step_apart : (names : List Name) → repeated [] names ≡ [] → IsDistinct bytes_eq (map text_of names)
+unfolding IsDistinct
+names_in_step_apart names none = names_apart_behind [] names none tt
+
 -- ---- steps
 
 module _ (tags : List Collection) (relations : List Relation) where
-  abbrev heading : List Text → NamedStep → List At
+  abbrev pub heading : List Text → NamedStep → List At
   heading before step = or_else (fault_if (has before step.name) StepTwice step.name.place) (arity_faults tags (prescriber_of relations (text_of step.name)) step)
 
-  abbrev naming : NamedStep → List At
+  abbrev pub naming : NamedStep → List At
   naming step = repeated [] (step.parameters.items ++ step.variables.items)
 
-  later : (before : List Text) (step : NamedStep) (more : List NamedStep) → step_faults tags relations before (step ∷ more) ≡ [] → step_faults tags relations (before ++ text_of step.name ∷ []) more ≡ []
+  pub later : (before : List Text) (step : NamedStep) (more : List NamedStep) → step_faults tags relations before (step ∷ more) ≡ [] → step_faults tags relations (before ++ text_of step.name ∷ []) more ≡ []
   later before step more none = second_empty (heading before step ++ naming step) _ none
+
+  pub own_names : (before : List Text) (step : NamedStep) (more : List NamedStep) → step_faults tags relations before (step ∷ more) ≡ [] → naming step ≡ []
+  own_names before step more none = second_empty (heading before step) (naming step) (first_empty (heading before step ++ naming step) _ none)
 
   at_head : (before : List Text) (step : NamedStep) (more : List NamedStep) → step_faults tags relations before (step ∷ more) ≡ [] → heading before step ≡ []
   at_head before step more none = first_empty (heading before step) (naming step) (first_empty (heading before step ++ naming step) _ none)
@@ -127,10 +143,10 @@ module _ (tree : Tree) (none : tree_faults tree ≡ []) where
   abbrev of_relations : List At
   of_relations = relation_faults (names_in (items_of tree.declarations.items)) (names_in (tags_of tree.declarations.items)) (step_names tree.steps.items) [] tree.relations.items
 
-  abbrev of_steps : List At
+  abbrev pub of_steps : List At
   of_steps = step_faults (tags_of tree.declarations.items) tree.relations.items [] tree.steps.items
 
-  no_step : of_steps ≡ []
+  pub no_step : of_steps ≡ []
   no_step = second_empty (of_declarations ++ of_relations) of_steps none
 
   names_apart : Apart [] [] tree.declarations.items

@@ -1,7 +1,10 @@
+mod AlikeFaults
 mod AlikeGraphs
 mod AlikeBodies
+mod AlikeSheets
 mod AlikeTrees
 mod Among
+mod BodiesWithoutFault
 mod BodyFaults
 mod Checking
 mod Declaring
@@ -12,6 +15,7 @@ mod FirstFaults
 mod FitKept
 mod FitsAlike
 mod FitsInParts
+mod GraphsOfTrees
 mod Lists
 mod Made
 mod Marks
@@ -40,16 +44,24 @@ pub mod PrintedSteps
 pub mod PrintedTokens
 pub mod PrintedTrees
 pub mod PrintedValues
+mod ReadBlocks
+mod ReadExpressions
+mod ReadGraphs
+mod ReadNames
+mod ReadSteps
 mod Relating
 mod RelationKinds
 mod Resolving
 pub mod SameText
 mod SmallTrees
+mod SoundTokens
+mod WithoutFault
 mod Written
 mod Rising
 mod Seen
 mod Sheets
 mod AsciiTexts
 mod Texts
+mod Ties
 mod TreeFaultKinds
 mod Unmarked

@@ -1,5 +1,5 @@
 -- A tree that is read within the limits is small.
-use Rattle.std.proofs.Common.{◌≡◌, ◌≤◌, ◌<◌, ◌+◌, ◌-◌, ℕ, zero, suc, Bool, true, false, nat_lt, if◌then◌else◌, List, [], ◌∷◌, ◌++◌, length, map, get_or, drop, refl, sym, ap, ◌∙◌, arith, length-append, length-drop}
+use Rattle.std.proofs.Common.{◌≡◌, ◌≤◌, ◌<◌, ◌+◌, ◌-◌, ℕ, zero, suc, Bool, true, false, nat_lt, if◌then◌else◌, List, [], ◌∷◌, ◌++◌, length, drop, refl, ap, ◌∙◌, arith, length-append, length-drop}
 use Rattle.std.specs.Prelude.{All}
 use Rattle.std.specs.List.{AllByRecursion, flat_map}
 use Rattle.terms.specs.declared.key.TheConstants.{MAX_COMPONENTS}
@@ -21,20 +21,20 @@ use Rattle.graph.proofs.Rising.{as_many_mapped}
 
 -- ---- limits that are kept
 
-room : (most before : ℕ) (place : Position) → one_more most before place ≡ [] → before < most
+pub room : (most before : ℕ) (place : Position) → one_more most before place ≡ [] → before < most
 room most before place none = by (nat_lt before most) refl none
   where
     by : (b : Bool) → nat_lt before most ≡ b → (if b then [] else place ∷ []) ≡ [] → before < most
     by true is none = grind (arith, is)
     by false is none = absurd (cc)
 
-few : (most : ℕ) (names : List Named) → names_behind most names ≡ [] → length names ≤ most
+pub few : (most : ℕ) (names : List Named) → names_behind most names ≡ [] → length names ≤ most
 few most names none =
     let many : length (names_behind most names) ≡ length names - most = as_many_mapped (λ (it : Named). it.1) (drop most names) ∙ length-drop most names in
     let zero_many : length (names_behind most names) ≡ 0 = ap (λ (l : List Position). length l) none in
     omega (arith, many, zero_many)
 
-as_many : {X Y : Type 0} (is : X → Y → Type 0) (xs : List X) (ys : List Y) → AreAll is xs ys → length ys ≡ length xs
+pub as_many : {X Y : Type 0} (is : X → Y → Type 0) (xs : List X) (ys : List Y) → AreAll is xs ys → length ys ≡ length xs
 as_many is [] [] all = refl
 as_many is [] (y ∷ ys) all = absurd all
 as_many is (x ∷ xs) [] all = absurd all
@@ -93,7 +93,7 @@ declarations items tags (tag_declared it components ∷ texts) (declared.Item na
 
 -- ---- steps
 
-small_step : (text : StepText) (step : NamedStep) → step_limits text ≡ [] → IsStep text step → IsSmallStep step
+pub small_step : (text : StepText) (step : NamedStep) → step_limits text ≡ [] → IsStep text step → IsSmallStep step
 small_step text step none is =
     let a = name_limits text.name ++ flat_map name_limits (step_names text) in
     let b = names_behind MAX_COMPONENTS (all_names text.parameters) in

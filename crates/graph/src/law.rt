@@ -1,8 +1,8 @@
 //! The laws between texts and graphs, and of what fits a graph. Each is a contract, with nothing to run.
 ghost use Rattle.graph.specs.FitLaws.{FitKeeps, AllFitKeep, AllFitInParts, StateAsSet, EventAsSet, EventsAsSet, StateOfAlike, EventsOfAlike};
-ghost use Rattle.graph.specs.Textual.{CanonicalReads, OneCanonical, OneGraph};
+ghost use Rattle.graph.specs.Textual.{CanonicalReads, OneCanonical, OneGraph, ReadsTextual, ReadsWithoutFault};
 
-use syntax::{one_derivation, tokens_once};
+use syntax::{one_derivation, read_without_fault, tokens_once};
 use terms::facts_are_told_apart;
 
 /// The canonical text of a graph that a text can give reads as that graph, where it is not too long.
@@ -38,6 +38,22 @@ pub fn fitting()
     facts_are_told_apart();
 }
 
+/// What a text reads as can be written.
+pub fn reads_textual()
+    ensures { ReadsTextual }
+{}
+
+/// A text that reads as a graph has no fault but want of memory: so `parse` answers the graph of such a text, memory aside.
+pub fn reads_without_fault()
+    ensures { ReadsWithoutFault }
+{
+    tokens_once();
+    one_derivation();
+    read_without_fault();
+    one_graph();
+    one_canonical_text();
+}
+
 #[cfg(test)]
 mod tests {
     use super::*;
@@ -48,5 +64,7 @@ mod tests {
         one_canonical_text();
         one_graph();
         fitting();
+        reads_textual();
+        reads_without_fault();
     }
 }

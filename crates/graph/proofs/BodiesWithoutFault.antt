@@ -1,0 +1,117 @@
+-- A body that is what a step's text says and keeps to its sheet: that text has no fault, and no text that is alike.
+use Rattle.std.proofs.Common.{◌≡◌, ℕ, zero, suc, Bool, true, false, not, List, [], ◌∷◌, ◌++◌, length, Option, Some, get_or, slice_get, refl, sym, ap, ◌∙◌}
+use Rattle.std.specs.Prelude.{option_map, is_none}
+use Rattle.std.proofs.lemmas.Bool.{eq-eqb}
+use Rattle.steptree.specs.declared.checker.CheckError.{CheckError}
+use Rattle.steptree.specs.declared.checker.CheckError.TheVariants.{UnknownName, Arity, UndeclaredRead, UndeclaredPut}
+use Rattle.steptree.specs.declared.expression.Expression.{Expression}
+use Rattle.steptree.specs.declared.expression.Expression.TheVariants as plain
+use Rattle.steptree.specs.declared.block.Block.{Block}
+use Rattle.steptree.specs.declared.block.Block.TheVariants as plain_block
+use Rattle.steptree.specs.declared.sheet.Declared.{Declared}
+use Rattle.steptree.specs.declared.sheet.Sheet.{Sheet}
+use Rattle.steptree.specs.declared.step.Name.{Name}
+use Rattle.steptree.specs.declared.step.NamedExpression.{NamedExpression}
+use Rattle.steptree.specs.declared.step.NamedExpression.TheVariants.{Number, Variable, Negation', Operation'}
+use Rattle.steptree.specs.declared.step.NamedKey.{NamedKey}
+use Rattle.steptree.specs.declared.step.NamedBlock.{NamedBlock}
+use Rattle.steptree.specs.declared.step.NamedBlock.TheVariants.{End, Assign', If', For', Get', PutItem', PutTag'}
+use Rattle.steptree.specs.Names.{Text, place_of, slot_of, number_of}
+use Rattle.steptree.specs.CheckFaults.{fault_if, variable_faults, expression_faults, component_faults, is_number, components_of, known_faults, key_faults, block_faults}
+use Rattle.steptree.specs.Resolved.{IsExpression, AreExpressions, IsKey, IsBlock}
+use Rattle.steptree.specs.Sheet.{IsAllowed, KeepsTo}
+use Rattle.syntax.specs.Tree.{AreAll}
+use Rattle.graph.specs.Graph.{Collection, declared_collections}
+use Rattle.graph.proofs.AlikeTrees.{SameName, Alike, AlikeKey, AlikeBlock}
+use Rattle.graph.proofs.AlikeSheets.{SameSheet, declared_same}
+
+-- ---- keys of declared collections
+
+components_told : (them : List Declared) (number : ℕ) → components_of them number ≡ option_map (λ (it : Collection). it.components) (slice_get (declared_collections them) number)
+components_told [] number = refl
+components_told (it ∷ them) zero = refl
+components_told (it ∷ them) (suc number) = components_told them number
+
+module _ (collections others : List Declared) (same : declared_collections collections ≡ declared_collections others) (allowed also : List Bool) (allows : allowed ≡ also) where
+  -- a collection that is there, allowed, and has so many components
+  known_clear : (error : CheckError) (key : NamedKey) (number components : ℕ) → number_of others key.collection ≡ Some number → IsAllowed collections allowed number components → length key.components.items ≡ components
+      → known_faults others also error key (number_of others key.collection) ≡ []
+  known_clear error key number components found is counted =
+      let may : get_or also number false ≡ true = ap (λ (them : List Bool). get_or them number false) (sym allows) ∙ is.is_allowed in
+      let has : components_of others number ≡ Some (length key.components.items) =
+      components_told others number ∙ ap (λ (them : List Collection). option_map (λ (it : Collection). it.components) (slice_get them number)) (sym same) ∙ sym (components_told collections number)
+      ∙ ap (option_map (λ (it : Declared). it.components)) is.declared.1 ∙ ap (λ (n : ℕ). Some n) (is.declared.2 ∙ sym counted) in
+      let as_many : is_number (components_of others number) (length key.components.items) ≡ true = ap (λ (it : Option ℕ). is_number it (length key.components.items)) has ∙ eq-eqb (length key.components.items) (length key.components.items) refl in
+      ap (known_faults others also error key) found ∙ (λ i. fault_if (not (may i)) error key.collection ++ fault_if (not (as_many i)) Arity key.collection)
+
+-- ---- expressions and keys
+
+module _ (names : List Text) where
+  variable_clear : (one two : Name) (slot : ℕ) → SameName one two → slot_of names one ≡ Some slot → variable_faults names two ≡ []
+  variable_clear one two slot same found = ap (λ (place : Option ℕ). fault_if (is_none place) UnknownName two) (ap (place_of names) (sym same) ∙ found)
+
+  expression_clear : (one two : NamedExpression) (e : Expression) → Alike one two → IsExpression names one e → expression_faults names two ≡ []
+  expression_clear (Number m) (Number n) e alike is = refl
+  expression_clear (Number m) _ e alike is = absurd alike
+  expression_clear (Variable one) (Variable two) (plain.Variable slot) alike is = variable_clear one two slot alike is
+  expression_clear (Variable one) (Variable two) _ alike is = absurd is
+  expression_clear (Variable one) _ e alike is = absurd alike
+  expression_clear (Negation' _ one) (Negation' _ two) (plain.Negation' _ e) alike is = expression_clear one two e alike is
+  expression_clear (Negation' _ one) (Negation' _ two) _ alike is = absurd is
+  expression_clear (Negation' _ one) _ e alike is = absurd alike
+  expression_clear (Operation' _ _ l1 _ r1) (Operation' _ _ l2 _ r2) (plain.Operation' _ _ e _ f) alike is = λ i. expression_clear l1 l2 e alike.1 is.1 i ++ expression_clear r1 r2 f alike.2 is.2 i
+  expression_clear (Operation' _ _ l1 _ r1) (Operation' _ _ l2 _ r2) _ alike is = absurd is
+  expression_clear (Operation' _ _ l1 _ r1) _ e alike is = absurd alike
+
+  components_clear : (ones twos : List NamedExpression) (es : List Expression) → AreAll Alike ones twos → AreExpressions names ones es → (component_faults names twos ≡ []) × (length twos ≡ length es)
+  components_clear [] [] [] alike are = (refl, refl)
+  components_clear [] [] (e ∷ es) alike are = absurd are
+  components_clear [] (two ∷ twos) es alike are = absurd alike
+  components_clear (one ∷ ones) [] es alike are = absurd alike
+  components_clear (one ∷ ones) (two ∷ twos) [] alike are = absurd are
+  components_clear (one ∷ ones) (two ∷ twos) (e ∷ es) alike are =
+      let first = expression_clear one two e alike.0 are.0 in
+      let rest = components_clear ones twos es alike.1 are.1 in
+      (λ i. first i ++ rest.0 i, ap suc rest.1)
+
+  key_clear : (collections others : List Declared) → declared_collections collections ≡ declared_collections others → (allowed also : List Bool) → allowed ≡ also → (error : CheckError) (one two : NamedKey) (number : ℕ) (es : List Expression)
+      → AlikeKey one two → IsKey names collections one number es → IsAllowed collections allowed number (length es) → key_faults names others also error two ≡ []
+  key_clear collections others same allowed also allows error one two number es alike is may =
+      let found : number_of others two.collection ≡ Some number = (λ i. place_of (sym (declared_same collections others same) i) (sym alike.0 i)) ∙ is.0 in
+      let components = components_clear one.components.items two.components.items es alike.1 is.1 in
+      let known = known_clear collections others same allowed also allows error two number (length es) found may components.1 in
+      λ i. known i ++ components.0 i
+
+  -- ---- blocks
+
+  module _ (first second : Sheet) (same : SameSheet first second) where
+    pub block_clear : (one two : NamedBlock) (b : Block) → AlikeBlock one two → IsBlock names first one b → KeepsTo first b → block_faults names second two ≡ []
+    block_clear End End b alike is keeps = refl
+    block_clear End _ b alike is keeps = absurd alike
+    block_clear (Assign' m e1 _ one) (Assign' n e2 _ two) (plain_block.Assign' slot e _ rest) alike is keeps =
+        λ i. variable_clear m n slot alike.0 is.0 i ++ expression_clear e1 e2 e alike.1 is.1 i ++ block_clear one two rest alike.2 is.2 keeps i
+    block_clear (Assign' m e1 _ one) (Assign' n e2 _ two) _ alike is keeps = absurd is
+    block_clear (Assign' m e1 _ one) _ b alike is keeps = absurd alike
+    block_clear (If' e1 _ a1 _ b1 _ one) (If' e2 _ a2 _ b2 _ two) (plain_block.If' e _ a _ b _ rest) alike is keeps =
+        λ i. expression_clear e1 e2 e alike.0 is.0 i ++ block_clear a1 a2 a alike.1 is.1 keeps.0 i ++ block_clear b1 b2 b alike.2 is.2 keeps.1 i ++ block_clear one two rest alike.3 is.3 keeps.2 i
+    block_clear (If' e1 _ a1 _ b1 _ one) (If' e2 _ a2 _ b2 _ two) _ alike is keeps = absurd is
+    block_clear (If' e1 _ a1 _ b1 _ one) _ b alike is keeps = absurd alike
+    block_clear (For' m e1 g1 _ a1 _ one) (For' n e2 g2 _ a2 _ two) (plain_block.For' slot e g _ a _ rest) alike is keeps =
+        λ i. variable_clear m n slot alike.0 is.0 i ++ expression_clear e1 e2 e alike.1 is.1 i ++ expression_clear g1 g2 g alike.2 is.2 i ++ block_clear a1 a2 a alike.3 is.3 keeps.0 i ++ block_clear one two rest alike.4 is.4 keeps.1 i
+    block_clear (For' m e1 g1 _ a1 _ one) (For' n e2 g2 _ a2 _ two) _ alike is keeps = absurd is
+    block_clear (For' m e1 g1 _ a1 _ one) _ b alike is keeps = absurd alike
+    block_clear (Get' m k1 _ one) (Get' n k2 _ two) (plain_block.Get' slot item es _ rest) alike is keeps =
+        let key = key_clear first.items.now second.items.now same.items first.reads.now second.reads.now same.reads UndeclaredRead k1 k2 item.0 es alike.1 is.1 keeps.0 in
+        λ i. variable_clear m n slot alike.0 is.0 i ++ key i ++ block_clear one two rest alike.2 is.2 keeps.1 i
+    block_clear (Get' m k1 _ one) (Get' n k2 _ two) _ alike is keeps = absurd is
+    block_clear (Get' m k1 _ one) _ b alike is keeps = absurd alike
+    block_clear (PutItem' k1 e1 _ one) (PutItem' k2 e2 _ two) (plain_block.PutItem' item es e _ rest) alike is keeps =
+        let key = key_clear first.items.now second.items.now same.items first.item_puts.now second.item_puts.now same.item_puts UndeclaredPut k1 k2 item.0 es alike.0 is.0 keeps.0 in
+        λ i. key i ++ expression_clear e1 e2 e alike.1 is.1 i ++ block_clear one two rest alike.2 is.2 keeps.1 i
+    block_clear (PutItem' k1 e1 _ one) (PutItem' k2 e2 _ two) _ alike is keeps = absurd is
+    block_clear (PutItem' k1 e1 _ one) _ b alike is keeps = absurd alike
+    block_clear (PutTag' k1 _ one) (PutTag' k2 _ two) (plain_block.PutTag' tag es _ rest) alike is keeps =
+        let key = key_clear first.tags.now second.tags.now same.tags first.tag_puts.now second.tag_puts.now same.tag_puts UndeclaredPut k1 k2 tag.0 es alike.0 is.0 keeps.0 in
+        λ i. key i ++ block_clear one two rest alike.1 is.1 keeps.1 i
+    block_clear (PutTag' k1 _ one) (PutTag' k2 _ two) _ alike is keeps = absurd is
+    block_clear (PutTag' k1 _ one) _ b alike is keeps = absurd alike
