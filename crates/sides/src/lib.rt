@@ -5,6 +5,7 @@
 
 mod gate;
 mod holdings;
+mod imaging;
 mod law;
 mod reading;
 
