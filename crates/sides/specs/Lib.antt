@@ -1,3 +1,4 @@
 pub mod Image
+pub mod Looks
 pub mod Reading
 pub mod Side

@@ -3,6 +3,7 @@
 //! A side is a gate, a head, the canonical text of its graph, an image and a journal (`IsSide` of `specs/Side.antt`).
 #![tactic(auto)]
 
+mod fitting;
 mod gate;
 mod holdings;
 mod imaging;
