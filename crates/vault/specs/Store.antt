@@ -1,14 +1,28 @@
--- What a vault keeps between two calls, and what its answers leave.
-use Rattle.std.specs.Prelude.{◌≡◌, ◌⊎◌, ◌||◌, ◌<◌, ◌+◌, ◌^◌, ℕ, Bool, false, List, [], ◌∷◌, length, Result, Ok, Err}
+-- What a vault keeps between two calls, and what its calls leave.
+use Rattle.std.specs.Prelude.{◌≡◌, ◌≢◌, ◌⊎◌, ◌||◌, ◌+◌, ◌≤◌, ◌^◌, ℕ, false, List, [], ◌∷◌, length, None, Result, Ok, Err}
 use Rattle.disk.specs.declared.side.Side.{Side}
+use Rattle.disk.specs.declared.side.Side.TheVariants.{A, B}
 use Rattle.disk.specs.File.{File, at_rest}
-use Rattle.disk.specs.Time.{Contents}
+use Rattle.disk.specs.Time.{Contents, MayLeaveNow}
 use Rattle.terms.specs.declared.event.Event.{Event}
 use Rattle.terms.specs.Facts.{Fact, event_facts, environment_facts}
 use Rattle.terms.specs.Sets.{Facts, among}
+use Rattle.codec.specs.declared.image.Image.{Image}
+use Rattle.codec.specs.Spelling.{image_bytes}
+use Rattle.journal.specs.declared.journal.TheConstants.{LIMIT}
 use Rattle.graph.specs.Graph.{Graph}
-use Rattle.sides.specs.Side.{end_of}
-use Rattle.vault.specs.Stands.{Stands, IsLive}
+use Rattle.graph.specs.Canonical.{canonical}
+use Rattle.graph.specs.Reads.{Reads}
+use Rattle.sides.specs.Image.{facts_in, environment_in}
+use Rattle.sides.specs.Side.{behind_gate, end_of}
+use Rattle.vault.specs.declared.vault.Vault.{Vault}
+use Rattle.vault.specs.declared.refused.Refused.{Refused}
+use Rattle.vault.specs.declared.opening.Recovered.{Recovered}
+use Rattle.vault.specs.declared.error.VaultError.{VaultError}
+use Rattle.vault.specs.declared.error.VaultError.TheVariants.{NotAStore, Damaged}
+use Rattle.vault.specs.Stands.{Stands, IsLive, other_side}
+
+-- ---- sets
 
 -- nothing, as a set
 abbrev pub nothing : Facts
@@ -18,14 +32,73 @@ nothing = among []
 abbrev pub with_facts : Facts → List Fact → Facts
 with_facts X facts fact = X fact || among facts fact
 
--- All of both files is on the disk, and they stand for a graph and the facts X, of which the environment put E; this side is
--- live, of this generation, and its journal ends there.
-record HoldsAt (files : Side → File) (live : Side) (generation end : ℕ) (g : Graph) (E X : Facts) : Type 0 where
+-- the image has the facts X, of which the environment put E
+pub record Lists (image : Image) (E X : Facts) : Type 0 where
+  pub facts : (fact : Fact) → facts_in image fact ≡ X fact
+  pub environment : (fact : Fact) → environment_in image fact ≡ E fact
+
+-- ---- what a vault keeps
+
+-- All of both files is on the disk, and they stand for a graph and the facts X, of which the environment put E. The vault
+-- knows which side is live, its generation, its graph's text, and where its journal ends.
+pub record Holds {D : Type 0} (files : D → Side → File) (vault : Vault D) (g : Graph) (E X : Facts) : Type 0 where
   pub contents : Contents
-  pub rests : (side : Side) → files side ≡ at_rest (contents side)
-  pub is_live : IsLive contents live generation g E X
-  pub ends : end ≡ end_of is_live.is_side
+  pub rests : (side : Side) → files vault.disk side ≡ at_rest (contents side)
+  pub is_live : IsLive contents vault.journal.side vault.generation g E X
+  pub ends : vault.journal.end ≡ end_of is_live.is_side
+  pub text : vault.text.items ≡ canonical g
+
+-- the vault holds something
+abbrev pub IsStore : {D : Type 0} → (D → Side → File) → Vault D → Type 0
+IsStore files vault = (g : Graph) × (E : Facts) × (X : Facts) × Holds files vault g E X
+
+-- nothing of the vault changed that its promises speak of
+pub record IsSame {D : Type 0} (old new : Vault D) : Type 0 where
+  pub disk : new.disk ≡ old.disk
+  pub side : new.journal.side ≡ old.journal.side
+  pub end : new.journal.end ≡ old.journal.end
+  pub generation : new.generation ≡ old.generation
+  pub text : new.text ≡ old.text
+  pub halted : new.halted ≡ old.halted
+
+-- ---- what a crash leaves
 
 -- two files stand for the state before an event or for that behind it
 abbrev pub StandsBeforeOrAfter : Graph → Facts → Facts → Event → Contents → Type 0
 StandsBeforeOrAfter g E X event contents = Stands contents g E X ⊎ Stands contents g (with_facts E (environment_facts event)) (with_facts X (event_facts event))
+
+-- ---- sides
+
+-- a side of this generation, with this graph text and this image, and no record
+abbrev pub new_side : ℕ → List ℕ → Image → List ℕ
+new_side generation text image = 1 ∷ behind_gate generation text (image_bytes image) (0 ∷ [])
+
+abbrev pub empty : Image
+empty = record { fault = None; items = []; tags = []; done = [] }
+
+-- the closed gate of its journal would not lie below the limit
+abbrev pub IsTooLong : ℕ → List ℕ → Image → Type 0
+IsTooLong generation text image = LIMIT ≤ length (1 ∷ behind_gate generation text (image_bytes image) [])
+
+-- the greatest generation
+abbrev pub IsLast : ℕ → Type 0
+IsLast generation = generation + 1 ≡ 2 ^ 64
+
+-- ---- calls that take the disk
+
+-- the disk of an answer
+abbrev pub disk_of : {D : Type 0} → Result (Vault D) (Refused D) → D
+disk_of (Ok vault) = vault.disk
+disk_of (Err refused) = refused.disk
+
+abbrev pub disk_of_opening : {D : Type 0} → Result (Recovered D) (Refused D) → D
+disk_of_opening (Ok recovered) = recovered.vault.disk
+disk_of_opening (Err refused) = refused.disk
+
+-- the error says that the files stand for nothing
+abbrev pub SaysNothing : VaultError → Type 0
+SaysNothing error = (error ≡ NotAStore) ⊎ ((side : Side) × (place : ℕ) × (error ≡ Damaged side place))
+
+-- the text is that of a graph, as its graph spells it
+abbrev pub IsCanonical : List ℕ → Type 0
+IsCanonical text = (g : Graph) × Reads text g × (text ≡ canonical g)

@@ -3,6 +3,14 @@
 //! The files stand for a graph and a set of facts (`Stands` of `specs/Stands.antt`).
 #![tactic(auto)]
 
+mod error;
 mod law;
+mod opening;
+mod refused;
+mod vault;
 
+pub use error::VaultError;
 pub use law::one_store;
+pub use opening::Recovered;
+pub use refused::Refused;
+pub use vault::Vault;
