@@ -1,4 +1,5 @@
 pub mod Image
+pub mod Looks
 pub mod Reading
 pub mod Side
 pub mod SideLaws
