@@ -1,2 +1,3 @@
+pub mod Growth
 pub mod Image
 pub mod Side

@@ -5,6 +5,7 @@
 
 mod holdings;
 mod law;
+mod taking;
 
 pub use holdings::Holdings;
 pub use law::one_meaning_of_a_side;
