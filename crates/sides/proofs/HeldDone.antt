@@ -1,4 +1,4 @@
--- Done instances, and the instance at fault: whether one is held, and one more.
+-- Done instances: whether one is held, and one more.
 use Rattle.std.proofs.Common.{◌≡◌, ℤ, Bool, true, false, ◌||◌, List, [], ◌∷◌, ◌++◌, map, Option, Some, None, refl, sym, ap, subst, ◌∙◌}
 use Rattle.std.specs.declared.cmp.Ordering.{Ordering}
 use Rattle.std.specs.declared.cmp.Ordering.TheVariants.{Less, Equal, Greater}
@@ -7,16 +7,17 @@ use Rattle.std.specs.List.{list_any}
 use Rattle.std.specs.BTreeMap.{is_at}
 use Rattle.std.specs.BTreeSet.{insert_key}
 use Rattle.std.proofs.lemmas.Bool.{or_left}
+use Rattle.std.proofs.lemmas.List.{append_assoc}
 use Rattle.terms.specs.declared.name.Inst.{Inst}
 use Rattle.terms.specs.declared.fault.FaultKind.{FaultKind}
-use Rattle.terms.specs.Facts.{Fact, done, bad}
+use Rattle.terms.specs.Facts.{Fact, done}
 use Rattle.terms.specs.Name.{inst_cmp}
 use Rattle.terms.specs.Sets.{is_fact, among, OneFact, AmongBoth}
 use Rattle.codec.specs.declared.image.Image.{Image}
 use Rattle.codec.specs.Entries.{Item, MarkedTag}
-use Rattle.sides.specs.Image.{fault_facts, image_environment, facts_in}
+use Rattle.sides.specs.Image.{fault_facts, image_facts, image_environment, facts_in}
 use Rattle.sides.specs.Growth.{AlsoHas, Grows}
-use Rattle.sides.proofs.Grown.{before, behind, from_between, asked_back, held_already, unchanged}
+use Rattle.sides.proofs.Grown.{behind, from_between, asked_back, held_already, unchanged, grows_on}
 use Rattle.sides.proofs.HeldNames.{item_fact, tag_fact, among_done}
 
 done_there : OneFact → (ended : List Inst) (instance : Inst) → among (map done ended) (done instance) ≡ list_any (is_at (inst_cmp instance)) ended
@@ -54,12 +55,15 @@ module _ (both : AmongBoth) (one_fact : OneFact) where
     environment = unchanged (image_environment (record { fault = fault; items = items; tags = tags; done = ended }));
   }
 
--- the instance at fault, where there was none
-pub fault_held : AmongBoth → (items : List Item) (tags : List MarkedTag) (ended : List Inst) (instance : Inst) (kind : FaultKind)
-    → Grows [] (bad instance kind ∷ []) (record { fault = None; items = items; tags = tags; done = ended }) (record { fault = Some (instance, kind); items = items; tags = tags; done = ended })
-fault_held both items tags ended instance kind =
-    let alone : AlsoHas (bad instance kind ∷ []) [] (bad instance kind ∷ []) = record { same = λ fact. refl } in
+-- the instance is stated before its puts, and is held behind them
+pub done_behind : AmongBoth → (instance : Inst) {puts : List Fact} {first middle last : Image} → Grows [] puts first middle → Grows [] (done instance ∷ []) middle last → Grows [] (done instance ∷ puts) first last
+done_behind both instance {puts} {first} {middle} {last} taken ended =
+    let grown = grows_on both taken ended in
     record {
-      facts = before both (map done ended) (before both (map tag_fact tags) (before both (map item_fact items) alone));
-      environment = unchanged (image_environment (record { fault = None; items = items; tags = tags; done = ended }));
+      facts = record {
+        same = λ fact.
+            grown.facts.same fact ∙ ap (λ (facts : List Fact). among facts fact) (sym (append_assoc (image_facts first) puts (done instance ∷ [])))
+            ∙ sym (from_between both (image_facts first) (done instance ∷ []) puts fact);
+      };
+      environment = grown.environment;
     }

@@ -35,6 +35,10 @@ not_done : (fault : Option (Inst × FaultKind)) (instance : Inst) → among (fau
 not_done None instance = refl
 not_done (Some fault) instance = refl
 
+first_alone : (a b c d : Bool) → b ≡ false → c ≡ false → d ≡ false → (((a || b) || c) || d) ≡ a
+first_alone true b c d no_b no_c no_d = refl
+first_alone false b c d no_b no_c no_d = ap (λ (x : Bool). (x || c) || d) no_b ∙ ap (λ (x : Bool). x || d) no_c ∙ no_d
+
 second_alone : (a b c d : Bool) → a ≡ false → c ≡ false → d ≡ false → (((a || b) || c) || d) ≡ b
 second_alone a true c d no_a no_c no_d = ap (λ (x : Bool). ((x || true) || c) || d) no_a
 second_alone a false c d no_a no_c no_d = ap (λ (x : Bool). ((x || false) || c) || d) no_a ∙ ap (λ (x : Bool). x || d) no_c ∙ no_d
@@ -58,6 +62,12 @@ module _ (both : AmongBoth) (image : Image) where
       ∙ ap (λ (b : Bool). b || among (map done image.done) fact)
       (both (fault_facts image.fault ++ map item_fact image.items) (map tag_fact image.tags) fact
       ∙ ap (λ (b : Bool). b || among (map tag_fact image.tags) fact) (both (fault_facts image.fault) (map item_fact image.items) fact))
+
+  pub among_faults : (instance : Inst) (kind : FaultKind) → facts_in image (bad instance kind) ≡ among (fault_facts image.fault) (bad instance kind)
+  among_faults instance kind =
+      parts (bad instance kind)
+      ∙ first_alone (among (fault_facts image.fault) (bad instance kind)) _ _ _ (none_of item_fact image.items (bad instance kind) (λ one. refl))
+      (none_of tag_fact image.tags (bad instance kind) (λ one. refl)) (none_of done image.done (bad instance kind) (λ one. refl))
 
   pub among_items : (address : Addr) (value : ℤ) (by : Producer) → facts_in image (item address value by) ≡ among (map item_fact image.items) (item address value by)
   among_items address value by =
