@@ -1,3 +1,4 @@
+pub mod Growth
 pub mod Image
 pub mod Looks
 pub mod Reading

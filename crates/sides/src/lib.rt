@@ -9,6 +9,7 @@ mod holdings;
 mod imaging;
 mod law;
 mod reading;
+mod taking;
 
 pub use gate::{Gate, HEAD, gate_of};
 pub use holdings::Holdings;
