@@ -3,6 +3,7 @@ mod AlikeGraphs
 mod AlikeBodies
 mod AlikeSheets
 mod AlikeTrees
+mod Among
 mod BodiesWithoutFault
 mod BodyFaults
 mod Checking
@@ -11,6 +12,9 @@ mod Entries
 pub mod ExampleText
 mod Faultless
 mod FirstFaults
+mod FitKept
+mod FitsAlike
+mod FitsInParts
 mod GraphsOfTrees
 mod Lists
 mod Made

@@ -1,7 +1,9 @@
-//! The laws between texts and graphs. Each is a contract, with nothing to run.
+//! The laws between texts and graphs, and of what fits a graph. Each is a contract, with nothing to run.
+ghost use Rattle.graph.specs.FitLaws.{FitKeeps, AllFitKeep, AllFitInParts, StateAsSet, EventAsSet, EventsAsSet, StateOfAlike, EventsOfAlike};
 ghost use Rattle.graph.specs.Textual.{CanonicalReads, OneCanonical, OneGraph, ReadsTextual, ReadsWithoutFault};
 
 use syntax::{one_derivation, read_without_fault, tokens_once};
+use terms::facts_are_told_apart;
 
 /// The canonical text of a graph that a text can give reads as that graph, where it is not too long.
 pub fn canonical_reads()
@@ -19,6 +21,21 @@ pub fn one_graph()
 {
     tokens_once();
     one_derivation();
+}
+
+/// What events that fit leave fits, and events fit one after another where those of each part do. How facts are listed plays no
+/// part in it, nor does where a graph's parts lie in memory.
+pub fn fitting()
+    ensures keeps { FitKeeps }
+    ensures all_keep { AllFitKeep }
+    ensures parts { AllFitInParts }
+    ensures state_as_set { StateAsSet }
+    ensures event_as_set { EventAsSet }
+    ensures events_as_set { EventsAsSet }
+    ensures state_of_alike { StateOfAlike }
+    ensures events_of_alike { EventsOfAlike }
+{
+    facts_are_told_apart();
 }
 
 /// What a text reads as can be written.
@@ -46,6 +63,7 @@ mod tests {
         canonical_reads();
         one_canonical_text();
         one_graph();
+        fitting();
         reads_textual();
         reads_without_fault();
     }

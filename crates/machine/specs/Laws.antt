@@ -4,7 +4,7 @@ use Rattle.terms.specs.declared.name.Inst.{Inst}
 use Rattle.terms.specs.declared.fault.FaultKind.{FaultKind}
 use Rattle.terms.specs.declared.event.Event.{Event}
 use Rattle.terms.specs.declared.event.Event.TheVariants.{Done, Stopped}
-use Rattle.terms.specs.Facts.{Fact, done, bad, facts, environment, event_facts, environment_facts}
+use Rattle.terms.specs.Facts.{Fact, done, bad, facts, environment, event_facts}
 use Rattle.terms.specs.Sets.{Facts, among}
 use Rattle.graph.specs.Graph.{Graph, IsGraph}
 use Rattle.terms.specs.declared.put.Put.{Put}
@@ -67,11 +67,7 @@ LegalFits = (g : Graph) → IsGraph g → (given before : List Fact) (events : L
 abbrev pub FitsAndMeant : Type 0
 FitsAndMeant = (g : Graph) (X : Facts) (event : Event) → Fits g X event → IsMeant g X event → IsLegal g X event
 
--- what an event that fits leaves fits, and has one item at an address if it had
-abbrev pub FitKeeps : Type 0
-FitKeeps = (g : Graph) (given before : List Fact) (event : Event) → FitsState g (among given) (among before) → Fits g (among before) event
-    → FitsState g (among (given ++ environment_facts event)) (among (before ++ event_facts event))
-
+-- what an event that fits leaves has one item at an address if it had
 abbrev pub FitKeepsOneItem : Type 0
 FitKeepsOneItem = (g : Graph) (before : List Fact) (event : Event) → HasOneItemEach (among before) → Fits g (among before) event → HasOneItemEach (among (before ++ event_facts event))
 

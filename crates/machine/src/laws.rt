@@ -1,6 +1,8 @@
 //! The laws of what a graph means. Each is a contract, with nothing to run.
-ghost use Rattle.machine.specs.Laws.{StaysWithin, QuietIsMeaning, QuietIsClean, StoppedIsMeant, StoppedOrQuiet, OneEnd, GoesOn, HasLegalParts, OneState, LegalFits, FitsAndMeant, FitKeeps, FitKeepsOneItem, NewOrConflicting, CanGoOn};
+ghost use Rattle.graph.specs.FitLaws.{FitKeeps};
+ghost use Rattle.machine.specs.Laws.{StaysWithin, QuietIsMeaning, QuietIsClean, StoppedIsMeant, StoppedOrQuiet, OneEnd, GoesOn, HasLegalParts, OneState, LegalFits, FitsAndMeant, FitKeepsOneItem, NewOrConflicting, CanGoOn};
 
+use graph::fitting;
 use steptree::{ends_once, keeps_to_its_sheet};
 use terms::facts_are_told_apart;
 
@@ -56,6 +58,7 @@ pub fn legal_events_fit()
 {
     facts_are_told_apart();
     keeps_to_its_sheet();
+    fitting();
 }
 
 /// An instance that is prescribed and not done is blocked, or can be ended: legality leaves none without a way on.

@@ -1,4 +1,6 @@
+pub mod Growth
 pub mod Image
+pub mod Looks
 pub mod Reading
 pub mod Side
 pub mod SideLaws

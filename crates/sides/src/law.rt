@@ -5,7 +5,7 @@ ghost use Rattle.sides.specs.SideLaws.{HasJournal, StaysAlike, GrowsByEvent, Sid
 use codec::{spellings_of_events, spellings_of_images};
 use graph::fitting;
 use journal::one_meaning;
-use terms::facts_are_told_apart;
+use terms::{facts_are_told_apart, facts_go_on};
 
 /// The bytes of a side stand for one graph text, one generation and one set of facts at most, whatever lies behind the gate
 /// that ends its journal.
@@ -31,6 +31,7 @@ pub fn sides_go_on()
     ensures begins { BeginsSide }
 {
     facts_are_told_apart();
+    facts_go_on();
     fitting();
 }
 

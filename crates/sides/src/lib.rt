@@ -3,10 +3,13 @@
 //! A side is a gate, a head, the canonical text of its graph, an image and a journal (`IsSide` of `specs/Side.antt`).
 #![tactic(auto)]
 
+mod fitting;
 mod gate;
 mod holdings;
+mod imaging;
 mod law;
 mod reading;
+mod taking;
 
 pub use gate::{Gate, HEAD, gate_of};
 pub use holdings::Holdings;

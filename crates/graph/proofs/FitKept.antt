@@ -1,0 +1,154 @@
+-- What events that fit leave fits.
+use Rattle.std.proofs.Common.{◌≡◌, ℕ, suc, true, false, List, [], ◌∷◌, ◌++◌, refl, sym, subst, ◌∙◌}
+use Rattle.std.specs.List.{AllByRecursion}
+use Rattle.std.proofs.lemmas.Bool.{false≢true}
+use Rattle.std.proofs.lemmas.List.{append_assoc, append-nil}
+use Rattle.terms.specs.declared.name.Inst.{Inst}
+use Rattle.terms.specs.declared.fault.FaultKind.{FaultKind}
+use Rattle.terms.specs.declared.producer.Producer.TheVariants.{Env, By}
+use Rattle.terms.specs.declared.put.Put.{Put}
+use Rattle.terms.specs.declared.put.Put.TheVariants as put
+use Rattle.terms.specs.declared.event.Event.{Event}
+use Rattle.terms.specs.declared.event.Event.TheVariants.{EnvItem, EnvTag, Done, Stopped}
+use Rattle.terms.specs.Facts.{Fact, tag, item, done, bad, facts, environment, event_facts, environment_facts, put_facts}
+use Rattle.terms.specs.Sets.{Facts, among, OneFact, AmongBoth}
+use Rattle.graph.specs.Graph.{Graph, EnvironmentMayPutItem, EnvironmentMayPutTag}
+use Rattle.graph.specs.Fits.{IsPrescribed, AddressIsOf, TagIsOf, InstanceIsOf, PutIsOf, MayEnd, Fits, AllFit, FactIsOf, IsOfEnvironment, FitsState}
+use Rattle.graph.proofs.Among.{Within, the_first, each_among, in_one, in_two, by_both, in_neither}
+
+-- what the graph and the facts before it say of a fact that an event states
+abbrev IsStated : Graph → Facts → Event → Fact → Type 0
+IsStated g X event (tag name) = TagIsOf g name
+IsStated g X event (item address value Env) = EnvironmentMayPutItem g address × (among (environment_facts event) (item address value Env) ≡ true)
+IsStated g X event (item address value (By instance number)) = AddressIsOf g address × (among (event_facts event) (done instance) ≡ true)
+IsStated g X event (done instance) = InstanceIsOf g instance × IsPrescribed g X instance
+IsStated g X event (bad instance kind) = MayEnd g X instance × (event ≡ Stopped instance kind)
+
+-- and of one that the environment put by it
+abbrev IsGiven : Graph → Event → Fact → Type 0
+IsGiven g event (tag name) = EnvironmentMayPutTag g name × (among (event_facts event) (tag name) ≡ true)
+IsGiven g event (item address value Env) = among (event_facts event) (item address value Env) ≡ true
+IsGiven g event fact = ⊥
+
+stated_is_of : (g : Graph) (X : Facts) (event : Event) (fact : Fact) → IsStated g X event fact → FactIsOf g fact
+stated_is_of g X event (tag name) it = it
+stated_is_of g X event (item address value Env) it = it.0.0
+stated_is_of g X event (item address value (By instance number)) it = it.0
+stated_is_of g X event (done instance) it = it.0
+stated_is_of g X event (bad instance kind) it = it.0.of_graph
+
+given_is_stated : (g : Graph) (event : Event) (fact : Fact) → IsGiven g event fact → among (event_facts event) fact ≡ true
+given_is_stated g event (tag name) it = it.1
+given_is_stated g event (item address value Env) it = it
+given_is_stated g event (item address value (By instance number)) it = absurd it
+given_is_stated g event (done instance) it = absurd it
+given_is_stated g event (bad instance kind) it = absurd it
+
+given_is_of_environment : (g : Graph) (event : Event) (fact : Fact) → IsGiven g event fact → IsOfEnvironment fact
+given_is_of_environment g event (tag name) it = tt
+given_is_of_environment g event (item address value Env) it = tt
+given_is_of_environment g event (item address value (By instance number)) it = absurd it
+given_is_of_environment g event (done instance) it = absurd it
+given_is_of_environment g event (bad instance kind) it = absurd it
+
+prescribed_within : (g : Graph) (X Y : Facts) → Within X Y → (instance : Inst) → IsPrescribed g X instance → IsPrescribed g Y instance
+prescribed_within g X Y within instance it = (it.0, within (tag it.0) it.1, it.2)
+
+module _ (told : OneFact) (g : Graph) (X : Facts) where
+  puts_are_stated : (instance : Inst) (all : List Put) (number : ℕ) (puts : List Put) → AllByRecursion (PutIsOf g) puts → AllByRecursion (IsStated g X (Done instance all)) (put_facts instance number puts)
+  puts_are_stated instance all number [] of_graph = tt
+  puts_are_stated instance all number (put.Item address value ∷ puts) of_graph =
+      ((of_graph.0, the_first told (done instance) (put_facts instance 0 all)), puts_are_stated instance all (suc number) puts of_graph.1)
+  puts_are_stated instance all number (put.Tag name ∷ puts) of_graph = (of_graph.0, puts_are_stated instance all (suc number) puts of_graph.1)
+
+  each_stated : (event : Event) → Fits g X event → AllByRecursion (IsStated g X event) (event_facts event)
+  each_stated (EnvItem address value) fits = ((fits.event_fits.0, the_first told (item address value Env) []), tt)
+  each_stated (EnvTag name) fits = (fits.event_fits.0.0, tt)
+  each_stated (Done instance puts) fits = ((fits.event_fits.0.of_graph, fits.event_fits.0.prescribed), puts_are_stated instance puts 0 puts fits.event_fits.1)
+  each_stated (Stopped instance kind) fits = ((fits.event_fits, refl), tt)
+
+  each_given : (event : Event) → Fits g X event → AllByRecursion (IsGiven g event) (environment_facts event)
+  each_given (EnvItem address value) fits = (the_first told (item address value Env) [], tt)
+  each_given (EnvTag name) fits = ((fits.event_fits.0, the_first told (tag name) []), tt)
+  each_given (Done instance puts) fits = tt
+  each_given (Stopped instance kind) fits = tt
+
+  stated : (event : Event) → Fits g X event → (fact : Fact) → among (event_facts event) fact ≡ true → IsStated g X event fact
+  stated event fits = each_among told (IsStated g X event) (event_facts event) (each_stated event fits)
+
+  given_by : (event : Event) → Fits g X event → (fact : Fact) → among (environment_facts event) fact ≡ true → IsGiven g event fact
+  given_by event fits = each_among told (IsGiven g event) (environment_facts event) (each_given event fits)
+
+one_stop : (event : Event) (i j : Inst) (k l : FaultKind) → event ≡ Stopped i k → event ≡ Stopped j l → (i ≡ j) × (k ≡ l)
+one_stop event i j k l one two = (instances, kinds)
+  where
+    instances : i ≡ j
+    instances = cc
+
+    kinds : k ≡ l
+    kinds = cc
+
+stop_ends_none : (event : Event) (instance : Inst) (kind : FaultKind) → event ≡ Stopped instance kind → among (event_facts event) (done instance) ≡ false
+stop_ends_none event instance kind same = subst (λ (it : Event). among (event_facts it) (done instance) ≡ false) (sym same) refl
+
+module _ (told : OneFact) (both : AmongBoth) (g : Graph) where
+  module _ (given before : List Fact) (event : Event) (state : FitsState g (among given) (among before)) (fits : Fits g (among before) event) where
+    abbrev X : Facts
+    X = among before
+
+    abbrev Y : Facts
+    Y = among (before ++ event_facts event)
+
+    old : Within X Y
+    old = in_one both before (event_facts event)
+
+    new : Within (among (event_facts event)) Y
+    new = in_two both before (event_facts event)
+
+    not_before : {A : Type 0} (instance : Inst) (kind : FaultKind) → X (bad instance kind) ≡ true → A
+    not_before instance kind there = absurd (false≢true (sym (fits.working instance kind) ∙ there))
+
+    its : (fact : Fact) → among (event_facts event) fact ≡ true → IsStated g X event fact
+    its = stated told g X event fits
+
+    its_given : (fact : Fact) → among (environment_facts event) fact ≡ true → IsGiven g event fact
+    its_given = given_by told g X event fits
+
+    by_event : {A : Type 0} (fact : Fact) → (X fact ≡ true → A) → (IsStated g X event fact → A) → Y fact ≡ true → A
+    by_event fact first second = by_both both before (event_facts event) fact first (λ it. second (its fact it))
+
+    by_given : {A : Type 0} (fact : Fact) → (among given fact ≡ true → A) → (IsGiven g event fact → A) → among (given ++ environment_facts event) fact ≡ true → A
+    by_given fact first second = by_both both given (environment_facts event) fact first (λ it. second (its_given fact it))
+
+    pub fit_keeps : FitsState g (among (given ++ environment_facts event)) Y
+    fit_keeps = record {
+      part = λ fact. by_given fact (λ it. old fact (state.part fact it)) (λ it. new fact (given_is_stated g event fact it));
+      of_environment = λ fact. by_given fact (state.of_environment fact) (given_is_of_environment g event fact);
+      items = λ address value. by_event (item address value Env)
+          (λ it. in_one both given (environment_facts event) (item address value Env) (state.items address value it))
+          (λ it. in_two both given (environment_facts event) (item address value Env) it.1);
+      of_graph = λ fact. by_event fact (state.of_graph fact) (stated_is_of g X event fact);
+      environment_items = λ address value. by_event (item address value Env) (state.environment_items address value) (λ it. it.0);
+      environment_tags = λ name. by_given (tag name) (state.environment_tags name) (λ it. it.0);
+      done_are_prescribed = λ instance there. prescribed_within g X Y old instance (by_event (done instance) (state.done_are_prescribed instance) (λ it. it.1) there);
+      producers_are_done = λ address value instance number. by_event (item address value (By instance number))
+          (λ it. old (done instance) (state.producers_are_done address value instance number it))
+          (λ it. new (done instance) it.1);
+      fault = λ instance kind. by_event (bad instance kind) (not_before instance kind)
+          (λ it. (
+            prescribed_within g X Y old instance it.0.prescribed,
+            in_neither both before (event_facts event) (done instance) it.0.not_done (stop_ends_none event instance kind it.1),
+          ));
+      one_fault = λ i j k l one two. by_event (bad i k) (not_before i k)
+          (λ it. by_event (bad j l) (not_before j l) (λ other. one_stop event i j k l it.1 other.1) two) one;
+    }
+
+  pub all_fit_keep : (given before : List Fact) (events : List Event) → FitsState g (among given) (among before) → AllFit g before events
+      → FitsState g (among (given ++ environment events)) (among (before ++ facts events))
+  all_fit_keep given before [] state all =
+      subst (λ (list : List Fact). FitsState g (among list) (among (before ++ []))) (sym (append-nil given))
+      (subst (λ (list : List Fact). FitsState g (among given) (among list)) (sym (append-nil before)) state)
+  all_fit_keep given before (event ∷ events) state all =
+      let rest = all_fit_keep (given ++ environment_facts event) (before ++ event_facts event) events (fit_keeps given before event state all.0) all.1 in
+      subst (λ (list : List Fact). FitsState g (among list) (among (before ++ facts (event ∷ events)))) (append_assoc given (environment_facts event) (environment events))
+      (subst (λ (list : List Fact). FitsState g (among ((given ++ environment_facts event) ++ environment events)) (among list)) (append_assoc before (event_facts event) (facts events)) rest)

@@ -1,0 +1,69 @@
+-- Done instances: whether one is held, and one more.
+use Rattle.std.proofs.Common.{◌≡◌, ℤ, Bool, true, false, ◌||◌, List, [], ◌∷◌, ◌++◌, map, Option, Some, None, refl, sym, ap, subst, ◌∙◌}
+use Rattle.std.specs.declared.cmp.Ordering.{Ordering}
+use Rattle.std.specs.declared.cmp.Ordering.TheVariants.{Less, Equal, Greater}
+use Rattle.std.specs.Ordering.{is_eq, match_ordering}
+use Rattle.std.specs.List.{list_any}
+use Rattle.std.specs.BTreeMap.{is_at}
+use Rattle.std.specs.BTreeSet.{insert_key}
+use Rattle.std.proofs.lemmas.Bool.{or_left}
+use Rattle.std.proofs.lemmas.List.{append_assoc}
+use Rattle.terms.specs.declared.name.Inst.{Inst}
+use Rattle.terms.specs.declared.fault.FaultKind.{FaultKind}
+use Rattle.terms.specs.Facts.{Fact, done}
+use Rattle.terms.specs.Name.{inst_cmp}
+use Rattle.terms.specs.Sets.{is_fact, among, OneFact, AmongBoth}
+use Rattle.codec.specs.declared.image.Image.{Image}
+use Rattle.codec.specs.Entries.{Item, MarkedTag}
+use Rattle.sides.specs.Image.{fault_facts, image_facts, image_environment, facts_in}
+use Rattle.sides.specs.Growth.{AlsoHas, Grows}
+use Rattle.sides.proofs.Grown.{behind, from_between, asked_back, held_already, unchanged, grows_on}
+use Rattle.sides.proofs.HeldNames.{item_fact, tag_fact, among_done}
+
+done_there : OneFact → (ended : List Inst) (instance : Inst) → among (map done ended) (done instance) ≡ list_any (is_at (inst_cmp instance)) ended
+done_there one_fact [] instance = refl
+done_there one_fact (first ∷ ended) instance =
+    ap (λ (b : Bool). b || among (map done ended) (done instance)) (asked_back one_fact (done first) (done instance))
+    ∙ ap (λ (b : Bool). is_eq (inst_cmp instance first) || b) (done_there one_fact ended instance)
+
+module _ (both : AmongBoth) (one_fact : OneFact) where
+  -- an instance is done where a look-up finds it
+  pub done_as_told : {listed seen : Image} → listed ≡ seen → (instance : Inst) (found : Bool) → found ≡ list_any (is_at (inst_cmp instance)) listed.done → facts_in seen (done instance) ≡ found
+  done_as_told {listed} {seen} same instance found tells =
+      ap (λ (image : Image). facts_in image (done instance)) (sym same) ∙ among_done both listed instance ∙ done_there one_fact listed.done instance ∙ sym tells
+
+  key_held_by : (order : Ordering) (first : Inst) (ended : List Inst) (instance : Inst) → order ≡ inst_cmp instance first
+      → AlsoHas (done instance ∷ []) (map done ended) (map done (insert_key inst_cmp ended instance))
+      → AlsoHas (done instance ∷ []) (map done (first ∷ ended)) (map done (match_ordering order (instance ∷ first ∷ ended) (first ∷ ended) (first ∷ insert_key inst_cmp ended instance)))
+  key_held_by Less first ended instance is later = record { same = from_between both [] (done instance ∷ []) (map done (first ∷ ended)) }
+  key_held_by Equal first ended instance is later =
+      held_already both one_fact (map done (first ∷ ended)) (done instance)
+      (or_left (is_fact (done first) (done instance)) (among (map done ended) (done instance)) (asked_back one_fact (done first) (done instance) ∙ ap is_eq (sym is)))
+  key_held_by Greater first ended instance is later = behind both (done first ∷ []) later
+
+  -- a key in its place, whether it was there or not
+  key_held : (ended : List Inst) (instance : Inst) → AlsoHas (done instance ∷ []) (map done ended) (map done (insert_key inst_cmp ended instance))
+  key_held [] instance = record { same = λ fact. refl }
+  key_held (first ∷ ended) instance = key_held_by (inst_cmp instance first) first ended instance refl (key_held ended instance)
+
+  -- one more instance that is done
+  pub done_held : (fault : Option (Inst × FaultKind)) (items : List Item) (tags : List MarkedTag) (ended more : List Inst) (instance : Inst) → more ≡ insert_key inst_cmp ended instance
+      → Grows [] (done instance ∷ []) (record { fault = fault; items = items; tags = tags; done = ended }) (record { fault = fault; items = items; tags = tags; done = more })
+  done_held fault items tags ended more instance inserted = record {
+    facts = behind both (fault_facts fault ++ map item_fact items ++ map tag_fact tags)
+        (subst (λ (list : List Inst). AlsoHas (done instance ∷ []) (map done ended) (map done list)) (sym inserted) (key_held ended instance));
+    environment = unchanged (image_environment (record { fault = fault; items = items; tags = tags; done = ended }));
+  }
+
+-- the instance is stated before its puts, and is held behind them
+pub done_behind : AmongBoth → (instance : Inst) {puts : List Fact} {first middle last : Image} → Grows [] puts first middle → Grows [] (done instance ∷ []) middle last → Grows [] (done instance ∷ puts) first last
+done_behind both instance {puts} {first} {middle} {last} taken ended =
+    let grown = grows_on both taken ended in
+    record {
+      facts = record {
+        same = λ fact.
+            grown.facts.same fact ∙ ap (λ (facts : List Fact). among facts fact) (sym (append_assoc (image_facts first) puts (done instance ∷ [])))
+            ∙ sym (from_between both (image_facts first) (done instance ∷ []) puts fact);
+      };
+      environment = grown.environment;
+    }

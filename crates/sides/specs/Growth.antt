@@ -1,0 +1,28 @@
+-- How what is held grows by what is put.
+use Rattle.std.specs.Prelude.{◌≡◌, ⊤, List, ◌++◌}
+use Rattle.terms.specs.declared.put.Put.{Put}
+use Rattle.terms.specs.declared.put.Put.TheVariants as put
+use Rattle.terms.specs.Facts.{Fact}
+use Rattle.terms.specs.Sets.{Facts, among}
+use Rattle.codec.specs.declared.image.Image.{Image}
+use Rattle.graph.specs.Graph.{Graph}
+use Rattle.graph.specs.Fits.{IsAbsent, PutIsOf}
+use Rattle.sides.specs.Image.{image_facts, image_environment}
+
+-- as sets, the new list is the old one with these facts
+pub record AlsoHas (stated old new : List Fact) : Type 0 where
+  pub same : (fact : Fact) → among new fact ≡ among (old ++ stated) fact
+
+-- the new image has what the old one has and what is stated, and the environment put what it put in the old one and what is given
+pub record Grows (given stated : List Fact) (old new : Image) : Type 0 where
+  pub facts : AlsoHas stated (image_facts old) (image_facts new)
+  pub environment : AlsoHas given (image_environment old) (image_environment new)
+
+-- an item that is put is absent
+abbrev pub IsFree : Facts → Put → Type 0
+IsFree X (put.Item address value) = IsAbsent X address
+IsFree X (put.Tag name) = ⊤
+
+-- a put of the graph whose item, if it is one, is absent
+abbrev pub PutFits : Graph → Facts → Put → Type 0
+PutFits g X one = PutIsOf g one × IsFree X one

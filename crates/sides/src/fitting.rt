@@ -1,0 +1,164 @@
+ghost use Rattle.std.specs.Prelude.{◌≡◌, ◌↔◌, length, Some, IsTrue};
+ghost use Rattle.std.specs.List.{AllByRecursion};
+ghost use Rattle.terms.specs.Facts.{tag, done};
+ghost use Rattle.graph.specs.Graph.{EnvironmentMayPutItem, EnvironmentMayPutTag};
+ghost use Rattle.graph.specs.Fits.{AddressIsOf, TagIsOf, InstanceIsOf, IsPrescribed, FitsState};
+ghost use Rattle.sides.specs.Image.{facts_in, environment_in};
+ghost use Rattle.sides.specs.Looks.{ItemFits, TagFits, InstanceFits, FaultFits, InstancesFit, PutsFit};
+
+use crate::Holdings;
+use graph::Graph;
+use terms::{Addr, Inst, Key, Producer, Tag, facts_are_told_apart, orders_are_total};
+
+impl Holdings {
+    /// Whether what is held fits a graph.
+    pub fn fits(&self, graph: &Graph) -> bool
+        ensures { IsTrue result ↔ FitsState graph.now (environment_in self.now) (facts_in self.now) }
+    {
+        facts_are_told_apart();
+        self.instances_fit(graph) && self.puts_fit(graph)
+    }
+
+    fn instances_fit(&self, graph: &Graph) -> bool
+        ensures { IsTrue result ↔ InstancesFit graph.now self.now }
+    {
+        self.fault_fits(graph) && self.done_fit(graph)
+    }
+
+    fn puts_fit(&self, graph: &Graph) -> bool
+        ensures { IsTrue result ↔ PutsFit graph.now self.now }
+    {
+        self.items_fit(graph) && self.tags_fit(graph)
+    }
+
+    fn fault_fits(&self, graph: &Graph) -> bool
+        ensures { IsTrue result ↔ FaultFits graph.now (facts_in self.now) self.now.fault }
+    {
+        match &self.fault {
+            Some((instance, _)) => self.instance_fits(graph, instance) && !self.is_done(instance),
+            None => true,
+        }
+    }
+
+    fn items_fit(&self, graph: &Graph) -> bool
+        ensures { IsTrue result ↔ AllByRecursion (λ it. ItemFits graph.now (facts_in self.now) it.0 it.2) self.now.items }
+    {
+        for (address, (_, producer)) in &self.items {
+            if !self.item_fits(graph, address, producer) {
+                return false;
+            }
+        }
+        true
+    }
+
+    fn tags_fit(&self, graph: &Graph) -> bool
+        ensures { IsTrue result ↔ AllByRecursion (λ marked. TagFits graph.now marked.0 marked.1) self.now.tags }
+    {
+        for (name, mark) in &self.tags {
+            if !tag_fits(graph, name, *mark) {
+                return false;
+            }
+        }
+        true
+    }
+
+    fn done_fit(&self, graph: &Graph) -> bool
+        ensures { IsTrue result ↔ AllByRecursion (InstanceFits graph.now (facts_in self.now)) self.now.done }
+    {
+        for instance in &self.done {
+            if !self.instance_fits(graph, instance) {
+                return false;
+            }
+        }
+        true
+    }
+
+    fn item_fits(&self, graph: &Graph, address: &Addr, producer: &Producer) -> bool
+        ensures { IsTrue result ↔ ItemFits graph.now (facts_in self.now) address.now producer.now }
+    {
+        match producer {
+            Producer::Env => environment_may_put_item(graph, address),
+            Producer::By(instance, _) => is_address_of(graph, address) && self.is_done(instance),
+        }
+    }
+
+    fn instance_fits(&self, graph: &Graph, instance: &Inst) -> bool
+        ensures { IsTrue result ↔ InstanceFits graph.now (facts_in self.now) instance.now }
+    {
+        is_instance_of(graph, instance) && self.is_prescribed(graph, instance)
+    }
+
+    fn is_prescribed(&self, graph: &Graph, instance: &Inst) -> bool
+        ensures { IsTrue result ↔ IsPrescribed graph.now (facts_in self.now) instance.now }
+    {
+        match graph.prescriber(instance.collection) {
+            Some(collection) => self.has_tag(&Tag {
+                collection,
+                key: instance.key,
+            }),
+            None => false,
+        }
+    }
+
+    fn has_tag(&self, name: &Tag) -> bool
+        ensures { result ≡ facts_in self.now (tag name.now) }
+    {
+        facts_are_told_apart();
+        orders_are_total();
+        self.tags.contains_key(name)
+    }
+
+    fn is_done(&self, instance: &Inst) -> bool
+        ensures { result ≡ facts_in self.now (done instance.now) }
+    {
+        facts_are_told_apart();
+        orders_are_total();
+        self.done.contains(instance)
+    }
+}
+
+fn tag_fits(graph: &Graph, name: &Tag, mark: bool) -> bool
+    ensures { IsTrue result ↔ TagFits graph.now name.now mark }
+{
+    if mark {
+        environment_may_put_tag(graph, name)
+    } else {
+        is_tag_of(graph, name)
+    }
+}
+
+fn environment_may_put_item(graph: &Graph, address: &Addr) -> bool
+    ensures { IsTrue result ↔ EnvironmentMayPutItem graph.now address.now }
+{
+    is_address_of(graph, address) && graph.environment_may_put_item(address.collection)
+}
+
+fn environment_may_put_tag(graph: &Graph, name: &Tag) -> bool
+    ensures { IsTrue result ↔ EnvironmentMayPutTag graph.now name.now }
+{
+    is_tag_of(graph, name) && graph.environment_may_put_tag(name.collection)
+}
+
+fn is_address_of(graph: &Graph, address: &Addr) -> bool
+    ensures { IsTrue result ↔ AddressIsOf graph.now address.now }
+{
+    has_components(graph.item_components(address.collection), &address.key)
+}
+
+fn is_tag_of(graph: &Graph, name: &Tag) -> bool
+    ensures { IsTrue result ↔ TagIsOf graph.now name.now }
+{
+    has_components(graph.tag_components(name.collection), &name.key)
+}
+
+fn is_instance_of(graph: &Graph, instance: &Inst) -> bool
+    ensures { IsTrue result ↔ InstanceIsOf graph.now instance.now }
+{
+    has_components(graph.step_parameters(instance.collection), &instance.key)
+}
+
+fn has_components(components: Option<usize>, key: &Key) -> bool
+    ensures { IsTrue result ↔ (components ≡ Some (length key.now)) }
+{
+    components == Some(key.components().len())
+}

@@ -1,0 +1,188 @@
+ghost use Rattle.std.specs.Prelude.{◌≡◌, ◌↔◌, ◌≤◌, ◌<◌, IsTrue, IfOk, [], ◌∷◌, length, false, Some, None};
+ghost use Rattle.std.specs.List.{AllByRecursion};
+ghost use Rattle.terms.specs.Facts.{tag, item, done, bad, put_fact, put_facts};
+ghost use Rattle.codec.specs.Spelling.{HasPutNumber, IsNumbered, HasFewPuts};
+ghost use Rattle.terms.specs.declared.put.TheConstants.{MOST_PUTS};
+ghost use Rattle.graph.specs.Fits.{Fits, FitsAs, MayEnd, AreNew, IsAbsent, PutIsOf};
+ghost use Rattle.sides.specs.Image.{facts_in, environment_item, environment_tag, IsGrownBy};
+ghost use Rattle.sides.specs.Growth.{Grows, PutFits};
+
+use crate::Holdings;
+use graph::Graph;
+use std::alloc::AllocError;
+use terms::{
+    Addr, Event, FaultKind, Inst, Key, Producer, Put, Tag, facts_are_told_apart,
+};
+
+impl Holdings {
+    /// Takes an event that fits behind what is held, and says whether it fits. Where it does not, or memory is refused, what
+    /// is held is left open.
+    pub fn take(&mut self, graph: &Graph, event: &Event) -> Result<bool, AllocError>
+        ensures fits { IfOk result (λ taken. IsTrue taken ↔ Fits graph.now (facts_in self.old) event.now) }
+        ensures grown { IfOk result (λ taken. IsTrue taken → IsGrownBy event.now self.old self.new) }
+        ensures numbered { AllByRecursion HasPutNumber self.old.items → HasFewPuts event.now → IfOk result (λ taken. IsTrue taken → AllByRecursion HasPutNumber self.new.items) }
+    {
+        facts_are_told_apart();
+        if self.fault.is_some() {
+            return Ok(false);
+        }
+        match event {
+            Event::EnvItem(address, value) => Ok(self.take_item(graph, address, *value)?),
+            Event::EnvTag(name) => Ok(self.take_tag(graph, name)?),
+            Event::Done(instance, puts) => Ok(self.take_end(graph, instance, puts.as_slice())?),
+            Event::Stopped(instance, kind) => Ok(self.take_fault(graph, instance, *kind)),
+        }
+    }
+
+    /// Takes an item of the environment.
+    fn take_item(&mut self, graph: &Graph, address: &Addr, value: i64) -> Result<bool, AllocError>
+        ensures fits { IfOk result (λ taken. IsTrue taken ↔ FitsAs graph.now (facts_in self.old) (Event.EnvItem address.now value)) }
+        ensures grown { IfOk result (λ taken. IsTrue taken → IsGrownBy (Event.EnvItem address.now value) self.old self.new) }
+        ensures numbered { AllByRecursion HasPutNumber self.old.items → IfOk result (λ taken. IsTrue taken → AllByRecursion HasPutNumber self.new.items) }
+    {
+        if !fits_arity(graph.item_components(address.collection), &address.key)
+            || !graph.environment_may_put_item(address.collection)
+        {
+            return Ok(false);
+        }
+        Ok(self.hold_item(address, value, Producer::Env)?)
+    }
+
+    /// Takes a tag of the environment.
+    fn take_tag(&mut self, graph: &Graph, name: &Tag) -> Result<bool, AllocError>
+        ensures fits { IfOk result (λ taken. IsTrue taken ↔ FitsAs graph.now (facts_in self.old) (Event.EnvTag name.now)) }
+        ensures grown { IfOk result (λ taken. IsTrue taken → IsGrownBy (Event.EnvTag name.now) self.old self.new) }
+        ensures items { IfOk result (λ _. self.new.items ≡ self.old.items) }
+    {
+        if !fits_arity(graph.tag_components(name.collection), &name.key)
+            || !graph.environment_may_put_tag(name.collection)
+        {
+            return Ok(false);
+        }
+        Ok(self.hold_tag(name, true)?)
+    }
+
+    /// Takes the end of an instance with its puts. A list of more puts than their numbers can count is refused as memory is.
+    fn take_end(&mut self, graph: &Graph, instance: &Inst, puts: &[Put]) -> Result<bool, AllocError>
+        ensures fits { IfOk result (λ taken. IsTrue taken ↔ (MayEnd graph.now (facts_in self.old) instance.now × AllByRecursion (PutIsOf graph.now) puts.now × AreNew (facts_in self.old) puts.now)) }
+        ensures grown { IfOk result (λ taken. IsTrue taken → Grows [] (done instance.now ∷ put_facts instance.now 0 puts.now) self.old self.new) }
+        ensures numbered { AllByRecursion HasPutNumber self.old.items → length puts.now ≤ MOST_PUTS → IfOk result (λ taken. IsTrue taken → AllByRecursion HasPutNumber self.new.items) }
+    {
+        facts_are_told_apart();
+        if !self.may_end(graph, instance) {
+            return Ok(false);
+        }
+        if !self.take_puts(graph, instance, puts)? {
+            return Ok(false);
+        }
+        self.done.insert(*instance)?;
+        Ok(true)
+    }
+
+    /// Takes the fault of an instance, where none is at fault.
+    fn take_fault(&mut self, graph: &Graph, instance: &Inst, kind: FaultKind) -> bool
+        requires { self.old.fault ≡ None }
+        ensures fits { IsTrue result ↔ MayEnd graph.now (facts_in self.old) instance.now }
+        ensures grown { IsTrue result → Grows [] (bad instance.now kind ∷ []) self.old self.new }
+        ensures items { self.new.items ≡ self.old.items }
+    {
+        facts_are_told_apart();
+        if !self.may_end(graph, instance) {
+            return false;
+        }
+        self.fault = Some((*instance, kind));
+        true
+    }
+
+    /// Whether the instance can be ended: it is of the graph, prescribed by a tag that is held, and not done.
+    fn may_end(&self, graph: &Graph, instance: &Inst) -> bool
+        ensures { IsTrue result ↔ MayEnd graph.now (facts_in self.now) instance.now }
+    {
+        facts_are_told_apart();
+        if !fits_arity(graph.step_parameters(instance.collection), &instance.key) {
+            return false;
+        }
+        let Some(prescriber) = graph.prescriber(instance.collection) else {
+            return false;
+        };
+        let name = Tag {
+            collection: prescriber,
+            key: instance.key,
+        };
+        self.tags.contains_key(&name) && !self.done.contains(instance)
+    }
+
+    /// Takes the puts of an instance in turn, the first of them with the number 0.
+    fn take_puts(&mut self, graph: &Graph, instance: &Inst, puts: &[Put]) -> Result<bool, AllocError>
+        ensures fits { IfOk result (λ taken. IsTrue taken ↔ (AllByRecursion (PutIsOf graph.now) puts.now × AreNew (facts_in self.old) puts.now)) }
+        ensures grown { IfOk result (λ taken. IsTrue taken → Grows [] (put_facts instance.now 0 puts.now) self.old self.new) }
+        ensures numbered { AllByRecursion HasPutNumber self.old.items → length puts.now ≤ MOST_PUTS → IfOk result (λ taken. IsTrue taken → AllByRecursion HasPutNumber self.new.items) }
+    {
+        facts_are_told_apart();
+        for (number, put) in puts.iter().enumerate() {
+            let Ok(number) = u32::try_from(number) else {
+                return Err(AllocError);
+            };
+            if !self.take_put(graph, instance, number, put)? {
+                return Ok(false);
+            }
+        }
+        Ok(true)
+    }
+
+    /// Takes the put of an instance that has this number.
+    fn take_put(&mut self, graph: &Graph, instance: &Inst, number: u32, put: &Put) -> Result<bool, AllocError>
+        ensures fits { IfOk result (λ taken. IsTrue taken ↔ PutFits graph.now (facts_in self.old) put.now) }
+        ensures grown { IfOk result (λ taken. IsTrue taken → Grows [] (put_fact instance.now number put.now ∷ []) self.old self.new) }
+        ensures numbered { AllByRecursion HasPutNumber self.old.items → number < MOST_PUTS → IfOk result (λ taken. IsTrue taken → AllByRecursion HasPutNumber self.new.items) }
+    {
+        match put {
+            Put::Item(address, value) => {
+                if !fits_arity(graph.item_components(address.collection), &address.key) {
+                    return Ok(false);
+                }
+                Ok(self.hold_item(address, *value, Producer::By(*instance, number))?)
+            }
+            Put::Tag(name) => {
+                if !fits_arity(graph.tag_components(name.collection), &name.key) {
+                    return Ok(false);
+                }
+                self.hold_tag(name, false)?;
+                Ok(true)
+            }
+        }
+    }
+
+    /// Puts an item in its place, and says whether its address was free.
+    fn hold_item(&mut self, address: &Addr, value: i64, by: Producer) -> Result<bool, AllocError>
+        ensures free { IfOk result (λ free. IsTrue free ↔ IsAbsent (facts_in self.old) address.now) }
+        ensures grown { IfOk result (λ free. IsTrue free → Grows (environment_item address.now value by) (item address.now value by ∷ []) self.old self.new) }
+        ensures numbered { AllByRecursion HasPutNumber self.old.items → IsNumbered by → IfOk result (λ free. IsTrue free → AllByRecursion HasPutNumber self.new.items) }
+    {
+        facts_are_told_apart();
+        let old = self.items.insert(*address, (value, by))?;
+        Ok(old.is_none())
+    }
+
+    /// Puts a tag in its place with a mark, and says whether it was absent. The mark of one that is held stays.
+    fn hold_tag(&mut self, name: &Tag, mark: bool) -> Result<bool, AllocError>
+        ensures absent { IfOk result (λ absent. IsTrue absent ↔ (facts_in self.old (tag name.now) ≡ false)) }
+        ensures grown { IfOk result (λ absent. IsTrue absent → Grows (environment_tag (name.now, mark)) (tag name.now ∷ []) self.old self.new) }
+        ensures kept { IfOk result (λ absent. absent ≡ false → Grows [] (tag name.now ∷ []) self.old self.new) }
+        ensures items { IfOk result (λ _. self.new.items ≡ self.old.items) }
+    {
+        facts_are_told_apart();
+        if self.tags.contains_key(name) {
+            return Ok(false);
+        }
+        self.tags.insert(*name, mark)?;
+        Ok(true)
+    }
+}
+
+/// Whether the keys of a collection, if it is there, have as many components as this one.
+fn fits_arity(components: Option<usize>, key: &Key) -> bool
+    ensures { IsTrue result ↔ (components ≡ Some (length key.now)) }
+{
+    components == Some(key.components().len())
+}
