@@ -28,7 +28,7 @@ module _ (both : AmongBoth) (g : Graph) {listed seen : Image} (same : listed ≡
     λ never. absurd (false≢true never),
     λ fits. absurd
         (one_at_fault one_fact listed.fault (sym tells ∙ is) (λ instance kind.
-            sym (among_faults both listed instance kind) ∙ ap (λ (image : Image). facts_in image (bad instance kind)) same ∙ fits.working instance kind)),
+        sym (among_faults both listed instance kind) ∙ ap (λ (image : Image). facts_in image (bad instance kind)) same ∙ fits.working instance kind)),
   )
 
   -- and else the event alone decides
