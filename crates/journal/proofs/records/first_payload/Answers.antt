@@ -11,4 +11,4 @@ returns c =
     let count = c.read_u32-count.result in
     let counted : 5 + count - 5 ≡ count = omega arith in
     subst (λ (n : ℕ). BeginsWith (take n (drop 5 bytes)) bytes) (sym counted)
-    (first_stands bytes count (λ k. omega (arith, c.type_inv.bytes k)) (omega arith) c.read_u32-count.type_inv c.if-bytes-ne-OPEN.false (c.read_u32-count.ensures ∙ ap (little_number 4) (take_rest bytes 1)))
+    (first_stands bytes count (λ k. omega (arith, c.type_inv.bytes k)) (omega arith) c.read_u32-count.type_inv (omega arith) (c.read_u32-count.ensures ∙ ap (little_number 4) (take_rest bytes 1)))
