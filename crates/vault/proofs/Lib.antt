@@ -1,1 +1,2 @@
-pub mod Live
+mod GoesOn
+mod Live

@@ -1,3 +1,4 @@
 pub mod Errors
+pub mod Moves
 pub mod Stands
 pub mod Store

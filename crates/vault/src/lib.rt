@@ -4,12 +4,14 @@
 #![tactic(auto)]
 
 mod error;
+mod history;
 mod law;
 mod opening;
 mod refused;
 mod vault;
 
 pub use error::VaultError;
+pub use history::stores_go_on;
 pub use law::one_store;
 pub use opening::Recovered;
 pub use refused::Refused;

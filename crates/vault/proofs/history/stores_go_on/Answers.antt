@@ -1,0 +1,17 @@
+use Rattle.vault.proofs.GoesOn as store
+use Rattle.vault.proofs.history.stores_go_on.Goals as goal
+
+pub returns-clause-held : goal.returns-clause-held
+returns-clause-held g c = store.held g.D.Disk.files g.D.Disk.moment g.D.Disk.left_at
+
+pub returns-clause-append : goal.returns-clause-append
+returns-clause-append g c = store.append g.D.Disk.files g.D.Disk.moment g.D.Disk.left_at
+
+pub returns-clause-turn : goal.returns-clause-turn
+returns-clause-turn g c = store.turn g.D.Disk.files g.D.Disk.moment g.D.Disk.left_at
+
+pub returns-clause-openings : goal.returns-clause-openings
+returns-clause-openings g c = store.openings g.D.Disk.files g.D.Disk.moment g.D.Disk.left_at
+
+pub returns-clause-recovers : goal.returns-clause-recovers
+returns-clause-recovers g c = store.recovers g.D.Disk.files g.D.Disk.moment g.D.Disk.left_at c.sides_go_on.ensures.as_set c.one_store.ensures
