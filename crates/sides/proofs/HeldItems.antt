@@ -8,7 +8,7 @@ use Rattle.terms.specs.declared.name.Addr.{Addr}
 use Rattle.terms.specs.declared.name.Inst.{Inst}
 use Rattle.terms.specs.declared.fault.FaultKind.{FaultKind}
 use Rattle.terms.specs.declared.producer.Producer.{Producer}
-use Rattle.terms.specs.Facts.{Fact, tag, item, done}
+use Rattle.terms.specs.Facts.{item, done}
 use Rattle.terms.specs.Name.{addr_cmp}
 use Rattle.terms.specs.Same.{is_same, same_itself, same_address}
 use Rattle.terms.specs.Sets.{is_fact, among, OneFact, AmongBoth}

@@ -14,7 +14,7 @@ use terms::{Addr, Event, FaultKind, Inst, Key, Producer, Put, Tag, facts_are_tol
 
 impl Holdings {
     /// Takes an event that fits behind what is held, and says whether it fits. Where it does not, or memory is refused, what
-    /// is held is left open.
+    /// is held is left open. More puts of an instance than 32 bits can number are refused as memory is.
     pub fn take(&mut self, graph: &Graph, event: &Event) -> Result<bool, AllocError>
         ensures fits { IfOk result (λ taken. IsTrue taken ↔ Fits graph.now (facts_in self.old) event.now) }
         ensures grown { IfOk result (λ taken. IsTrue taken → IsGrownBy event.now self.old self.new) }
@@ -60,7 +60,7 @@ impl Holdings {
         Ok(self.hold_tag(name, true)?)
     }
 
-    /// Takes the end of an instance with its puts. A list of more puts than their numbers can count is refused as memory is.
+    /// Takes the end of an instance with its puts.
     fn take_end(&mut self, graph: &Graph, instance: &Inst, puts: &[Put]) -> Result<bool, AllocError>
         ensures fits { IfOk result (λ taken. IsTrue taken ↔ (MayEnd graph.now (facts_in self.old) instance.now × AllByRecursion (PutIsOf graph.now) puts.now × AreNew (facts_in self.old) puts.now)) }
         ensures grown { IfOk result (λ taken. IsTrue taken → Grows [] (done instance.now ∷ put_facts instance.now 0 puts.now) self.old self.new) }
