@@ -1,6 +1,5 @@
 -- Bodies of alike trees are the same.
-use Rattle.std.proofs.Common.{◌≡◌, ℕ, List, [], ◌∷◌, Option, Some, map, refl, sym, ap, subst, ◌∙◌}
-use Rattle.std.specs.Prelude.{⊤}
+use Rattle.std.proofs.Common.{◌≡◌, ℕ, List, [], ◌∷◌, Some, sym, ap, ◌∙◌}
 use Rattle.steptree.specs.declared.expression.Expression.{Expression}
 use Rattle.steptree.specs.declared.expression.Expression.TheVariants as plain
 use Rattle.steptree.specs.declared.block.Block.{Block}
@@ -13,7 +12,7 @@ use Rattle.steptree.specs.declared.step.NamedExpression.TheVariants.{Number, Var
 use Rattle.steptree.specs.declared.step.NamedKey.{NamedKey}
 use Rattle.steptree.specs.declared.step.NamedBlock.{NamedBlock}
 use Rattle.steptree.specs.declared.step.NamedBlock.TheVariants.{End, Assign', If', For', Get', PutItem', PutTag'}
-use Rattle.steptree.specs.Names.{Text, place_of, slot_of, number_of, names_declared}
+use Rattle.steptree.specs.Names.{Text, place_of, names_declared}
 use Rattle.steptree.specs.Resolved.{IsExpression, AreExpressions, IsKey, IsBlock}
 use Rattle.syntax.specs.Tree.{AreAll}
 use Rattle.graph.specs.Textual.{SameExpression, SameBlock}

@@ -1,9 +1,8 @@
 -- The canonical text of the worked example.
-use Rattle.std.proofs.Common.{◌≡◌, ◌<◌, ◌^◌, ℕ, List, [], ◌∷◌, ◌++◌, length, codes, refl, ◌∙◌, lit<}
+use Rattle.std.proofs.Common.{◌≡◌, codes, refl, ◌∙◌, lit<}
 use Rattle.std.specs.Fmt.{decimal}
 use Rattle.std.proofs.lemmas.Fmt.{decimal-digits_of}
-use Rattle.graph.specs.Canonical.{canonical}
-use Rattle.graph.specs.Examples.{Place, fibonacci, fibonacci_text, CanonicalExample}
+use Rattle.graph.specs.Examples.{CanonicalExample}
 
 one_spelled : decimal 1 ≡ codes "1"
 one_spelled = decimal-digits_of 1 (lit< tt) (lit< tt) ∙ refl

@@ -1,14 +1,13 @@
 -- What differs in nothing but where its parts lie in memory has one canonical text.
 use Rattle.std.proofs.Common.{◌≡◌, ℕ, suc, List, [], ◌∷◌, ◌++◌, map, take, drop, codes, get_or, refl, ap, ◌∙◌}
 use Rattle.std.specs.List.{flat_map}
-use Rattle.steptree.specs.declared.expression.Operator.{Operator}
 use Rattle.steptree.specs.declared.expression.Expression.{Expression}
 use Rattle.steptree.specs.declared.expression.Expression.TheVariants.{Number, Variable, Negation', Operation'}
 use Rattle.steptree.specs.declared.block.Block.{Block}
 use Rattle.steptree.specs.declared.block.Block.TheVariants.{End, Assign', If', For', Get', PutItem', PutTag'}
 use Rattle.steptree.specs.Names.{Text}
 use Rattle.syntax.specs.Tree.{AreAll}
-use Rattle.graph.specs.Graph.{Collection, Step, Graph}
+use Rattle.graph.specs.Graph.{Step, Graph}
 use Rattle.graph.specs.Tree.{names_in}
 use Rattle.graph.specs.Canonical.{canonical, number_text, variable_text, expression_text, item_text, tag_text, block_text, operator_text, line, joined, variables_line, in_rounds, in_brackets, in_angles, with_colon, step_relations, environment_relations, declaration_lines, step_text}
 use Rattle.graph.specs.Textual.{SameExpression, SameBlock, SameStep, SameGraph}

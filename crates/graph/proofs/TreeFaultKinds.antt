@@ -1,5 +1,5 @@
 -- The faults of a tree are of names, relations and bodies: none is one of the text's letters, tokens or sizes.
-use Rattle.std.proofs.Common.{◌≡◌, ◌⊎◌, inl, inr, ℕ, Bool, true, false, List, [], ◌∷◌, ◌++◌, map, length, Option, Some, None, slice_get, refl, ap, subst}
+use Rattle.std.proofs.Common.{◌≡◌, ◌⊎◌, inl, inr, ℕ, Bool, true, false, List, [], ◌∷◌, ◌++◌, map, Option, Some, None, slice_get, subst}
 use Rattle.std.specs.Prelude.{⊤}
 use Rattle.std.specs.List.{AllByRecursion}
 use Rattle.steptree.specs.declared.checker.CheckFault.{CheckFault}

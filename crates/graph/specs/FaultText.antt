@@ -1,5 +1,5 @@
 -- The number of each fault of a graph text, and the text of a fault.
-use Rattle.std.specs.Prelude.{ℕ, List, ◌++◌, codes}
+use Rattle.std.specs.Prelude.{ℕ, ◌++◌, codes}
 use Rattle.std.specs.Fmt.{decimal}
 use Rattle.steptree.specs.declared.checker.CheckError.{CheckError}
 use Rattle.steptree.specs.declared.checker.CheckError.TheVariants as check

@@ -1,18 +1,17 @@
 -- The graphs that a text can give, and the laws between texts and graphs.
-use Rattle.std.specs.Prelude.{◌≡◌, ◌≢◌, ◌≤◌, ◌<◌, ⊤, ℕ, zero, suc, ℤ, pos, max, List, [], ◌∷◌, ◌++◌, length, get_or, All}
+use Rattle.std.specs.Prelude.{◌≡◌, ◌≢◌, ◌≤◌, ◌<◌, ⊤, ℕ, suc, pos, max, List, [], length, get_or}
 use Rattle.std.specs.List.{AllByRecursion}
 use Rattle.terms.specs.declared.key.TheConstants.{MAX_COMPONENTS}
 use Rattle.steptree.specs.declared.expression.Expression.{Expression}
 use Rattle.steptree.specs.declared.expression.Expression.TheVariants.{Number, Variable, Negation', Operation'}
 use Rattle.steptree.specs.declared.block.Block.{Block}
 use Rattle.steptree.specs.declared.block.Block.TheVariants.{End, Assign', If', For', Get', PutItem', PutTag'}
-use Rattle.steptree.specs.declared.slot.TheConstants.{MOST_NAMES}
 use Rattle.steptree.specs.Names.{Text}
 use Rattle.syntax.specs.declared.token.Word.{Word}
 use Rattle.syntax.specs.declared.limits.TheConstants.{MOST_NAME_BYTES, MOST_DEPTH, MOST_BRACES}
 use Rattle.syntax.specs.Tokens.{GREATEST, IsWordText, word_text}
 use Rattle.graph.specs.declared.limits.TheConstants.{MOST_TEXT}
-use Rattle.graph.specs.Graph.{Collection, Step, Graph, IsGraph}
+use Rattle.graph.specs.Graph.{Step, Graph, IsGraph}
 use Rattle.syntax.specs.declared.tree.Tree.{Tree}
 use Rattle.syntax.specs.Reading.{IsRead}
 use Rattle.syntax.specs.Tree.{AreAll}

@@ -176,6 +176,7 @@ limit_cause text spots place tokens is =
       counted = fault.counted;
       before = begins_graph fault.count spots fault.before;
       passed = λ graph goes_on. there graph goes_on.0 (fault.too goes_on.0 goes_on.2) (graph_judged graph goes_on.0 goes_on.1);
+      told = is;
     }
   where
     there : (graph : GraphText) (others : List Spot) → run graph_expected others ≡ too_large place → Judged (graph_limits graph) (run graph_expected others) accepted → (i : ℕ) × (slice_get (graph_limits graph) i ≡ Some place)

@@ -3,9 +3,8 @@ use Rattle.std.proofs.Common.{◌≡◌, ℕ, suc, List, [], take, slice_get, So
 use Rattle.syntax.specs.declared.fault.TreeError.{TreeError}
 use Rattle.syntax.specs.declared.fault.TreeError.TheVariants as error
 use Rattle.syntax.specs.declared.tree.Tree.{Tree}
-use Rattle.syntax.specs.Tokens.{Spot, TokensOnce}
+use Rattle.syntax.specs.Tokens.{TokensOnce}
 use Rattle.syntax.specs.Grammar.{Position}
-use Rattle.syntax.specs.Spelled.{Derives}
 use Rattle.syntax.specs.Reading.{IsRead, IsCause}
 
 pub not_refused : TokensOnce → (text : List ℕ) (tree : Tree) (kind : TreeError) (place : Position) → IsRead text tree → IsCause text kind place → kind ≡ error.NoMemory

@@ -8,6 +8,7 @@ use Rattle.syntax.specs.Tokens.{Spot, AreTokens}
 use Rattle.syntax.specs.Grammar.{Position, GraphText}
 use Rattle.syntax.specs.Spelled.{Derives}
 use Rattle.syntax.specs.Limits.{IsWithin, graph_limits}
+use Rattle.syntax.specs.Expected.{run, graph_expected, too_large}
 use Rattle.syntax.specs.Tree.{IsTree}
 
 -- the text is in the grammar and within the limits, and is this tree
@@ -39,8 +40,8 @@ pub record IsSyntaxFault (text : List ℕ) (place : Position) : Type 0 where
   pub before : (graph : GraphText) × (others : List Spot) × Derives graph others × (take count others ≡ take count spots)
   pub none : (graph : GraphText) → GoesOn spots count graph → ⊥
 
--- some graph text begins with the tokens before one, and each that goes on with that one too, or ends there, passes a limit
--- at this place
+-- Some graph text begins with the tokens before one, and each that goes on with that one too, or ends there, passes a limit
+-- at this place. Also where none goes on with it, it is there that the tokens, read one by one from the left, are told to pass one.
 pub record IsLimitFault (text : List ℕ) (place : Position) : Type 0 where
   pub spots : List Spot
   pub tokens : AreTokens 0 text spots
@@ -49,6 +50,7 @@ pub record IsLimitFault (text : List ℕ) (place : Position) : Type 0 where
   -- some graph text has the tokens before
   pub before : (graph : GraphText) × (others : List Spot) × Derives graph others × (take count others ≡ take count spots)
   pub passed : (graph : GraphText) → GoesOn spots count graph → (i : ℕ) × (slice_get (graph_limits graph) i ≡ Some place)
+  pub told : run graph_expected spots ≡ too_large place
 
 -- the cause of a fault at its place; want of memory has none, and no place
 abbrev pub IsCause : List ℕ → TreeError → Position → Type 0

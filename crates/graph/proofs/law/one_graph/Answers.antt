@@ -1,4 +1,4 @@
-use Rattle.std.proofs.Common.{◌≡◌, List, ap, sym, subst, ◌∙◌}
+use Rattle.std.proofs.Common.{◌≡◌, List, subst}
 use Rattle.syntax.specs.Tokens.{Spot}
 use Rattle.syntax.specs.Grammar.{GraphText}
 use Rattle.syntax.specs.Spelled.{Derives}
