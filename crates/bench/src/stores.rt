@@ -1,0 +1,98 @@
+//! How long it takes to open a store on real files, beside a read of the same bytes.
+use anyhow::{Error, anyhow};
+use codec::{Image, decode_image, encode_event};
+use disk::FileDisk;
+use graph::{canonical, parse};
+use sides::spell_side;
+use std::alloc::Global;
+use std::fs;
+use std::io::Print;
+use std::time::Instant;
+use terms::{Addr, Event, ItemCollection, Key};
+
+// The environment may put items, and no step does.
+const GRAPH: &str = "[cell: i];\nenv -> [cell];\n[cell] -> env;\n";
+
+/// Makes a store of so many records in the folder that it is run in, and one of as many items in its image, and prints the
+/// milliseconds that opening each takes, and a read of its live file.
+pub(crate) fn measure(rt: &HostRuntime, count: u32) -> Result<(), Error> {
+    let records = with_records(rt.alloc(), count)?;
+    opened(rt, "records", &records)?;
+    let image = with_image(rt.alloc(), count)?;
+    opened(rt, "items", &image)
+}
+
+// The milliseconds of an opening of a store with this file A, and of a read of the file.
+fn opened(rt: &HostRuntime, told: &str, bytes: &[u8]) -> Result<(), Error> {
+    fs::write(rt, "A", bytes)?;
+    fs::write(rt, "B", &[0])?;
+    let start = Instant::now(rt)?;
+    let read = fs::read(rt, "A")?;
+    let reading = start.elapsed(rt)?.as_secs_f64();
+    let disk = FileDisk::open(rt.alloc(), rt, ".")?;
+    let start = Instant::now(rt)?;
+    let Ok(recovered) = vault::open(rt.alloc(), disk) else {
+        return Err(anyhow!(rt.alloc(); "not opened"));
+    };
+    let opening = start.elapsed(rt)?.as_secs_f64();
+    println!(rt;
+        "{told}: {} items, {} bytes, opened in {:.1} ms, read in {:.1} ms",
+        recovered.image.items.as_slice().len(),
+        read.len(),
+        opening * 1e3,
+        reading * 1e3
+    )?;
+    Ok(())
+}
+
+// A side without records, whose image is this.
+fn side_of(alloc: Global, image: &[u8]) -> Result<Vec<u8>, Error> {
+    let Ok(graph) = parse(alloc, GRAPH.as_bytes()) else {
+        return Err(anyhow!(alloc; "no graph"));
+    };
+    let text = canonical(alloc, &graph)?;
+    let image = decode_image(alloc, image)?;
+    let mut side = Vec::new(alloc);
+    side.push(1)?;
+    spell_side(&mut side, 1, &text, &image)?;
+    Ok(side)
+}
+
+// A side with so many records of items.
+fn with_records(alloc: Global, count: u32) -> Result<Vec<u8>, Error> {
+    let mut side = side_of(alloc, &[0; 13])?;
+    side.pop();
+    let mut payload = Vec::new(alloc);
+    for number in 0..count {
+        payload.clear();
+        encode_event(&mut payload, &Event::EnvItem(cell(number), i64::from(number)))?;
+        side.push(1)?;
+        side.extend_from_slice(&u32::try_from(payload.len())?.to_le_bytes())?;
+        side.extend_from_slice(&payload)?;
+    }
+    side.push(0)?;
+    Ok(side)
+}
+
+// A side with so many items in its image.
+fn with_image(alloc: Global, count: u32) -> Result<Vec<u8>, Error> {
+    let mut image = Vec::new(alloc);
+    image.push(0)?;
+    image.extend_from_slice(&count.to_le_bytes())?;
+    for number in 0..count {
+        let value = i64::from(number).to_le_bytes();
+        image.extend_from_slice(&[0, 0, 1])?;
+        image.extend_from_slice(&value)?;
+        image.extend_from_slice(&value)?;
+        image.push(0)?;
+    }
+    image.extend_from_slice(&[0; 8])?;
+    side_of(alloc, &image)
+}
+
+fn cell(number: u32) -> Addr {
+    Addr {
+        collection: ItemCollection(0),
+        key: Key::new(&[i64::from(number)]),
+    }
+}
