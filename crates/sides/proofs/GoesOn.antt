@@ -67,15 +67,15 @@ stays_alike bytes other g n E X side same stands = (again bytes other g n E X si
 
 -- ---- an event more
 
-one_more : {A : Type 0} (P : A → Type 0) (xs : List A) (x : A) → AllByRecursion P xs → P x → AllByRecursion P (xs ++ x ∷ [])
+pub one_more : {A : Type 0} (P : A → Type 0) (xs : List A) (x : A) → AllByRecursion P xs → P x → AllByRecursion P (xs ++ x ∷ [])
 one_more P [] x all last = (last, tt)
 one_more P (first ∷ xs) x all last = (all.0, one_more P xs x all.1 last)
 
 -- the set of a list of facts, and of one more
-set_grown : AmongBoth → (old : List Fact) (X : Facts) (more : List Fact) → SameSet X (among old) → SameSet (with_facts X more) (among (old ++ more))
+pub set_grown : AmongBoth → (old : List Fact) (X : Facts) (more : List Fact) → SameSet X (among old) → SameSet (with_facts X more) (among (old ++ more))
 set_grown both old X more same fact = ap (λ (b : Bool). b || among more fact) (same fact) ∙ sym (both old more fact)
 
-records_grown : (events : List Event) (event : Event) → records (map event_bytes (events ++ event ∷ [])) ≡ records (map event_bytes events) ++ record_of (event_bytes event)
+pub records_grown : (events : List Event) (event : Event) → records (map event_bytes (events ++ event ∷ [])) ≡ records (map event_bytes events) ++ record_of (event_bytes event)
 records_grown events event =
     ap records (map-append event_bytes events (event ∷ [])) ∙ flat_map-append record_of (map event_bytes events) (event_bytes event ∷ [])
     ∙ ap (λ (last : List ℕ). records (map event_bytes events) ++ last) (append-nil (record_of (event_bytes event)))
@@ -88,12 +88,12 @@ ends_later start events event =
     omega arith
 
 module _ (both : AmongBoth) (facts_on : FactsGoOn) (given_on : EnvironmentGoesOn) (parts : AllFitInParts) (as_set : EventAsSet) where
-  stated_on : (old : List Fact) (events : List Event) (event : Event) → (old ++ facts events) ++ event_facts event ≡ old ++ facts (events ++ event ∷ [])
+  pub stated_on : (old : List Fact) (events : List Event) (event : Event) → (old ++ facts events) ++ event_facts event ≡ old ++ facts (events ++ event ∷ [])
   stated_on old events event =
       append_assoc old (facts events) (event_facts event)
       ∙ ap (λ (list : List Fact). old ++ list) (ap (λ (list : List Fact). facts events ++ list) (sym (append-nil (event_facts event))) ∙ sym (facts_on events (event ∷ [])))
 
-  put_on : (old : List Fact) (events : List Event) (event : Event) → (old ++ environment events) ++ environment_facts event ≡ old ++ environment (events ++ event ∷ [])
+  pub put_on : (old : List Fact) (events : List Event) (event : Event) → (old ++ environment events) ++ environment_facts event ≡ old ++ environment (events ++ event ∷ [])
   put_on old events event =
       append_assoc old (environment events) (environment_facts event)
       ∙ ap (λ (list : List Fact). old ++ list) (ap (λ (list : List Fact). environment events ++ list) (sym (append-nil (environment_facts event))) ∙ sym (given_on events (event ∷ [])))

@@ -17,7 +17,7 @@ use Rattle.sides.specs.Image.{image_facts, image_environment}
 use Rattle.sides.specs.Side.{FORMAT, counted, behind_gate, HasGeneration, IsSide, SameSide}
 
 -- two strings with fronts of one length
-split : (a b x y : List ℕ) → length a ≡ length b → a ++ x ≡ b ++ y → (a ≡ b) × (x ≡ y)
+pub split : (a b x y : List ℕ) → length a ≡ length b → a ++ x ≡ b ++ y → (a ≡ b) × (x ≡ y)
 split a b x y same whole = (
   sym (take-append_seam a x) ∙ ap (take (length a)) whole ∙ ap (λ (n : ℕ). take n (b ++ y)) same ∙ take-append_seam b y,
   sym (drop-append_seam a x) ∙ ap (drop (length a)) whole ∙ ap (λ (n : ℕ). drop n (b ++ y)) same ∙ drop-append_seam b y,
@@ -34,7 +34,7 @@ numbered_once width m n x y small also whole =
     (number_once width m n small also parts.0, parts.1)
 
 -- bytes behind their number, and what stands behind them
-counted_once : (s t x y : List ℕ) → length s < 256 ^ 4 → length t < 256 ^ 4 → counted s ++ x ≡ counted t ++ y → (s ≡ t) × (x ≡ y)
+pub counted_once : (s t x y : List ℕ) → length s < 256 ^ 4 → length t < 256 ^ 4 → counted s ++ x ≡ counted t ++ y → (s ≡ t) × (x ≡ y)
 counted_once s t x y small also whole =
     let parts = numbered_once 4 (length s) (length t) (s ++ x) (t ++ y) small also (sym (append_assoc (little_bytes 4 (length s)) s x) ∙ whole ∙ append_assoc (little_bytes 4 (length t)) t y) in
     split s t x y parts.0 parts.1
@@ -53,7 +53,7 @@ events_once each (d ∷ ds) (e ∷ es) first second same =
 
 -- ---- sides
 
-parts_of : (l t i j : List ℕ) → l ++ t ++ i ++ j ≡ l ++ (t ++ (i ++ j))
+pub parts_of : (l t i j : List ℕ) → l ++ t ++ i ++ j ≡ l ++ (t ++ (i ++ j))
 parts_of l t i j = append_assoc (l ++ t) i j ∙ append_assoc l t (i ++ j)
 
 module _ (one_event : SpellsOne SpellsEvent) (one_image : SpellsOne SpellsImage) (one_list : (bytes : List ℕ) (one two : List (List ℕ)) → StandsFor bytes one → StandsFor bytes two → one ≡ two) where

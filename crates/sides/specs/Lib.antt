@@ -2,5 +2,6 @@ pub mod Growth
 pub mod Image
 pub mod Looks
 pub mod Reading
+pub mod Replaying
 pub mod Side
 pub mod SideLaws

@@ -5,10 +5,12 @@ use Rattle.terms.specs.declared.event.Event.{Event}
 use Rattle.terms.specs.Facts.{Fact, facts, environment}
 use Rattle.terms.specs.Sets.{among}
 use Rattle.codec.specs.declared.image.Image.{Image}
-use Rattle.codec.specs.Spelling.{event_bytes, IsEvent, HasPutNumber}
+use Rattle.codec.specs.Spelling.{event_bytes, IsEvent, SpellsImage, HasPutNumber}
 use Rattle.journal.specs.Records.{StandsFor, records}
 use Rattle.graph.specs.Graph.{Graph}
-use Rattle.graph.specs.Fits.{AllFit}
+use Rattle.graph.specs.Canonical.{canonical}
+use Rattle.graph.specs.Reads.{Reads}
+use Rattle.graph.specs.Fits.{AllFit, FitsState}
 use Rattle.sides.specs.declared.gate.Gate.{Gate}
 use Rattle.sides.specs.declared.gate.Gate.TheVariants.{Closed, Short, Open}
 use Rattle.sides.specs.declared.reading.Standing.{Standing}
@@ -30,6 +32,14 @@ pub record IsCountedAt (bytes : List ℕ) (at : ℕ) (part : List ℕ) : Type 0 
 -- no part stands there whole
 abbrev pub HasNoneAt : List ℕ → ℕ → Type 0
 HasNoneAt bytes at = (part rest : List ℕ) → length part < 2 ^ 32 → drop at bytes ≡ counted part ++ rest → ⊥
+
+-- the text is the canonical text of the graph, and reads as it
+abbrev pub IsTextOf : List ℕ → Graph → Type 0
+IsTextOf text g = Reads text g × (canonical g ≡ text)
+
+-- the bytes spell the image, and it fits the graph
+abbrev pub IsImageOf : Graph → List ℕ → Image → Type 0
+IsImageOf g bytes image = SpellsImage bytes image × FitsState g (environment_in image) (facts_in image)
 
 -- bytes stand for these events, one a record, each of which fits behind what the image has
 pub record AreEvents (g : Graph) (image : Image) (bytes : List ℕ) (events : List Event) : Type 0 where

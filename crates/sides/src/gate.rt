@@ -6,6 +6,9 @@ use byteorder::{ByteOrder, LittleEndian};
 /// the generation.
 pub const HEAD: usize = 10;
 
+/// The byte of the format.
+pub(crate) const FORMAT: u8 = 1;
+
 // The gate of a side that is open. Every other byte is a closed gate.
 const OPEN: u8 = 1;
 

@@ -3,15 +3,19 @@
 //! A side is a gate, a head, the canonical text of its graph, an image and a journal (`IsSide` of `specs/Side.antt`).
 #![tactic(auto)]
 
+mod error;
 mod fitting;
 mod gate;
 mod holdings;
 mod imaging;
 mod law;
+mod parts;
 mod reading;
+mod replay;
 mod taking;
 
+pub use error::SideError;
 pub use gate::{Gate, HEAD, gate_of};
 pub use holdings::Holdings;
 pub use law::{one_meaning_of_a_side, sides_go_on};
-pub use reading::Standing;
+pub use reading::{Standing, read_side};

@@ -1,5 +1,17 @@
-use crate::Holdings;
-use graph::Graph;
+ghost use Rattle.std.specs.Prelude.{◌≡◌, ◌≤◌, ℕ, length, IfOk, IsErrOf};
+ghost use Rattle.graph.specs.Graph.{Graph as Meant};
+ghost use Rattle.terms.specs.Sets.{Facts};
+ghost use Rattle.sides.specs.Side.{IsOpen, HasGeneration, IsSide};
+ghost use Rattle.sides.specs.Reading.{IsRead};
+ghost use Rattle.sides.specs.declared.error.SideError.TheVariants.{Damaged};
+
+use crate::gate::{FORMAT, HEAD};
+use crate::parts::{COUNT, counted_at, read_graph, read_image};
+use crate::replay::{Replay, take_events};
+use crate::{Holdings, SideError};
+use codec::spellings_of_images;
+use graph::{Graph, fitting, one_graph};
+use std::alloc::Global;
 
 /// What the bytes of a side stand for.
 #[derive(Drop)]
@@ -8,4 +20,44 @@ pub struct Standing {
     pub holdings: Holdings,
     /// The position of the closed gate that ends the journal.
     pub end: u64,
+}
+
+/// Reads the bytes of an open side that has its generation.
+///
+/// `Damaged` tells the place of the first check that failed: the format, at 1; the length of the graph's text, at 10, and the text
+/// itself, at 14; the image, at its length's place; and of the journal the gate of the first record that is not whole, is no event
+/// or does not fit, or where its last gate is missing.
+pub fn read_side(alloc: Global, bytes: &[u8]) -> Result<Standing, SideError>
+    requires { IsOpen bytes.now × (10 ≤ length bytes.now) }
+    ensures read { IfOk result (λ standing. (generation : ℕ) → HasGeneration bytes.now generation → IsRead bytes.now generation standing) }
+    ensures nothing { (place : ℕ) → IsErrOf result (Damaged place) → (g : Meant) (generation : ℕ) (E X : Facts) → IsSide bytes.now g generation E X → ⊥ }
+{
+    one_graph();
+    fitting();
+    spellings_of_images();
+    if bytes[1] != FORMAT {
+        return Err(SideError::Damaged(1));
+    }
+    let Some(text) = counted_at(bytes, HEAD) else {
+        return Err(SideError::Damaged(HEAD as u64));
+    };
+    let Some(graph) = read_graph(alloc, text)? else {
+        return Err(SideError::Damaged((HEAD + COUNT) as u64));
+    };
+    let at = HEAD + COUNT + text.len();
+    let Some(image) = counted_at(bytes, at) else {
+        return Err(SideError::Damaged(at as u64));
+    };
+    let Some(mut holdings) = read_image(alloc, &graph, image)? else {
+        return Err(SideError::Damaged(at as u64));
+    };
+    let start = at + COUNT + image.len();
+    match take_events(alloc, &graph, &mut holdings, &bytes[start..])? {
+        Replay::Ended(end) => Ok(Standing {
+            graph,
+            holdings,
+            end: (start + end) as u64,
+        }),
+        Replay::Broken(place) => Err(SideError::Damaged((start + place) as u64)),
+    }
 }

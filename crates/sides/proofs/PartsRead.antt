@@ -1,0 +1,124 @@
+-- The parts of a side, read one after another: what they make of its bytes, and what a side has where one is wrong.
+use Rattle.std.proofs.Common.{◌≡◌, ◌≤◌, ◌<◌, ◌+◌, ◌^◌, ℕ, List, [], ◌∷◌, ◌++◌, length, drop, map, get_or, refl, sym, ap, subst, ◌∙◌, arith}
+use Rattle.std.proofs.lemmas.List.{append-nil, length-append, drop_at}
+use Rattle.std.specs.List.{AllByRecursion}
+use Rattle.byteorder.specs.Endian.{little_bytes}
+use Rattle.byteorder.specs.Numbers.{length-bytes_low_first}
+use Rattle.terms.specs.declared.event.Event.{Event}
+use Rattle.terms.specs.Sets.{Facts, among}
+use Rattle.codec.specs.declared.image.Image.{Image}
+use Rattle.codec.specs.Laws.{SpellsOne}
+use Rattle.codec.specs.Spelling.{image_bytes, event_bytes, SpellsImage, HasPutNumber}
+use Rattle.journal.specs.Records.{StandsFor, records}
+use Rattle.graph.specs.Graph.{Graph}
+use Rattle.graph.specs.Canonical.{canonical}
+use Rattle.graph.specs.Reads.{Reads}
+use Rattle.graph.specs.Fits.{AllFit}
+use Rattle.graph.specs.FitLaws.{StateOfAlike, EventsOfAlike}
+use Rattle.graph.specs.Textual.{SameGraph, OneGraph}
+use Rattle.sides.specs.declared.reading.Standing.{Standing}
+use Rattle.sides.specs.Image.{image_facts, image_environment, facts_in, environment_in}
+use Rattle.sides.specs.Side.{FORMAT, counted, behind_gate, HasGeneration, IsSide, end_of}
+use Rattle.sides.specs.Reading.{IsCountedAt, HasNoneAt, IsTextOf, IsImageOf, AreEvents, IsReplayed, IsRead}
+use Rattle.sides.proofs.Once.{parts_of, counted_once}
+use Rattle.sides.proofs.TextsRead.{same_graph}
+
+-- ---- what the parts make
+
+-- where the parts stand behind the head of a side
+module _ (n : ℕ) (text part : List ℕ) where
+  -- where the journal begins
+  starts : length (1 ∷ behind_gate n text part []) ≡ 14 + length text + 4 + length part
+  starts =
+      ap (λ (list : List ℕ). length (1 ∷ FORMAT ∷ list)) (append-nil (little_bytes 8 n ++ counted text ++ counted part))
+      ∙ omega (arith, length-append (little_bytes 8 n ++ counted text) (counted part), length-append (little_bytes 8 n) (counted text), length-bytes_low_first 0 8 n,
+      length-append (little_bytes 4 (length text)) text, length-append (little_bytes 4 (length part)) part, length-bytes_low_first 0 4 (length text), length-bytes_low_first 0 4 (length part))
+
+module _ (bytes : List ℕ) (n : ℕ) (has : HasGeneration bytes n) (format : get_or bytes 1 0 ≡ FORMAT) where
+  -- behind its head stands the text
+  in_front : bytes ≡ 1 ∷ FORMAT ∷ little_bytes 8 n ++ drop 10 bytes
+  in_front =
+      has.1.2 ∙ ap (λ (byte : ℕ). 1 ∷ byte ∷ little_bytes 8 n ++ has.1.1) (sym (ap (λ (list : List ℕ). get_or list 1 0) has.1.2) ∙ format)
+      ∙ ap (λ (rest : List ℕ). 1 ∷ FORMAT ∷ little_bytes 8 n ++ rest)
+      (sym (ap (drop 10) has.1.2 ∙ drop_at (1 ∷ has.1.0 ∷ little_bytes 8 n) has.1.1 10 refl))
+
+  module _ (text part : List ℕ) (has_text : IsCountedAt bytes 10 text) (has_part : IsCountedAt bytes (14 + length text) part) where
+    pub in_parts : bytes ≡ 1 ∷ behind_gate n text part (drop (14 + length text + 4 + length part) bytes)
+    in_parts =
+        in_front ∙ ap (λ (rest : List ℕ). 1 ∷ FORMAT ∷ little_bytes 8 n ++ rest) (has_text.spelled ∙ ap (λ (rest : List ℕ). counted text ++ rest) has_part.spelled)
+        ∙ ap (λ (rest : List ℕ). 1 ∷ FORMAT ∷ rest) (sym (parts_of (little_bytes 8 n) (counted text) (counted part) (drop (14 + length text + 4 + length part) bytes)))
+
+    module _ (g : Graph) (image new : Image) (end : ℕ) (is_text : IsTextOf text g) (is_image : IsImageOf g part image) (replayed : IsReplayed g image new (drop (14 + length text + 4 + length part) bytes) end) where
+      abbrev pub side_read : IsSide bytes g n (environment_in new) (facts_in new)
+      side_read = record {
+        small = has.0;
+        reads = subst (λ (list : List ℕ). Reads list g) (sym is_text.1) is_text.0;
+        image = image;
+        is_image = is_image.0.0;
+        counted_image = subst (λ (list : List ℕ). length list < 2 ^ 32) is_image.0.1 has_part.short;
+        events = replayed.events;
+        are_events = replayed.are.are_events;
+        journal = drop (14 + length text + 4 + length part) bytes;
+        records = replayed.are.stands;
+        spelled = in_parts ∙ (λ i. 1 ∷ behind_gate n (sym is_text.1 i) (is_image.0.1 i) (drop (14 + length text + 4 + length part) bytes));
+        image_fits = is_image.1;
+        events_fit = replayed.are.fit;
+        environment = replayed.environment;
+        facts = replayed.facts;
+      }
+
+      pub ends_there : 14 + length text + 4 + length part + end ≡ end_of side_read
+      ends_there =
+          ap (λ (start : ℕ). start + end) (sym (starts n text part) ∙ (λ i. length (1 ∷ behind_gate n (sym is_text.1 i) (is_image.0.1 i) [])))
+          ∙ ap (λ (more : ℕ). length (1 ∷ behind_gate n (canonical g) (image_bytes image) []) + more) replayed.ends
+
+-- ---- what a side has there
+
+module _ (bytes : List ℕ) (h : Graph) (n : ℕ) (E X : Facts) (side : IsSide bytes h n E X) where
+  -- it has the format
+  pub has_format : get_or bytes 1 0 ≡ FORMAT
+  has_format = ap (λ (list : List ℕ). get_or list 1 0) side.spelled
+
+  behind_head : drop 10 bytes ≡ counted (canonical h) ++ (counted (image_bytes side.image) ++ side.journal)
+  behind_head =
+      ap (drop 10) (side.spelled ∙ ap (λ (rest : List ℕ). 1 ∷ FORMAT ∷ rest) (parts_of (little_bytes 8 n) (counted (canonical h)) (counted (image_bytes side.image)) side.journal))
+      ∙ drop_at (1 ∷ FORMAT ∷ little_bytes 8 n) (counted (canonical h) ++ (counted (image_bytes side.image) ++ side.journal)) 10 refl
+
+  -- a text that four bytes count
+  pub has_text : HasNoneAt bytes 10 → ⊥
+  has_text none = none (canonical h) (counted (image_bytes side.image) ++ side.journal) (omega (arith, side.reads.short)) behind_head
+
+  module _ (text : List ℕ) (counted_text : IsCountedAt bytes 10 text) where
+    texts : (text ≡ canonical h) × (drop (14 + length text) bytes ≡ counted (image_bytes side.image) ++ side.journal)
+    texts = counted_once text (canonical h) (drop (14 + length text) bytes) (counted (image_bytes side.image) ++ side.journal) (omega (arith, counted_text.short)) (omega (arith, side.reads.short))
+        (sym counted_text.spelled ∙ behind_head)
+
+    -- which is its graph's
+    pub is_its_text : IsTextOf text h
+    is_its_text = (subst (λ (list : List ℕ). Reads list h) (sym texts.0) side.reads, sym texts.0)
+
+    -- an image that four bytes count
+    pub has_image : HasNoneAt bytes (14 + length text) → ⊥
+    has_image none = none (image_bytes side.image) side.journal (omega (arith, side.counted_image)) texts.1
+
+    module _ (one_graph : OneGraph) (g : Graph) (is_text : IsTextOf text g) where
+      alike : SameGraph h g
+      alike = same_graph one_graph text h g is_its_text.0 is_text.0
+
+      module _ (part : List ℕ) (counted_part : IsCountedAt bytes (14 + length text) part) where
+        images : (part ≡ image_bytes side.image) × (drop (14 + length text + 4 + length part) bytes ≡ side.journal)
+        images = counted_once part (image_bytes side.image) (drop (14 + length text + 4 + length part) bytes) side.journal (omega (arith, counted_part.short)) (omega (arith, side.counted_image))
+            (sym counted_part.spelled ∙ texts.1)
+
+        -- which fits
+        pub is_its_image : StateOfAlike → IsImageOf g part side.image
+        is_its_image state = ((side.is_image, images.0), state h g (among (image_environment side.image)) (among (image_facts side.image)) alike side.image_fits)
+
+        -- and a journal of events that fit behind the image
+        pub are_its_events : EventsOfAlike → SpellsOne SpellsImage → (image : Image) → IsImageOf g part image → AreEvents g image (drop (14 + length text + 4 + length part) bytes) side.events
+        are_its_events events one_image image is_image = record {
+          are_events = side.are_events;
+          stands = subst (λ (journal : List ℕ). StandsFor journal (map event_bytes side.events)) (sym images.1) side.records;
+          fit = subst (λ (read : Image). AllFit g (image_facts read) side.events) (one_image part side.image image (side.is_image, images.0) is_image.0)
+              (events h g (image_facts side.image) side.events alike side.events_fit);
+        }

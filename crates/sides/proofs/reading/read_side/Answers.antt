@@ -1,0 +1,70 @@
+use Rattle.std.proofs.Common.{◌≡◌, ◌+◌, ◌-◌, ℕ, List, length, take, drop, subst}
+use Rattle.std.proofs.lemmas.List.{take_rest}
+use Rattle.std.specs.List.{AllByRecursion}
+use Rattle.terms.specs.declared.event.Event.{Event}
+use Rattle.codec.specs.declared.image.Image.{Image}
+use Rattle.codec.specs.Spelling.{HasPutNumber}
+use Rattle.graph.specs.Graph.{Graph}
+use Rattle.sides.specs.Reading.{IsTextOf, IsImageOf, IsReplayed, AreEvents}
+use Rattle.sides.specs.Replaying.{Replays, IsNumbered}
+use Rattle.sides.proofs.PartsRead.{side_read, ends_there, has_text, is_its_text, has_image, is_its_image, are_its_events}
+use Rattle.sides.proofs.reading.read_side.Goals as goal
+
+pub returns-in_default-clause-nothing : goal.returns-in_default-clause-nothing
+returns-in_default-clause-nothing c place is g n E X side = has_text c.args.bytes.now g n E X side c.in_default.ensures
+
+pub returns-in_default-2-clause-nothing : goal.returns-in_default-2-clause-nothing
+returns-in_default-2-clause-nothing c place is g n E X side =
+    let text = c.in-Some.text.now in
+    let none : (g : Graph) → IsTextOf text g → ⊥ = rw c.in_default-2.is at c.in_ok-graph.ensures in
+    none g (is_its_text c.args.bytes.now g n E X side text c.in-Some.ensures)
+
+pub returns-in_default-counted_at-clause-nothing : goal.returns-in_default-counted_at-clause-nothing
+returns-in_default-counted_at-clause-nothing c place is g n E X side =
+    has_image c.args.bytes.now g n E X side c.in-Some.text.now c.in-Some.ensures c.in_default-counted_at.ensures
+
+pub returns-in_default-3-clause-nothing : goal.returns-in_default-3-clause-nothing
+returns-in_default-3-clause-nothing c place is g n E X side =
+    let text = c.in-Some.text.now in
+    let graph = c.in-Some-2.graph in
+    let part = c.in-Some-counted_at.image.now in
+    let is_text : IsTextOf text graph = rw c.in-Some-2.is at c.in_ok-graph.ensures in
+    let none : (image : Image) → IsImageOf graph part image → ⊥ = rw c.in_default-3.is at c.in_ok-holdings.ensures.image in
+    none side.image (is_its_image c.args.bytes.now g n E X side text c.in-Some.ensures c.one_graph.ensures graph is_text part c.in-Some-counted_at.ensures c.fitting.ensures.state_of_alike)
+
+pub returns-in-Ended-clause-read : goal.returns-in-Ended-clause-read
+returns-in-Ended-clause-read c n has =
+    let bytes = c.args.bytes.now in
+    let text = c.in-Some.text.now in
+    let graph = c.in-Some-2.graph in
+    let part = c.in-Some-counted_at.image.now in
+    let image = c.in-Some-3.holdings in
+    let new = c.take_events.new.holdings in
+    let start = 14 + length text + 4 + length part in
+    let end = c.in-Ended.end in
+    let is_text : IsTextOf text graph = rw c.in-Some-2.is at c.in_ok-graph.ensures in
+    let is_image : IsImageOf graph part image = rw c.in-Some-3.is at c.in_ok-holdings.ensures.image in
+    let there : IsReplayed graph image new (take (length bytes - start) (drop start bytes)) end = rw c.in-Ended.is at c.in_ok-end.ensures.events in
+    let replayed : IsReplayed graph image new (drop start bytes) end = subst (λ (journal : List ℕ). IsReplayed graph image new journal end) (take_rest bytes start) there in
+    let numbered : AllByRecursion HasPutNumber new.items = rw c.in-Ended.is at c.in_ok-end.ensures.numbered in
+    record {
+      is_side = side_read bytes n has c.if-bytes-ne-FORMAT.false text part c.in-Some.ensures c.in-Some-counted_at.ensures graph image new end is_text is_image replayed;
+      ends = ends_there bytes n has c.if-bytes-ne-FORMAT.false text part c.in-Some.ensures c.in-Some-counted_at.ensures graph image new end is_text is_image replayed;
+      numbered = numbered;
+    }
+
+pub returns-in-Broken-clause-nothing : goal.returns-in-Broken-clause-nothing
+returns-in-Broken-clause-nothing c place is g n E X side =
+    let bytes = c.args.bytes.now in
+    let text = c.in-Some.text.now in
+    let graph = c.in-Some-2.graph in
+    let part = c.in-Some-counted_at.image.now in
+    let image = c.in-Some-3.holdings in
+    let start = 14 + length text + 4 + length part in
+    let is_text : IsTextOf text graph = rw c.in-Some-2.is at c.in_ok-graph.ensures in
+    let is_image : IsImageOf graph part image = rw c.in-Some-3.is at c.in_ok-holdings.ensures.image in
+    let there : (events : List Event) → AreEvents graph image (take (length bytes - start) (drop start bytes)) events → ⊥ = rw c.in-Broken.is at c.in_ok-end.ensures.events in
+    let none : (events : List Event) → AreEvents graph image (drop start bytes) events → ⊥ =
+    subst (λ (journal : List ℕ). (events : List Event) → AreEvents graph image journal events → ⊥) (take_rest bytes start) there in
+    none side.events (are_its_events bytes g n E X side text c.in-Some.ensures c.one_graph.ensures graph is_text part c.in-Some-counted_at.ensures
+    c.fitting.ensures.events_of_alike c.spellings_of_images.ensures.one image is_image)

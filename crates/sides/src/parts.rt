@@ -1,0 +1,77 @@
+//! The parts of a side in front of its journal. That a part is not there is no error: it is answered by `None`.
+ghost use Rattle.std.specs.Prelude.{◌≤◌, length, IfOk, IfSome, MatchOption};
+ghost use Rattle.std.specs.List.{AllByRecursion};
+ghost use Rattle.codec.specs.declared.image.Image.{Image as Listed};
+ghost use Rattle.codec.specs.Spelling.{HasPutNumber};
+ghost use Rattle.graph.specs.Graph.{Graph as Meant};
+ghost use Rattle.sides.specs.Reading.{IsCountedAt, HasNoneAt, IsTextOf, IsImageOf};
+
+use crate::Holdings;
+use byteorder::{ByteOrder, LittleEndian};
+use codec::{CodecError, decode_image, spellings_of_images};
+use graph::{
+    Graph, GraphError, canonical, one_canonical_text, one_graph, parse, reads_without_fault,
+};
+use std::alloc::{AllocError, Global};
+
+/// The bytes in front of a part that are its length.
+pub(crate) const COUNT: usize = 4;
+
+/// The part that stands whole at a position, behind its length.
+pub(crate) fn counted_at(bytes: &[u8], at: usize) -> Option<&[u8]>
+    requires { at ≤ length bytes.now }
+    ensures { MatchOption result (HasNoneAt bytes.now at) (λ part. IsCountedAt bytes.now at part.now) }
+{
+    let rest = &bytes[at..];
+    if rest.len() < COUNT {
+        return None;
+    }
+    let count = LittleEndian::read_u32(rest) as usize;
+    if rest.len() - COUNT < count {
+        return None;
+    }
+    Some(&rest[COUNT..COUNT + count])
+}
+
+/// The graph that has this canonical text.
+pub(crate) fn read_graph(alloc: Global, text: &[u8]) -> Result<Option<Graph>, AllocError>
+    ensures { IfOk result (λ found. MatchOption found ((g : Meant) → IsTextOf text.now g → ⊥) (IsTextOf text.now)) }
+{
+    reads_without_fault();
+    one_graph();
+    one_canonical_text();
+    match parse(alloc, text) {
+        Ok(graph) => {
+            let own = canonical(alloc, &graph)?;
+            if own.as_slice() == text {
+                Ok(Some(graph))
+            } else {
+                Ok(None)
+            }
+        }
+        Err(fault) => match fault.error {
+            GraphError::NoMemory => Err(AllocError),
+            _ => Ok(None),
+        },
+    }
+}
+
+/// What the image lists that these bytes spell, where it fits the graph.
+pub(crate) fn read_image(alloc: Global, graph: &Graph, bytes: &[u8]) -> Result<Option<Holdings>, AllocError>
+    ensures image { IfOk result (λ found. MatchOption found ((image : Listed) → IsImageOf graph.now bytes.now image → ⊥) (IsImageOf graph.now bytes.now)) }
+    ensures numbered { IfOk result (λ found. IfSome found (λ holdings. AllByRecursion HasPutNumber holdings.items)) }
+{
+    spellings_of_images();
+    match decode_image(alloc, bytes) {
+        Ok(image) => {
+            let holdings = Holdings::of_image(alloc, image)?;
+            if holdings.fits(graph) {
+                Ok(Some(holdings))
+            } else {
+                Ok(None)
+            }
+        }
+        Err(CodecError::NoMemory) => Err(AllocError),
+        Err(_) => Ok(None),
+    }
+}
