@@ -8,7 +8,7 @@ use Rattle.terms.specs.declared.name.Addr.{Addr}
 use Rattle.terms.specs.declared.name.Inst.{Inst}
 use Rattle.terms.specs.declared.fault.FaultKind.{FaultKind}
 use Rattle.terms.specs.declared.producer.Producer.{Producer}
-use Rattle.terms.specs.Facts.{Fact, tag, item, done}
+use Rattle.terms.specs.Facts.{item, done}
 use Rattle.terms.specs.Name.{addr_cmp}
 use Rattle.terms.specs.Same.{is_same, same_itself, same_address}
 use Rattle.terms.specs.Sets.{is_fact, among, OneFact, AmongBoth}
@@ -40,8 +40,8 @@ module _ (one_fact : OneFact) where
       let parts = none_of_either (is_same address entry.0) entry.1 (lookup (is_at (addr_cmp address)) entries) none in
       or_from (is_fact (item_fact (named entry)) (item address value by)) (among (map item_fact (map named entries)) (item address value by))
       (false_from_ne_true (is_fact (item_fact (named entry)) (item address value by)) (λ same.
-          let names = same_item entry.0 address entry.1.0 value entry.1.1 by same in
-          false≢true (sym parts.0 ∙ ap (λ (a : Addr). is_same address a) names ∙ same_itself address)))
+      let names = same_item entry.0 address entry.1.0 value entry.1.1 by same in
+      false≢true (sym parts.0 ∙ ap (λ (a : Addr). is_same address a) names ∙ same_itself address)))
       (absent_then entries address parts.1 value by)
 
   -- and no look-up finds what is absent

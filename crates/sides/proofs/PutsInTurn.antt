@@ -1,5 +1,5 @@
 -- Puts that fit one after another are of the graph, and their items new.
-use Rattle.std.proofs.Common.{◌≡◌, ◌⊎◌, ◌↔◌, ℕ, ℤ, suc, Bool, true, false, ◌||◌, List, [], ◌∷◌, ◌++◌, inl, inr, refl, sym, ap, subst, ◌∙◌}
+use Rattle.std.proofs.Common.{◌≡◌, ◌⊎◌, ◌↔◌, ℕ, ℤ, suc, true, ◌||◌, List, [], ◌∷◌, ◌++◌, inl, inr, refl, sym, ap, subst, ◌∙◌}
 use Rattle.std.specs.Bool.{⊤}
 use Rattle.std.specs.List.{AllByRecursion}
 use Rattle.std.proofs.lemmas.Bool.{false_from_ne_true, false≢true, or_parts, or_from}
@@ -60,7 +60,7 @@ module _ (one_fact : OneFact) (X : Facts) (first : Addr) (value : ℤ) (by : Pro
     absent = λ address there w q.
         or_from (is_fact (item first value by) (item address w q)) (X (item address w q))
         (false_from_ne_true (is_fact (item first value by) (item address w q)) (λ same.
-            new.distinct address ([], there.0, there.1, λ i. same_address address w q same i ∷ there.2 i)))
+        new.distinct address ([], there.0, there.1, λ i. same_address address w q same i ∷ there.2 i)))
         (new.absent address (first ∷ there.0, there.1, ap (λ (list : List Addr). first ∷ list) there.2) w q);
     distinct = λ address twice. new.distinct address (first ∷ twice.0, twice.1, twice.2, ap (λ (list : List Addr). first ∷ list) twice.3);
   }

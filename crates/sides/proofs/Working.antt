@@ -1,14 +1,14 @@
 -- Whether an instance is at fault: then no event fits.
-use Rattle.std.proofs.Common.{◌≡◌, ◌↔◌, IsTrue, Bool, true, false, ◌||◌, [], ◌∷◌, Option, Some, None, is_some, refl, sym, ap, subst, ◌∙◌}
+use Rattle.std.proofs.Common.{◌≡◌, ◌↔◌, IsTrue, Bool, true, false, Option, Some, None, is_some, refl, sym, ap, subst, ◌∙◌}
 use Rattle.std.proofs.lemmas.Bool.{false≢true, or_left}
 use Rattle.terms.specs.declared.event.Event.{Event}
 use Rattle.terms.specs.declared.fault.FaultKind.{FaultKind}
 use Rattle.terms.specs.declared.name.Inst.{Inst}
-use Rattle.terms.specs.Facts.{Fact, bad}
-use Rattle.terms.specs.Sets.{Facts, is_fact, among, OneFact, AmongBoth}
+use Rattle.terms.specs.Facts.{bad}
+use Rattle.terms.specs.Sets.{is_fact, among, OneFact, AmongBoth}
 use Rattle.codec.specs.declared.image.Image.{Image}
 use Rattle.graph.specs.Graph.{Graph}
-use Rattle.graph.specs.Fits.{HasNoFault, FitsAs, Fits}
+use Rattle.graph.specs.Fits.{FitsAs, Fits}
 use Rattle.sides.specs.Image.{fault_facts, facts_in}
 use Rattle.sides.proofs.HeldNames.{among_faults}
 
@@ -28,7 +28,7 @@ module _ (both : AmongBoth) (g : Graph) {listed seen : Image} (same : listed ≡
     λ never. absurd (false≢true never),
     λ fits. absurd
         (one_at_fault one_fact listed.fault (sym tells ∙ is) (λ instance kind.
-            sym (among_faults both listed instance kind) ∙ ap (λ (image : Image). facts_in image (bad instance kind)) same ∙ fits.working instance kind)),
+        sym (among_faults both listed instance kind) ∙ ap (λ (image : Image). facts_in image (bad instance kind)) same ∙ fits.working instance kind)),
   )
 
   -- and else the event alone decides

@@ -10,13 +10,11 @@ ghost use Rattle.sides.specs.Growth.{Grows, PutFits};
 use crate::Holdings;
 use graph::Graph;
 use std::alloc::AllocError;
-use terms::{
-    Addr, Event, FaultKind, Inst, Key, Producer, Put, Tag, facts_are_told_apart,
-};
+use terms::{Addr, Event, FaultKind, Inst, Key, Producer, Put, Tag, facts_are_told_apart};
 
 impl Holdings {
     /// Takes an event that fits behind what is held, and says whether it fits. Where it does not, or memory is refused, what
-    /// is held is left open.
+    /// is held is left open. More puts of an instance than 32 bits can number are refused as memory is.
     pub fn take(&mut self, graph: &Graph, event: &Event) -> Result<bool, AllocError>
         ensures fits { IfOk result (λ taken. IsTrue taken ↔ Fits graph.now (facts_in self.old) event.now) }
         ensures grown { IfOk result (λ taken. IsTrue taken → IsGrownBy event.now self.old self.new) }
@@ -62,7 +60,7 @@ impl Holdings {
         Ok(self.hold_tag(name, true)?)
     }
 
-    /// Takes the end of an instance with its puts. A list of more puts than their numbers can count is refused as memory is.
+    /// Takes the end of an instance with its puts.
     fn take_end(&mut self, graph: &Graph, instance: &Inst, puts: &[Put]) -> Result<bool, AllocError>
         ensures fits { IfOk result (λ taken. IsTrue taken ↔ (MayEnd graph.now (facts_in self.old) instance.now × AllByRecursion (PutIsOf graph.now) puts.now × AreNew (facts_in self.old) puts.now)) }
         ensures grown { IfOk result (λ taken. IsTrue taken → Grows [] (done instance.now ∷ put_facts instance.now 0 puts.now) self.old self.new) }
@@ -87,11 +85,11 @@ impl Holdings {
         ensures items { self.new.items ≡ self.old.items }
     {
         facts_are_told_apart();
-        if !self.may_end(graph, instance) {
-            return false;
+        if self.may_end(graph, instance) {
+            self.fault = Some((*instance, kind));
+            return true;
         }
-        self.fault = Some((*instance, kind));
-        true
+        false
     }
 
     /// Whether the instance can be ended: it is of the graph, prescribed by a tag that is held, and not done.
@@ -113,7 +111,12 @@ impl Holdings {
     }
 
     /// Takes the puts of an instance in turn, the first of them with the number 0.
-    fn take_puts(&mut self, graph: &Graph, instance: &Inst, puts: &[Put]) -> Result<bool, AllocError>
+    fn take_puts(
+        &mut self,
+        graph: &Graph,
+        instance: &Inst,
+        puts: &[Put],
+    ) -> Result<bool, AllocError>
         ensures fits { IfOk result (λ taken. IsTrue taken ↔ (AllByRecursion (PutIsOf graph.now) puts.now × AreNew (facts_in self.old) puts.now)) }
         ensures grown { IfOk result (λ taken. IsTrue taken → Grows [] (put_facts instance.now 0 puts.now) self.old self.new) }
         ensures numbered { AllByRecursion HasPutNumber self.old.items → length puts.now ≤ MOST_PUTS → IfOk result (λ taken. IsTrue taken → AllByRecursion HasPutNumber self.new.items) }
@@ -131,7 +134,13 @@ impl Holdings {
     }
 
     /// Takes the put of an instance that has this number.
-    fn take_put(&mut self, graph: &Graph, instance: &Inst, number: u32, put: &Put) -> Result<bool, AllocError>
+    fn take_put(
+        &mut self,
+        graph: &Graph,
+        instance: &Inst,
+        number: u32,
+        put: &Put,
+    ) -> Result<bool, AllocError>
         ensures fits { IfOk result (λ taken. IsTrue taken ↔ PutFits graph.now (facts_in self.old) put.now) }
         ensures grown { IfOk result (λ taken. IsTrue taken → Grows [] (put_fact instance.now number put.now ∷ []) self.old self.new) }
         ensures numbered { AllByRecursion HasPutNumber self.old.items → number < MOST_PUTS → IfOk result (λ taken. IsTrue taken → AllByRecursion HasPutNumber self.new.items) }
@@ -185,4 +194,116 @@ fn fits_arity(components: Option<usize>, key: &Key) -> bool
     ensures { IsTrue result ↔ (components ≡ Some (length key.now)) }
 {
     components == Some(key.components().len())
+}
+
+#[cfg(test)]
+mod tests {
+    use super::*;
+    use graph::parse;
+    use std::process::Abort;
+    use std::test::Fail;
+    use terms::{ItemCollection, Puts, StepCollection, TagCollection};
+
+    // The items, the tags and the step have number 0 each, and keys of one component.
+    const FIBONACCI: &str =
+        "[fib: i];\n<n: i>;\n<n> :: (add);\n[fib] -> (add);\n(add) -> [fib];\nenv -> [fib];\nenv -> <n>;\n[fib] -> env;\nstep add(i) {\n  var a, b;\n  read {\n    get a = [fib: (i - 1)];\n    get b = [fib: (i - 2)];\n  }\n  write {\n    put [fib: i] = (a + b);\n  }\n}\n";
+
+    fn address(collection: u16, key: Key) -> Addr {
+        Addr {
+            collection: ItemCollection(collection),
+            key,
+        }
+    }
+
+    fn name(collection: u16, key: Key) -> Tag {
+        Tag {
+            collection: TagCollection(collection),
+            key,
+        }
+    }
+
+    fn instance(collection: u16, key: Key) -> Inst {
+        Inst {
+            collection: StepCollection(collection),
+            key,
+        }
+    }
+
+    // The instance with the key 5 is done, with these puts.
+    fn end<R: AllocGlobal>(rt: &R, puts: &[Put]) -> Result<Event, Fail> {
+        Ok(Event::Done(
+            instance(0, Key::new(&[5])),
+            Puts::new(puts.to_vec(rt.alloc())?),
+        ))
+    }
+
+    // What the last event is answered, where each before it is taken.
+    fn last_answer<R: Abort + AllocGlobal>(rt: &R, events: &[Event]) -> Result<bool, Fail> {
+        let Ok(graph) = parse(rt.alloc(), FIBONACCI.as_bytes()) else {
+            panic!(rt; "no graph");
+        };
+        let mut held = Holdings::new(rt.alloc());
+        let mut taken = true;
+        for event in events {
+            assert!(rt; taken, "an event before the last");
+            taken = held.take(&graph, event)?;
+        }
+        Ok(taken)
+    }
+
+    #[test]
+    fn environment_puts_once(rt: HostRuntime) -> Result<(), Fail> {
+        let (five, two) = (Key::new(&[5]), Key::new(&[5, 5]));
+        let item = || Event::EnvItem(address(0, five), 1);
+        assert!(rt; last_answer(&rt, &[item()])?);
+        assert!(rt; !last_answer(&rt, &[item(), item()])?);
+        assert!(rt; !last_answer(&rt, &[Event::EnvItem(address(0, two), 1)])?);
+        assert!(rt; !last_answer(&rt, &[Event::EnvItem(address(1, five), 1)])?);
+        let tag = || Event::EnvTag(name(0, five));
+        assert!(rt; last_answer(&rt, &[item(), tag()])?);
+        assert!(rt; !last_answer(&rt, &[tag(), tag()])?);
+        assert!(rt; !last_answer(&rt, &[Event::EnvTag(name(0, two))])?);
+        assert!(rt; !last_answer(&rt, &[Event::EnvTag(name(1, five))])?);
+        Ok(())
+    }
+
+    #[test]
+    fn instances_end_once(rt: HostRuntime) -> Result<(), Fail> {
+        let five = Key::new(&[5]);
+        let (tag, item) = (Put::Tag(name(0, five)), Put::Item(address(0, five), 8));
+        let prescribed = || Event::EnvTag(name(0, five));
+        assert!(rt; last_answer(&rt, &[prescribed(), end(&rt, &[item, tag])?])?);
+        assert!(rt; !last_answer(&rt, &[prescribed(), end(&rt, &[])?, end(&rt, &[])?])?);
+        assert!(rt; !last_answer(&rt, &[end(&rt, &[])?])?);
+        assert!(rt; !last_answer(&rt, &[end(&rt, &[tag])?])?);
+        assert!(rt; !last_answer(&rt, &[prescribed(), end(&rt, &[item, tag, item])?])?);
+        Ok(())
+    }
+
+    #[test]
+    fn puts_fit_the_graph(rt: HostRuntime) -> Result<(), Fail> {
+        let five = Key::new(&[5]);
+        let prescribed = || Event::EnvTag(name(0, five));
+        let item = || Event::EnvItem(address(0, five), 1);
+        let held = [Put::Item(address(0, five), 8)];
+        assert!(rt; !last_answer(&rt, &[item(), prescribed(), end(&rt, &held)?])?);
+        let other = [Put::Item(address(1, five), 8)];
+        assert!(rt; !last_answer(&rt, &[prescribed(), end(&rt, &other)?])?);
+        let short = [Put::Tag(name(0, Key::new(&[])))];
+        assert!(rt; !last_answer(&rt, &[prescribed(), end(&rt, &short)?])?);
+        Ok(())
+    }
+
+    #[test]
+    fn nothing_follows_a_fault(rt: HostRuntime) -> Result<(), Fail> {
+        let five = Key::new(&[5]);
+        let prescribed = || Event::EnvTag(name(0, five));
+        let stopped = || Event::Stopped(instance(0, five), FaultKind::Overflow);
+        assert!(rt; last_answer(&rt, &[prescribed(), stopped()])?);
+        assert!(rt; !last_answer(&rt, &[stopped()])?);
+        assert!(rt; !last_answer(&rt, &[prescribed(), stopped(), stopped()])?);
+        let item = Event::EnvItem(address(0, five), 1);
+        assert!(rt; !last_answer(&rt, &[prescribed(), stopped(), item])?);
+        Ok(())
+    }
 }

@@ -23,8 +23,7 @@ returns-then-contains_key-clause-kept c there =
 
 pub returns-clause-absent : goal.returns-clause-absent
 returns-clause-absent c =
-    let laws = c.facts_are_told_apart.ensures in
-    (
+    let laws = c.facts_are_told_apart.ensures in (
       λ added. held_as_told laws.among laws.one c.self.view_is c.args.name.now c.contains_key.result c.contains_key.ensures ∙ c.if-contains_key.false,
       λ absent. refl,
     )

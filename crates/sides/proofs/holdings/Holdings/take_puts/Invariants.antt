@@ -1,4 +1,3 @@
-use Rattle.graph.specs.Graph.{Graph}
 use Rattle.sides.proofs.TakenPuts.{TakenSoFar}
 use Rattle.sides.proofs.holdings.Holdings.take_puts.Given as goal
 
