@@ -19,18 +19,21 @@ impl Holdings {
         self.instances_fit(graph) && self.puts_fit(graph)
     }
 
+    // The instance at fault and those that are done.
     fn instances_fit(&self, graph: &Graph) -> bool
         ensures { IsTrue result ↔ InstancesFit graph.now self.now }
     {
         self.fault_fits(graph) && self.done_fit(graph)
     }
 
+    // The items and the tags.
     fn puts_fit(&self, graph: &Graph) -> bool
         ensures { IsTrue result ↔ PutsFit graph.now self.now }
     {
         self.items_fit(graph) && self.tags_fit(graph)
     }
 
+    // An instance at fault is of the graph, prescribed, and not done.
     fn fault_fits(&self, graph: &Graph) -> bool
         ensures { IsTrue result ↔ FaultFits graph.now (facts_in self.now) self.now.fault }
     {
@@ -40,6 +43,7 @@ impl Holdings {
         }
     }
 
+    // Each item.
     fn items_fit(&self, graph: &Graph) -> bool
         ensures { IsTrue result ↔ AllByRecursion (λ it. ItemFits graph.now (facts_in self.now) it.0 it.2) self.now.items }
     {
@@ -51,6 +55,7 @@ impl Holdings {
         true
     }
 
+    // Each tag.
     fn tags_fit(&self, graph: &Graph) -> bool
         ensures { IsTrue result ↔ AllByRecursion (λ marked. TagFits graph.now marked.0 marked.1) self.now.tags }
     {
@@ -62,6 +67,7 @@ impl Holdings {
         true
     }
 
+    // Each done instance.
     fn done_fit(&self, graph: &Graph) -> bool
         ensures { IsTrue result ↔ AllByRecursion (InstanceFits graph.now (facts_in self.now)) self.now.done }
     {
@@ -73,6 +79,7 @@ impl Holdings {
         true
     }
 
+    // An item of the environment is one that it may put; the producer of another is done.
     fn item_fits(&self, graph: &Graph, address: &Addr, producer: &Producer) -> bool
         ensures { IsTrue result ↔ ItemFits graph.now (facts_in self.now) address.now producer.now }
     {
@@ -82,12 +89,14 @@ impl Holdings {
         }
     }
 
+    // The instance is of the graph and prescribed.
     fn instance_fits(&self, graph: &Graph, instance: &Inst) -> bool
         ensures { IsTrue result ↔ InstanceFits graph.now (facts_in self.now) instance.now }
     {
         is_instance_of(graph, instance) && self.is_prescribed(graph, instance)
     }
 
+    // A tag that is held prescribes the instance.
     fn is_prescribed(&self, graph: &Graph, instance: &Inst) -> bool
         ensures { IsTrue result ↔ IsPrescribed graph.now (facts_in self.now) instance.now }
     {
@@ -100,6 +109,7 @@ impl Holdings {
         }
     }
 
+    // The tag is held.
     fn has_tag(&self, name: &Tag) -> bool
         ensures { result ≡ facts_in self.now (tag name.now) }
     {
@@ -108,6 +118,7 @@ impl Holdings {
         self.tags.contains_key(name)
     }
 
+    // The instance is done.
     fn is_done(&self, instance: &Inst) -> bool
         ensures { result ≡ facts_in self.now (done instance.now) }
     {
@@ -117,6 +128,7 @@ impl Holdings {
     }
 }
 
+// A tag of the environment is one that it may put.
 fn tag_fits(graph: &Graph, name: &Tag, mark: bool) -> bool
     ensures { IsTrue result ↔ TagFits graph.now name.now mark }
 {
@@ -127,38 +139,194 @@ fn tag_fits(graph: &Graph, name: &Tag, mark: bool) -> bool
     }
 }
 
+// Its collection is one that the environment may put, with as many components.
 fn environment_may_put_item(graph: &Graph, address: &Addr) -> bool
     ensures { IsTrue result ↔ EnvironmentMayPutItem graph.now address.now }
 {
     is_address_of(graph, address) && graph.environment_may_put_item(address.collection)
 }
 
+// Its collection is one that the environment may put, with as many components.
 fn environment_may_put_tag(graph: &Graph, name: &Tag) -> bool
     ensures { IsTrue result ↔ EnvironmentMayPutTag graph.now name.now }
 {
     is_tag_of(graph, name) && graph.environment_may_put_tag(name.collection)
 }
 
+// Its collection is of the graph, with as many components.
 fn is_address_of(graph: &Graph, address: &Addr) -> bool
     ensures { IsTrue result ↔ AddressIsOf graph.now address.now }
 {
     has_components(graph.item_components(address.collection), &address.key)
 }
 
+// Its collection is of the graph, with as many components.
 fn is_tag_of(graph: &Graph, name: &Tag) -> bool
     ensures { IsTrue result ↔ TagIsOf graph.now name.now }
 {
     has_components(graph.tag_components(name.collection), &name.key)
 }
 
+// Its step is of the graph, with as many parameters.
 fn is_instance_of(graph: &Graph, instance: &Inst) -> bool
     ensures { IsTrue result ↔ InstanceIsOf graph.now instance.now }
 {
     has_components(graph.step_parameters(instance.collection), &instance.key)
 }
 
+// There are as many as the key has.
 fn has_components(components: Option<usize>, key: &Key) -> bool
     ensures { IsTrue result ↔ (components ≡ Some (length key.now)) }
 {
     components == Some(key.components().len())
+}
+
+#[cfg(test)]
+pub(crate) mod tests {
+    use super::*;
+    use graph::{GraphFault, parse};
+    use std::alloc::{AllocError, Global};
+    use std::collections::{BTreeMap, BTreeSet};
+    use std::test::Fail;
+    use terms::{FaultKind, ItemCollection, StepCollection, TagCollection};
+
+    // Fibonacci numbers: the environment may put the items and the tags.
+    const FIBONACCI: &str =
+        "[fib: i];\n<n: i>;\n<n> :: (add);\n[fib] -> (add);\n(add) -> [fib];\nenv -> [fib];\nenv -> <n>;\n[fib] -> env;\nstep add(i) {\n  var a, b;\n  read {\n    get a = [fib: (i - 1)];\n    get b = [fib: (i - 2)];\n  }\n  write {\n    put [fib: i] = (a + b);\n  }\n}\n";
+
+    // Two collections that the environment may not put, and two that it may.
+    const CLOSED: &str = "[x: i];\n<t: i>;\n";
+
+    const OPEN: &str = "[x: i];\n<t: i>;\nenv -> [x];\nenv -> <t>;\n";
+
+    pub(crate) fn address(component: i64) -> Addr {
+        Addr {
+            collection: ItemCollection(0),
+            key: Key::new(&[component]),
+        }
+    }
+
+    pub(crate) fn tag(component: i64) -> Tag {
+        Tag {
+            collection: TagCollection(0),
+            key: Key::new(&[component]),
+        }
+    }
+
+    pub(crate) fn instance(component: i64) -> Inst {
+        Inst {
+            collection: StepCollection(0),
+            key: Key::new(&[component]),
+        }
+    }
+
+    fn graph(alloc: Global, text: &str) -> Result<Graph, GraphFault> {
+        parse(alloc, text.as_bytes())
+    }
+
+    type Item = (Addr, (i64, Producer));
+
+    // An item of the environment and one of (0: 2).
+    fn items() -> [Item; 2] {
+        [
+            (address(0), (0, Producer::Env)),
+            (address(2), (1, Producer::By(instance(2), 0))),
+        ]
+    }
+
+    // A tag of the environment and another.
+    fn tags() -> [(Tag, bool); 2] {
+        [(tag(2), true), (tag(3), false)]
+    }
+
+    fn held(
+        alloc: Global,
+        fault: Option<Inst>,
+        items: &[Item],
+        tags: &[(Tag, bool)],
+        done: &[Inst],
+    ) -> Result<Holdings, AllocError> {
+        Ok(Holdings {
+            fault: match fault {
+                Some(instance) => Some((instance, FaultKind::Overflow)),
+                None => None,
+            },
+            items: BTreeMap::from_iter(alloc, items.to_vec(alloc)?)?,
+            tags: BTreeMap::from_iter(alloc, tags.to_vec(alloc)?)?,
+            done: BTreeSet::from_iter(alloc, done.to_vec(alloc)?)?,
+        })
+    }
+
+    #[test]
+    fn all_that_is_held_fits(rt: HostRuntime) -> Result<(), Fail> {
+        let graph = graph(rt.alloc(), FIBONACCI)?;
+        let whole = held(rt.alloc(), None, &items(), &tags(), &[instance(2)])?;
+        assert!(&rt; whole.fits(&graph));
+        Ok(())
+    }
+
+    // Another arity, no such collection, and a producer that is not done.
+    #[test]
+    fn items_are_looked_at(rt: HostRuntime) -> Result<(), Fail> {
+        let graph = graph(rt.alloc(), FIBONACCI)?;
+        let arity = Addr {
+            key: Key::new(&[0, 1]),
+            ..address(0)
+        };
+        let elsewhere = Addr {
+            collection: ItemCollection(1),
+            ..address(0)
+        };
+        let rows = [
+            (address(0), Producer::Env, true),
+            (arity, Producer::Env, false),
+            (elsewhere, Producer::Env, false),
+            (address(3), Producer::By(instance(2), 0), true),
+            (address(3), Producer::By(instance(3), 0), false),
+        ];
+        for (address, producer, wanted) in rows {
+            let item = (address, (0, producer));
+            let held = held(rt.alloc(), None, &[item], &tags(), &[instance(2)])?;
+            assert_eq!(&rt; held.fits(&graph), wanted, "{address:?} of {producer:?}");
+        }
+        Ok(())
+    }
+
+    // Done and not prescribed, at fault and done, and at fault and not prescribed.
+    #[test]
+    fn instances_are_looked_at(rt: HostRuntime) -> Result<(), Fail> {
+        let graph = graph(rt.alloc(), FIBONACCI)?;
+        let rows = [
+            (Some(instance(3)), instance(2), true),
+            (None, instance(4), false),
+            (Some(instance(2)), instance(2), false),
+            (Some(instance(4)), instance(2), false),
+        ];
+        for (fault, done, wanted) in rows {
+            let held = held(rt.alloc(), fault, &[], &tags(), &[done])?;
+            assert_eq!(&rt; held.fits(&graph), wanted, "{done:?} and {fault:?}");
+        }
+        Ok(())
+    }
+
+    // An item and a tag of the environment, and a tag of an instance.
+    #[test]
+    fn the_environment_is_looked_at(rt: HostRuntime) -> Result<(), Fail> {
+        for (text, wanted) in [(OPEN, true), (CLOSED, false)] {
+            let graph = graph(rt.alloc(), text)?;
+            let item = (address(0), (0, Producer::Env));
+            let held = held(rt.alloc(), None, &[item], &[], &[])?;
+            assert_eq!(&rt; held.fits(&graph), wanted, "an item");
+        }
+        for (text, mark, wanted) in [
+            (OPEN, true, true),
+            (CLOSED, true, false),
+            (CLOSED, false, true),
+        ] {
+            let graph = graph(rt.alloc(), text)?;
+            let held = held(rt.alloc(), None, &[], &[(tag(0), mark)], &[])?;
+            assert_eq!(&rt; held.fits(&graph), wanted, "a tag, marked {mark}");
+        }
+        Ok(())
+    }
 }

@@ -111,3 +111,45 @@ fn list_done(alloc: Global, done: BTreeSet<Inst>) -> Result<Instances, AllocErro
 {
     Ok(Instances::new(done.into_iter().collect(alloc)?))
 }
+
+#[cfg(test)]
+mod tests {
+    use super::*;
+    use crate::fitting::tests::{address, instance, tag};
+    use codec::decode_image;
+    use std::test::Fail;
+    use terms::FaultKind;
+
+    // One of each: (0: 93) is at fault by an overflow, [0: 0] = 0 is of the environment and [0: 2] = 1 is put 0 of (0: 2),
+    // the environment put <0: 2> and an instance <0: 3>, and (0: 2) is done.
+    const FULL: [u8; 115] = [
+        1, 0, 0, 1, 93, 0, 0, 0, 0, 0, 0, 0, 1, // the fault
+        2, 0, 0, 0, // the items
+        0, 0, 1, 0, 0, 0, 0, 0, 0, 0, 0, 0, 0, 0, 0, 0, 0, 0, 0, 0, //
+        0, 0, 1, 2, 0, 0, 0, 0, 0, 0, 0, 1, 0, 0, 0, 0, 0, 0, 0, //
+        1, 0, 0, 1, 2, 0, 0, 0, 0, 0, 0, 0, 0, 0, 0, 0, //
+        2, 0, 0, 0, // the tags
+        0, 0, 1, 2, 0, 0, 0, 0, 0, 0, 0, 1, //
+        0, 0, 1, 3, 0, 0, 0, 0, 0, 0, 0, 0, //
+        1, 0, 0, 0, // the instances
+        0, 0, 1, 2, 0, 0, 0, 0, 0, 0, 0, //
+    ];
+
+    #[test]
+    fn images_come_back(rt: HostRuntime) -> Result<(), Fail> {
+        let held = Holdings::of_image(rt.alloc(), decode_image(rt.alloc(), &FULL)?)?;
+        let image = held.into_image(rt.alloc())?;
+        assert_eq!(&rt; image.fault, Some((instance(93), FaultKind::Overflow)));
+        let items = [
+            (address(0), 0, Producer::Env),
+            (address(2), 1, Producer::By(instance(2), 0)),
+        ];
+        assert_eq!(&rt; image.items.as_slice(), items.as_slice());
+        assert_eq!(&rt;
+            image.tags.as_slice(),
+            [(tag(2), true), (tag(3), false)].as_slice()
+        );
+        assert_eq!(&rt; image.done.as_slice(), [instance(2)].as_slice());
+        Ok(())
+    }
+}
