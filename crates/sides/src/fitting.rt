@@ -184,7 +184,7 @@ fn has_components(components: Option<usize>, key: &Key) -> bool
 #[cfg(test)]
 pub(crate) mod tests {
     use super::*;
-    use graph::parse;
+    use graph::{GraphFault, parse};
     use std::alloc::{AllocError, Global};
     use std::collections::{BTreeMap, BTreeSet};
     use std::test::Fail;
@@ -218,6 +218,10 @@ pub(crate) mod tests {
             collection: StepCollection(0),
             key: Key::new(&[component]),
         }
+    }
+
+    fn graph(alloc: Global, text: &str) -> Result<Graph, GraphFault> {
+        parse(alloc, text.as_bytes())
     }
 
     type Item = (Addr, (i64, Producer));
@@ -254,71 +258,75 @@ pub(crate) mod tests {
     }
 
     #[test]
+    fn all_that_is_held_fits(rt: HostRuntime) -> Result<(), Fail> {
+        let graph = graph(rt.alloc(), FIBONACCI)?;
+        let whole = held(rt.alloc(), None, &items(), &tags(), &[instance(2)])?;
+        assert!(&rt; whole.fits(&graph));
+        Ok(())
+    }
+
+    // Another arity, no such collection, and a producer that is not done.
+    #[test]
     fn items_are_looked_at(rt: HostRuntime) -> Result<(), Fail> {
-        let graph = parse(rt.alloc(), FIBONACCI.as_bytes())?;
-        let fits = |items: &[Item]| -> Result<bool, AllocError> {
-            Ok(held(rt.alloc(), None, items, &tags(), &[instance(2)])?.fits(&graph))
-        };
-        assert!(&rt; fits(&items())?);
-        let long = Key::new(&[0, 1]);
+        let graph = graph(rt.alloc(), FIBONACCI)?;
         let arity = Addr {
-            key: long,
+            key: Key::new(&[0, 1]),
             ..address(0)
         };
-        assert!(&rt; !fits(&[(arity, (0, Producer::Env))])?, "another arity");
         let elsewhere = Addr {
             collection: ItemCollection(1),
             ..address(0)
         };
-        assert!(&rt;
-            !fits(&[(elsewhere, (0, Producer::Env))])?,
-            "no such collection"
-        );
-        let early = Producer::By(instance(3), 0);
-        assert!(&rt;
-            !fits(&[(address(3), (0, early))])?,
-            "its producer is not done"
-        );
+        let rows = [
+            (address(0), Producer::Env, true),
+            (arity, Producer::Env, false),
+            (elsewhere, Producer::Env, false),
+            (address(3), Producer::By(instance(2), 0), true),
+            (address(3), Producer::By(instance(3), 0), false),
+        ];
+        for (address, producer, wanted) in rows {
+            let item = (address, (0, producer));
+            let held = held(rt.alloc(), None, &[item], &tags(), &[instance(2)])?;
+            assert_eq!(&rt; held.fits(&graph), wanted, "{address:?} of {producer:?}");
+        }
         Ok(())
     }
 
+    // Done and not prescribed, at fault and done, and at fault and not prescribed.
     #[test]
     fn instances_are_looked_at(rt: HostRuntime) -> Result<(), Fail> {
-        let graph = parse(rt.alloc(), FIBONACCI.as_bytes())?;
-        let fits = |fault: Option<Inst>, done: &[Inst]| -> Result<bool, AllocError> {
-            Ok(held(rt.alloc(), fault, &[], &tags(), done)?.fits(&graph))
-        };
-        assert!(&rt; fits(Some(instance(3)), &[instance(2)])?);
-        assert!(&rt; !fits(None, &[instance(4)])?, "done, and not prescribed");
-        assert!(&rt;
-            !fits(Some(instance(2)), &[instance(2)])?,
-            "at fault, and done"
-        );
-        assert!(&rt;
-            !fits(Some(instance(4)), &[instance(2)])?,
-            "at fault, and not prescribed"
-        );
+        let graph = graph(rt.alloc(), FIBONACCI)?;
+        let rows = [
+            (Some(instance(3)), instance(2), true),
+            (None, instance(4), false),
+            (Some(instance(2)), instance(2), false),
+            (Some(instance(4)), instance(2), false),
+        ];
+        for (fault, done, wanted) in rows {
+            let held = held(rt.alloc(), fault, &[], &tags(), &[done])?;
+            assert_eq!(&rt; held.fits(&graph), wanted, "{done:?} and {fault:?}");
+        }
         Ok(())
     }
 
+    // An item and a tag of the environment, and a tag of an instance.
     #[test]
     fn the_environment_is_looked_at(rt: HostRuntime) -> Result<(), Fail> {
-        let open = parse(rt.alloc(), OPEN.as_bytes())?;
-        let closed = parse(rt.alloc(), CLOSED.as_bytes())?;
-        let item = held(
-            rt.alloc(),
-            None,
-            &[(address(0), (0, Producer::Env))],
-            &[],
-            &[],
-        )?;
-        assert!(&rt; item.fits(&open));
-        assert!(&rt; !item.fits(&closed), "an item that it may not put");
-        let marked = held(rt.alloc(), None, &[], &[(tag(0), true)], &[])?;
-        assert!(&rt; marked.fits(&open));
-        assert!(&rt; !marked.fits(&closed), "a tag that it may not put");
-        let unmarked = held(rt.alloc(), None, &[], &[(tag(0), false)], &[])?;
-        assert!(&rt; unmarked.fits(&closed));
+        for (text, wanted) in [(OPEN, true), (CLOSED, false)] {
+            let graph = graph(rt.alloc(), text)?;
+            let item = (address(0), (0, Producer::Env));
+            let held = held(rt.alloc(), None, &[item], &[], &[])?;
+            assert_eq!(&rt; held.fits(&graph), wanted, "an item");
+        }
+        for (text, mark, wanted) in [
+            (OPEN, true, true),
+            (CLOSED, true, false),
+            (CLOSED, false, true),
+        ] {
+            let graph = graph(rt.alloc(), text)?;
+            let held = held(rt.alloc(), None, &[], &[(tag(0), mark)], &[])?;
+            assert_eq!(&rt; held.fits(&graph), wanted, "a tag, marked {mark}");
+        }
         Ok(())
     }
 }

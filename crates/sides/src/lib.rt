@@ -12,6 +12,7 @@ mod law;
 mod parts;
 mod reading;
 mod replay;
+mod spelling;
 mod taking;
 
 pub use error::SideError;
@@ -19,3 +20,4 @@ pub use gate::{Gate, HEAD, gate_of};
 pub use holdings::Holdings;
 pub use law::{one_meaning_of_a_side, sides_go_on};
 pub use reading::{Standing, read_side};
+pub use spelling::spell_side;

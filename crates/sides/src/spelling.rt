@@ -1,0 +1,78 @@
+ghost use Rattle.std.specs.Prelude.{◌≡◌, ◌≤◌, ◌<◌, ◌+◌, ◌^◌, ◌++◌, [], ◌∷◌, length, take, drop, OnOk};
+ghost use Rattle.byteorder.specs.Endian.{little_bytes};
+ghost use Rattle.codec.specs.Spelling.{IsInOrder, IsImage, image_bytes};
+ghost use Rattle.sides.specs.Side.{behind_gate, counted};
+
+use crate::gate::FORMAT;
+use crate::parts::COUNT;
+use byteorder::{ByteOrder, LittleEndian};
+use codec::{Image, encode_image};
+use std::alloc::AllocError;
+
+// The gate that ends a journal.
+const CLOSED: u8 = 0;
+
+/// Appends a side behind its gate: of this generation, with this graph text and this image, and no record.
+///
+/// An image of `2 ^ 32` bytes or more has no spelling behind its length: then what is appended is as long as it would be, and is
+/// no side. The error is that memory was refused: some of it may stand there then.
+pub fn spell_side(out: &mut Vec<u8>, generation: u64, text: &[u8], image: &Image) -> Result<(), AllocError>
+    requires text { length text.now < 2 ^ 32 }
+    requires image { IsInOrder image.now }
+    ensures spelled { OnOk result (length (image_bytes image.now) < 2 ^ 32 → out.new.items ≡ out.old.items ++ behind_gate generation text.now (image_bytes image.now) (0 ∷ [])) }
+    ensures count { OnOk result (length out.new.items ≡ length out.old.items + length (behind_gate generation text.now (image_bytes image.now) (0 ∷ []))) }
+    ensures in_range { OnOk result (IsImage image.now) }
+{
+    put_head(out, generation)?;
+    put_text(out, text)?;
+    put_image(out, image)?;
+    Ok(out.push(CLOSED)?)
+}
+
+// The format and the generation.
+fn put_head(out: &mut Vec<u8>, generation: u64) -> Result<(), AllocError>
+    ensures { OnOk result (out.new.items ≡ out.old.items ++ FORMAT ∷ little_bytes 8 generation) }
+{
+    let mut bytes = [0; 8];
+    LittleEndian::write_u64(&mut bytes, generation);
+    out.push(FORMAT)?;
+    out.extend_from_slice(&bytes)
+}
+
+// A text behind its length.
+fn put_text(out: &mut Vec<u8>, text: &[u8]) -> Result<(), AllocError>
+    requires { length text.now < 2 ^ 32 }
+    ensures { OnOk result (out.new.items ≡ out.old.items ++ counted text.now) }
+{
+    let mut count = [0; COUNT];
+    LittleEndian::write_u32(&mut count, text.len() as u32);
+    out.extend_from_slice(&count)?;
+    out.extend_from_slice(text)
+}
+
+// An image behind its length, which is written over four bytes once the image stands there.
+fn put_image(out: &mut Vec<u8>, image: &Image) -> Result<(), AllocError>
+    requires { IsInOrder image.now }
+    ensures spelled { OnOk result (length (image_bytes image.now) < 2 ^ 32 → out.new.items ≡ out.old.items ++ counted (image_bytes image.now)) }
+    ensures count { OnOk result (length out.new.items ≡ length out.old.items + length (counted (image_bytes image.now))) }
+    ensures in_range { OnOk result (IsImage image.now) }
+{
+    let at = out.len();
+    out.extend_from_slice(&[0; COUNT])?;
+    encode_image(out, image)?;
+    match u32::try_from(out.len() - at - COUNT) {
+        Ok(count) => {
+            write_count(out, at, count);
+            Ok(())
+        }
+        Err(_) => Ok(()),
+    }
+}
+
+// Writes a length over four bytes.
+fn write_count(bytes: &mut [u8], at: usize, count: u32)
+    requires { at + 4 ≤ length bytes.old }
+    ensures { bytes.new ≡ take at bytes.old ++ little_bytes 4 count ++ drop (at + 4) bytes.old }
+{
+    LittleEndian::write_u32(&mut bytes[at..], count);
+}
