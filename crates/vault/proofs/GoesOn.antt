@@ -16,10 +16,14 @@ use Rattle.vault.specs.Moves.{State, IsOneOf, with_event, LeavesOneOf, IsLeft, H
 
 -- what stands for something where other bytes are the same on each side
 alike : (one two : Contents) (g : Graph) (E X : Facts) → ((side : Side) → two side ≡ one side) → Stands one g E X → Stands two g E X
-alike one two g E X same it = (it.0, it.1, record {
-  is_side = subst (λ (bytes : List ℕ). IsSide bytes g it.1 E X) (sym (same it.0)) it.2.is_side;
-  behind = subst (λ (bytes : List ℕ). IsBehind bytes it.1) (sym (same (other_side it.0))) it.2.behind;
-})
+alike one two g E X same it = (
+  it.0,
+  it.1,
+  record {
+    is_side = subst (λ (bytes : List ℕ). IsSide bytes g it.1 E X) (sym (same it.0)) it.2.is_side;
+    behind = subst (λ (bytes : List ℕ). IsBehind bytes it.1) (sym (same (other_side it.0))) it.2.behind;
+  },
+)
 
 the_one : (state : State) → IsOneOf state (state ∷ [])
 the_one state = ([], [], refl)

@@ -1,2 +1,14 @@
+mod Appended
+mod Created
+mod GatesBytes
+mod GatesMoments
 mod GoesOn
 mod Live
+mod OpenedCalls
+mod OpenedErrors
+mod OpenedHeads
+mod OpenedSides
+mod Ready
+mod TurnedLengths
+mod TurnedSides
+mod TurnedStores

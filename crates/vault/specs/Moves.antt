@@ -12,7 +12,7 @@ use Rattle.graph.specs.Canonical.{canonical}
 use Rattle.sides.specs.Image.{with_facts}
 use Rattle.vault.specs.declared.vault.Vault.{Vault}
 use Rattle.vault.specs.Stands.{Stands}
-use Rattle.vault.specs.Store.{Holds, StandsBeforeOrAfter}
+use Rattle.vault.specs.Store.{Holds, IsReady, StandsBeforeOrAfter}
 
 -- facts, and of them those that the environment put first
 abbrev pub State : Type 0
@@ -48,6 +48,10 @@ module _ {D : Type 0} (files : D → Side → File) (moment : D → ℕ) (left_a
   abbrev pub HeldIsLeft : Type 0
   HeldIsLeft = (vault : Vault D) (g : Graph) (E X : Facts) → Holds files vault g E X → LeavesOneOf files g ((E, X) ∷ []) vault.disk
 
+  -- such a vault is ready for the next call
+  abbrev pub HeldIsReady : Type 0
+  HeldIsReady = (vault : Vault D) (g : Graph) (E X : Facts) → Holds files vault g E X → IsReady files vault
+
   -- a crash at a moment of an append leaves the state before the event or behind it
   abbrev pub AppendIsLeft : Type 0
   AppendIsLeft = (old new : Vault D) (g : Graph) (E X : Facts) (event : Event) (crashed : D)
@@ -70,4 +74,4 @@ module _ {D : Type 0} (files : D → Side → File) (moment : D → ℕ) (left_a
   OpeningRecovers = (g : Graph) (states : List State) (disk : D) → LeavesOneOf files g states disk → ((side : Side) → MayLeave (files disk side).durable (files disk side).content)
       → (((h : Graph) (F Y : Facts) → Stands (λ side. (files disk side).content) h F Y → ⊥) → ⊥)
       × ((vault : Vault D) (h : Graph) (F Y : Facts) → Holds files vault h F Y → ((side : Side) → (files vault.disk side).content ≡ (files disk side).content)
-          → (state : State) × IsOneOf state states × Holds files vault h state.0 state.1 × (canonical h ≡ canonical g))
+      → (state : State) × IsOneOf state states × Holds files vault h state.0 state.1 × (canonical h ≡ canonical g))

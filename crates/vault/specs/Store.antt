@@ -1,5 +1,5 @@
 -- What a vault keeps between two calls, and what its calls leave.
-use Rattle.std.specs.Prelude.{◌≡◌, ◌≢◌, ◌⊎◌, ◌+◌, ◌≤◌, ◌^◌, ℕ, false, List, [], ◌∷◌, length, None, Result, Ok, Err}
+use Rattle.std.specs.Prelude.{◌≡◌, ◌≢◌, ◌⊎◌, ◌+◌, ◌≤◌, ◌<◌, ◌^◌, ℕ, false, List, [], ◌∷◌, length, None, Result, Ok, Err}
 use Rattle.disk.specs.declared.side.Side.{Side}
 use Rattle.disk.specs.declared.side.Side.TheVariants.{A, B}
 use Rattle.disk.specs.File.{File, at_rest}
@@ -44,9 +44,11 @@ pub record Holds {D : Type 0} (files : D → Side → File) (vault : Vault D) (g
   pub ends : vault.journal.end ≡ end_of is_live.is_side
   pub text : vault.text.items ≡ canonical g
 
--- the vault holds something
-abbrev pub IsStore : {D : Type 0} → (D → Side → File) → Vault D → Type 0
-IsStore files vault = (g : Graph) × (E : Facts) × (X : Facts) × Holds files vault g E X
+-- What the calls of a vault ask for, and leave: all of both files is on the disk, and the journal's end lies within the live one.
+-- A vault that holds something is ready.
+pub record IsReady {D : Type 0} (files : D → Side → File) (vault : Vault D) : Type 0 where
+  pub rests : (side : Side) → files vault.disk side ≡ at_rest (files vault.disk side).content
+  pub within : vault.journal.end < length (files vault.disk vault.journal.side).content
 
 -- nothing of the vault changed that its promises speak of
 pub record IsSame {D : Type 0} (old new : Vault D) : Type 0 where

@@ -1,4 +1,4 @@
-ghost use Rattle.vault.specs.Moves.{HeldIsLeft, AppendIsLeft, TurnIsLeft, OpeningsLeave, OpeningRecovers};
+ghost use Rattle.vault.specs.Moves.{HeldIsLeft, HeldIsReady, AppendIsLeft, TurnIsLeft, OpeningsLeave, OpeningRecovers};
 
 use crate::one_store;
 use disk::Disk;
@@ -8,6 +8,7 @@ use sides::sides_go_on;
 /// off leave them so; and an opening that ends gives one of them to the next call, and never says that there is no store.
 pub fn stores_go_on<D: Disk>()
     ensures held { HeldIsLeft D.files D.moment D.left_at }
+    ensures ready { HeldIsReady D.files D.moment D.left_at }
     ensures append { AppendIsLeft D.files D.moment D.left_at }
     ensures turn { TurnIsLeft D.files D.moment D.left_at }
     ensures openings { OpeningsLeave D.files D.moment D.left_at }

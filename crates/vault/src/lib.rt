@@ -1,18 +1,29 @@
 //! The two files of a store: creation, appends, turnovers and openings.
 //!
-//! The files stand for a graph and a set of facts (`Stands` of `specs/Stands.antt`).
+//! The files stand for a graph and a set of facts (`Stands` of `specs/Stands.antt`), which a vault holds (`Holds` of
+//! `specs/Store.antt`). The layer above stands on `create`, `open`, `Vault::append` and `Vault::turn`: what each leaves at each
+//! moment, and from `Ok` on.
 #![tactic(auto)]
 
+mod append;
+mod creation;
 mod error;
+mod found;
+mod gates;
+mod heads;
 mod history;
 mod law;
 mod opening;
 mod refused;
+#[cfg(test)]
+mod tests;
+mod turn;
 mod vault;
 
+pub use creation::create;
 pub use error::VaultError;
 pub use history::stores_go_on;
 pub use law::one_store;
-pub use opening::Recovered;
+pub use opening::{Recovered, open};
 pub use refused::Refused;
 pub use vault::Vault;

@@ -1,7 +1,23 @@
-use crate::Vault;
+ghost use Rattle.std.specs.Prelude.{◌≡◌, ◌≢◌, ◌≤◌, ◌<◌, ◌↔◌, false, IsTrue, IfOk, IfErr, IsErrAnd, IsErrOf, OnOk};
+ghost use Rattle.disk.specs.declared.side.Side.{Side};
+ghost use Rattle.disk.specs.File.{at_rest};
+ghost use Rattle.disk.specs.Time.{Contents, LeavesOnly, MayLeaveNow, HasCause};
+ghost use Rattle.terms.specs.Sets.{Facts};
+ghost use Rattle.graph.specs.Graph.{Graph};
+ghost use Rattle.sides.specs.Image.{IsListed, facts_in, environment_in};
+ghost use Rattle.vault.specs.Stands.{Stands};
+ghost use Rattle.vault.specs.Store.{Holds, IsReady, SaysNothing, disk_of_opening};
+ghost use Rattle.vault.specs.Opened.{OnlyReads, IsFound, StandsForNothing, IsOfOpening, contents_of};
+ghost use Rattle.vault.specs.declared.error.VaultError.TheVariants.{Device, Full, Halted, Exists};
+
+use crate::found::{Found, found_in};
+use crate::heads::live_side;
+use crate::{Refused, Vault, VaultError};
 use codec::Image;
-use disk::Disk;
+use disk::{Disk, DiskError, Side};
 use graph::Graph;
+use sides::{one_meaning_of_a_side, sides_go_on};
+use std::alloc::Global;
 
 /// An opened store: its vault, its graph, and the image of what it holds.
 #[derive(Drop)]
@@ -9,4 +25,111 @@ pub struct Recovered<D: Disk> {
     pub vault: Vault<D>,
     pub graph: Graph,
     pub image: Image,
+}
+
+/// Opens the store on two files, and reads what it holds.
+///
+/// Both files are synced first, so that what was read is what every later crash leaves. Nothing is written, whatever it answers.
+/// `NotAStore` says that no side is open; `Damaged` tells the side and the place of the first check that failed: an open side of
+/// fewer than ten bytes (A before B, at its length), both sides of one generation (A, at 2), and of the live side its format (at
+/// 1), its graph's text, its length first (at 10 and 14), its image (at its length's place), and its journal (at the gate of the first
+/// record that is not whole, is no event, or does not fit, or where the journal's last gate is missing).
+pub fn open<D: Disk>(alloc: Global, disk: D) -> Result<Recovered<D>, Refused<D>>
+    ensures found { IsTrue D.is_honest → IfOk result (λ r. Holds D.files r.vault r.graph (environment_in r.image) (facts_in r.image)) }
+    ensures ready { IsTrue D.is_honest → IfOk result (λ r. IsReady D.files r.vault) }
+    ensures listed { IfOk result (λ r. IsListed r.image) }
+    ensures working { IfOk result (λ r. r.vault.halted ≡ false) }
+    ensures nothing { IsTrue D.is_honest → IfErr result (λ refused. SaysNothing refused.error → (g : Graph) (E X : Facts) → Stands (λ side. (D.files disk side).content) g E X → ⊥) }
+
+    // What reads give stays, and a crash at any moment of the call leaves what one might have left before it.
+    ensures reads { IsTrue D.is_honest → (side : Side) → (D.files (disk_of_opening result) side).content ≡ (D.files disk side).content }
+    ensures any_moment { IsTrue D.is_honest → LeavesOnly D.moment D.left_at disk (disk_of_opening result) (MayLeaveNow (D.files disk)) }
+    ensures left { IsTrue D.is_honest → (contents : Contents) → MayLeaveNow (D.files (disk_of_opening result)) contents → MayLeaveNow (D.files disk) contents }
+
+    ensures others { IfErr result (λ refused. (refused.error ≢ Full) × (refused.error ≢ Halted) × (refused.error ≢ Exists)) }
+    ensures device { IsErrAnd result (λ refused. refused.error ≡ Device) ↔ (D.failures disk < D.failures (disk_of_opening result)) }
+    ensures failures { D.failures disk ≤ D.failures (disk_of_opening result) }
+{
+    sides_go_on();
+    let mut disk = disk;
+    match recover(alloc, &mut disk) {
+        Ok(found) => {
+            let Found {
+                journal,
+                generation,
+                text,
+                graph,
+                image,
+            } = found;
+            let vault = Vault {
+                disk,
+                journal,
+                generation,
+                text,
+                halted: false,
+                buffer: Vec::new(alloc),
+            };
+            Ok(Recovered {
+                vault,
+                graph,
+                image,
+            })
+        }
+        Err(error) => Err(Refused { disk, error }),
+    }
+}
+
+// Syncs both files, and reads what they stand for.
+fn recover<D: Disk>(alloc: Global, disk: &mut D) -> Result<Found, VaultError>
+    ensures found { IsTrue D.is_honest → IfOk result (IsFound (contents_of (D.files disk.old))) }
+    ensures listed { IfOk result (λ found. IsListed found.image) }
+    ensures rests { IsTrue D.is_honest → OnOk result ((side : Side) → D.files disk.new side ≡ at_rest (D.files disk.old side).content) }
+    ensures nothing { IsTrue D.is_honest → IfErr result (λ error. SaysNothing error → StandsForNothing (contents_of (D.files disk.old))) }
+    ensures only_reads { IsTrue D.is_honest → OnlyReads D.files D.moment D.left_at disk.old disk.new }
+    ensures others { IfErr result IsOfOpening }
+    ensures device { IsErrOf result Device ↔ (D.failures disk.old < D.failures disk.new) }
+    ensures failures { D.failures disk.old ≤ D.failures disk.new }
+{
+    settle(disk)?;
+    look(alloc, disk)
+}
+
+// Syncs both files.
+fn settle<D: Disk>(disk: &mut D) -> Result<(), DiskError>
+    ensures rests { IsTrue D.is_honest → OnOk result ((side : Side) → D.files disk.new side ≡ at_rest (D.files disk.old side).content) }
+    ensures only_reads { IsTrue D.is_honest → OnlyReads D.files D.moment D.left_at disk.old disk.new }
+    ensures cause { HasCause (D.failures disk.old) (D.failures disk.new) result }
+{
+    disk.sync(Side::A)?;
+    disk.sync(Side::B)
+}
+
+// Reads what the files stand for.
+fn look<D: Disk>(alloc: Global, disk: &mut D) -> Result<Found, VaultError>
+    ensures found { IsTrue D.is_honest → IfOk result (IsFound (contents_of (D.files disk.old))) }
+    ensures listed { IfOk result (λ found. IsListed found.image) }
+    ensures nothing { IsTrue D.is_honest → IfErr result (λ error. SaysNothing error → StandsForNothing (contents_of (D.files disk.old))) }
+    ensures same { IsTrue D.is_honest → (each : Side) → D.files disk.new each ≡ D.files disk.old each }
+    ensures only_reads { IsTrue D.is_honest → OnlyReads D.files D.moment D.left_at disk.old disk.new }
+    ensures others { IfErr result IsOfOpening }
+    ensures device { IsErrOf result Device ↔ (D.failures disk.old < D.failures disk.new) }
+    ensures failures { D.failures disk.old ≤ D.failures disk.new }
+{
+    one_meaning_of_a_side();
+    let side = live_side(disk)?;
+    let bytes = read_whole(alloc, disk, side)?;
+    found_in(alloc, side, &bytes)
+}
+
+// What reads give of a file.
+fn read_whole<D: Disk>(alloc: Global, disk: &mut D, side: Side) -> Result<Vec<u8>, DiskError>
+    ensures value { IsTrue D.is_honest → IfOk result (λ bytes. bytes.items ≡ (D.files disk.old side).content) }
+    ensures same { IsTrue D.is_honest → (each : Side) → D.files disk.new each ≡ D.files disk.old each }
+    ensures only_reads { IsTrue D.is_honest → OnlyReads D.files D.moment D.left_at disk.old disk.new }
+    ensures cause { HasCause (D.failures disk.old) (D.failures disk.new) result }
+{
+    let count = disk.len(side)?;
+    let mut bytes = vec![in alloc; 0; count as usize]?;
+    disk.read(side, 0, &mut bytes)?;
+    Ok(bytes)
 }

@@ -1,4 +1,5 @@
 use Rattle.vault.proofs.GoesOn as store
+use Rattle.vault.proofs.Ready.{held_is_ready}
 use Rattle.vault.proofs.history.stores_go_on.Goals as goal
 
 pub returns-clause-held : goal.returns-clause-held
@@ -15,3 +16,6 @@ returns-clause-openings g c = store.openings g.D.Disk.files g.D.Disk.moment g.D.
 
 pub returns-clause-recovers : goal.returns-clause-recovers
 returns-clause-recovers g c = store.recovers g.D.Disk.files g.D.Disk.moment g.D.Disk.left_at c.sides_go_on.ensures.as_set c.one_store.ensures
+
+pub returns-clause-ready : goal.returns-clause-ready
+returns-clause-ready g c = held_is_ready g.D.Disk.files c.sides_go_on.ensures.journal

@@ -1,0 +1,101 @@
+-- What a crash leaves at each moment while a side is written anew.
+use Rattle.std.proofs.Common.{◌≡◌, ◌≢◌, inl, inr, ℕ, List, [], ◌∷◌, ap, subst, ◌∙◌}
+use Rattle.std.specs.Prelude.{◌↔◌, Result}
+use Rattle.disk.specs.declared.side.Side.{Side}
+use Rattle.disk.specs.declared.error.DiskError.{DiskError}
+use Rattle.disk.specs.File.{File, MayLeave, Changes, WriteLeaves, at_rest, touching, write_touches, cut, cut_touches}
+use Rattle.disk.specs.Time.{Contents, MayLeaveNow, OtherStays, OtherMayBe, Elapses, LeavesOnly}
+use Rattle.disk.specs.Moments.{begun, goes_on, weakened, joined, other_before}
+use Rattle.disk.specs.Settled.{settled_only}
+use Rattle.sides.specs.Side.{IsOpen}
+use Rattle.vault.specs.Turned.{IsUnshut, Rests, RestsShut, MayShut, MayTurn}
+use Rattle.vault.proofs.GatesBytes.{not_open, kept_shut, cut_leaves, write_leaves, closing_leaves, opening_leaves}
+
+module _ {D : Type 0} (files : D → Side → File) (moment : D → ℕ) (left_at : D → ℕ → Contents → Type 0)
+    (at_now : (disk : D) (c : Contents) → left_at disk (moment disk) c ↔ MayLeaveNow (files disk) c) where
+  now_same : (old new : D) → ((each : Side) → files new each ≡ files old each) → (c : Contents) → MayLeaveNow (files new) c → MayLeaveNow (files old) c
+  now_same old new same c left each = subst (λ (f : File). MayLeave f.durable (c each)) (same each) (left each)
+
+  -- a call that only reads
+  pub look_moments : (old new : D) → ((each : Side) → files new each ≡ files old each) → Elapses (moment old) (moment new) (left_at old) (left_at new) → LeavesOnly moment left_at old new (MayLeaveNow (files old))
+  look_moments old new same time =
+      goes_on moment left_at old old new (MayLeaveNow (files old)) (begun moment left_at old (MayLeaveNow (files old)) (λ c left. (at_now old c).0 left)) time
+      (λ c left. now_same old new same c ((at_now new c).0 left))
+
+  -- two of them
+  pub looks_moments : (old mid new : D) → ((each : Side) → files mid each ≡ files old each) → ((each : Side) → files new each ≡ files mid each)
+      → Elapses (moment old) (moment mid) (left_at old) (left_at mid) → Elapses (moment mid) (moment new) (left_at mid) (left_at new) → LeavesOnly moment left_at old new (MayLeaveNow (files old))
+  looks_moments old mid new first second time later =
+      joined moment left_at old mid new _ _ _ (look_moments old mid first time) (look_moments mid new second later) (λ c left. left) (now_same old mid first)
+
+  module _ (side : Side) where
+    -- ---- the gate is closed
+
+    -- where nothing was written
+    pub unwritten_moments : (old new : D) → Rests (files old side) → LeavesOnly moment left_at old new (MayLeaveNow (files old))
+        → LeavesOnly moment left_at old new (λ c. MayShut (files old side).content (c side) × OtherMayBe side (files old) c)
+    unwritten_moments old new rests looked = weakened moment left_at old new _ _ looked (λ c left.
+        (inl (settled_only (files old side).content (c side) (subst (λ (f : File). MayLeave f.durable (c side)) rests (left side))), λ other differs. left other))
+
+    -- and where a closed gate was, over an open one
+    pub closing_moments : (old mid new : D) → Rests (files old side) → IsUnshut (files old side).content → (files old side).content ≢ [] → ((each : Side) → files mid each ≡ files old each)
+        → LeavesOnly moment left_at old mid (MayLeaveNow (files old))
+        → LeavesOnly moment left_at mid new (λ c. WriteLeaves (files old side).content 0 1 (c side) × OtherMayBe side (files mid) c)
+        → LeavesOnly moment left_at old new (λ c. MayShut (files old side).content (c side) × OtherMayBe side (files old) c)
+    closing_moments old mid new rests unshut there same looked wrote =
+        joined moment left_at old mid new _ _ _ (unwritten_moments old mid rests looked) wrote (λ c left. left)
+        (λ c left. (closing_leaves (files old side).content (c side) unshut there left.0, other_before side (files old) (files mid) (λ other differs. same other) c left.1))
+
+    -- ---- the bytes behind it
+
+    abbrev pub StaysShut : (Side → File) → Contents → Type 0
+    StaysShut before c = (IsOpen (c side) → ⊥) × OtherMayBe side before c
+
+    module _ (old : D) (shut : RestsShut (files old side)) where
+      shut_now : (c : Contents) → MayLeaveNow (files old) c → StaysShut (files old) c
+      shut_now c left =
+          let same = settled_only (files old side).content (c side) (subst (λ (f : File). MayLeave f.durable (c side)) shut.0 (left side)) in
+          (not_open shut.1.gate shut.1.rest (c side) shut.1.closed (same ∙ shut.1.spelled), λ other differs. left other)
+
+      module _ (mid : D) (stays : OtherStays side (files old) (files mid)) (time : Elapses (moment old) (moment mid) (left_at old) (left_at mid)) where
+        pub cut_moments : (T : Type 0) (result : Result T DiskError) → Changes (cut 1) (cut_touches 1) result (files old side) (files mid side) → LeavesOnly moment left_at old mid (StaysShut (files old))
+        cut_moments T result changes =
+            goes_on moment left_at old old mid (StaysShut (files old)) (begun moment left_at old (StaysShut (files old)) (λ c left. shut_now c ((at_now old c).0 left))) time
+            (λ c left. let now = (at_now mid c).0 left in (
+              kept_shut (files old side).content (c side) shut.1 (cut_leaves T result (files old side).content (files mid side) (subst (λ (f : File). Changes (cut 1) (cut_touches 1) result f (files mid side)) shut.0 changes) (c side) (now side)),
+              other_before side (files old) (files mid) stays c (λ other differs. now other),
+            ))
+
+        pub behind_moments : (new : D) (count : ℕ) → files mid side ≡ cut 1 (files old side) → LeavesOnly moment left_at old mid (StaysShut (files old))
+            → LeavesOnly moment left_at mid new (λ c. MayLeave (touching (write_touches (files mid side).durable 1 count) (files mid side).durable) (c side) × OtherMayBe side (files mid) c)
+            → LeavesOnly moment left_at old new (StaysShut (files old))
+        behind_moments new count is first wrote =
+            let was : files mid side ≡ cut 1 (at_rest (files old side).content) = is ∙ ap (cut 1) shut.0 in
+            joined moment left_at old mid new _ _ _ first wrote (λ c left. left)
+            (λ c left. (
+              kept_shut (files old side).content (c side) shut.1 (write_leaves (files old side).content count shut.1 (c side) (subst (λ (f : File). MayLeave (touching (write_touches f.durable 1 count) f.durable) (c side)) was left.0)),
+              other_before side (files old) (files mid) stays c left.1,
+            ))
+
+    -- ---- the whole of it
+
+    module _ (old : D) (behind : List ℕ) where
+      abbrev pub Turns : Contents → Type 0
+      Turns c = MayTurn (files old side).content (1 ∷ behind) (c side) × OtherMayBe side (files old) c
+
+      module _ (closed : D) (stays : OtherStays side (files old) (files closed)) where
+        pub closed_moments : LeavesOnly moment left_at old closed (λ c. MayShut (files old side).content (c side) × OtherMayBe side (files old) c) → LeavesOnly moment left_at old closed Turns
+        closed_moments first = weakened moment left_at old closed _ _ first (λ c left. (inl left.0, left.1))
+
+        pub written_moments : (wrote : D) → LeavesOnly moment left_at old closed (λ c. MayShut (files old side).content (c side) × OtherMayBe side (files old) c)
+            → LeavesOnly moment left_at closed wrote (StaysShut (files closed)) → LeavesOnly moment left_at old wrote Turns
+        written_moments wrote first second =
+            joined moment left_at old closed wrote _ _ _ (closed_moments first) second (λ c left. left) (λ c left. (inl (inr left.0), other_before side (files old) (files closed) stays c left.1))
+
+        pub opened_moments : (wrote new : D) (gate : ℕ) → OtherStays side (files closed) (files wrote) → LeavesOnly moment left_at old wrote Turns
+            → LeavesOnly moment left_at wrote new (λ c. WriteLeaves (gate ∷ behind) 0 1 (c side) × OtherMayBe side (files wrote) c) → LeavesOnly moment left_at old new Turns
+        opened_moments wrote new gate later first second =
+            joined moment left_at old wrote new _ _ _ first second (λ c left. left) (λ c left. (
+              opening_leaves gate behind (files old side).content (c side) left.0,
+              other_before side (files old) (files closed) stays c (other_before side (files closed) (files wrote) later c left.1),
+            ))

@@ -1,0 +1,73 @@
+-- Calls that sync and read a store's files, one after another.
+use Rattle.std.proofs.Common.{◌≡◌, ℕ, inl, inr, ap, subst, ◌∙◌}
+use Rattle.std.specs.Prelude.{◌↔◌, Result, Ok, Err, OnOk}
+use Rattle.disk.specs.declared.side.Side.{Side}
+use Rattle.disk.specs.declared.side.Side.TheVariants.{A, B}
+use Rattle.disk.specs.declared.error.DiskError.{DiskError}
+use Rattle.disk.specs.Side.{which}
+use Rattle.disk.specs.File.{File, MayLeave, Syncs, at_rest}
+use Rattle.disk.specs.Time.{Contents, MayLeaveNow, OtherStays, Elapses}
+use Rattle.disk.specs.Moments.{begun, goes_on, joined}
+use Rattle.disk.specs.Settled.{now_after_sync}
+use Rattle.vault.specs.Opened.{OnlyReads, contents_of}
+
+-- what reads give stays at a sync
+sync_reads : (T : Type 0) (result : Result T DiskError) (old new : File) → Syncs result old new → new.content ≡ old.content
+sync_reads T (Ok _) old new syncs = ap (λ (f : File). f.content) syncs
+sync_reads T (Err _) old new syncs = ap (λ (f : File). f.content) syncs
+
+-- of both files, where the other one stays
+reads_stay : (side : Side) (old new : Side → File) → (new side).content ≡ (old side).content → OtherStays side old new → (each : Side) → (new each).content ≡ (old each).content
+reads_stay side old new here stays each = elim (which side each) [
+  | inl it ↦ subst (λ (s : Side). (new s).content ≡ (old s).content) it here
+  | inr differs ↦ ap (λ (f : File). f.content) (stays each differs)
+]
+
+-- what reads give, as one function
+pub same_contents : (old new : Side → File) → ((side : Side) → (new side).content ≡ (old side).content) → contents_of new ≡ contents_of old
+same_contents old new same = λ i side. same side i
+
+-- after a sync of each file both are at rest
+both_rest : (old mid new : Side → File) → mid A ≡ at_rest (old A).content → OtherStays A old mid → new B ≡ at_rest (mid B).content → OtherStays B mid new → (side : Side) → new side ≡ at_rest (old side).content
+both_rest old mid new a other_a b other_b A = other_b A (λ (e : A ≡ B). cc) ∙ a
+both_rest old mid new a other_a b other_b B = b ∙ ap (λ (f : File). at_rest f.content) (other_a B (λ (e : B ≡ A). cc))
+
+-- where the second sync succeeds
+pub both_synced : (T : Type 0) (result : Result T DiskError) (old mid new : Side → File) → mid A ≡ at_rest (old A).content → OtherStays A old mid → Syncs result (mid B) (new B) → OtherStays B mid new
+    → OnOk result ((side : Side) → new side ≡ at_rest (old side).content)
+both_synced T (Ok _) old mid new a other_a b other_b = both_rest old mid new a other_a b other_b
+both_synced T (Err _) old mid new a other_a b other_b = tt
+
+module _ {D : Type 0} (files : D → Side → File) (moment : D → ℕ) (left_at : D → ℕ → Contents → Type 0) where
+  -- calls behind others
+  pub then_reads : (old mid new : D) → OnlyReads files moment left_at old mid → OnlyReads files moment left_at mid new → OnlyReads files moment left_at old new
+  then_reads old mid new first last = record {
+    reads = λ side. last.reads side ∙ first.reads side;
+    any_moment = joined moment left_at old mid new _ _ _ first.any_moment last.any_moment (λ c left. left) first.left;
+    left = λ c left. first.left c (last.left c left);
+  }
+
+  module _ (at_now : (disk : D) (c : Contents) → left_at disk (moment disk) c ↔ MayLeaveNow (files disk) c) where
+    -- one call behind which a crash leaves nothing more
+    one_call : (old new : D) → ((side : Side) → (files new side).content ≡ (files old side).content) → Elapses (moment old) (moment new) (left_at old) (left_at new)
+        → ((c : Contents) → MayLeaveNow (files new) c → MayLeaveNow (files old) c) → OnlyReads files moment left_at old new
+    one_call old new reads time left = record {
+      reads = reads;
+      any_moment =
+          goes_on moment left_at old old new (MayLeaveNow (files old)) (begun moment left_at old (MayLeaveNow (files old)) (λ c now. (at_now old c).0 now)) time
+          (λ c now. left c ((at_now new c).0 now));
+      left = left;
+    }
+
+    -- a call that changes no file
+    pub looked : (old new : D) → ((each : Side) → files new each ≡ files old each) → Elapses (moment old) (moment new) (left_at old) (left_at new) → OnlyReads files moment left_at old new
+    looked old new same time =
+        one_call old new (λ side. ap (λ (f : File). f.content) (same side)) time
+        (λ c left each. subst (λ (f : File). MayLeave f.durable (c each)) (same each) (left each))
+
+    -- a sync, whatever it answered
+    pub synced : (T : Type 0) (side : Side) (result : Result T DiskError) (old new : D) → MayLeave (files old side).durable (files old side).content → Syncs result (files old side) (files new side)
+        → OtherStays side (files old) (files new) → Elapses (moment old) (moment new) (left_at old) (left_at new) → OnlyReads files moment left_at old new
+    synced T side result old new reads syncs stays time =
+        one_call old new (reads_stay side (files old) (files new) (sync_reads T result (files old side) (files new side) syncs) stays) time
+        (now_after_sync T side result (files old) (files new) syncs stays reads)

@@ -1,0 +1,31 @@
+use Rattle.std.proofs.Common.{subst}
+use Rattle.std.proofs.lemmas.Result.{IfErr-weaker}
+use Rattle.disk.specs.declared.side.Side.TheVariants.{B}
+use Rattle.disk.specs.File.{File}
+use Rattle.vault.specs.Opened.{IsGenerationOf, StandsForNothing, contents_of}
+use Rattle.vault.proofs.OpenedCalls.{then_reads, same_contents}
+use Rattle.vault.proofs.OpenedErrors.{handed_on}
+use Rattle.vault.proofs.heads.live_side.Goals as goal
+
+pub returns-in_err-a-clause-nothing : goal.returns-in_err-a-clause-nothing
+returns-in_err-a-clause-nothing g c honest = handed_on _ c.in_err-a.field-0.0 c.from_residual.result c.from_residual.ensures.1 (c.in_err-a.ensures.nothing honest)
+
+pub returns-in_err-b-clause-nothing : goal.returns-in_err-b-clause-nothing
+returns-in_err-b-clause-nothing g c honest =
+    let files = g.D.Disk.files in
+    let same = same_contents (files c.args.disk.now) (files c.generation_of.new.disk) (c.generation_of.ensures.only_reads honest).reads in
+    handed_on _ c.in_err-b.field-0.0 c.from_residual-in_err-b.result c.from_residual-in_err-b.ensures.1 (λ says. subst StandsForNothing same (c.in_err-b.ensures.nothing honest says))
+
+pub returns-clause-nothing : goal.returns-clause-nothing
+returns-clause-nothing g c honest =
+    let files = g.D.Disk.files in
+    let b = subst (λ (f : File). IsGenerationOf c.in_ok-b.b f.content) (c.generation_of.ensures.same honest B) (c.in_ok-b.ensures.generation honest) in
+    IfErr-weaker c.ahead.result _ _ (λ error none says. none) (c.ahead.ensures.nothing (contents_of (files c.args.disk.now)) (c.in_ok-a.ensures.generation honest) b)
+
+pub returns-in_err-b-clause-only_reads : goal.returns-in_err-b-clause-only_reads
+returns-in_err-b-clause-only_reads g c honest =
+    then_reads g.D.Disk.files g.D.Disk.moment g.D.Disk.left_at c.args.disk.now c.generation_of.new.disk c.generation_of-2.new.disk (c.generation_of.ensures.only_reads honest) (c.generation_of-2.ensures.only_reads honest)
+
+pub returns-clause-only_reads : goal.returns-clause-only_reads
+returns-clause-only_reads g c honest =
+    then_reads g.D.Disk.files g.D.Disk.moment g.D.Disk.left_at c.args.disk.now c.generation_of.new.disk c.generation_of-2.new.disk (c.generation_of.ensures.only_reads honest) (c.generation_of-2.ensures.only_reads honest)

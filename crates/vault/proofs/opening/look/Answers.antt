@@ -1,0 +1,39 @@
+use Rattle.std.proofs.Common.{ℕ, List, ap, subst, sym, ◌∙◌}
+use Rattle.std.proofs.lemmas.Result.{IfOk-weaker, IfErr-weaker}
+use Rattle.disk.specs.File.{File}
+use Rattle.sides.specs.Side.{HasGeneration}
+use Rattle.vault.specs.Opened.{IsNoSide, contents_of}
+use Rattle.vault.proofs.OpenedCalls.{then_reads}
+use Rattle.vault.proofs.OpenedErrors.{handed_on}
+use Rattle.vault.proofs.OpenedSides.{ahead_is_none, ahead_is_found}
+use Rattle.vault.proofs.opening.look.Goals as goal
+
+pub returns-in_err-side-clause-nothing : goal.returns-in_err-side-clause-nothing
+returns-in_err-side-clause-nothing g c honest = handed_on _ c.in_err-side.field-0.0 c.from_residual.result c.from_residual.ensures.1 (c.in_err-side.ensures.nothing honest)
+
+pub returns-in_err-bytes-clause-only_reads : goal.returns-in_err-bytes-clause-only_reads
+returns-in_err-bytes-clause-only_reads g c honest =
+    then_reads g.D.Disk.files g.D.Disk.moment g.D.Disk.left_at c.args.disk.now c.live_side.new.disk c.read_whole.new.disk (c.live_side.ensures.only_reads honest) (c.read_whole.ensures.only_reads honest)
+
+pub returns-clause-only_reads : goal.returns-clause-only_reads
+returns-clause-only_reads g c honest =
+    then_reads g.D.Disk.files g.D.Disk.moment g.D.Disk.left_at c.args.disk.now c.live_side.new.disk c.read_whole.new.disk (c.live_side.ensures.only_reads honest) (c.read_whole.ensures.only_reads honest)
+
+pub returns-clause-found : goal.returns-clause-found
+returns-clause-found g c honest =
+    let files = g.D.Disk.files in
+    let whole = c.deref.ensures.value ∙ c.in_ok-bytes.ensures.value honest ∙ ap (λ (f : File). f.content) (c.live_side.ensures.same honest c.in_ok-side.side) in
+    IfOk-weaker c.found_in.result _ _
+    (λ found it. ahead_is_found c.one_meaning_of_a_side.ensures.generation c.one_meaning_of_a_side.ensures.one_generation (contents_of (files c.args.disk.now)) c.in_ok-side.side c.deref.result.now found
+    (c.in_ok-side.ensures.ahead honest) whole it)
+    c.found_in.ensures.found
+
+pub returns-clause-nothing : goal.returns-clause-nothing
+returns-clause-nothing g c honest =
+    let files = g.D.Disk.files in
+    let whole = c.deref.ensures.value ∙ c.in_ok-bytes.ensures.value honest ∙ ap (λ (f : File). f.content) (c.live_side.ensures.same honest c.in_ok-side.side) in
+    let ahead = c.in_ok-side.ensures.ahead honest in
+    IfErr-weaker c.found_in.result _ _
+    (λ error none says. ahead_is_none c.one_meaning_of_a_side.ensures.generation c.one_meaning_of_a_side.ensures.one_generation (contents_of (files c.args.disk.now)) c.in_ok-side.side ahead
+    (subst IsNoSide whole (none says)))
+    (c.found_in.ensures.nothing ahead.generation (subst (λ (bytes : List ℕ). HasGeneration bytes ahead.generation) (sym whole) ahead.has))

@@ -1,0 +1,22 @@
+use Rattle.std.proofs.Common.{subst}
+use Rattle.std.specs.Prelude.{IfOk, IfErr}
+use Rattle.disk.specs.Time.{Contents}
+use Rattle.vault.specs.Store.{SaysNothing}
+use Rattle.vault.specs.Opened.{IsFound, StandsForNothing}
+use Rattle.vault.proofs.OpenedCalls.{then_reads, same_contents}
+use Rattle.vault.proofs.opening.recover.Goals as goal
+
+pub returns-clause-found : goal.returns-clause-found
+returns-clause-found g c honest =
+    let files = g.D.Disk.files in
+    subst (λ (contents : Contents). IfOk c.look.result (IsFound contents)) (same_contents (files c.args.disk.now) (files c.settle.new.disk) (c.settle.ensures.only_reads honest).reads) (c.look.ensures.found honest)
+
+pub returns-clause-nothing : goal.returns-clause-nothing
+returns-clause-nothing g c honest =
+    let files = g.D.Disk.files in
+    subst (λ (contents : Contents). IfErr c.look.result (λ error. SaysNothing error → StandsForNothing contents)) (same_contents (files c.args.disk.now) (files c.settle.new.disk) (c.settle.ensures.only_reads honest).reads)
+    (c.look.ensures.nothing honest)
+
+pub returns-clause-only_reads : goal.returns-clause-only_reads
+returns-clause-only_reads g c honest =
+    then_reads g.D.Disk.files g.D.Disk.moment g.D.Disk.left_at c.args.disk.now c.settle.new.disk c.look.new.disk (c.settle.ensures.only_reads honest) (c.look.ensures.only_reads honest)

@@ -1,0 +1,68 @@
+-- What opening finds of a store's files, and what it leaves of them.
+use Rattle.std.specs.Prelude.{◌≡◌, ◌≢◌, ℕ, List, Option, Some, None}
+use Rattle.disk.specs.declared.side.Side.{Side}
+use Rattle.disk.specs.File.{File}
+use Rattle.disk.specs.Time.{Contents, MayLeaveNow, LeavesOnly}
+use Rattle.terms.specs.Sets.{Facts}
+use Rattle.graph.specs.Graph.{Graph}
+use Rattle.graph.specs.Canonical.{canonical}
+use Rattle.sides.specs.Image.{facts_in, environment_in}
+use Rattle.sides.specs.Side.{IsSide, IsOpen, HasGeneration, end_of}
+use Rattle.vault.specs.declared.found.Found.{Found}
+use Rattle.vault.specs.declared.error.VaultError.{VaultError}
+use Rattle.vault.specs.declared.error.VaultError.TheVariants.{Full, Halted, Exists}
+use Rattle.vault.specs.Stands.{Stands, IsLive, IsBehind, other_side}
+
+-- what reads give of both files
+abbrev pub contents_of : (Side → File) → Contents
+contents_of files side = (files side).content
+
+-- ---- what calls that sync and read leave
+
+-- What reads give stays, and a crash at any moment of the calls, or behind them, leaves what one might have left before them.
+pub record OnlyReads {D : Type 0} (files : D → Side → File) (moment : D → ℕ) (left_at : D → ℕ → Contents → Type 0) (old new : D) : Type 0 where
+  pub reads : (side : Side) → (files new side).content ≡ (files old side).content
+  pub any_moment : LeavesOnly moment left_at old new (MayLeaveNow (files old))
+  pub left : (contents : Contents) → MayLeaveNow (files new) contents → MayLeaveNow (files old) contents
+
+-- ---- what the heads tell
+
+-- the side is closed, or has this generation
+abbrev pub IsGenerationOf : Option ℕ → List ℕ → Type 0
+IsGenerationOf None bytes = IsOpen bytes → ⊥
+IsGenerationOf (Some generation) bytes = HasGeneration bytes generation
+
+-- the side has a generation, and the other one is behind it
+pub record IsAhead (contents : Contents) (side : Side) : Type 0 where
+  pub generation : ℕ
+  pub has : HasGeneration (contents side) generation
+  pub behind : IsBehind (contents (other_side side)) generation
+
+-- the files stand for no graph and no facts
+abbrev pub StandsForNothing : Contents → Type 0
+StandsForNothing contents = (g : Graph) (E X : Facts) → Stands contents g E X → ⊥
+
+-- ---- what a side gives
+
+-- the bytes of the side stand for what was found of them
+pub record IsFoundIn (side : Side) (bytes : List ℕ) (found : Found) : Type 0 where
+  pub is_side : IsSide bytes found.graph found.generation (environment_in found.image) (facts_in found.image)
+  pub side_is : found.journal.side ≡ side
+  pub ends : found.journal.end ≡ end_of is_side
+  pub text : found.text.items ≡ canonical found.graph
+
+-- the bytes of a side stand for nothing
+abbrev pub IsNoSide : List ℕ → Type 0
+IsNoSide bytes = (g : Graph) (generation : ℕ) (E X : Facts) → IsSide bytes g generation E X → ⊥
+
+-- both files stand for what was found, and one that is live gave it
+pub record IsFound (contents : Contents) (found : Found) : Type 0 where
+  pub is_live : IsLive contents found.journal.side found.generation found.graph (environment_in found.image) (facts_in found.image)
+  pub ends : found.journal.end ≡ end_of is_live.is_side
+  pub text : found.text.items ≡ canonical found.graph
+
+-- ---- why it is refused
+
+-- an error that opening may answer
+abbrev pub IsOfOpening : VaultError → Type 0
+IsOfOpening error = (error ≢ Full) × (error ≢ Halted) × (error ≢ Exists)

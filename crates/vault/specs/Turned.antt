@@ -1,0 +1,35 @@
+-- What a file is while its side is written anew.
+use Rattle.std.specs.Prelude.{◌≡◌, ◌≢◌, ◌⊎◌, ℕ, List, [], ◌∷◌}
+use Rattle.disk.specs.File.{File, at_rest}
+use Rattle.sides.specs.Side.{IsOpen}
+
+-- the bytes begin with a gate that is not open
+pub record IsShut (bytes : List ℕ) : Type 0 where
+  pub gate : ℕ
+  pub closed : gate ≢ 1
+  pub rest : List ℕ
+  pub spelled : bytes ≡ gate ∷ rest
+
+-- they are none, or begin with an open one
+abbrev pub IsUnshut : List ℕ → Type 0
+IsUnshut bytes = (bytes ≡ []) ⊎ IsOpen bytes
+
+-- all of the file is on the disk
+abbrev pub Rests : File → Type 0
+Rests file = file ≡ at_rest file.content
+
+-- and it begins with a gate that is not open
+abbrev pub RestsShut : File → Type 0
+RestsShut file = Rests file × IsShut file.content
+
+-- behind such a gate it has these bytes
+abbrev pub HasBehindGate : File → List ℕ → Type 0
+HasBehindGate file bytes = (gate : ℕ) × (gate ≢ 1) × (file ≡ at_rest (gate ∷ bytes))
+
+-- of the old bytes a crash leaves those, or a side that is not open
+abbrev pub MayShut : List ℕ → List ℕ → Type 0
+MayShut old bytes = (bytes ≡ old) ⊎ (IsOpen bytes → ⊥)
+
+-- or the new ones
+abbrev pub MayTurn : List ℕ → List ℕ → List ℕ → Type 0
+MayTurn old new bytes = MayShut old bytes ⊎ (bytes ≡ new)

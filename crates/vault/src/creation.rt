@@ -1,0 +1,145 @@
+ghost use Rattle.std.specs.Prelude.{◌≡◌, ◌≢◌, ◌≤◌, ◌<◌, ◌+◌, ◌^◌, ◌⊎◌, ◌↔◌, ℕ, true, false, List, [], ◌∷◌, length, IsTrue, IfOk, OnOk, IfErr, IsErrAnd, IsErrOf};
+ghost use Rattle.disk.specs.File.{at_rest};
+ghost use Rattle.disk.specs.Time.{HasCause};
+ghost use Rattle.disk.specs.declared.side.Side.{Side};
+ghost use Rattle.disk.specs.declared.side.Side.TheVariants.{A, B};
+ghost use Rattle.graph.specs.Graph.{Graph};
+ghost use Rattle.graph.specs.Canonical.{canonical};
+ghost use Rattle.graph.specs.Reads.{Reads};
+ghost use Rattle.codec.specs.Spelling.{image_bytes};
+ghost use Rattle.sides.specs.Side.{behind_gate};
+ghost use Rattle.vault.specs.Store.{Holds, IsReady, IsCanonical, disk_of, empty, new_side, nothing};
+ghost use Rattle.vault.specs.declared.error.VaultError.TheVariants.{Device, NoMemory, Exists};
+
+use crate::{Refused, Vault, VaultError};
+use codec::{Image, Instances, Items, Tags};
+use disk::{Disk, DiskError, Side, write_synced};
+use journal::Journal;
+use sides::{sides_go_on, spell_side};
+use std::alloc::{AllocError, Global};
+
+/// Makes a store without facts on two empty files. The text is the canonical text of its graph.
+///
+/// `Exists` says that a file is not empty: then both are as they were. After `Device`, or a `NoMemory` of the disk, nothing is
+/// said of what the files hold.
+pub fn create<D: Disk>(alloc: Global, disk: D, text: &[u8]) -> Result<Vault<D>, Refused<D>>
+    requires { IsCanonical text.now }
+    ensures created { IsTrue D.is_honest → (g : Graph) → Reads text.now g → text.now ≡ canonical g → IfOk result (λ vault. Holds D.files vault g nothing nothing) }
+    ensures a { IsTrue D.is_honest → IfOk result (λ vault. D.files vault.disk A ≡ at_rest (new_side 1 text.now empty)) }
+    ensures b { IsTrue D.is_honest → IfOk result (λ vault. D.files vault.disk B ≡ at_rest (0 ∷ [])) }
+    ensures ready { IsTrue D.is_honest → IfOk result (IsReady D.files) }
+    ensures working { IfOk result (λ vault. vault.halted ≡ false) }
+
+    ensures were_empty { IsTrue D.is_honest → (side : Side) → OnOk result ((D.files disk side).content ≡ []) }
+    ensures exists { IsTrue D.is_honest → IfErr result (λ refused. refused.error ≡ Exists → ((D.files disk A).content ≢ []) ⊎ ((D.files disk B).content ≢ [])) }
+    ensures untouched { IsTrue D.is_honest → IfErr result (λ refused. refused.error ≡ Exists → (side : Side) → D.files refused.disk side ≡ D.files disk side) }
+
+    ensures causes { IfErr result (λ refused. (refused.error ≡ Exists) ⊎ (refused.error ≡ NoMemory) ⊎ (refused.error ≡ Device)) }
+    ensures device { IsErrAnd result (λ refused. refused.error ≡ Device) ↔ (D.failures disk < D.failures (disk_of result)) }
+    ensures failures { D.failures disk ≤ D.failures (disk_of result) }
+{
+    sides_go_on();
+    let mut disk = disk;
+    match write_store(alloc, &mut disk, text) {
+        Ok(
+            Made {
+                journal,
+                kept,
+                buffer,
+            },
+        ) => Ok(Vault {
+            disk,
+            journal,
+            generation: 1,
+            text: kept,
+            halted: false,
+            buffer,
+        }),
+        Err(error) => Err(Refused { disk, error }),
+    }
+}
+
+// What a vault keeps of a store that was made.
+#[derive(Drop)]
+struct Made {
+    journal: Journal,
+    kept: Vec<u8>,
+    buffer: Vec<u8>,
+}
+
+// Writes a store without facts on two empty files.
+fn write_store<D: Disk>(alloc: Global, disk: &mut D, text: &[u8]) -> Result<Made, VaultError>
+    requires { length text.now < 2 ^ 32 }
+    ensures a { IsTrue D.is_honest → OnOk result (D.files disk.new A ≡ at_rest (new_side 1 text.now empty)) }
+    ensures b { IsTrue D.is_honest → OnOk result (D.files disk.new B ≡ at_rest (0 ∷ [])) }
+    ensures side { IfOk result (λ made. made.journal.side ≡ A) }
+    ensures end { IfOk result (λ made. made.journal.end ≡ length (1 ∷ behind_gate 1 text.now (image_bytes empty) [])) }
+    ensures text { IfOk result (λ made. made.kept.items ≡ text.now) }
+    ensures were_empty { IsTrue D.is_honest → (side : Side) → OnOk result ((D.files disk.old side).content ≡ []) }
+    ensures exists { IsTrue D.is_honest → IfErr result (λ error. error ≡ Exists → ((D.files disk.old A).content ≢ []) ⊎ ((D.files disk.old B).content ≢ [])) }
+    ensures untouched { IsTrue D.is_honest → IsErrOf result Exists → (side : Side) → D.files disk.new side ≡ D.files disk.old side }
+    ensures causes { IfErr result (λ error. (error ≡ Exists) ⊎ (error ≡ NoMemory) ⊎ (error ≡ Device)) }
+    ensures device { IsErrOf result Device ↔ (D.failures disk.old < D.failures disk.new) }
+    ensures failures { D.failures disk.old ≤ D.failures disk.new }
+{
+    let kept = Vec::from_slice(alloc, text)?;
+    let buffer = without_facts(alloc, text)?;
+    if is_there(disk)? {
+        return Err(VaultError::Exists);
+    }
+    write_sides(disk, &buffer)?;
+    let end = buffer.len() as u64 - 1;
+    Ok(Made {
+        journal: Journal::ending(alloc, Side::A, end),
+        kept,
+        buffer,
+    })
+}
+
+// The first side of a store without facts, its gate closed.
+fn without_facts(alloc: Global, text: &[u8]) -> Result<Vec<u8>, AllocError>
+    requires { length text.now < 2 ^ 32 }
+    ensures spelled { IfOk result (λ side. side.items ≡ 0 ∷ behind_gate 1 text.now (image_bytes empty) (0 ∷ [])) }
+    ensures count { IfOk result (λ side. length side.items ≡ length (1 ∷ behind_gate 1 text.now (image_bytes empty) []) + 1) }
+{
+    let image = no_facts(alloc);
+    let mut side = Vec::new(alloc);
+    side.push(0)?;
+    spell_side(&mut side, 1, text, &image)?;
+    Ok(side)
+}
+
+// The image without facts.
+fn no_facts(alloc: Global) -> Image
+    ensures { result ≡ empty }
+{
+    Image {
+        fault: None,
+        items: Items::new(Vec::new(alloc)),
+        tags: Tags::new(Vec::new(alloc)),
+        done: Instances::new(Vec::new(alloc)),
+    }
+}
+
+// Whether a file is not empty.
+fn is_there<D: Disk>(disk: &mut D) -> Result<bool, DiskError>
+    ensures empty { IsTrue D.is_honest → (side : Side) → IfOk result (λ some. some ≡ false → (D.files disk.old side).content ≡ []) }
+    ensures there { IsTrue D.is_honest → IfOk result (λ some. some ≡ true → ((D.files disk.old A).content ≢ []) ⊎ ((D.files disk.old B).content ≢ [])) }
+    ensures same { IsTrue D.is_honest → (side : Side) → D.files disk.new side ≡ D.files disk.old side }
+    ensures cause { HasCause (D.failures disk.old) (D.failures disk.new) result }
+{
+    let a = disk.len(Side::A)?;
+    let b = disk.len(Side::B)?;
+    Ok(a != 0 || b != 0)
+}
+
+// Writes both sides of a new store on empty files: B closed, and A closed first, and opened when all of it is on the disk.
+fn write_sides<D: Disk>(disk: &mut D, bytes: &[u8]) -> Result<(), DiskError>
+    ensures a { IsTrue D.is_honest → (rest : List ℕ) → bytes.now ≡ 0 ∷ rest → (D.files disk.old A).content ≡ [] → OnOk result (D.files disk.new A ≡ at_rest (1 ∷ rest)) }
+    ensures b { IsTrue D.is_honest → (D.files disk.old B).content ≡ [] → OnOk result (D.files disk.new B ≡ at_rest (0 ∷ [])) }
+    ensures cause { HasCause (D.failures disk.old) (D.failures disk.new) result }
+{
+    write_synced(disk, Side::B, 0, &[0])?;
+    write_synced(disk, Side::A, 0, bytes)?;
+    write_synced(disk, Side::A, 0, &[1])
+}

@@ -1,0 +1,72 @@
+ghost use Rattle.std.specs.Prelude.{ℕ, List, IfOk, IfErr, IsErrOf};
+ghost use Rattle.std.specs.List.{AllByRecursion};
+ghost use Rattle.codec.specs.Spelling.{HasPutNumber};
+ghost use Rattle.sides.specs.Reading.{IsRead};
+ghost use Rattle.sides.specs.Image.{IsListed};
+ghost use Rattle.sides.specs.Side.{HasGeneration};
+ghost use Rattle.vault.specs.Store.{SaysNothing};
+ghost use Rattle.vault.specs.Opened.{IsFoundIn, IsNoSide, IsOfOpening};
+ghost use Rattle.vault.specs.declared.error.VaultError.TheVariants.{Device};
+
+use crate::VaultError;
+use codec::Image;
+use disk::Side;
+use graph::{Graph, canonical};
+use journal::Journal;
+use sides::{Gate, SideError, Standing, gate_of, read_side};
+use std::alloc::{AllocError, Global};
+
+// What the bytes of a side gave.
+#[derive(Drop)]
+pub(crate) struct Found {
+    pub(crate) journal: Journal,
+    pub(crate) generation: u64,
+    pub(crate) text: Vec<u8>,
+    pub(crate) graph: Graph,
+    pub(crate) image: Image,
+}
+
+// Reads the bytes of a side.
+pub(crate) fn found_in(alloc: Global, side: Side, bytes: &[u8]) -> Result<Found, VaultError>
+    ensures found { IfOk result (IsFoundIn side bytes.now) }
+    ensures listed { IfOk result (λ found. IsListed found.image) }
+    ensures nothing { (generation : ℕ) → HasGeneration bytes.now generation → IfErr result (λ error. SaysNothing error → IsNoSide bytes.now) }
+    ensures others { IfErr result IsOfOpening }
+    ensures device { IsErrOf result Device → ⊥ }
+{
+    // The head of the file was open before: a disk that gives another one now is not honest.
+    let Gate::Open(generation) = gate_of(bytes) else {
+        return Err(VaultError::NotAStore);
+    };
+    match read_side(alloc, bytes) {
+        Ok(standing) => Ok(found_of(alloc, side, generation, standing)?),
+        Err(SideError::Damaged(place)) => Err(VaultError::Damaged(side, place)),
+        Err(SideError::NoMemory) => Err(VaultError::NoMemory),
+    }
+}
+
+// What a side of this generation gave, with its image and its graph's text.
+fn found_of(
+    alloc: Global,
+    side: Side,
+    generation: u64,
+    standing: Standing,
+) -> Result<Found, AllocError>
+    ensures found { (bytes : List ℕ) → IsRead bytes generation standing → IfOk result (IsFoundIn side bytes) }
+    ensures listed { AllByRecursion HasPutNumber standing.holdings.items → IfOk result (λ found. IsListed found.image) }
+{
+    let Standing {
+        graph,
+        holdings,
+        end,
+    } = standing;
+    let image = holdings.into_image(alloc)?;
+    let text = canonical(alloc, &graph)?;
+    Ok(Found {
+        journal: Journal::ending(alloc, side, end),
+        generation,
+        text,
+        graph,
+        image,
+    })
+}

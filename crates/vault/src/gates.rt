@@ -1,0 +1,77 @@
+ghost use Rattle.std.specs.Prelude.{◌≡◌, ◌≢◌, ◌∷◌, [], IsTrue, IfOk, OnOk, MatchBool};
+ghost use Rattle.disk.specs.File.{at_rest};
+ghost use Rattle.disk.specs.Time.{OtherStays, OtherMayBe, LeavesOnly, MayLeaveNow, HasCause};
+ghost use Rattle.sides.specs.Side.{IsOpen};
+ghost use Rattle.vault.specs.Stands.{other_side};
+ghost use Rattle.vault.specs.Turned.{IsShut, IsUnshut, Rests, RestsShut, HasBehindGate, MayShut, MayTurn};
+
+use disk::{Disk, DiskError, Side, write_synced};
+
+// The byte of an open gate.
+const OPEN: u8 = 1;
+
+pub(crate) fn other(side: Side) -> Side
+    ensures { result ≡ other_side side }
+{
+    match side {
+        Side::A => Side::B,
+        Side::B => Side::A,
+    }
+}
+
+/// Writes a side anew, of which all is on the disk: these bytes behind an open gate. Until the gate is opened, at the end, the
+/// file is the old one or is not open.
+pub(crate) fn write_side<D: Disk>(disk: &mut D, side: Side, behind: &[u8]) -> Result<(), DiskError>
+    requires { IsTrue D.is_honest → Rests (D.files disk.old side) }
+    ensures written { IsTrue D.is_honest → OnOk result (D.files disk.new side ≡ at_rest (1 ∷ behind.now)) }
+    ensures other { IsTrue D.is_honest → OtherStays side (D.files disk.old) (D.files disk.new) }
+    ensures any_moment { IsTrue D.is_honest → (D.files disk.old side).content ≢ [] → LeavesOnly D.moment D.left_at disk.old disk.new
+        (λ contents. MayTurn (D.files disk.old side).content (1 ∷ behind.now) (contents side) × OtherMayBe side (D.files disk.old) contents) }
+    ensures cause { HasCause (D.failures disk.old) (D.failures disk.new) result }
+{
+    close_gate(disk, side)?;
+    write_behind(disk, side, behind)?;
+    write_synced(disk, side, 0, &[OPEN])
+}
+
+// Writes bytes behind a gate that is not open, and nothing else behind it. At no moment the gate is open.
+fn write_behind<D: Disk>(disk: &mut D, side: Side, behind: &[u8]) -> Result<(), DiskError>
+    requires { IsTrue D.is_honest → RestsShut (D.files disk.old side) }
+    ensures written { IsTrue D.is_honest → OnOk result (HasBehindGate (D.files disk.new side) behind.now) }
+    ensures other { IsTrue D.is_honest → OtherStays side (D.files disk.old) (D.files disk.new) }
+    ensures any_moment { IsTrue D.is_honest → LeavesOnly D.moment D.left_at disk.old disk.new (λ contents. (IsOpen (contents side) → ⊥) × OtherMayBe side (D.files disk.old) contents) }
+    ensures cause { HasCause (D.failures disk.old) (D.failures disk.new) result }
+{
+    disk.cut(side, 1)?;
+    write_synced(disk, side, 1, behind)
+}
+
+// Closes the gate of a file, all of which is on the disk. An empty file gets a closed gate; of another nothing else changes.
+fn close_gate<D: Disk>(disk: &mut D, side: Side) -> Result<(), DiskError>
+    requires { IsTrue D.is_honest → Rests (D.files disk.old side) }
+    ensures shut { IsTrue D.is_honest → OnOk result (RestsShut (D.files disk.new side)) }
+    ensures other { IsTrue D.is_honest → OtherStays side (D.files disk.old) (D.files disk.new) }
+    ensures any_moment { IsTrue D.is_honest → (D.files disk.old side).content ≢ [] → LeavesOnly D.moment D.left_at disk.old disk.new
+        (λ contents. MayShut (D.files disk.old side).content (contents side) × OtherMayBe side (D.files disk.old) contents) }
+    ensures cause { HasCause (D.failures disk.old) (D.failures disk.new) result }
+{
+    if is_shut(disk, side)? {
+        return Ok(());
+    }
+    write_synced(disk, side, 0, &[0])
+}
+
+// Whether a file begins with a gate that is not open.
+fn is_shut<D: Disk>(disk: &mut D, side: Side) -> Result<bool, DiskError>
+    ensures shut { IsTrue D.is_honest → IfOk result (λ shut. MatchBool shut (IsShut (D.files disk.old side).content) (IsUnshut (D.files disk.old side).content)) }
+    ensures same { IsTrue D.is_honest → (each : Side) → D.files disk.new each ≡ D.files disk.old each }
+    ensures any_moment { IsTrue D.is_honest → LeavesOnly D.moment D.left_at disk.old disk.new (MayLeaveNow (D.files disk.old)) }
+    ensures cause { HasCause (D.failures disk.old) (D.failures disk.new) result }
+{
+    if disk.len(side)? == 0 {
+        return Ok(false);
+    }
+    let mut first = [0];
+    disk.read(side, 0, &mut first)?;
+    Ok(first[0] != OPEN)
+}

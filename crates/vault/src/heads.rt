@@ -1,0 +1,85 @@
+ghost use Rattle.std.specs.Prelude.{◌≡◌, ◌≤◌, ◌<◌, ◌↔◌, length, IsTrue, IfOk, IfErr, IsErrOf};
+ghost use Rattle.disk.specs.declared.side.Side.{Side};
+ghost use Rattle.disk.specs.declared.side.Side.TheVariants.{A, B};
+ghost use Rattle.disk.specs.Time.{Contents, HasCause};
+ghost use Rattle.sides.specs.Reading.{Tells};
+ghost use Rattle.vault.specs.Store.{SaysNothing};
+ghost use Rattle.vault.specs.Opened.{OnlyReads, IsGenerationOf, IsAhead, StandsForNothing, IsOfOpening, contents_of};
+ghost use Rattle.vault.specs.declared.error.VaultError.TheVariants.{Device};
+
+use crate::VaultError;
+use disk::{Disk, DiskError, Side};
+use sides::{Gate, HEAD, gate_of, one_meaning_of_a_side};
+
+// The place in a side at which its generation begins.
+const GENERATION: u64 = 2;
+
+// The side that has a generation while the other one is behind it.
+pub(crate) fn live_side<D: Disk>(disk: &mut D) -> Result<Side, VaultError>
+    ensures ahead { IsTrue D.is_honest → IfOk result (IsAhead (contents_of (D.files disk.old))) }
+    ensures nothing { IsTrue D.is_honest → IfErr result (λ error. SaysNothing error → StandsForNothing (contents_of (D.files disk.old))) }
+    ensures same { IsTrue D.is_honest → (each : Side) → D.files disk.new each ≡ D.files disk.old each }
+    ensures only_reads { IsTrue D.is_honest → OnlyReads D.files D.moment D.left_at disk.old disk.new }
+    ensures others { IfErr result IsOfOpening }
+    ensures device { IsErrOf result Device ↔ (D.failures disk.old < D.failures disk.new) }
+    ensures failures { D.failures disk.old ≤ D.failures disk.new }
+{
+    let a = generation_of(disk, Side::A)?;
+    let b = generation_of(disk, Side::B)?;
+    ahead(a, b)
+}
+
+// The generation of a side, or `None` where it is closed. It is damaged at its end where it is open and too short to have one.
+fn generation_of<D: Disk>(disk: &mut D, side: Side) -> Result<Option<u64>, VaultError>
+    ensures generation { IsTrue D.is_honest → IfOk result (λ generation. IsGenerationOf generation (D.files disk.old side).content) }
+    ensures nothing { IsTrue D.is_honest → IfErr result (λ error. SaysNothing error → StandsForNothing (contents_of (D.files disk.old))) }
+    ensures same { IsTrue D.is_honest → (each : Side) → D.files disk.new each ≡ D.files disk.old each }
+    ensures only_reads { IsTrue D.is_honest → OnlyReads D.files D.moment D.left_at disk.old disk.new }
+    ensures others { IfErr result IsOfOpening }
+    ensures device { IsErrOf result Device ↔ (D.failures disk.old < D.failures disk.new) }
+    ensures failures { D.failures disk.old ≤ D.failures disk.new }
+{
+    one_meaning_of_a_side();
+    let (gate, count) = head_of(disk, side)?;
+    match gate {
+        Gate::Closed => Ok(None),
+        Gate::Short => Err(VaultError::Damaged(side, count)),
+        Gate::Open(generation) => Ok(Some(generation)),
+    }
+}
+
+// What the head of a file tells, and how many bytes the file has.
+fn head_of<D: Disk>(disk: &mut D, side: Side) -> Result<(Gate, u64), DiskError>
+    ensures tells { IsTrue D.is_honest → IfOk result (λ head. Tells head.0 (D.files disk.old side).content) }
+    ensures count { IsTrue D.is_honest → IfOk result (λ head. head.1 ≡ length (D.files disk.old side).content) }
+    ensures same { IsTrue D.is_honest → (each : Side) → D.files disk.new each ≡ D.files disk.old each }
+    ensures only_reads { IsTrue D.is_honest → OnlyReads D.files D.moment D.left_at disk.old disk.new }
+    ensures cause { HasCause (D.failures disk.old) (D.failures disk.new) result }
+{
+    let count = disk.len(side)?;
+    let known = count.min(HEAD as u64) as usize;
+    let mut head = [0; HEAD];
+    disk.read(side, 0, &mut head[..known])?;
+    Ok((gate_of(&head[..known]), count))
+}
+
+// Of two sides with these generations, the one that is ahead.
+fn ahead(a: Option<u64>, b: Option<u64>) -> Result<Side, VaultError>
+    ensures ahead { (contents : Contents) → IsGenerationOf a (contents A) → IsGenerationOf b (contents B) → IfOk result (IsAhead contents) }
+    ensures nothing { (contents : Contents) → IsGenerationOf a (contents A) → IsGenerationOf b (contents B) → IfErr result (λ _. StandsForNothing contents) }
+    ensures others { IfErr result IsOfOpening }
+    ensures device { IsErrOf result Device → ⊥ }
+{
+    one_meaning_of_a_side();
+    match (a, b) {
+        (None, None) => Err(VaultError::NotAStore),
+        (Some(_), None) => Ok(Side::A),
+        (None, Some(_)) => Ok(Side::B),
+        (Some(a), Some(b)) => {
+            if a == b {
+                return Err(VaultError::Damaged(Side::A, GENERATION));
+            }
+            Ok(if a > b { Side::A } else { Side::B })
+        }
+    }
+}
