@@ -3,6 +3,7 @@
 
 mod evaluate;
 mod images;
+mod stores;
 mod texts;
 
 use anyhow::Error;
@@ -18,6 +19,7 @@ fn main(rt: HostRuntime) -> Result<ExitCode, Error> {
             ("parse", _) => return done(texts::measure(&rt, &words[2])),
             ("codec", Ok(count)) => return done(images::measure(&rt, count)),
             ("evaluate", Ok(count)) => return done(evaluate::measure(&rt, count)),
+            ("open", Ok(count)) => return done(stores::measure(&rt, count)),
             _ => {}
         }
     }
@@ -25,6 +27,7 @@ fn main(rt: HostRuntime) -> Result<ExitCode, Error> {
     println!(rt; "       bench parse FILE")?;
     println!(rt; "       bench codec ITEMS")?;
     println!(rt; "       bench evaluate STATEMENTS")?;
+    println!(rt; "       bench open RECORDS")?;
     Ok(ExitCode::from(0))
 }
 

@@ -1,0 +1,64 @@
+//! A store on the files of the folder that this runs in: where there is none it is made, filled, turned over and opened again.
+//! Started again, it tells what the store holds.
+#![tactic(auto)]
+
+mod filling;
+
+use anyhow::Error;
+use disk::FileDisk;
+use filling::{fill, make};
+use std::io::Print;
+use vault::{Recovered, VaultError, open};
+
+fn main(rt: HostRuntime) -> Result<(), Error> {
+    let disk = FileDisk::open(rt.alloc(), &rt, ".")?;
+    match open(rt.alloc(), disk) {
+        Ok(recovered) => tell(&rt, &recovered),
+        Err(refused) if refused.error == VaultError::NotAStore => {
+            let mut vault = make(rt.alloc(), refused.disk)?;
+            println!(rt; "made")?;
+            fill(rt.alloc(), &mut vault)?;
+            drop(vault);
+            turn_over(&rt)?;
+            let recovered = opened(&rt)?;
+            tell(&rt, &recovered)
+        }
+        Err(refused) => Err(refused.error.into()),
+    }
+}
+
+// The store on the files, opened.
+fn opened(rt: &HostRuntime) -> Result<Recovered<FileDisk>, Error> {
+    let disk = FileDisk::open(rt.alloc(), rt, ".")?;
+    match open(rt.alloc(), disk) {
+        Ok(recovered) => Ok(recovered),
+        Err(refused) => Err(refused.error.into()),
+    }
+}
+
+// Opens the store, and turns it over.
+fn turn_over(rt: &HostRuntime) -> Result<(), Error> {
+    let Recovered {
+        mut vault,
+        graph: _,
+        image,
+    } = opened(rt)?;
+    let generation = vault.turn(&image)?;
+    println!(rt; "turned, generation {generation}")?;
+    Ok(())
+}
+
+// Prints what the store holds, in the order of its names.
+fn tell(rt: &HostRuntime, store: &Recovered<FileDisk>) -> Result<(), Error> {
+    println!(rt; "opened, generation {}", store.vault.generation)?;
+    for (address, value, _) in store.image.items.as_slice() {
+        println!(rt; "item {} {:?} = {value}", address.collection.0, address.key.components())?;
+    }
+    for (name, mark) in store.image.tags.as_slice() {
+        println!(rt; "tag {} {:?}, of the environment: {mark}", name.collection.0, name.key.components())?;
+    }
+    for instance in store.image.done.as_slice() {
+        println!(rt; "done {} {:?}", instance.collection.0, instance.key.components())?;
+    }
+    Ok(())
+}
