@@ -31,8 +31,16 @@ module _ (n : ℕ) (text part : List ℕ) where
   starts : length (1 ∷ behind_gate n text part []) ≡ 14 + length text + 4 + length part
   starts =
       ap (λ (list : List ℕ). length (1 ∷ FORMAT ∷ list)) (append-nil (little_bytes 8 n ++ counted text ++ counted part))
-      ∙ omega (arith, length-append (little_bytes 8 n ++ counted text) (counted part), length-append (little_bytes 8 n) (counted text), length-bytes_low_first 0 8 n,
-      length-append (little_bytes 4 (length text)) text, length-append (little_bytes 4 (length part)) part, length-bytes_low_first 0 4 (length text), length-bytes_low_first 0 4 (length part))
+      ∙ omega (
+        arith,
+        length-append (little_bytes 8 n ++ counted text) (counted part),
+        length-append (little_bytes 8 n) (counted text),
+        length-bytes_low_first 0 8 n,
+        length-append (little_bytes 4 (length text)) text,
+        length-append (little_bytes 4 (length part)) part,
+        length-bytes_low_first 0 4 (length text),
+        length-bytes_low_first 0 4 (length part),
+      )
 
 module _ (bytes : List ℕ) (n : ℕ) (has : HasGeneration bytes n) (format : get_or bytes 1 0 ≡ FORMAT) where
   -- behind its head stands the text
