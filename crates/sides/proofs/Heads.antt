@@ -2,7 +2,7 @@
 use Rattle.std.proofs.Common.{◌≡◌, ◌≤◌, ◌<◌, ◌^◌, ℕ, zero, suc, List, [], ◌∷◌, ◌++◌, length, drop, get_or, refl, sym, ap, ◌∙◌, arith}
 use Rattle.std.proofs.lemmas.Nat.{le_bytes_8}
 use Rattle.byteorder.specs.Endian.{little_bytes, little_number}
-use Rattle.sides.specs.Side.{HasGeneration}
+use Rattle.sides.specs.Side.{IsOpen, HasGeneration}
 
 -- eight bytes are all below 256
 eight_bytes : (a b c d e f g h : ℕ) → a < 256 → b < 256 → c < 256 → d < 256 → e < 256 → f < 256 → g < 256 → h < 256 → (k : ℕ) → get_or (a ∷ b ∷ c ∷ d ∷ e ∷ f ∷ g ∷ h ∷ []) k 0 < 256
@@ -33,3 +33,7 @@ head_told (gate ∷ format ∷ a ∷ b ∷ c ∷ d ∷ e ∷ f ∷ g ∷ h ∷ r
     let spelled : little_bytes 8 n ≡ a ∷ b ∷ c ∷ d ∷ e ∷ f ∷ g ∷ h ∷ [] =
     le_bytes_8 (a ∷ b ∷ c ∷ d ∷ e ∷ f ∷ g ∷ h ∷ []) n refl (eight_bytes a b c d e f g h (low 2) (low 3) (low 4) (low 5) (low 6) (low 7) (low 8) (low 9)) (omega arith) in
     (small, (format, rest, ap (λ (x : ℕ). x ∷ format ∷ a ∷ b ∷ c ∷ d ∷ e ∷ f ∷ g ∷ h ∷ rest) begins ∙ ap (λ (front : List ℕ). 1 ∷ format ∷ front ++ rest) (sym spelled)))
+
+-- which is open, and has ten bytes
+pub open_head : (bytes : List ℕ) (generation : ℕ) → HasGeneration bytes generation → IsOpen bytes × (10 ≤ length bytes)
+open_head bytes generation has = ((has.1.0 ∷ little_bytes 8 generation ++ has.1.1, has.1.2), rw has.1.2 (omega arith))

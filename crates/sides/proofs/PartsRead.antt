@@ -1,25 +1,22 @@
 -- The parts of a side, read one after another: what they make of its bytes, and what a side has where one is wrong.
-use Rattle.std.proofs.Common.{◌≡◌, ◌≤◌, ◌<◌, ◌+◌, ◌^◌, ℕ, List, [], ◌∷◌, ◌++◌, length, drop, map, get_or, refl, sym, ap, subst, ◌∙◌, arith}
+use Rattle.std.proofs.Common.{◌≡◌, ◌<◌, ◌+◌, ◌^◌, ℕ, List, [], ◌∷◌, ◌++◌, length, drop, map, get_or, refl, sym, ap, subst, ◌∙◌, arith}
 use Rattle.std.proofs.lemmas.List.{append-nil, length-append, drop_at}
-use Rattle.std.specs.List.{AllByRecursion}
 use Rattle.byteorder.specs.Endian.{little_bytes}
 use Rattle.byteorder.specs.Numbers.{length-bytes_low_first}
-use Rattle.terms.specs.declared.event.Event.{Event}
 use Rattle.terms.specs.Sets.{Facts, among}
 use Rattle.codec.specs.declared.image.Image.{Image}
 use Rattle.codec.specs.Laws.{SpellsOne}
-use Rattle.codec.specs.Spelling.{image_bytes, event_bytes, SpellsImage, HasPutNumber}
-use Rattle.journal.specs.Records.{StandsFor, records}
+use Rattle.codec.specs.Spelling.{image_bytes, event_bytes, SpellsImage}
+use Rattle.journal.specs.Records.{StandsFor}
 use Rattle.graph.specs.Graph.{Graph}
 use Rattle.graph.specs.Canonical.{canonical}
 use Rattle.graph.specs.Reads.{Reads}
 use Rattle.graph.specs.Fits.{AllFit}
 use Rattle.graph.specs.FitLaws.{StateOfAlike, EventsOfAlike}
 use Rattle.graph.specs.Textual.{SameGraph, OneGraph}
-use Rattle.sides.specs.declared.reading.Standing.{Standing}
 use Rattle.sides.specs.Image.{image_facts, image_environment, facts_in, environment_in}
 use Rattle.sides.specs.Side.{FORMAT, counted, behind_gate, HasGeneration, IsSide, end_of}
-use Rattle.sides.specs.Reading.{IsCountedAt, HasNoneAt, IsTextOf, IsImageOf, AreEvents, IsReplayed, IsRead}
+use Rattle.sides.specs.Reading.{IsCountedAt, HasNoneAt, IsTextOf, IsImageOf, AreEvents, IsReplayed}
 use Rattle.sides.proofs.Once.{parts_of, counted_once}
 use Rattle.sides.proofs.TextsRead.{same_graph}
 
@@ -31,8 +28,16 @@ module _ (n : ℕ) (text part : List ℕ) where
   starts : length (1 ∷ behind_gate n text part []) ≡ 14 + length text + 4 + length part
   starts =
       ap (λ (list : List ℕ). length (1 ∷ FORMAT ∷ list)) (append-nil (little_bytes 8 n ++ counted text ++ counted part))
-      ∙ omega (arith, length-append (little_bytes 8 n ++ counted text) (counted part), length-append (little_bytes 8 n) (counted text), length-bytes_low_first 0 8 n,
-      length-append (little_bytes 4 (length text)) text, length-append (little_bytes 4 (length part)) part, length-bytes_low_first 0 4 (length text), length-bytes_low_first 0 4 (length part))
+      ∙ omega (
+        arith,
+        length-append (little_bytes 8 n ++ counted text) (counted part),
+        length-append (little_bytes 8 n) (counted text),
+        length-bytes_low_first 0 8 n,
+        length-append (little_bytes 4 (length text)) text,
+        length-append (little_bytes 4 (length part)) part,
+        length-bytes_low_first 0 4 (length text),
+        length-bytes_low_first 0 4 (length part),
+      )
 
 module _ (bytes : List ℕ) (n : ℕ) (has : HasGeneration bytes n) (format : get_or bytes 1 0 ≡ FORMAT) where
   -- behind its head stands the text

@@ -191,7 +191,7 @@ pub(crate) mod tests {
     use terms::{FaultKind, ItemCollection, StepCollection, TagCollection};
 
     // Fibonacci numbers: the environment may put the items and the tags.
-    const FIBONACCI: &str =
+    pub(crate) const FIBONACCI: &str =
         "[fib: i];\n<n: i>;\n<n> :: (add);\n[fib] -> (add);\n(add) -> [fib];\nenv -> [fib];\nenv -> <n>;\n[fib] -> env;\nstep add(i) {\n  var a, b;\n  read {\n    get a = [fib: (i - 1)];\n    get b = [fib: (i - 2)];\n  }\n  write {\n    put [fib: i] = (a + b);\n  }\n}\n";
 
     // Two collections that the environment may not put, and two that it may.

@@ -57,7 +57,11 @@ pub(crate) fn read_graph(alloc: Global, text: &[u8]) -> Result<Option<Graph>, Al
 }
 
 /// What the image lists that these bytes spell, where it fits the graph.
-pub(crate) fn read_image(alloc: Global, graph: &Graph, bytes: &[u8]) -> Result<Option<Holdings>, AllocError>
+pub(crate) fn read_image(
+    alloc: Global,
+    graph: &Graph,
+    bytes: &[u8],
+) -> Result<Option<Holdings>, AllocError>
     ensures image { IfOk result (λ found. MatchOption found ((image : Listed) → IsImageOf graph.now bytes.now image → ⊥) (IsImageOf graph.now bytes.now)) }
     ensures numbered { IfOk result (λ found. IfSome found (λ holdings. AllByRecursion HasPutNumber holdings.items)) }
 {

@@ -23,7 +23,12 @@ pub(crate) enum Replay {
 }
 
 /// Takes the events of a journal one after another.
-pub(crate) fn take_events(alloc: Global, graph: &Graph, holdings: &mut Holdings, journal: &[u8]) -> Result<Replay, AllocError>
+pub(crate) fn take_events(
+    alloc: Global,
+    graph: &Graph,
+    holdings: &mut Holdings,
+    journal: &[u8],
+) -> Result<Replay, AllocError>
     requires { AllByRecursion HasPutNumber holdings.old.items }
     ensures events { IfOk result (Replays graph.now holdings.old holdings.new journal.now) }
     ensures within { IfOk result (IsWithin journal.now) }
@@ -49,7 +54,12 @@ pub(crate) fn take_events(alloc: Global, graph: &Graph, holdings: &mut Holdings,
 }
 
 // Takes the event that a payload spells, and says whether it is one and fits.
-fn take_record(alloc: Global, graph: &Graph, holdings: &mut Holdings, payload: &[u8]) -> Result<bool, AllocError>
+fn take_record(
+    alloc: Global,
+    graph: &Graph,
+    holdings: &mut Holdings,
+    payload: &[u8],
+) -> Result<bool, AllocError>
     requires { AllByRecursion HasPutNumber holdings.old.items }
     ensures taken { IfOk result (λ taken. IsTrue taken → IsTaken graph.now holdings.old holdings.new payload.now) }
     ensures refused { IfOk result (λ taken. taken ≡ false → (event : Stated) → SpellsEvent payload.now event → Fits graph.now (facts_in holdings.old) event → ⊥) }

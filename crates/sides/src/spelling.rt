@@ -16,7 +16,12 @@ const CLOSED: u8 = 0;
 ///
 /// An image of `2 ^ 32` bytes or more has no spelling behind its length: then what is appended is as long as it would be, and is
 /// no side. The error is that memory was refused: some of it may stand there then.
-pub fn spell_side(out: &mut Vec<u8>, generation: u64, text: &[u8], image: &Image) -> Result<(), AllocError>
+pub fn spell_side(
+    out: &mut Vec<u8>,
+    generation: u64,
+    text: &[u8],
+    image: &Image,
+) -> Result<(), AllocError>
     requires text { length text.now < 2 ^ 32 }
     requires image { IsInOrder image.now }
     ensures spelled { OnOk result (length (image_bytes image.now) < 2 ^ 32 → out.new.items ≡ out.old.items ++ behind_gate generation text.now (image_bytes image.now) (0 ∷ [])) }

@@ -199,14 +199,11 @@ fn fits_arity(components: Option<usize>, key: &Key) -> bool
 #[cfg(test)]
 mod tests {
     use super::*;
+    use crate::fitting::tests::FIBONACCI;
     use graph::parse;
     use std::process::Abort;
     use std::test::Fail;
     use terms::{ItemCollection, Puts, StepCollection, TagCollection};
-
-    // The items, the tags and the step have number 0 each, and keys of one component.
-    const FIBONACCI: &str =
-        "[fib: i];\n<n: i>;\n<n> :: (add);\n[fib] -> (add);\n(add) -> [fib];\nenv -> [fib];\nenv -> <n>;\n[fib] -> env;\nstep add(i) {\n  var a, b;\n  read {\n    get a = [fib: (i - 1)];\n    get b = [fib: (i - 2)];\n  }\n  write {\n    put [fib: i] = (a + b);\n  }\n}\n";
 
     fn address(collection: u16, key: Key) -> Addr {
         Addr {

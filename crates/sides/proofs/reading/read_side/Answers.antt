@@ -1,4 +1,4 @@
-use Rattle.std.proofs.Common.{◌≡◌, ◌+◌, ◌-◌, ℕ, List, length, take, drop, subst}
+use Rattle.std.proofs.Common.{◌+◌, ◌-◌, ℕ, List, length, take, drop, subst}
 use Rattle.std.proofs.lemmas.List.{take_rest}
 use Rattle.std.specs.List.{AllByRecursion}
 use Rattle.terms.specs.declared.event.Event.{Event}
@@ -6,7 +6,6 @@ use Rattle.codec.specs.declared.image.Image.{Image}
 use Rattle.codec.specs.Spelling.{HasPutNumber}
 use Rattle.graph.specs.Graph.{Graph}
 use Rattle.sides.specs.Reading.{IsTextOf, IsImageOf, IsReplayed, AreEvents}
-use Rattle.sides.specs.Replaying.{Replays, IsNumbered}
 use Rattle.sides.proofs.PartsRead.{side_read, ends_there, has_text, is_its_text, has_image, is_its_image, are_its_events}
 use Rattle.sides.proofs.reading.read_side.Goals as goal
 

@@ -1,7 +1,6 @@
-use Rattle.std.proofs.Common.{◌≡◌, ◌+◌, ℕ, List, [], length, drop, sym, subst}
+use Rattle.std.proofs.Common.{◌+◌, ℕ, List, [], sym, subst}
 use Rattle.std.proofs.lemmas.Bool.{false≢true}
 use Rattle.std.proofs.lemmas.List.{take_rest}
-use Rattle.codec.specs.declared.image.Image.{Image}
 use Rattle.journal.specs.Records.{StandsFor}
 use Rattle.journal.specs.WholeRecords.{BeginsWith, BeginsWithNone}
 use Rattle.sides.specs.Replaying.{IsTakenTo}

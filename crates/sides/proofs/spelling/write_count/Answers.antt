@@ -1,4 +1,4 @@
-use Rattle.std.proofs.Common.{◌≡◌, ◌+◌, ◌-◌, ℕ, List, ◌++◌, length, take, drop, ap, ◌∙◌}
+use Rattle.std.proofs.Common.{◌-◌, ℕ, List, ◌++◌, length, take, drop, ap, ◌∙◌}
 use Rattle.byteorder.specs.Endian.{little_bytes}
 use Rattle.sides.proofs.Spelled.{written_over}
 use Rattle.sides.proofs.spelling.write_count.Goals as goal
