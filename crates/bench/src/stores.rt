@@ -1,16 +1,16 @@
 //! How long it takes to open a store on real files, beside a read of the same bytes.
-use anyhow::{Error, anyhow};
-use codec::{Image, decode_image, encode_event};
-use disk::FileDisk;
-use graph::{canonical, parse};
+use anyhow::Error;
+use codec::{decode_image, encode_event};
+use disk::{Disk, FileDisk};
 use sides::spell_side;
 use std::alloc::Global;
 use std::fs;
 use std::io::Print;
 use std::time::Instant;
 use terms::{Addr, Event, ItemCollection, Key};
+use vault::{Recovered, Refused, VaultError};
 
-// The environment may put items, and no step does.
+// The environment may put items, and no step does. It is its own canonical text.
 const GRAPH: &str = "[cell: i];\nenv -> [cell];\n[cell] -> env;\n";
 
 /// Makes a store of so many records in the folder that it is run in, and one of as many items in its image, and prints the
@@ -31,13 +31,10 @@ fn opened(rt: &HostRuntime, told: &str, bytes: &[u8]) -> Result<(), Error> {
     let reading = start.elapsed(rt)?.as_secs_f64();
     let disk = FileDisk::open(rt.alloc(), rt, ".")?;
     let start = Instant::now(rt)?;
-    let Ok(recovered) = vault::open(rt.alloc(), disk) else {
-        return Err(anyhow!(rt.alloc(); "not opened"));
-    };
+    let items = items_of(vault::open(rt.alloc(), disk))?;
     let opening = start.elapsed(rt)?.as_secs_f64();
     println!(rt;
-        "{told}: {} items, {} bytes, opened in {:.1} ms, read in {:.1} ms",
-        recovered.image.items.as_slice().len(),
+        "{told}: {items} items, {} bytes, opened in {:.1} ms, read in {:.1} ms",
         read.len(),
         opening * 1e3,
         reading * 1e3
@@ -45,16 +42,20 @@ fn opened(rt: &HostRuntime, told: &str, bytes: &[u8]) -> Result<(), Error> {
     Ok(())
 }
 
+// How many items a store holds that was opened.
+fn items_of<D: Disk + Drop>(opened: Result<Recovered<D>, Refused<D>>) -> Result<usize, VaultError> {
+    match opened {
+        Ok(recovered) => Ok(recovered.image.items.as_slice().len()),
+        Err(refused) => Err(refused.error),
+    }
+}
+
 // A side without records, whose image is this.
 fn side_of(alloc: Global, image: &[u8]) -> Result<Vec<u8>, Error> {
-    let Ok(graph) = parse(alloc, GRAPH.as_bytes()) else {
-        return Err(anyhow!(alloc; "no graph"));
-    };
-    let text = canonical(alloc, &graph)?;
     let image = decode_image(alloc, image)?;
     let mut side = Vec::new(alloc);
     side.push(1)?;
-    spell_side(&mut side, 1, &text, &image)?;
+    spell_side(&mut side, 1, GRAPH.as_bytes(), &image)?;
     Ok(side)
 }
 

@@ -16,7 +16,7 @@ const GRAPH: &str =
     "[fib: i];\n<n: i>;\n<n> :: (add);\n[fib] -> (add);\n(add) -> [fib];\nenv -> [fib];\nenv -> <n>;\n[fib] -> env;\nstep add(i) {\n  var a, b;\n  read {\n    get a = [fib: (i - 1)];\n    get b = [fib: (i - 2)];\n  }\n  write {\n    put [fib: i] = (a + b);\n  }\n}\n";
 
 /// A new store on a disk.
-pub(crate) fn make<D: Disk>(alloc: Global, disk: D) -> Result<Vault<D>, VaultError>
+pub(crate) fn make<D: Disk + Drop>(alloc: Global, disk: D) -> Result<Vault<D>, VaultError>
     ensures { IsTrue D.is_honest → IfOk result (IsReady D.files) }
 {
     if !is_canonical(alloc, GRAPH.as_bytes())? {

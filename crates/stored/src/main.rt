@@ -2,6 +2,9 @@
 //! Started again, it tells what the store holds.
 #![tactic(auto)]
 
+ghost use Rattle.std.specs.Prelude.{IfOk};
+ghost use Rattle.sides.specs.Image.{IsListed};
+
 mod filling;
 
 use anyhow::Error;
@@ -28,7 +31,9 @@ fn main(rt: HostRuntime) -> Result<(), Error> {
 }
 
 // The store on the files, opened.
-fn opened(rt: &HostRuntime) -> Result<Recovered<FileDisk>, Error> {
+fn opened(rt: &HostRuntime) -> Result<Recovered<FileDisk>, Error>
+    ensures { IfOk result (λ recovered. IsListed recovered.image) }
+{
     let disk = FileDisk::open(rt.alloc(), rt, ".")?;
     match open(rt.alloc(), disk) {
         Ok(recovered) => Ok(recovered),
