@@ -1,6 +1,6 @@
 -- What is held fits a graph where each thing that is listed is looked at and fits.
-use Rattle.std.proofs.Common.{◌≡◌, ℕ, ℤ, Bool, true, false, ◌||◌, ◌&&◌, List, [], ◌∷◌, ◌++◌, map, Option, Some, None, refl, sym, ap, subst, ◌∙◌}
-use Rattle.std.proofs.lemmas.Bool.{or_left, or_right, false≢true}
+use Rattle.std.proofs.Common.{◌≡◌, ℤ, Bool, true, false, ◌||◌, ◌&&◌, List, [], ◌∷◌, ◌++◌, map, Option, Some, None, refl, sym, ap, subst, ◌∙◌}
+use Rattle.std.proofs.lemmas.Bool.{or_left, or_right}
 use Rattle.std.specs.Bool.{⊤}
 use Rattle.std.specs.List.{AllByRecursion, flat_map}
 use Rattle.std.specs.Ordering.{int_eq}
@@ -14,8 +14,8 @@ use Rattle.terms.specs.Facts.{Fact, tag, item, done, bad}
 use Rattle.terms.specs.Sets.{Facts, is_fact, among, OneFact, AmongBoth}
 use Rattle.codec.specs.declared.image.Image.{Image}
 use Rattle.codec.specs.Entries.{Item, MarkedTag}
-use Rattle.graph.specs.Graph.{Graph, EnvironmentMayPutItem, EnvironmentMayPutTag}
-use Rattle.graph.specs.Fits.{AddressIsOf, TagIsOf, InstanceIsOf, IsPrescribed, FactIsOf, IsOfEnvironment, FitsState}
+use Rattle.graph.specs.Graph.{Graph, EnvironmentMayPutTag}
+use Rattle.graph.specs.Fits.{AddressIsOf, TagIsOf, FactIsOf, IsOfEnvironment, FitsState}
 use Rattle.sides.specs.Image.{fault_facts, image_facts, facts_in, environment_item, environment_tag, image_environment, environment_in}
 use Rattle.sides.specs.Looks.{ItemFits, TagFits, InstanceFits, FaultFits, InstancesFit, PutsFit}
 use Rattle.sides.proofs.ListedFacts.{item_fact, tag_fact, all_of_both, all_facts, of_each, each_of, or_false, in_fault, in_items, in_tags, in_done, in_parts, items_of, tags_of, done_of, put_in_items, put_in_tags, put_in_parts}

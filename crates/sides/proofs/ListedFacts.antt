@@ -1,25 +1,23 @@
 -- Which facts an image lists.
-use Rattle.std.proofs.Common.{◌≡◌, ◌⊎◌, ℤ, Bool, true, false, ◌||◌, ◌&&◌, cond, List, [], ◌∷◌, ◌++◌, map, Option, Some, None, inl, inr, refl, sym, ap, subst, ◌∙◌}
+use Rattle.std.proofs.Common.{◌≡◌, ◌⊎◌, ℤ, Bool, true, false, ◌||◌, cond, List, [], ◌∷◌, ◌++◌, map, Option, Some, None, inl, inr, refl, ap, subst, ◌∙◌}
 use Rattle.std.proofs.lemmas.Bool.{or_left, or_right, false≢true}
 use Rattle.std.specs.Cmp.{IsTotalOrder, eq_by_cmp_equiv}
 use Rattle.std.specs.List.{AllByRecursion, flat_map, list_any}
 use Rattle.std.specs.Map.{lookup}
 use Rattle.std.specs.Option.{is_some}
-use Rattle.std.specs.Ordering.{is_eq, int_eq}
+use Rattle.std.specs.Ordering.{is_eq}
 use Rattle.std.specs.BTreeMap.{is_at}
 use Rattle.terms.specs.declared.name.Addr.{Addr}
 use Rattle.terms.specs.declared.name.Tag.{Tag}
 use Rattle.terms.specs.declared.name.Inst.{Inst}
 use Rattle.terms.specs.declared.fault.FaultKind.{FaultKind}
 use Rattle.terms.specs.declared.producer.Producer.{Producer}
-use Rattle.terms.specs.declared.producer.Producer.TheVariants.{Env, By}
-use Rattle.terms.specs.Facts.{Fact, tag, item, done, bad}
+use Rattle.terms.specs.Facts.{Fact, tag, item, done}
 use Rattle.terms.specs.Name.{tag_cmp, inst_cmp}
-use Rattle.terms.specs.Same.{is_same}
-use Rattle.terms.specs.Sets.{Facts, is_fact, among, OneFact, AmongBoth}
+use Rattle.terms.specs.Sets.{is_fact, among, OneFact, AmongBoth}
 use Rattle.codec.specs.declared.image.Image.{Image}
 use Rattle.codec.specs.Entries.{Item, MarkedTag}
-use Rattle.sides.specs.Image.{fault_facts, image_facts, facts_in, environment_item, environment_tag, image_environment, environment_in}
+use Rattle.sides.specs.Image.{fault_facts, facts_in, environment_item, environment_tag, environment_in}
 
 -- the facts of items, of tags, and of done instances
 abbrev pub item_fact : Item → Fact

@@ -1,7 +1,7 @@
 ghost use Rattle.std.specs.Prelude.{◌≡◌};
 ghost use Rattle.sides.specs.declared.error.SideError.TheVariants.{NoMemory};
 
-use std::alloc::{AllocError, AllocFailed};
+use std::alloc::AllocError;
 use thiserror::Error;
 
 /// Why the bytes of an open side were not read.
@@ -19,14 +19,6 @@ impl From<AllocError> for SideError {
     ghost from_gives = { λ _ error. error ≡ NoMemory };
 
     fn from(_: AllocError) -> Self {
-        SideError::NoMemory
-    }
-}
-
-impl<T: Drop> From<AllocFailed<T>> for SideError {
-    ghost from_gives = { λ _ error. error ≡ NoMemory };
-
-    fn from(_: AllocFailed<T>) -> Self {
         SideError::NoMemory
     }
 }

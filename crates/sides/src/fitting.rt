@@ -309,15 +309,20 @@ pub(crate) mod tests {
         Ok(())
     }
 
-    // An item and a tag of the environment, and a tag of an instance.
     #[test]
-    fn the_environment_is_looked_at(rt: HostRuntime) -> Result<(), Fail> {
+    fn items_of_the_environment_are_looked_at(rt: HostRuntime) -> Result<(), Fail> {
         for (text, wanted) in [(OPEN, true), (CLOSED, false)] {
             let graph = graph(rt.alloc(), text)?;
             let item = (address(0), (0, Producer::Env));
             let held = held(rt.alloc(), None, &[item], &[], &[])?;
-            assert_eq!(&rt; held.fits(&graph), wanted, "an item");
+            assert_eq!(&rt; held.fits(&graph), wanted, "in {text:?}");
         }
+        Ok(())
+    }
+
+    // A tag that is not marked may be one that the environment may not put.
+    #[test]
+    fn marks_are_looked_at(rt: HostRuntime) -> Result<(), Fail> {
         for (text, mark, wanted) in [
             (OPEN, true, true),
             (CLOSED, true, false),
@@ -325,7 +330,7 @@ pub(crate) mod tests {
         ] {
             let graph = graph(rt.alloc(), text)?;
             let held = held(rt.alloc(), None, &[], &[(tag(0), mark)], &[])?;
-            assert_eq!(&rt; held.fits(&graph), wanted, "a tag, marked {mark}");
+            assert_eq!(&rt; held.fits(&graph), wanted, "marked {mark} in {text:?}");
         }
         Ok(())
     }
