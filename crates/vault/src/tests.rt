@@ -7,8 +7,10 @@ use std::test::Fail;
 use terms::{Addr, Event, ItemCollection, Key};
 
 mod appending;
+mod crashing;
 mod creating;
 mod opening;
+mod turning;
 
 ghost use Rattle.std.specs.Prelude.{◌≡◌, true, IfOk, length};
 ghost use Rattle.disk.specs.MemDisk.{files_of};
