@@ -66,7 +66,10 @@ fn with_records(alloc: Global, count: u32) -> Result<Vec<u8>, Error> {
     let mut payload = Vec::new(alloc);
     for number in 0..count {
         payload.clear();
-        encode_event(&mut payload, &Event::EnvItem(cell(number), i64::from(number)))?;
+        encode_event(
+            &mut payload,
+            &Event::EnvItem(cell(number), i64::from(number)),
+        )?;
         side.push(1)?;
         side.extend_from_slice(&u32::try_from(payload.len())?.to_le_bytes())?;
         side.extend_from_slice(&payload)?;

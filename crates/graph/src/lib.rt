@@ -29,6 +29,8 @@ pub use canonical_text::canonical;
 pub use examples::canonical_example;
 pub use fault::{GraphError, GraphFault};
 pub use graph::Graph;
-pub use law::{canonical_reads, fitting, one_canonical_text, one_graph, reads_textual, reads_without_fault};
+pub use law::{
+    canonical_reads, fitting, one_canonical_text, one_graph, reads_textual, reads_without_fault,
+};
 pub use limits::MOST_TEXT;
 pub use parser::parse;

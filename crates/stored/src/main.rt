@@ -57,13 +57,25 @@ fn turn_over(rt: &HostRuntime) -> Result<(), Error> {
 fn tell(rt: &HostRuntime, store: &Recovered<FileDisk>) -> Result<(), Error> {
     println!(rt; "opened, generation {}", store.vault.generation)?;
     for (address, value, _) in store.image.items.as_slice() {
-        println!(rt; "item {} {:?} = {value}", address.collection.0, address.key.components())?;
+        println!(rt;
+            "item {} {:?} = {value}",
+            address.collection.0,
+            address.key.components()
+        )?;
     }
     for (name, mark) in store.image.tags.as_slice() {
-        println!(rt; "tag {} {:?}, of the environment: {mark}", name.collection.0, name.key.components())?;
+        println!(rt;
+            "tag {} {:?}, of the environment: {mark}",
+            name.collection.0,
+            name.key.components()
+        )?;
     }
     for instance in store.image.done.as_slice() {
-        println!(rt; "done {} {:?}", instance.collection.0, instance.key.components())?;
+        println!(rt;
+            "done {} {:?}",
+            instance.collection.0,
+            instance.key.components()
+        )?;
     }
     Ok(())
 }
