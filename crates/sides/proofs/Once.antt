@@ -1,5 +1,5 @@
 -- The bytes of a side stand for one thing at most.
-use Rattle.std.proofs.Common.{◌≡◌, ◌<◌, ◌^◌, ℕ, List, [], ◌∷◌, ◌++◌, length, take, drop, map, refl, sym, ap, subst, ◌∙◌, arith}
+use Rattle.std.proofs.Common.{◌≡◌, ◌<◌, ◌+◌, ◌^◌, ℕ, List, [], ◌∷◌, ◌++◌, length, take, drop, map, refl, sym, ap, subst, ◌∙◌, arith, length-append}
 use Rattle.std.specs.List.{AllByRecursion}
 use Rattle.std.proofs.lemmas.List.{append_assoc}
 use Rattle.std.proofs.Math.Seq.{drop-append_seam, take-append_seam}
@@ -14,7 +14,7 @@ use Rattle.journal.specs.Records.{StandsFor, records}
 use Rattle.graph.specs.Graph.{Graph}
 use Rattle.graph.specs.Canonical.{canonical}
 use Rattle.sides.specs.Image.{image_facts, image_environment}
-use Rattle.sides.specs.Side.{FORMAT, counted, behind_gate, HasGeneration, IsSide, SameSide}
+use Rattle.sides.specs.Side.{FORMAT, counted, behind_gate, HasGeneration, IsSide, SameSide, end_of}
 
 -- two strings with fronts of one length
 pub split : (a b x y : List ℕ) → length a ≡ length b → a ++ x ≡ b ++ y → (a ≡ b) × (x ≡ y)
@@ -93,10 +93,10 @@ module _ (one_event : SpellsOne SpellsEvent) (one_image : SpellsOne SpellsImage)
       stated : image_facts one.image ++ facts one.events ≡ image_facts two.image ++ facts two.events
       stated = λ i. image_facts (image i) ++ facts (events i)
 
-pub any_rest : (bytes : List ℕ) (g : Graph) (n : ℕ) (E X : Facts) → IsSide bytes g n E X
-    → (front : List ℕ) × (rest : List ℕ) × (bytes ≡ front ++ rest) × ((other : List ℕ) → IsSide (front ++ other) g n E X)
+pub any_rest : (bytes : List ℕ) (g : Graph) (n : ℕ) (E X : Facts) (side : IsSide bytes g n E X)
+    → (front : List ℕ) × (rest : List ℕ) × (bytes ≡ front ++ rest) × (length front ≡ end_of side + 1) × ((other : List ℕ) → IsSide (front ++ other) g n E X)
 any_rest bytes g n E X side =
-    (front, side.records.rest, side.spelled ∙ ap (λ (journal : List ℕ). 1 ∷ behind_gate n (canonical g) (image_bytes side.image) journal) side.records.spelled ∙ sym (ends side.records.rest), with_rest)
+    (front, side.records.rest, side.spelled ∙ ap (λ (journal : List ℕ). 1 ∷ behind_gate n (canonical g) (image_bytes side.image) journal) side.records.spelled ∙ sym (ends side.records.rest), count, with_rest)
   where
     list : List (List ℕ)
     list = map event_bytes side.events
@@ -109,6 +109,9 @@ any_rest bytes g n E X side =
 
     ends : (other : List ℕ) → front ++ other ≡ 1 ∷ behind_gate n (canonical g) (image_bytes side.image) (records list ++ side.records.gate ∷ other)
     ends other = ap (λ (bytes : List ℕ). 1 ∷ FORMAT ∷ bytes) (append_assoc head (records list ++ side.records.gate ∷ []) other ∙ ap (λ (journal : List ℕ). head ++ journal) (append_assoc (records list) (side.records.gate ∷ []) other))
+
+    count : length front ≡ end_of side + 1
+    count = omega (arith, length-append head (records list ++ side.records.gate ∷ []), length-append (records list) (side.records.gate ∷ []), length-append head [])
 
     with_rest : (other : List ℕ) → IsSide (front ++ other) g n E X
     with_rest other = record {

@@ -80,5 +80,5 @@ OneGeneration = (bytes : List ℕ) (m n : ℕ) → HasGeneration bytes m → Has
 
 -- behind the closed gate that ends its journal a side may have any bytes
 abbrev pub AnyRest : Type 0
-AnyRest = (bytes : List ℕ) (g : Graph) (n : ℕ) (E X : Facts) → IsSide bytes g n E X
-    → (front : List ℕ) × (rest : List ℕ) × (bytes ≡ front ++ rest) × ((other : List ℕ) → IsSide (front ++ other) g n E X)
+AnyRest = (bytes : List ℕ) (g : Graph) (n : ℕ) (E X : Facts) (side : IsSide bytes g n E X)
+    → (front : List ℕ) × (rest : List ℕ) × (bytes ≡ front ++ rest) × (length front ≡ end_of side + 1) × ((other : List ℕ) → IsSide (front ++ other) g n E X)
