@@ -73,7 +73,7 @@ module _ {D : Type 0} (files : D → Side → File) (moment : D → ℕ) (left_a
       λ vault h F Y it same.
           let there = alike it.contents reading h F Y (λ side. sym (same side) ∙ ap (λ (f : File). f.content) (it.rests side)) (vault.journal.side, vault.generation, it.is_live) in
           let one = one_store reading h g F stands.0.0 Y stands.0.1 there stands.2 in
-          (stands.0, stands.1, holds_as_set vault h F stands.0.0 Y stands.0.1 one.1 one.2 it, one.0),
+          (stands.0, stands.1, holds_as_set vault h F stands.0.0 Y stands.0.1 one.1 one.2 it, one.0, one.1, one.2),
     )
       where
         reading : Contents
