@@ -11,8 +11,8 @@ use Rattle.sides.specs.Side.{IsSide}
 use Rattle.sides.specs.SideLaws.{SideAsSet}
 use Rattle.vault.specs.declared.vault.Vault.{Vault}
 use Rattle.vault.specs.Stands.{IsBehind, Stands, OneStore, other_side}
-use Rattle.vault.specs.Store.{Holds, StandsBeforeOrAfter}
-use Rattle.vault.specs.Moves.{State, IsOneOf, with_event, LeavesOneOf, IsLeft, HeldIsLeft, AppendIsLeft, TurnIsLeft, OpeningsLeave, OpeningRecovers}
+use Rattle.vault.specs.Store.{Holds, HasGates, StandsBeforeOrAfter}
+use Rattle.vault.specs.Moves.{State, IsOneOf, with_event, LeavesOneOf, IsLeft, HeldIsLeft, AppendIsLeft, TurnIsLeft, GatesStay, OpeningsLeave, OpeningRecovers}
 
 -- what stands for something where other bytes are the same on each side
 alike : (one two : Contents) (g : Graph) (E X : Facts) → ((side : Side) → two side ≡ one side) → Stands one g E X → Stands two g E X
@@ -48,6 +48,9 @@ module _ {D : Type 0} (files : D → Side → File) (moment : D → ℕ) (left_a
 
   pub turn : TurnIsLeft files moment left_at
   turn old new g E X crashed only it contents left = ((E, X), the_one (E, X), struck old.disk new.disk (λ contents. Stands contents g E X) crashed only it contents left)
+
+  pub gates : GatesStay files moment left_at
+  gates old new crashed only it = struck old new HasGates crashed only it
 
   pub openings : OpeningsLeave files moment left_at
   openings g states first last [] leaves is = subst (LeavesOneOf files g states) (sym is) leaves

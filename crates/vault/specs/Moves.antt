@@ -13,7 +13,7 @@ use Rattle.graph.specs.FitLaws.{SameSet}
 use Rattle.sides.specs.Image.{with_facts}
 use Rattle.vault.specs.declared.vault.Vault.{Vault}
 use Rattle.vault.specs.Stands.{Stands}
-use Rattle.vault.specs.Store.{Holds, IsReady, StandsBeforeOrAfter}
+use Rattle.vault.specs.Store.{Holds, HasGates, IsReady, StandsBeforeOrAfter}
 
 -- facts, and of them those that the environment put first
 abbrev pub State : Type 0
@@ -64,6 +64,11 @@ module _ {D : Type 0} (files : D → Side → File) (moment : D → ℕ) (left_a
   TurnIsLeft = (old new : Vault D) (g : Graph) (E X : Facts) (crashed : D)
       → LeavesOnly moment left_at old.disk new.disk (λ contents. Stands contents g E X) → IsLeft files moment left_at old.disk new.disk crashed
       → LeavesOneOf files g ((E, X) ∷ []) crashed
+
+  -- one at a moment of calls that leave each file its first byte leaves it so
+  abbrev pub GatesStay : Type 0
+  GatesStay = (old new crashed : D) → LeavesOnly moment left_at old new HasGates → IsLeft files moment left_at old new crashed
+      → (contents : Contents) → MayLeaveNow (files crashed) contents → HasGates contents
 
   -- after openings that were cut off a crash leaves what it left before them
   abbrev pub OpeningsLeave : Type 0
