@@ -11,14 +11,14 @@ use Rattle.sides.specs.Side.{IsOpen}
 use Rattle.vault.specs.Turned.{IsShut, IsUnshut, MayShut, MayTurn}
 
 -- bytes that begin with another gate are not open
-pub not_open : (gate : ℕ) (rest bytes : List ℕ) → gate ≢ 1 → bytes ≡ gate ∷ rest → IsOpen bytes → ⊥
-not_open gate rest bytes closed is open_one = let same = open_one.1 in closed cc
+pub not_open : (bytes : List ℕ) → IsShut bytes → IsOpen bytes → ⊥
+not_open bytes shut open_one = let is = shut.spelled in let same = open_one.1 in shut.closed cc
 
--- with some first byte they are open, with just these bytes behind, or not open
-pub by_gate : (gate : ℕ) (rest bytes : List ℕ) → bytes ≡ gate ∷ rest → (bytes ≡ 1 ∷ rest) ⊎ (IsOpen bytes → ⊥)
+-- with some first byte they are open, with just these bytes behind, or their gate is not open
+pub by_gate : (gate : ℕ) (rest bytes : List ℕ) → bytes ≡ gate ∷ rest → (bytes ≡ 1 ∷ rest) ⊎ IsShut bytes
 by_gate gate rest bytes is = elim (cases_eq gate 1) [
   | inl one ↦ inl (is ∙ ap (λ (g : ℕ). g ∷ rest) one)
-  | inr other ↦ inr (not_open gate rest bytes other is)
+  | inr other ↦ inr (record { gate = gate; closed = other; rest = rest; spelled = is })
 ]
 
 -- a write of the first byte leaves the others
@@ -26,7 +26,7 @@ pub first_only : (gate : ℕ) (rest bytes : List ℕ) → WriteLeaves (gate ∷ 
 first_only gate rest [] left = let long = left.length_stays (omega arith) in absurd (omega (arith, long))
 first_only gate rest (first ∷ more) left = (first, ap (λ (l : List ℕ). first ∷ l) (left.back (omega arith)))
 
--- a write of a gate's byte over an open one leaves the old bytes, or none that are open
+-- a write of a gate's byte over an open one leaves the old bytes, or a gate that is not open
 pub closing_leaves : (old bytes : List ℕ) → IsUnshut old → old ≢ [] → WriteLeaves old 0 1 bytes → MayShut old bytes
 closing_leaves old bytes (inl none) there left = absurd (there none)
 closing_leaves old bytes (inr open_one) there left =
@@ -36,7 +36,7 @@ closing_leaves old bytes (inr open_one) there left =
       | inr closed ↦ inr closed
     ]
 
--- one over a gate that is not open leaves those bytes behind an open gate, or none that are open
+-- one over a gate that is not open leaves those bytes behind an open gate, or a gate that is not open
 pub opening_leaves : (gate : ℕ) (rest old bytes : List ℕ) → WriteLeaves (gate ∷ rest) 0 1 bytes → MayTurn old (1 ∷ rest) bytes
 opening_leaves gate rest old bytes left =
     let it = first_only gate rest bytes left in
@@ -55,12 +55,14 @@ written_behind gate bytes = ap (λ (l : List ℕ). gate ∷ (bytes ++ l)) (drop_
 
 -- ---- while bytes are written behind the gate
 
--- what has the same first byte is not open either
-pub kept_shut : (content bytes : List ℕ) → IsShut content → slice_get bytes 0 ≡ slice_get content 0 → IsOpen bytes → ⊥
-kept_shut content bytes shut same open_one =
+-- what has the same first byte begins with a gate that is not open either
+pub kept_shut : (content bytes : List ℕ) → IsShut content → slice_get bytes 0 ≡ slice_get content 0 → IsShut bytes
+kept_shut content [] shut same =
     let first : Some shut.gate ≡ slice_get content 0 = ap (λ (l : List ℕ). slice_get l 0) (sym shut.spelled) in
-    let one : slice_get bytes 0 ≡ Some 1 = ap (λ (l : List ℕ). slice_get l 0) open_one.1 in
-    shut.closed cc
+    absurd cc
+kept_shut content (gate ∷ rest) shut same =
+    let first : Some shut.gate ≡ slice_get content 0 = ap (λ (l : List ℕ). slice_get l 0) (sym shut.spelled) in
+    record { gate = gate; closed = λ one. shut.closed cc; rest = rest; spelled = refl }
 
 -- after the cut behind the gate
 pub cut_leaves : (T : Type 0) (result : Result T DiskError) (content : List ℕ) (new : File) → Changes (cut 1) (cut_touches 1) result (at_rest content) new

@@ -1,5 +1,5 @@
 -- What a crash leaves at each moment while a side is written anew.
-use Rattle.std.proofs.Common.{◌≡◌, ◌≢◌, inl, inr, ℕ, List, [], ◌∷◌, ap, subst, ◌∙◌}
+use Rattle.std.proofs.Common.{◌≡◌, ◌≢◌, inl, inr, ℕ, List, [], ◌∷◌, sym, ap, subst, ◌∙◌}
 use Rattle.std.specs.Prelude.{◌↔◌, Result}
 use Rattle.disk.specs.declared.side.Side.{Side}
 use Rattle.disk.specs.declared.error.DiskError.{DiskError}
@@ -7,9 +7,8 @@ use Rattle.disk.specs.File.{File, MayLeave, Changes, WriteLeaves, at_rest, touch
 use Rattle.disk.specs.Time.{Contents, MayLeaveNow, OtherStays, OtherMayBe, Elapses, LeavesOnly}
 use Rattle.disk.specs.Moments.{begun, goes_on, weakened, joined, other_before}
 use Rattle.disk.specs.Settled.{settled_only}
-use Rattle.sides.specs.Side.{IsOpen}
-use Rattle.vault.specs.Turned.{IsUnshut, Rests, RestsShut, MayShut, MayTurn}
-use Rattle.vault.proofs.GatesBytes.{not_open, kept_shut, cut_leaves, write_leaves, closing_leaves, opening_leaves}
+use Rattle.vault.specs.Turned.{IsShut, IsUnshut, Rests, RestsShut, MayShut, MayTurn}
+use Rattle.vault.proofs.GatesBytes.{kept_shut, cut_leaves, write_leaves, closing_leaves, opening_leaves}
 
 module _ {D : Type 0} (files : D → Side → File) (moment : D → ℕ) (left_at : D → ℕ → Contents → Type 0)
     (at_now : (disk : D) (c : Contents) → left_at disk (moment disk) c ↔ MayLeaveNow (files disk) c) where
@@ -49,13 +48,13 @@ module _ {D : Type 0} (files : D → Side → File) (moment : D → ℕ) (left_a
     -- ---- the bytes behind it
 
     abbrev pub StaysShut : (Side → File) → Contents → Type 0
-    StaysShut before c = (IsOpen (c side) → ⊥) × OtherMayBe side before c
+    StaysShut before c = IsShut (c side) × OtherMayBe side before c
 
     module _ (old : D) (shut : RestsShut (files old side)) where
       shut_now : (c : Contents) → MayLeaveNow (files old) c → StaysShut (files old) c
       shut_now c left =
           let same = settled_only (files old side).content (c side) (subst (λ (f : File). MayLeave f.durable (c side)) shut.0 (left side)) in
-          (not_open shut.1.gate shut.1.rest (c side) shut.1.closed (same ∙ shut.1.spelled), λ other differs. left other)
+          (subst IsShut (sym same) shut.1, λ other differs. left other)
 
       module _ (mid : D) (stays : OtherStays side (files old) (files mid)) (time : Elapses (moment old) (moment mid) (left_at old) (left_at mid)) where
         pub cut_moments : (T : Type 0) (result : Result T DiskError) → Changes (cut 1) (cut_touches 1) result (files old side) (files mid side) → LeavesOnly moment left_at old mid (StaysShut (files old))

@@ -11,8 +11,8 @@ use Rattle.sides.specs.Side.{IsSide}
 use Rattle.sides.specs.SideLaws.{SideAsSet}
 use Rattle.vault.specs.declared.vault.Vault.{Vault}
 use Rattle.vault.specs.Stands.{IsBehind, Stands, OneStore, other_side}
-use Rattle.vault.specs.Store.{Holds, StandsBeforeOrAfter}
-use Rattle.vault.specs.Moves.{State, IsOneOf, with_event, LeavesOneOf, IsLeft, HeldIsLeft, AppendIsLeft, TurnIsLeft, OpeningsLeave, OpeningRecovers}
+use Rattle.vault.specs.Store.{Holds, HasGates, StandsBeforeOrAfter}
+use Rattle.vault.specs.Moves.{State, IsOneOf, with_event, LeavesOneOf, IsLeft, HeldIsLeft, AppendIsLeft, TurnIsLeft, GatesStay, OpeningsLeave, OpeningRecovers}
 
 -- what stands for something where other bytes are the same on each side
 alike : (one two : Contents) (g : Graph) (E X : Facts) → ((side : Side) → two side ≡ one side) → Stands one g E X → Stands two g E X
@@ -49,6 +49,9 @@ module _ {D : Type 0} (files : D → Side → File) (moment : D → ℕ) (left_a
   pub turn : TurnIsLeft files moment left_at
   turn old new g E X crashed only it contents left = ((E, X), the_one (E, X), struck old.disk new.disk (λ contents. Stands contents g E X) crashed only it contents left)
 
+  pub gates : GatesStay files moment left_at
+  gates old new crashed only it = struck old new HasGates crashed only it
+
   pub openings : OpeningsLeave files moment left_at
   openings g states first last [] leaves is = subst (LeavesOneOf files g states) (sym is) leaves
   openings g states first last (round ∷ later) leaves cut =
@@ -73,7 +76,7 @@ module _ {D : Type 0} (files : D → Side → File) (moment : D → ℕ) (left_a
       λ vault h F Y it same.
           let there = alike it.contents reading h F Y (λ side. sym (same side) ∙ ap (λ (f : File). f.content) (it.rests side)) (vault.journal.side, vault.generation, it.is_live) in
           let one = one_store reading h g F stands.0.0 Y stands.0.1 there stands.2 in
-          (stands.0, stands.1, holds_as_set vault h F stands.0.0 Y stands.0.1 one.1 one.2 it, one.0),
+          (stands.0, stands.1, holds_as_set vault h F stands.0.0 Y stands.0.1 one.1 one.2 it, one.0, one.1, one.2),
     )
       where
         reading : Contents

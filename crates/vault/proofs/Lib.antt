@@ -1,5 +1,6 @@
 mod Appended
 mod Created
+mod FirstBytes
 mod GatesBytes
 mod GatesMoments
 mod GoesOn

@@ -15,6 +15,7 @@ use Rattle.sides.specs.SideLaws.{SideAsSet, SideFits, BeginsSide}
 use Rattle.vault.specs.Stands.{IsBehind, IsLive, Stands, other_side}
 use Rattle.vault.specs.Store.{Lists, new_side}
 use Rattle.vault.specs.Turned.{MayTurn}
+use Rattle.vault.proofs.GatesBytes.{not_open}
 
 pub not_other : (side : Side) → side ≢ other_side side
 not_other A e = cc
@@ -53,7 +54,7 @@ module _ (as_set : SideAsSet) (fits : SideFits) (begins : BeginsSide) (state_as_
 
       by : MayTurn (contents (other_side live)) (new_side (n + 1) (canonical g) image) (now (other_side live)) → Stands now g E X
       by (inl (inl as_was)) = (live, n, record { is_side = old_side; behind = subst (λ (l : List ℕ). IsBehind l n) (sym as_was) is_live.behind })
-      by (inl (inr closed)) = (live, n, record { is_side = old_side; behind = inl closed })
+      by (inl (inr closed)) = (live, n, record { is_side = old_side; behind = inl (not_open (now (other_side live)) closed) })
       by (inr turned) =
           let new = turned_side (now live) n small old_side in (
             other_side live,

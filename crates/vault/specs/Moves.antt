@@ -9,10 +9,11 @@ use Rattle.terms.specs.Facts.{event_facts, environment_facts}
 use Rattle.terms.specs.Sets.{Facts}
 use Rattle.graph.specs.Graph.{Graph}
 use Rattle.graph.specs.Canonical.{canonical}
+use Rattle.graph.specs.FitLaws.{SameSet}
 use Rattle.sides.specs.Image.{with_facts}
 use Rattle.vault.specs.declared.vault.Vault.{Vault}
 use Rattle.vault.specs.Stands.{Stands}
-use Rattle.vault.specs.Store.{Holds, IsReady, StandsBeforeOrAfter}
+use Rattle.vault.specs.Store.{Holds, HasGates, IsReady, StandsBeforeOrAfter}
 
 -- facts, and of them those that the environment put first
 abbrev pub State : Type 0
@@ -64,14 +65,20 @@ module _ {D : Type 0} (files : D → Side → File) (moment : D → ℕ) (left_a
       → LeavesOnly moment left_at old.disk new.disk (λ contents. Stands contents g E X) → IsLeft files moment left_at old.disk new.disk crashed
       → LeavesOneOf files g ((E, X) ∷ []) crashed
 
+  -- one at a moment of calls that leave each file its first byte leaves it so
+  abbrev pub GatesStay : Type 0
+  GatesStay = (old new crashed : D) → LeavesOnly moment left_at old new HasGates → IsLeft files moment left_at old new crashed
+      → (contents : Contents) → MayLeaveNow (files crashed) contents → HasGates contents
+
   -- after openings that were cut off a crash leaves what it left before them
   abbrev pub OpeningsLeave : Type 0
   OpeningsLeave = (g : Graph) (states : List State) (first last : D) (openings : List (D × D)) → LeavesOneOf files g states first → CutOpenings first openings last → LeavesOneOf files g states last
 
   -- What an opening's clauses say where each crash leaves one of some states: it does not say that the files stand for nothing,
-  -- and the vault that it gives holds one of them, for a graph of the same text. So the next call's clauses speak of that state.
+  -- and the vault that it gives holds one of them, for a graph of the same text: what it holds is that, as sets. So the next call's
+  -- clauses speak of that state.
   abbrev pub OpeningRecovers : Type 0
   OpeningRecovers = (g : Graph) (states : List State) (disk : D) → LeavesOneOf files g states disk → ((side : Side) → MayLeave (files disk side).durable (files disk side).content)
       → (((h : Graph) (F Y : Facts) → Stands (λ side. (files disk side).content) h F Y → ⊥) → ⊥)
       × ((vault : Vault D) (h : Graph) (F Y : Facts) → Holds files vault h F Y → ((side : Side) → (files vault.disk side).content ≡ (files disk side).content)
-      → (state : State) × IsOneOf state states × Holds files vault h state.0 state.1 × (canonical h ≡ canonical g))
+      → (state : State) × IsOneOf state states × Holds files vault h state.0 state.1 × (canonical h ≡ canonical g) × SameSet F state.0 × SameSet Y state.1)

@@ -61,6 +61,10 @@ pub record IsSame {D : Type 0} (old new : Vault D) : Type 0 where
 
 -- ---- what a crash leaves
 
+-- each file has a first byte
+abbrev pub HasGates : Contents → Type 0
+HasGates contents = (side : Side) → contents side ≢ []
+
 -- two files stand for the state before an event or for that behind it
 abbrev pub StandsBeforeOrAfter : Graph → Facts → Facts → Event → Contents → Type 0
 StandsBeforeOrAfter g E X event contents = Stands contents g E X ⊎ Stands contents g (with_facts E (environment_facts event)) (with_facts X (event_facts event))

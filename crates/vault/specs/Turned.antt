@@ -26,9 +26,9 @@ RestsShut file = Rests file × IsShut file.content
 abbrev pub HasBehindGate : File → List ℕ → Type 0
 HasBehindGate file bytes = (gate : ℕ) × (gate ≢ 1) × (file ≡ at_rest (gate ∷ bytes))
 
--- of the old bytes a crash leaves those, or a side that is not open
+-- of the old bytes a crash leaves those, or a side whose gate is not open
 abbrev pub MayShut : List ℕ → List ℕ → Type 0
-MayShut old bytes = (bytes ≡ old) ⊎ (IsOpen bytes → ⊥)
+MayShut old bytes = (bytes ≡ old) ⊎ IsShut bytes
 
 -- or the new ones
 abbrev pub MayTurn : List ℕ → List ℕ → List ℕ → Type 0

@@ -1,5 +1,5 @@
 ghost use Rattle.std.specs.Prelude.{◌≡◌, ◌≤◌, ◌<◌, ◌+◌, ◌⊎◌, ◌↔◌, ℕ, true, false, length, IsTrue, OnOk, OnErr, IsErrOf};
-ghost use Rattle.disk.specs.Time.{LeavesOnly};
+ghost use Rattle.disk.specs.Time.{LeavesOnly, OtherStays};
 ghost use Rattle.terms.specs.Facts.{event_facts, environment_facts};
 ghost use Rattle.terms.specs.Sets.{Facts};
 ghost use Rattle.codec.specs.Spelling.{HasFewPuts, event_bytes};
@@ -10,7 +10,8 @@ ghost use Rattle.graph.specs.Graph.{Graph};
 ghost use Rattle.graph.specs.Fits.{Fits};
 ghost use Rattle.disk.specs.declared.side.Side.{Side};
 ghost use Rattle.sides.specs.Image.{with_facts};
-ghost use Rattle.vault.specs.Store.{Holds, IsReady, IsSame, StandsBeforeOrAfter};
+ghost use Rattle.vault.specs.Opened.{contents_of};
+ghost use Rattle.vault.specs.Store.{Holds, HasGates, IsReady, IsSame, StandsBeforeOrAfter};
 ghost use Rattle.vault.specs.declared.error.VaultError.TheVariants.{Device, NoMemory, Damaged, Full, NotAStore, Halted, Exists};
 
 use crate::{Vault, VaultError};
@@ -35,6 +36,13 @@ impl<D: Disk> Vault<D> {
         // A crash at any moment of the call leaves the state before the event or behind it.
         ensures any_moment { IsTrue D.is_honest → (g : Graph) (E X : Facts) → Holds D.files self.old g E X → Fits g X event.now
             → LeavesOnly D.moment D.left_at self.old.disk self.new.disk (StandsBeforeOrAfter g E X event.now) }
+
+        // It leaves each file its first byte.
+        ensures gates { IsTrue D.is_honest → (g : Graph) (E X : Facts) → Holds D.files self.old g E X → HasGates (contents_of (D.files self.old.disk))
+            → LeavesOnly D.moment D.left_at self.old.disk self.new.disk HasGates }
+
+        // The file that is not live stays as it was.
+        ensures other { IsTrue D.is_honest → OtherStays self.old.journal.side (D.files self.old.disk) (D.files self.new.disk) }
 
         // A refusal that does not halt changes nothing, and a halted vault makes no call of the disk.
         ensures same { OnErr result (self.new.halted ≡ self.old.halted → IsSame self.old self.new) }

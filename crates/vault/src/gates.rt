@@ -1,7 +1,6 @@
 ghost use Rattle.std.specs.Prelude.{◌≡◌, ◌≢◌, ◌∷◌, [], IsTrue, IfOk, OnOk, MatchBool};
 ghost use Rattle.disk.specs.File.{at_rest};
 ghost use Rattle.disk.specs.Time.{OtherStays, OtherMayBe, LeavesOnly, MayLeaveNow, HasCause};
-ghost use Rattle.sides.specs.Side.{IsOpen};
 ghost use Rattle.vault.specs.Stands.{other_side};
 ghost use Rattle.vault.specs.Turned.{IsShut, IsUnshut, Rests, RestsShut, HasBehindGate, MayShut, MayTurn};
 
@@ -20,7 +19,7 @@ pub(crate) fn other(side: Side) -> Side
 }
 
 /// Writes a side anew, of which all is on the disk: these bytes behind an open gate. Until the gate is opened, at the end, the
-/// file is the old one or is not open.
+/// file is the old one or begins with a gate that is not open.
 pub(crate) fn write_side<D: Disk>(disk: &mut D, side: Side, behind: &[u8]) -> Result<(), DiskError>
     requires { IsTrue D.is_honest → Rests (D.files disk.old side) }
     ensures written { IsTrue D.is_honest → OnOk result (D.files disk.new side ≡ at_rest (1 ∷ behind.now)) }
@@ -34,12 +33,12 @@ pub(crate) fn write_side<D: Disk>(disk: &mut D, side: Side, behind: &[u8]) -> Re
     write_synced(disk, side, 0, &[OPEN])
 }
 
-// Writes bytes behind a gate that is not open, and nothing else behind it. At no moment the gate is open.
+// Writes bytes behind a gate that is not open, and nothing else behind it. At each moment the gate is there, and not open.
 fn write_behind<D: Disk>(disk: &mut D, side: Side, behind: &[u8]) -> Result<(), DiskError>
     requires { IsTrue D.is_honest → RestsShut (D.files disk.old side) }
     ensures written { IsTrue D.is_honest → OnOk result (HasBehindGate (D.files disk.new side) behind.now) }
     ensures other { IsTrue D.is_honest → OtherStays side (D.files disk.old) (D.files disk.new) }
-    ensures any_moment { IsTrue D.is_honest → LeavesOnly D.moment D.left_at disk.old disk.new (λ contents. (IsOpen (contents side) → ⊥) × OtherMayBe side (D.files disk.old) contents) }
+    ensures any_moment { IsTrue D.is_honest → LeavesOnly D.moment D.left_at disk.old disk.new (λ contents. IsShut (contents side) × OtherMayBe side (D.files disk.old) contents) }
     ensures cause { HasCause (D.failures disk.old) (D.failures disk.new) result }
 {
     disk.cut(side, 1)?;

@@ -1,4 +1,4 @@
-ghost use Rattle.vault.specs.Moves.{HeldIsLeft, HeldIsReady, AppendIsLeft, TurnIsLeft, OpeningsLeave, OpeningRecovers};
+ghost use Rattle.vault.specs.Moves.{HeldIsLeft, HeldIsReady, AppendIsLeft, TurnIsLeft, GatesStay, OpeningsLeave, OpeningRecovers};
 
 use crate::one_store;
 use disk::Disk;
@@ -11,6 +11,7 @@ pub fn stores_go_on<D: Disk>()
     ensures ready { HeldIsReady D.files D.moment D.left_at }
     ensures append { AppendIsLeft D.files D.moment D.left_at }
     ensures turn { TurnIsLeft D.files D.moment D.left_at }
+    ensures gates { GatesStay D.files D.moment D.left_at }
     ensures openings { OpeningsLeave D.files D.moment D.left_at }
     ensures recovers { OpeningRecovers D.files D.moment D.left_at }
 {

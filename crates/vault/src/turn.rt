@@ -9,7 +9,8 @@ ghost use Rattle.journal.specs.declared.journal.TheConstants.{LIMIT};
 ghost use Rattle.sides.specs.Image.{IsListed};
 ghost use Rattle.sides.specs.Side.{behind_gate};
 ghost use Rattle.vault.specs.Stands.{Stands, other_side};
-ghost use Rattle.vault.specs.Store.{Holds, IsReady, IsSame, IsLast, IsTooLong, Lists, new_side};
+ghost use Rattle.vault.specs.Opened.{contents_of};
+ghost use Rattle.vault.specs.Store.{Holds, HasGates, IsReady, IsSame, IsLast, IsTooLong, Lists, new_side};
 ghost use Rattle.vault.specs.declared.error.VaultError.TheVariants.{Device, NoMemory, Damaged, Full, NotAStore, Halted, Exists};
 
 use crate::gates::{other, write_side};
@@ -40,6 +41,10 @@ impl<D: Disk> Vault<D> {
         // A crash at any moment of the call leaves what the store holds, where the other file has a first byte.
         ensures any_moment { IsTrue D.is_honest → (g : Graph) (E X : Facts) → Holds D.files self.old g E X → Lists image.now E X → (D.files self.old.disk (other_side self.old.journal.side)).content ≢ []
             → LeavesOnly D.moment D.left_at self.old.disk self.new.disk (λ contents. Stands contents g E X) }
+
+        // It leaves each file its first byte.
+        ensures gates { IsTrue D.is_honest → (g : Graph) (E X : Facts) → Holds D.files self.old g E X → HasGates (contents_of (D.files self.old.disk))
+            → LeavesOnly D.moment D.left_at self.old.disk self.new.disk HasGates }
 
         // A refusal that does not halt changes nothing, and a halted vault makes no call of the disk.
         ensures same { OnErr result (self.new.halted ≡ self.old.halted → IsSame self.old self.new) }

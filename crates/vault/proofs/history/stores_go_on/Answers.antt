@@ -11,6 +11,9 @@ returns-clause-append g c = store.append g.D.Disk.files g.D.Disk.moment g.D.Disk
 pub returns-clause-turn : goal.returns-clause-turn
 returns-clause-turn g c = store.turn g.D.Disk.files g.D.Disk.moment g.D.Disk.left_at
 
+pub returns-clause-gates : goal.returns-clause-gates
+returns-clause-gates g c = store.gates g.D.Disk.files g.D.Disk.moment g.D.Disk.left_at
+
 pub returns-clause-openings : goal.returns-clause-openings
 returns-clause-openings g c = store.openings g.D.Disk.files g.D.Disk.moment g.D.Disk.left_at
 

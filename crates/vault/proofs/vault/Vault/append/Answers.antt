@@ -4,6 +4,7 @@ use Rattle.codec.specs.Spelling.{event_bytes}
 use Rattle.journal.specs.Records.{record_of}
 use Rattle.journal.specs.Journal.{IsAt}
 use Rattle.vault.proofs.Appended.{alone, start, payloads, is_at, is_at_file, stands_now, moments, holds_more}
+use Rattle.vault.proofs.FirstBytes.{gates_before, gates_appended}
 use Rattle.vault.proofs.Ready.{appended_is_ready}
 use Rattle.vault.proofs.vault.Vault.append.Goals as goal
 
@@ -60,3 +61,32 @@ returns-in-Ok-clause-added g c honest gr E X holds fits =
     c.try_append.ensures.side refl refl _ (c.try_append.ensures.other honest) (c.in-Ok.ensures.file honest)
     (subst (λ (p : List ℕ). IsAt c.try_append.new.self from (g.D.Disk.files c.try_append.new.disk vault.journal.side).content (before ++ p ∷ [])) spelled at)
     (c.in-Ok.ensures.moved ∙ ap (λ (p : List ℕ). vault.journal.end + length (record_of p)) spelled)
+
+pub returns-then-self-clause-gates : goal.returns-then-self-clause-gates
+returns-then-self-clause-gates g c honest gr E X holds gates =
+    gates_before g.D.Disk.files g.D.Disk.moment g.D.Disk.left_at c.args.self.now gr E X holds gates (g.met.D.Disk.at_now honest)
+
+pub returns-in_err-encode_event-clause-gates : goal.returns-in_err-encode_event-clause-gates
+returns-in_err-encode_event-clause-gates g c honest gr E X holds gates =
+    gates_before g.D.Disk.files g.D.Disk.moment g.D.Disk.left_at c.args.self.now gr E X holds gates (g.met.D.Disk.at_now honest)
+
+pub returns-in-Ok-clause-gates : goal.returns-in-Ok-clause-gates
+returns-in-Ok-clause-gates g c honest gr E X holds gates =
+    let journal = c.sides_go_on.ensures.journal in
+    let vault = c.args.self.now in
+    gates_appended g.D.Disk.files g.D.Disk.moment g.D.Disk.left_at vault gr E X holds gates journal c.try_append.new.disk c.deref.result.now
+    (c.try_append.ensures.any_moment honest (start journal g.D.Disk.files vault gr E X holds) (payloads journal g.D.Disk.files vault gr E X holds) (holds.contents vault.journal.side) (holds.rests vault.journal.side) (is_at journal g.D.Disk.files vault gr E X holds))
+
+pub returns-in-Err-Before-clause-gates : goal.returns-in-Err-Before-clause-gates
+returns-in-Err-Before-clause-gates g c honest gr E X holds gates =
+    let journal = c.sides_go_on.ensures.journal in
+    let vault = c.args.self.now in
+    gates_appended g.D.Disk.files g.D.Disk.moment g.D.Disk.left_at vault gr E X holds gates journal c.try_append.new.disk c.deref.result.now
+    (c.try_append.ensures.any_moment honest (start journal g.D.Disk.files vault gr E X holds) (payloads journal g.D.Disk.files vault gr E X holds) (holds.contents vault.journal.side) (holds.rests vault.journal.side) (is_at journal g.D.Disk.files vault gr E X holds))
+
+pub returns-in-Err-Within-clause-gates : goal.returns-in-Err-Within-clause-gates
+returns-in-Err-Within-clause-gates g c honest gr E X holds gates =
+    let journal = c.sides_go_on.ensures.journal in
+    let vault = c.args.self.now in
+    gates_appended g.D.Disk.files g.D.Disk.moment g.D.Disk.left_at vault gr E X holds gates journal c.try_append.new.disk c.deref.result.now
+    (c.try_append.ensures.any_moment honest (start journal g.D.Disk.files vault gr E X holds) (payloads journal g.D.Disk.files vault gr E X holds) (holds.contents vault.journal.side) (holds.rests vault.journal.side) (is_at journal g.D.Disk.files vault gr E X holds))

@@ -3,6 +3,7 @@ use Rattle.disk.specs.declared.side.Side.{Side}
 use Rattle.disk.specs.File.{at_rest}
 use Rattle.codec.specs.Spelling.{image_bytes}
 use Rattle.sides.specs.Side.{behind_gate}
+use Rattle.vault.proofs.FirstBytes.{gates_before, gates_turned}
 use Rattle.vault.proofs.TurnedLengths.{end_without_records}
 use Rattle.vault.proofs.TurnedStores.{held_moments, turning_moments, turned_holds}
 use Rattle.vault.proofs.vault.Vault.turn.Goals as goal
@@ -42,3 +43,21 @@ returns-in-Ok-clause-turned g c honest graph E X holds lists =
     c.args.self.now graph E X c.args.image.now holds lists c.in_ok-generation.ensures.in_range short.1 short.0 _ c.other-side.ensures
     (c.in-Ok.ensures.written honest ∙ ap (λ (l : List ℕ). at_rest (1 ∷ l)) spelled) (c.write_side.ensures.other honest) c.in_ok-generation.ensures.next
     (long ∙ ap length spelled ∙ end_without_records (c.args.self.now.generation + 1) c.args.self.now.text.items (image_bytes c.args.image.now)) refl
+
+pub returns-then-self-clause-gates : goal.returns-then-self-clause-gates
+returns-then-self-clause-gates g c honest graph E X holds gates =
+    gates_before g.D.Disk.files g.D.Disk.moment g.D.Disk.left_at c.args.self.now graph E X holds gates (g.met.D.Disk.at_now honest)
+
+pub returns-in_err-generation-clause-gates : goal.returns-in_err-generation-clause-gates
+returns-in_err-generation-clause-gates g c honest graph E X holds gates =
+    gates_before g.D.Disk.files g.D.Disk.moment g.D.Disk.left_at c.args.self.now graph E X holds gates (g.met.D.Disk.at_now honest)
+
+pub returns-in-Ok-clause-gates : goal.returns-in-Ok-clause-gates
+returns-in-Ok-clause-gates g c honest graph E X holds gates =
+    gates_turned g.D.Disk.files g.D.Disk.moment g.D.Disk.left_at c.args.self.now graph E X holds gates c.write_side.new.disk c.other-side.result c.deref-2.result.now
+    (c.write_side.ensures.any_moment honest (gates c.other-side.result))
+
+pub returns-in-Err-clause-gates : goal.returns-in-Err-clause-gates
+returns-in-Err-clause-gates g c honest graph E X holds gates =
+    gates_turned g.D.Disk.files g.D.Disk.moment g.D.Disk.left_at c.args.self.now graph E X holds gates c.write_side.new.disk c.other-side.result c.deref-2.result.now
+    (c.write_side.ensures.any_moment honest (gates c.other-side.result))
