@@ -42,6 +42,10 @@ pub record IsAhead (contents : Contents) (side : Side) : Type 0 where
 abbrev pub StandsForNothing : Contents → Type 0
 StandsForNothing contents = (g : Graph) (E X : Facts) → Stands contents g E X → ⊥
 
+-- no side is open
+abbrev pub NoneIsOpen : Contents → Type 0
+NoneIsOpen contents = (side : Side) → IsOpen (contents side) → ⊥
+
 -- ---- what a side gives
 
 -- the bytes of the side stand for what was found of them

@@ -1,9 +1,8 @@
 -- What a vault keeps between two calls, and what its calls leave.
-use Rattle.std.specs.Prelude.{◌≡◌, ◌≢◌, ◌⊎◌, ◌+◌, ◌≤◌, ◌<◌, ◌^◌, ℕ, false, List, [], ◌∷◌, length, None, Result, Ok, Err}
+use Rattle.std.specs.Prelude.{◌≡◌, ◌⊎◌, ◌+◌, ◌≤◌, ◌<◌, ◌^◌, ℕ, List, [], ◌∷◌, length, None, Result, Ok, Err}
 use Rattle.disk.specs.declared.side.Side.{Side}
-use Rattle.disk.specs.declared.side.Side.TheVariants.{A, B}
 use Rattle.disk.specs.File.{File, at_rest}
-use Rattle.disk.specs.Time.{Contents, MayLeaveNow}
+use Rattle.disk.specs.Time.{Contents}
 use Rattle.terms.specs.declared.event.Event.{Event}
 use Rattle.terms.specs.Facts.{Fact, event_facts, environment_facts}
 use Rattle.terms.specs.Sets.{Facts, among}
@@ -20,7 +19,7 @@ use Rattle.vault.specs.declared.refused.Refused.{Refused}
 use Rattle.vault.specs.declared.opening.Recovered.{Recovered}
 use Rattle.vault.specs.declared.error.VaultError.{VaultError}
 use Rattle.vault.specs.declared.error.VaultError.TheVariants.{NotAStore, Damaged}
-use Rattle.vault.specs.Stands.{Stands, IsLive, other_side}
+use Rattle.vault.specs.Stands.{Stands, IsLive}
 
 -- ---- sets
 

@@ -1,12 +1,13 @@
-ghost use Rattle.std.specs.Prelude.{ℕ, List, IfOk, IfErr, IsErrOf};
+ghost use Rattle.std.specs.Prelude.{◌≡◌, ◌≢◌, ℕ, List, IfOk, IfErr, IsErrOf};
 ghost use Rattle.std.specs.List.{AllByRecursion};
 ghost use Rattle.codec.specs.Spelling.{HasPutNumber};
+ghost use Rattle.disk.specs.declared.side.Side.{Side};
 ghost use Rattle.sides.specs.Reading.{IsRead};
 ghost use Rattle.sides.specs.Image.{IsListed};
 ghost use Rattle.sides.specs.Side.{HasGeneration};
 ghost use Rattle.vault.specs.Store.{SaysNothing};
 ghost use Rattle.vault.specs.Opened.{IsFoundIn, IsNoSide, IsOfOpening};
-ghost use Rattle.vault.specs.declared.error.VaultError.TheVariants.{Device};
+ghost use Rattle.vault.specs.declared.error.VaultError.TheVariants.{Device, NotAStore, Damaged};
 
 use crate::VaultError;
 use codec::Image;
@@ -31,6 +32,8 @@ pub(crate) fn found_in(alloc: Global, side: Side, bytes: &[u8]) -> Result<Found,
     ensures found { IfOk result (IsFoundIn side bytes.now) }
     ensures listed { IfOk result (λ found. IsListed found.image) }
     ensures nothing { (generation : ℕ) → HasGeneration bytes.now generation → IfErr result (λ error. SaysNothing error → IsNoSide bytes.now) }
+    ensures not_a_store { (generation : ℕ) → HasGeneration bytes.now generation → IfErr result (λ error. error ≢ NotAStore) }
+    ensures damaged { (here : Side) (place : ℕ) → IfErr result (λ error. error ≡ Damaged here place → side ≡ here) }
     ensures others { IfErr result IsOfOpening }
     ensures device { IsErrOf result Device → ⊥ }
 {

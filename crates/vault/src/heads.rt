@@ -1,11 +1,12 @@
-ghost use Rattle.std.specs.Prelude.{◌≡◌, ◌≤◌, ◌<◌, ◌↔◌, length, IsTrue, IfOk, IfErr, IsErrOf};
+ghost use Rattle.std.specs.Prelude.{◌≡◌, ◌≤◌, ◌<◌, ◌≢◌, ◌↔◌, ℕ, length, IsTrue, IfOk, IfErr, IsErrOf};
 ghost use Rattle.disk.specs.declared.side.Side.{Side};
 ghost use Rattle.disk.specs.declared.side.Side.TheVariants.{A, B};
 ghost use Rattle.disk.specs.Time.{Contents, HasCause};
 ghost use Rattle.sides.specs.Reading.{Tells};
+ghost use Rattle.sides.specs.Side.{IsOpen};
 ghost use Rattle.vault.specs.Store.{SaysNothing};
-ghost use Rattle.vault.specs.Opened.{OnlyReads, IsGenerationOf, IsAhead, StandsForNothing, IsOfOpening, contents_of};
-ghost use Rattle.vault.specs.declared.error.VaultError.TheVariants.{Device};
+ghost use Rattle.vault.specs.Opened.{OnlyReads, IsGenerationOf, IsAhead, StandsForNothing, NoneIsOpen, IsOfOpening, contents_of};
+ghost use Rattle.vault.specs.declared.error.VaultError.TheVariants.{Device, NotAStore, Damaged};
 
 use crate::VaultError;
 use disk::{Disk, DiskError, Side};
@@ -18,6 +19,8 @@ const GENERATION: u64 = 2;
 pub(crate) fn live_side<D: Disk>(disk: &mut D) -> Result<Side, VaultError>
     ensures ahead { IsTrue D.is_honest → IfOk result (IsAhead (contents_of (D.files disk.old))) }
     ensures nothing { IsTrue D.is_honest → IfErr result (λ error. SaysNothing error → StandsForNothing (contents_of (D.files disk.old))) }
+    ensures not_a_store { IsTrue D.is_honest → IfErr result (λ error. error ≡ NotAStore → NoneIsOpen (contents_of (D.files disk.old))) }
+    ensures damaged { IsTrue D.is_honest → (here : Side) (place : ℕ) → IfErr result (λ error. error ≡ Damaged here place → IsOpen (D.files disk.old here).content) }
     ensures same { IsTrue D.is_honest → (each : Side) → D.files disk.new each ≡ D.files disk.old each }
     ensures only_reads { IsTrue D.is_honest → OnlyReads D.files D.moment D.left_at disk.old disk.new }
     ensures others { IfErr result IsOfOpening }
@@ -33,6 +36,8 @@ pub(crate) fn live_side<D: Disk>(disk: &mut D) -> Result<Side, VaultError>
 fn generation_of<D: Disk>(disk: &mut D, side: Side) -> Result<Option<u64>, VaultError>
     ensures generation { IsTrue D.is_honest → IfOk result (λ generation. IsGenerationOf generation (D.files disk.old side).content) }
     ensures nothing { IsTrue D.is_honest → IfErr result (λ error. SaysNothing error → StandsForNothing (contents_of (D.files disk.old))) }
+    ensures not_a_store { IfErr result (λ error. error ≢ NotAStore) }
+    ensures damaged { IsTrue D.is_honest → (here : Side) (place : ℕ) → IfErr result (λ error. error ≡ Damaged here place → IsOpen (D.files disk.old here).content) }
     ensures same { IsTrue D.is_honest → (each : Side) → D.files disk.new each ≡ D.files disk.old each }
     ensures only_reads { IsTrue D.is_honest → OnlyReads D.files D.moment D.left_at disk.old disk.new }
     ensures others { IfErr result IsOfOpening }
@@ -67,6 +72,8 @@ fn head_of<D: Disk>(disk: &mut D, side: Side) -> Result<(Gate, u64), DiskError>
 fn ahead(a: Option<u64>, b: Option<u64>) -> Result<Side, VaultError>
     ensures ahead { (contents : Contents) → IsGenerationOf a (contents A) → IsGenerationOf b (contents B) → IfOk result (IsAhead contents) }
     ensures nothing { (contents : Contents) → IsGenerationOf a (contents A) → IsGenerationOf b (contents B) → IfErr result (λ _. StandsForNothing contents) }
+    ensures not_a_store { (contents : Contents) → IsGenerationOf a (contents A) → IsGenerationOf b (contents B) → IfErr result (λ error. error ≡ NotAStore → NoneIsOpen contents) }
+    ensures damaged { (contents : Contents) → IsGenerationOf a (contents A) → IsGenerationOf b (contents B) → (here : Side) (place : ℕ) → IfErr result (λ error. error ≡ Damaged here place → IsOpen (contents here)) }
     ensures others { IfErr result IsOfOpening }
     ensures device { IsErrOf result Device → ⊥ }
 {

@@ -1,14 +1,15 @@
-ghost use Rattle.std.specs.Prelude.{◌≡◌, ◌≢◌, ◌≤◌, ◌<◌, ◌↔◌, false, IsTrue, IfOk, IfErr, IsErrAnd, IsErrOf, OnOk};
+ghost use Rattle.std.specs.Prelude.{◌≡◌, ◌≢◌, ◌≤◌, ◌<◌, ◌↔◌, ℕ, false, IsTrue, IfOk, IfErr, IsErrAnd, IsErrOf, OnOk};
 ghost use Rattle.disk.specs.declared.side.Side.{Side};
 ghost use Rattle.disk.specs.File.{at_rest};
 ghost use Rattle.disk.specs.Time.{Contents, LeavesOnly, MayLeaveNow, HasCause};
 ghost use Rattle.terms.specs.Sets.{Facts};
 ghost use Rattle.graph.specs.Graph.{Graph};
 ghost use Rattle.sides.specs.Image.{IsListed, facts_in, environment_in};
+ghost use Rattle.sides.specs.Side.{IsOpen};
 ghost use Rattle.vault.specs.Stands.{Stands};
 ghost use Rattle.vault.specs.Store.{Holds, IsReady, SaysNothing, disk_of_opening};
-ghost use Rattle.vault.specs.Opened.{OnlyReads, IsFound, StandsForNothing, IsOfOpening, contents_of};
-ghost use Rattle.vault.specs.declared.error.VaultError.TheVariants.{Device, Full, Halted, Exists};
+ghost use Rattle.vault.specs.Opened.{OnlyReads, IsFound, StandsForNothing, NoneIsOpen, IsOfOpening, contents_of};
+ghost use Rattle.vault.specs.declared.error.VaultError.TheVariants.{Device, Full, Halted, Exists, NotAStore, Damaged};
 
 use crate::found::{Found, found_in};
 use crate::heads::live_side;
@@ -30,7 +31,7 @@ pub struct Recovered<D: Disk> {
 /// Opens the store on two files, and reads what it holds.
 ///
 /// Both files are synced first, so that what was read is what every later crash leaves. Nothing is written, whatever it answers.
-/// `NotAStore` says that no side is open; `Damaged` tells the side and the place of the first check that failed: an open side of
+/// `NotAStore` says that no side is open; `Damaged` names an open side, and the place of its first check that failed: a side of
 /// fewer than ten bytes (A before B, at its length), both sides of one generation (A, at 2), and of the live side its format (at
 /// 1), its graph's text, its length first (at 10 and 14), its image (at its length's place), and its journal (at the gate of the first
 /// record that is not whole, is no event, or does not fit, or where the journal's last gate is missing).
@@ -40,6 +41,8 @@ pub fn open<D: Disk>(alloc: Global, disk: D) -> Result<Recovered<D>, Refused<D>>
     ensures listed { IfOk result (λ r. IsListed r.image) }
     ensures working { IfOk result (λ r. r.vault.halted ≡ false) }
     ensures nothing { IsTrue D.is_honest → IfErr result (λ refused. SaysNothing refused.error → (g : Graph) (E X : Facts) → Stands (λ side. (D.files disk side).content) g E X → ⊥) }
+    ensures not_a_store { IsTrue D.is_honest → IfErr result (λ refused. refused.error ≡ NotAStore → (side : Side) → IsOpen (D.files disk side).content → ⊥) }
+    ensures damaged { IsTrue D.is_honest → (side : Side) (place : ℕ) → IfErr result (λ refused. refused.error ≡ Damaged side place → IsOpen (D.files disk side).content) }
 
     // What reads give stays, and a crash at any moment of the call leaves what one might have left before it.
     ensures reads { IsTrue D.is_honest → (side : Side) → (D.files (disk_of_opening result) side).content ≡ (D.files disk side).content }
@@ -85,6 +88,8 @@ fn recover<D: Disk>(alloc: Global, disk: &mut D) -> Result<Found, VaultError>
     ensures listed { IfOk result (λ found. IsListed found.image) }
     ensures rests { IsTrue D.is_honest → OnOk result ((side : Side) → D.files disk.new side ≡ at_rest (D.files disk.old side).content) }
     ensures nothing { IsTrue D.is_honest → IfErr result (λ error. SaysNothing error → StandsForNothing (contents_of (D.files disk.old))) }
+    ensures not_a_store { IsTrue D.is_honest → IfErr result (λ error. error ≡ NotAStore → NoneIsOpen (contents_of (D.files disk.old))) }
+    ensures damaged { IsTrue D.is_honest → (here : Side) (place : ℕ) → IfErr result (λ error. error ≡ Damaged here place → IsOpen (D.files disk.old here).content) }
     ensures only_reads { IsTrue D.is_honest → OnlyReads D.files D.moment D.left_at disk.old disk.new }
     ensures others { IfErr result IsOfOpening }
     ensures device { IsErrOf result Device ↔ (D.failures disk.old < D.failures disk.new) }
@@ -109,6 +114,8 @@ fn look<D: Disk>(alloc: Global, disk: &mut D) -> Result<Found, VaultError>
     ensures found { IsTrue D.is_honest → IfOk result (IsFound (contents_of (D.files disk.old))) }
     ensures listed { IfOk result (λ found. IsListed found.image) }
     ensures nothing { IsTrue D.is_honest → IfErr result (λ error. SaysNothing error → StandsForNothing (contents_of (D.files disk.old))) }
+    ensures not_a_store { IsTrue D.is_honest → IfErr result (λ error. error ≡ NotAStore → NoneIsOpen (contents_of (D.files disk.old))) }
+    ensures damaged { IsTrue D.is_honest → (here : Side) (place : ℕ) → IfErr result (λ error. error ≡ Damaged here place → IsOpen (D.files disk.old here).content) }
     ensures same { IsTrue D.is_honest → (each : Side) → D.files disk.new each ≡ D.files disk.old each }
     ensures only_reads { IsTrue D.is_honest → OnlyReads D.files D.moment D.left_at disk.old disk.new }
     ensures others { IfErr result IsOfOpening }

@@ -2,6 +2,7 @@ use Rattle.std.proofs.Common.{subst}
 use Rattle.std.proofs.lemmas.Result.{IfErr-weaker}
 use Rattle.disk.specs.declared.side.Side.TheVariants.{B}
 use Rattle.disk.specs.File.{File}
+use Rattle.sides.specs.Side.{IsOpen}
 use Rattle.vault.specs.Opened.{IsGenerationOf, StandsForNothing, contents_of}
 use Rattle.vault.proofs.OpenedCalls.{then_reads, same_contents}
 use Rattle.vault.proofs.OpenedErrors.{handed_on}
@@ -29,3 +30,31 @@ returns-in_err-b-clause-only_reads g c honest =
 pub returns-clause-only_reads : goal.returns-clause-only_reads
 returns-clause-only_reads g c honest =
     then_reads g.D.Disk.files g.D.Disk.moment g.D.Disk.left_at c.args.disk.now c.generation_of.new.disk c.generation_of-2.new.disk (c.generation_of.ensures.only_reads honest) (c.generation_of-2.ensures.only_reads honest)
+
+pub returns-in_err-a-clause-not_a_store : goal.returns-in_err-a-clause-not_a_store
+returns-in_err-a-clause-not_a_store g c honest = handed_on _ c.in_err-a.field-0.0 c.from_residual.result c.from_residual.ensures.1 (λ is. absurd (c.in_err-a.ensures.not_a_store is))
+
+pub returns-in_err-a-clause-damaged : goal.returns-in_err-a-clause-damaged
+returns-in_err-a-clause-damaged g c honest here place =
+    handed_on _ c.in_err-a.field-0.0 c.from_residual.result c.from_residual.ensures.1 (c.in_err-a.ensures.damaged honest here place)
+
+pub returns-in_err-b-clause-not_a_store : goal.returns-in_err-b-clause-not_a_store
+returns-in_err-b-clause-not_a_store g c honest =
+    handed_on _ c.in_err-b.field-0.0 c.from_residual-in_err-b.result c.from_residual-in_err-b.ensures.1 (λ is. absurd (c.in_err-b.ensures.not_a_store is))
+
+pub returns-in_err-b-clause-damaged : goal.returns-in_err-b-clause-damaged
+returns-in_err-b-clause-damaged g c honest here place =
+    handed_on _ c.in_err-b.field-0.0 c.from_residual-in_err-b.result c.from_residual-in_err-b.ensures.1
+    (λ is. subst (λ (f : File). IsOpen f.content) (c.generation_of.ensures.same honest here) (c.in_err-b.ensures.damaged honest here place is))
+
+pub returns-clause-not_a_store : goal.returns-clause-not_a_store
+returns-clause-not_a_store g c honest =
+    let files = g.D.Disk.files in
+    let b = subst (λ (f : File). IsGenerationOf c.in_ok-b.b f.content) (c.generation_of.ensures.same honest B) (c.in_ok-b.ensures.generation honest) in
+    c.ahead.ensures.not_a_store (contents_of (files c.args.disk.now)) (c.in_ok-a.ensures.generation honest) b
+
+pub returns-clause-damaged : goal.returns-clause-damaged
+returns-clause-damaged g c honest here place =
+    let files = g.D.Disk.files in
+    let b = subst (λ (f : File). IsGenerationOf c.in_ok-b.b f.content) (c.generation_of.ensures.same honest B) (c.in_ok-b.ensures.generation honest) in
+    c.ahead.ensures.damaged (contents_of (files c.args.disk.now)) (c.in_ok-a.ensures.generation honest) b here place

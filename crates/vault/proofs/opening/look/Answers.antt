@@ -1,10 +1,12 @@
 use Rattle.std.proofs.Common.{ℕ, List, ap, subst, sym, ◌∙◌}
 use Rattle.std.proofs.lemmas.Result.{IfOk-weaker, IfErr-weaker}
 use Rattle.disk.specs.File.{File}
-use Rattle.sides.specs.Side.{HasGeneration}
+use Rattle.disk.specs.declared.side.Side.{Side}
+use Rattle.sides.specs.Side.{IsOpen, HasGeneration}
 use Rattle.vault.specs.Opened.{IsNoSide, contents_of}
 use Rattle.vault.proofs.OpenedCalls.{then_reads}
 use Rattle.vault.proofs.OpenedErrors.{handed_on}
+use Rattle.vault.proofs.OpenedHeads.{opens}
 use Rattle.vault.proofs.OpenedSides.{ahead_is_none, ahead_is_found}
 use Rattle.vault.proofs.opening.look.Goals as goal
 
@@ -37,3 +39,25 @@ returns-clause-nothing g c honest =
     (λ error none says. ahead_is_none c.one_meaning_of_a_side.ensures.generation c.one_meaning_of_a_side.ensures.one_generation (contents_of (files c.args.disk.now)) c.in_ok-side.side ahead
     (subst IsNoSide whole (none says)))
     (c.found_in.ensures.nothing ahead.generation (subst (λ (bytes : List ℕ). HasGeneration bytes ahead.generation) (sym whole) ahead.has))
+
+pub returns-in_err-side-clause-not_a_store : goal.returns-in_err-side-clause-not_a_store
+returns-in_err-side-clause-not_a_store g c honest = handed_on _ c.in_err-side.field-0.0 c.from_residual.result c.from_residual.ensures.1 (c.in_err-side.ensures.not_a_store honest)
+
+pub returns-in_err-side-clause-damaged : goal.returns-in_err-side-clause-damaged
+returns-in_err-side-clause-damaged g c honest here place =
+    handed_on _ c.in_err-side.field-0.0 c.from_residual.result c.from_residual.ensures.1 (c.in_err-side.ensures.damaged honest here place)
+
+pub returns-clause-not_a_store : goal.returns-clause-not_a_store
+returns-clause-not_a_store g c honest =
+    let whole = c.deref.ensures.value ∙ c.in_ok-bytes.ensures.value honest ∙ ap (λ (f : File). f.content) (c.live_side.ensures.same honest c.in_ok-side.side) in
+    let ahead = c.in_ok-side.ensures.ahead honest in
+    IfErr-weaker c.found_in.result _ _ (λ error never is. absurd (never is))
+    (c.found_in.ensures.not_a_store ahead.generation (subst (λ (bytes : List ℕ). HasGeneration bytes ahead.generation) (sym whole) ahead.has))
+
+pub returns-clause-damaged : goal.returns-clause-damaged
+returns-clause-damaged g c honest here place =
+    let files = g.D.Disk.files in
+    let ahead = c.in_ok-side.ensures.ahead honest in
+    IfErr-weaker c.found_in.result _ _
+    (λ error is_here is. subst (λ (s : Side). IsOpen (files c.args.disk.now s).content) (is_here is) (opens (files c.args.disk.now c.in_ok-side.side).content ahead.generation ahead.has).0)
+    (c.found_in.ensures.damaged here place)

@@ -1,8 +1,10 @@
-use Rattle.std.proofs.Common.{subst}
+use Rattle.std.proofs.Common.{◌≡◌, subst}
 use Rattle.std.specs.Prelude.{IfOk, IfErr}
 use Rattle.disk.specs.Time.{Contents}
 use Rattle.vault.specs.Store.{SaysNothing}
-use Rattle.vault.specs.Opened.{IsFound, StandsForNothing}
+use Rattle.sides.specs.Side.{IsOpen}
+use Rattle.vault.specs.Opened.{IsFound, StandsForNothing, NoneIsOpen}
+use Rattle.vault.specs.declared.error.VaultError.TheVariants.{NotAStore, Damaged}
 use Rattle.vault.proofs.OpenedCalls.{then_reads, same_contents}
 use Rattle.vault.proofs.opening.recover.Goals as goal
 
@@ -20,3 +22,15 @@ returns-clause-nothing g c honest =
 pub returns-clause-only_reads : goal.returns-clause-only_reads
 returns-clause-only_reads g c honest =
     then_reads g.D.Disk.files g.D.Disk.moment g.D.Disk.left_at c.args.disk.now c.settle.new.disk c.look.new.disk (c.settle.ensures.only_reads honest) (c.look.ensures.only_reads honest)
+
+pub returns-clause-not_a_store : goal.returns-clause-not_a_store
+returns-clause-not_a_store g c honest =
+    let files = g.D.Disk.files in
+    subst (λ (contents : Contents). IfErr c.look.result (λ error. error ≡ NotAStore → NoneIsOpen contents)) (same_contents (files c.args.disk.now) (files c.settle.new.disk) (c.settle.ensures.only_reads honest).reads)
+    (c.look.ensures.not_a_store honest)
+
+pub returns-clause-damaged : goal.returns-clause-damaged
+returns-clause-damaged g c honest here place =
+    let files = g.D.Disk.files in
+    subst (λ (contents : Contents). IfErr c.look.result (λ error. error ≡ Damaged here place → IsOpen (contents here)))
+    (same_contents (files c.args.disk.now) (files c.settle.new.disk) (c.settle.ensures.only_reads honest).reads) (c.look.ensures.damaged honest here place)
