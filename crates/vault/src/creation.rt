@@ -1,6 +1,6 @@
 ghost use Rattle.std.specs.Prelude.{◌≡◌, ◌≢◌, ◌≤◌, ◌<◌, ◌+◌, ◌^◌, ◌⊎◌, ◌↔◌, ℕ, true, false, List, [], ◌∷◌, length, IsTrue, IfOk, OnOk, IfErr, IsErrAnd, IsErrOf};
 ghost use Rattle.disk.specs.File.{at_rest};
-ghost use Rattle.disk.specs.Time.{HasCause};
+ghost use Rattle.disk.specs.Time.{HasCause, LeavesOnly, MayLeaveNow};
 ghost use Rattle.disk.specs.declared.side.Side.{Side};
 ghost use Rattle.disk.specs.declared.side.Side.TheVariants.{A, B};
 ghost use Rattle.graph.specs.Graph.{Graph};
@@ -9,6 +9,7 @@ ghost use Rattle.graph.specs.Reads.{Reads};
 ghost use Rattle.codec.specs.Spelling.{image_bytes};
 ghost use Rattle.sides.specs.Side.{behind_gate};
 ghost use Rattle.vault.specs.Store.{Holds, IsReady, IsCanonical, disk_of, empty, new_side, nothing};
+ghost use Rattle.vault.specs.Opened.{OnlyReads};
 ghost use Rattle.vault.specs.declared.error.VaultError.TheVariants.{Device, NoMemory, Exists};
 
 use crate::{Refused, Vault, VaultError};
@@ -20,8 +21,9 @@ use std::alloc::{AllocError, Global};
 
 /// Makes a store without facts on two empty files. The text is the canonical text of its graph.
 ///
-/// `Exists` says that a file is not empty: then both are as they were. After `Device`, or a `NoMemory` of the disk, nothing is
-/// said of what the files hold.
+/// `Exists` says that a file is not empty. Where one is not, both are left as they are, whatever is answered, and a crash at any
+/// moment of the call leaves what one might have left before it. Of two empty files nothing is said of what they hold after
+/// `Device`, or a `NoMemory` of the disk.
 pub fn create<D: Disk>(alloc: Global, disk: D, text: &[u8]) -> Result<Vault<D>, Refused<D>>
     requires { IsCanonical text.now }
     ensures created { IsTrue D.is_honest → (g : Graph) → Reads text.now g → text.now ≡ canonical g → IfOk result (λ vault. Holds D.files vault g nothing nothing) }
@@ -33,6 +35,8 @@ pub fn create<D: Disk>(alloc: Global, disk: D, text: &[u8]) -> Result<Vault<D>, 
     ensures were_empty { IsTrue D.is_honest → (side : Side) → OnOk result ((D.files disk side).content ≡ []) }
     ensures exists { IsTrue D.is_honest → IfErr result (λ refused. refused.error ≡ Exists → ((D.files disk A).content ≢ []) ⊎ ((D.files disk B).content ≢ [])) }
     ensures untouched { IsTrue D.is_honest → IfErr result (λ refused. refused.error ≡ Exists → (side : Side) → D.files refused.disk side ≡ D.files disk side) }
+    ensures kept { IsTrue D.is_honest → (some : Side) → (D.files disk some).content ≢ [] → (side : Side) → D.files (disk_of result) side ≡ D.files disk side }
+    ensures kept_moments { IsTrue D.is_honest → (some : Side) → (D.files disk some).content ≢ [] → LeavesOnly D.moment D.left_at disk (disk_of result) (MayLeaveNow (D.files disk)) }
 
     ensures causes { IfErr result (λ refused. (refused.error ≡ Exists) ⊎ (refused.error ≡ NoMemory) ⊎ (refused.error ≡ Device)) }
     ensures device { IsErrAnd result (λ refused. refused.error ≡ Device) ↔ (D.failures disk < D.failures (disk_of result)) }
@@ -78,6 +82,8 @@ fn write_store<D: Disk>(alloc: Global, disk: &mut D, text: &[u8]) -> Result<Made
     ensures were_empty { IsTrue D.is_honest → (side : Side) → OnOk result ((D.files disk.old side).content ≡ []) }
     ensures exists { IsTrue D.is_honest → IfErr result (λ error. error ≡ Exists → ((D.files disk.old A).content ≢ []) ⊎ ((D.files disk.old B).content ≢ [])) }
     ensures untouched { IsTrue D.is_honest → IsErrOf result Exists → (side : Side) → D.files disk.new side ≡ D.files disk.old side }
+    ensures kept { IsTrue D.is_honest → (some : Side) → (D.files disk.old some).content ≢ [] → (each : Side) → D.files disk.new each ≡ D.files disk.old each }
+    ensures kept_moments { IsTrue D.is_honest → (some : Side) → (D.files disk.old some).content ≢ [] → LeavesOnly D.moment D.left_at disk.old disk.new (MayLeaveNow (D.files disk.old)) }
     ensures causes { IfErr result (λ error. (error ≡ Exists) ⊎ (error ≡ NoMemory) ⊎ (error ≡ Device)) }
     ensures device { IsErrOf result Device ↔ (D.failures disk.old < D.failures disk.new) }
     ensures failures { D.failures disk.old ≤ D.failures disk.new }
@@ -126,6 +132,7 @@ fn is_there<D: Disk>(disk: &mut D) -> Result<bool, DiskError>
     ensures empty { IsTrue D.is_honest → (side : Side) → IfOk result (λ some. some ≡ false → (D.files disk.old side).content ≡ []) }
     ensures there { IsTrue D.is_honest → IfOk result (λ some. some ≡ true → ((D.files disk.old A).content ≢ []) ⊎ ((D.files disk.old B).content ≢ [])) }
     ensures same { IsTrue D.is_honest → (side : Side) → D.files disk.new side ≡ D.files disk.old side }
+    ensures only_reads { IsTrue D.is_honest → OnlyReads D.files D.moment D.left_at disk.old disk.new }
     ensures cause { HasCause (D.failures disk.old) (D.failures disk.new) result }
 {
     let a = disk.len(Side::A)?;
