@@ -1,5 +1,5 @@
 -- The canonical text, one part behind another.
-use Rattle.std.proofs.Common.{◌≡◌, ◌+◌, ◌-◌, ℕ, zero, suc, Bool, true, false, List, [], ◌∷◌, ◌++◌, length, map, get_or, drop, take, Option, Some, None, refl, sym, ap, ◌∙◌, slice_get, arith, append_assoc, length-drop}
+use Rattle.std.proofs.Common.{◌≡◌, ◌+◌, ◌-◌, ◌<◌, ℕ, zero, suc, Bool, true, false, List, [], ◌∷◌, ◌++◌, length, map, get_or, drop, take, Option, Some, None, refl, sym, ap, ◌∙◌, slice_get, arith, append_assoc, length-append, length-drop}
 use Rattle.std.specs.Prelude.{codes, unwrap_or}
 use Rattle.std.proofs.lemmas.Option.{unwrap_or-slice_get}
 use Rattle.std.specs.List.{flat_map, zip}
@@ -16,6 +16,19 @@ goes_on text piece left more whole new is parts so = ap (λ (t : Text). t ++ mor
 pub is_line : (level : ℕ) (text : Text) → line level text ≡ indentation level ++ text ++ codes "\n"
 is_line zero text = refl
 is_line (suc level) text = ap (λ (t : Text). codes "  " ++ t) (is_line level text)
+
+-- a line has more bytes than levels
+pub longer_than_its_level : (level : ℕ) (text : Text) → level < length (line level text)
+longer_than_its_level zero [] = omega arith
+longer_than_its_level zero (byte ∷ text) = omega arith
+longer_than_its_level (suc level) text = let shorter : level < length (line level text) = longer_than_its_level level text in omega (arith, shorter)
+
+-- and so has a text that it was appended to
+pub longer_behind : {level : ℕ} (text before : Text) {after : Text} → after ≡ before ++ line level text → level < length after
+longer_behind {level} text before {after} is =
+    let shorter : level < length (line level text) = longer_than_its_level level text in
+    let parts : length after ≡ length before + length (line level text) = ap (λ (t : Text). length t) is ∙ length-append before (line level text) in
+    omega (arith, shorter, parts)
 
 pub one_level_more : (level : ℕ) → indentation (level + 1) ≡ indentation level ++ codes "  "
 one_level_more level =

@@ -97,7 +97,7 @@ impl Holdings {
     }
 
     // A tag that is held prescribes the instance.
-    fn is_prescribed(&self, graph: &Graph, instance: &Inst) -> bool
+    pub(crate) fn is_prescribed(&self, graph: &Graph, instance: &Inst) -> bool
         ensures { IsTrue result ↔ IsPrescribed graph.now (facts_in self.now) instance.now }
     {
         match graph.prescriber(instance.collection) {
@@ -119,7 +119,7 @@ impl Holdings {
     }
 
     // The instance is done.
-    fn is_done(&self, instance: &Inst) -> bool
+    pub(crate) fn is_done(&self, instance: &Inst) -> bool
         ensures { result ≡ facts_in self.now (done instance.now) }
     {
         facts_are_told_apart();
@@ -140,35 +140,35 @@ fn tag_fits(graph: &Graph, name: &Tag, mark: bool) -> bool
 }
 
 // Its collection is one that the environment may put, with as many components.
-fn environment_may_put_item(graph: &Graph, address: &Addr) -> bool
+pub(crate) fn environment_may_put_item(graph: &Graph, address: &Addr) -> bool
     ensures { IsTrue result ↔ EnvironmentMayPutItem graph.now address.now }
 {
     is_address_of(graph, address) && graph.environment_may_put_item(address.collection)
 }
 
 // Its collection is one that the environment may put, with as many components.
-fn environment_may_put_tag(graph: &Graph, name: &Tag) -> bool
+pub(crate) fn environment_may_put_tag(graph: &Graph, name: &Tag) -> bool
     ensures { IsTrue result ↔ EnvironmentMayPutTag graph.now name.now }
 {
     is_tag_of(graph, name) && graph.environment_may_put_tag(name.collection)
 }
 
 // Its collection is of the graph, with as many components.
-fn is_address_of(graph: &Graph, address: &Addr) -> bool
+pub(crate) fn is_address_of(graph: &Graph, address: &Addr) -> bool
     ensures { IsTrue result ↔ AddressIsOf graph.now address.now }
 {
     has_components(graph.item_components(address.collection), &address.key)
 }
 
 // Its collection is of the graph, with as many components.
-fn is_tag_of(graph: &Graph, name: &Tag) -> bool
+pub(crate) fn is_tag_of(graph: &Graph, name: &Tag) -> bool
     ensures { IsTrue result ↔ TagIsOf graph.now name.now }
 {
     has_components(graph.tag_components(name.collection), &name.key)
 }
 
 // Its step is of the graph, with as many parameters.
-fn is_instance_of(graph: &Graph, instance: &Inst) -> bool
+pub(crate) fn is_instance_of(graph: &Graph, instance: &Inst) -> bool
     ensures { IsTrue result ↔ InstanceIsOf graph.now instance.now }
 {
     has_components(graph.step_parameters(instance.collection), &instance.key)

@@ -9,8 +9,8 @@ pub const HEAD: usize = 10;
 /// The byte of the format.
 pub(crate) const FORMAT: u8 = 1;
 
-// The gate of a side that is open. Every other byte is a closed gate.
-const OPEN: u8 = 1;
+/// The gate of a side that is open. Every other byte is a closed gate.
+pub const OPEN: u8 = 1;
 
 /// What the head of a file tells of its side.
 #[derive(Clone, Copy, Debug, PartialEq, Eq)]

@@ -8,17 +8,21 @@ ghost use Rattle.sides.specs.Image.{facts_in, environment_item, environment_tag,
 ghost use Rattle.sides.specs.Growth.{Grows, PutFits};
 
 use crate::Holdings;
+use crate::fitting::{
+    environment_may_put_item, environment_may_put_tag, is_address_of, is_instance_of, is_tag_of,
+};
 use graph::Graph;
 use std::alloc::AllocError;
-use terms::{Addr, Event, FaultKind, Inst, Key, Producer, Put, Tag, facts_are_told_apart};
+use terms::{Addr, Event, FaultKind, Inst, Producer, Put, Tag, facts_are_told_apart};
 
 impl Holdings {
     /// Takes an event that fits behind what is held, and says whether it fits. Where it does not, or memory is refused, what
-    /// is held is left open. More puts of an instance than 32 bits can number are refused as memory is.
+    /// is held is left open.
     pub fn take(&mut self, graph: &Graph, event: &Event) -> Result<bool, AllocError>
+        requires { HasFewPuts event.now }
         ensures fits { IfOk result (λ taken. IsTrue taken ↔ Fits graph.now (facts_in self.old) event.now) }
         ensures grown { IfOk result (λ taken. IsTrue taken → IsGrownBy event.now self.old self.new) }
-        ensures numbered { AllByRecursion HasPutNumber self.old.items → HasFewPuts event.now → IfOk result (λ taken. IsTrue taken → AllByRecursion HasPutNumber self.new.items) }
+        ensures numbered { AllByRecursion HasPutNumber self.old.items → IfOk result (λ taken. IsTrue taken → AllByRecursion HasPutNumber self.new.items) }
     {
         facts_are_told_apart();
         if self.fault.is_some() {
@@ -38,9 +42,7 @@ impl Holdings {
         ensures grown { IfOk result (λ taken. IsTrue taken → IsGrownBy (Event.EnvItem address.now value) self.old self.new) }
         ensures numbered { AllByRecursion HasPutNumber self.old.items → IfOk result (λ taken. IsTrue taken → AllByRecursion HasPutNumber self.new.items) }
     {
-        if !fits_arity(graph.item_components(address.collection), &address.key)
-            || !graph.environment_may_put_item(address.collection)
-        {
+        if !environment_may_put_item(graph, address) {
             return Ok(false);
         }
         Ok(self.hold_item(address, value, Producer::Env)?)
@@ -52,9 +54,7 @@ impl Holdings {
         ensures grown { IfOk result (λ taken. IsTrue taken → IsGrownBy (Event.EnvTag name.now) self.old self.new) }
         ensures items { IfOk result (λ _. self.new.items ≡ self.old.items) }
     {
-        if !fits_arity(graph.tag_components(name.collection), &name.key)
-            || !graph.environment_may_put_tag(name.collection)
-        {
+        if !environment_may_put_tag(graph, name) {
             return Ok(false);
         }
         Ok(self.hold_tag(name, true)?)
@@ -62,9 +62,10 @@ impl Holdings {
 
     /// Takes the end of an instance with its puts.
     fn take_end(&mut self, graph: &Graph, instance: &Inst, puts: &[Put]) -> Result<bool, AllocError>
+        requires { length puts.now ≤ MOST_PUTS }
         ensures fits { IfOk result (λ taken. IsTrue taken ↔ (MayEnd graph.now (facts_in self.old) instance.now × AllByRecursion (PutIsOf graph.now) puts.now × AreNew (facts_in self.old) puts.now)) }
         ensures grown { IfOk result (λ taken. IsTrue taken → Grows [] (done instance.now ∷ put_facts instance.now 0 puts.now) self.old self.new) }
-        ensures numbered { AllByRecursion HasPutNumber self.old.items → length puts.now ≤ MOST_PUTS → IfOk result (λ taken. IsTrue taken → AllByRecursion HasPutNumber self.new.items) }
+        ensures numbered { AllByRecursion HasPutNumber self.old.items → IfOk result (λ taken. IsTrue taken → AllByRecursion HasPutNumber self.new.items) }
     {
         facts_are_told_apart();
         if !self.may_end(graph, instance) {
@@ -96,18 +97,9 @@ impl Holdings {
     fn may_end(&self, graph: &Graph, instance: &Inst) -> bool
         ensures { IsTrue result ↔ MayEnd graph.now (facts_in self.now) instance.now }
     {
-        facts_are_told_apart();
-        if !fits_arity(graph.step_parameters(instance.collection), &instance.key) {
-            return false;
-        }
-        let Some(prescriber) = graph.prescriber(instance.collection) else {
-            return false;
-        };
-        let name = Tag {
-            collection: prescriber,
-            key: instance.key,
-        };
-        self.tags.contains_key(&name) && !self.done.contains(instance)
+        is_instance_of(graph, instance)
+            && self.is_prescribed(graph, instance)
+            && !self.is_done(instance)
     }
 
     /// Takes the puts of an instance in turn, the first of them with the number 0.
@@ -117,16 +109,14 @@ impl Holdings {
         instance: &Inst,
         puts: &[Put],
     ) -> Result<bool, AllocError>
+        requires { length puts.now ≤ MOST_PUTS }
         ensures fits { IfOk result (λ taken. IsTrue taken ↔ (AllByRecursion (PutIsOf graph.now) puts.now × AreNew (facts_in self.old) puts.now)) }
         ensures grown { IfOk result (λ taken. IsTrue taken → Grows [] (put_facts instance.now 0 puts.now) self.old self.new) }
-        ensures numbered { AllByRecursion HasPutNumber self.old.items → length puts.now ≤ MOST_PUTS → IfOk result (λ taken. IsTrue taken → AllByRecursion HasPutNumber self.new.items) }
+        ensures numbered { AllByRecursion HasPutNumber self.old.items → IfOk result (λ taken. IsTrue taken → AllByRecursion HasPutNumber self.new.items) }
     {
         facts_are_told_apart();
         for (number, put) in puts.iter().enumerate() {
-            let Ok(number) = u32::try_from(number) else {
-                return Err(AllocError);
-            };
-            if !self.take_put(graph, instance, number, put)? {
+            if !self.take_put(graph, instance, number as u32, put)? {
                 return Ok(false);
             }
         }
@@ -147,13 +137,13 @@ impl Holdings {
     {
         match put {
             Put::Item(address, value) => {
-                if !fits_arity(graph.item_components(address.collection), &address.key) {
+                if !is_address_of(graph, address) {
                     return Ok(false);
                 }
                 Ok(self.hold_item(address, *value, Producer::By(*instance, number))?)
             }
             Put::Tag(name) => {
-                if !fits_arity(graph.tag_components(name.collection), &name.key) {
+                if !is_tag_of(graph, name) {
                     return Ok(false);
                 }
                 self.hold_tag(name, false)?;
@@ -189,13 +179,6 @@ impl Holdings {
     }
 }
 
-/// Whether the keys of a collection, if it is there, have as many components as this one.
-fn fits_arity(components: Option<usize>, key: &Key) -> bool
-    ensures { IsTrue result ↔ (components ≡ Some (length key.now)) }
-{
-    components == Some(key.components().len())
-}
-
 #[cfg(test)]
 mod tests {
     use super::*;
@@ -203,7 +186,7 @@ mod tests {
     use graph::parse;
     use std::process::Abort;
     use std::test::Fail;
-    use terms::{ItemCollection, Puts, StepCollection, TagCollection};
+    use terms::{ItemCollection, Key, MOST_PUTS, Puts, StepCollection, TagCollection};
 
     fn address(collection: u16, key: Key) -> Addr {
         Addr {
@@ -234,6 +217,16 @@ mod tests {
         ))
     }
 
+    // No instance's puts are more than one may have.
+    fn has_few_puts(event: &Event) -> bool
+        ensures { IsTrue result → HasFewPuts event.now }
+    {
+        match event {
+            Event::Done(_, puts) => puts.as_slice().len() <= MOST_PUTS,
+            _ => true,
+        }
+    }
+
     // What the last event is answered, where each before it is taken.
     fn last_answer<R: Abort + AllocGlobal>(rt: &R, events: &[Event]) -> Result<bool, Fail> {
         let Ok(graph) = parse(rt.alloc(), FIBONACCI.as_bytes()) else {
@@ -243,6 +236,7 @@ mod tests {
         let mut taken = true;
         for event in events {
             assert!(rt; taken, "an event before the last");
+            assert!(rt; has_few_puts(event), "an event of too many puts");
             taken = held.take(&graph, event)?;
         }
         Ok(taken)

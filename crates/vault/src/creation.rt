@@ -16,7 +16,7 @@ use crate::{Refused, Vault, VaultError};
 use codec::{Image, Instances, Items, Tags};
 use disk::{Disk, DiskError, Side, write_synced};
 use journal::Journal;
-use sides::{sides_go_on, spell_side};
+use sides::{OPEN, sides_go_on, spell_side};
 use std::alloc::{AllocError, Global};
 
 /// Makes a store without facts on two empty files. The text is the canonical text of its graph.
@@ -148,5 +148,5 @@ fn write_sides<D: Disk>(disk: &mut D, bytes: &[u8]) -> Result<(), DiskError>
 {
     write_synced(disk, Side::B, 0, &[0])?;
     write_synced(disk, Side::A, 0, bytes)?;
-    write_synced(disk, Side::A, 0, &[1])
+    write_synced(disk, Side::A, 0, &[OPEN])
 }

@@ -5,9 +5,7 @@ ghost use Rattle.vault.specs.Stands.{other_side};
 ghost use Rattle.vault.specs.Turned.{IsShut, IsUnshut, Rests, RestsShut, HasBehindGate, MayShut, MayTurn};
 
 use disk::{Disk, DiskError, Side, write_synced};
-
-// The byte of an open gate.
-const OPEN: u8 = 1;
+use sides::OPEN;
 
 pub(crate) fn other(side: Side) -> Side
     ensures { result ≡ other_side side }

@@ -1,4 +1,4 @@
-ghost use Rattle.std.specs.Prelude.{◌≡◌, ◌++◌, IfOk, OnOk, codes, suc};
+ghost use Rattle.std.specs.Prelude.{◌≡◌, ◌<◌, ◌++◌, OnOk, codes, length, suc};
 ghost use Rattle.graph.specs.Canonical.{in_rounds, line, variable_text, expression_text, item_text, tag_text, block_text};
 ghost use Rattle.graph.specs.Pieces.{behind, names_of_words};
 
@@ -144,15 +144,12 @@ fn put_tag_put(
     put(text, &[";\n"])
 }
 
-/// One level more.
-fn deeper(level: usize) -> Result<usize, AllocError>
-    ensures { IfOk result (λ next. next ≡ suc level) }
+/// One level more than that of a line in the text, whose blanks are as many bytes at least.
+fn deeper(text: &[u8], level: usize) -> usize
+    requires { level < length text.now }
+    ensures { result ≡ suc level }
 {
-    // The indentation of a level that cannot be counted fits into no memory; no block that memory holds is so deep.
-    match level.checked_add(1) {
-        Some(next) => Ok(next),
-        None => Err(AllocError),
-    }
+    level + 1
 }
 
 /// A choice, with its blocks.
@@ -168,8 +165,8 @@ fn put_choice(
 ) -> Result<(), AllocError>
     ensures { OnOk result (text.new.items ≡ text.old.items ++ (line level (codes "if " ++ in_rounds (expression_text words.now.graph.now (names_of_words words.now) condition.now) ++ codes " {") ++ block_text words.now.graph.now (names_of_words words.now) (suc level) first.now ++ line level (codes "} else {") ++ block_text words.now.graph.now (names_of_words words.now) (suc level) second.now ++ line level (codes "}"))) }
 {
-    let next = deeper(level)?;
     put_condition(text, words, level, condition)?;
+    let next = deeper(text, level);
     put_block(text, words, next, first)?;
     put_line(text, level, "} else {")?;
     put_block(text, words, next, second)?;
@@ -190,8 +187,8 @@ fn put_loop(
 ) -> Result<(), AllocError>
     ensures { OnOk result (text.new.items ≡ text.old.items ++ (line level (codes "for " ++ variable_text words.now.graph.now (names_of_words words.now) variable ++ codes " in " ++ expression_text words.now.graph.now (names_of_words words.now) from.now ++ codes " .. " ++ expression_text words.now.graph.now (names_of_words words.now) to.now ++ codes " {") ++ block_text words.now.graph.now (names_of_words words.now) (suc level) block.now ++ line level (codes "}"))) }
 {
-    let next = deeper(level)?;
     put_range(text, words, level, variable, from, to)?;
+    let next = deeper(text, level);
     put_block(text, words, next, block)?;
     put_line(text, level, "}")
 }

@@ -3,6 +3,7 @@ ghost use Rattle.std.specs.List.{flat_map};
 ghost use Rattle.graph.specs.Canonical.{number_text};
 ghost use Rattle.graph.specs.Pieces.{indentation};
 
+use itoa::Buffer;
 use std::alloc::AllocError;
 
 /// Appends these texts, one behind another.
@@ -29,7 +30,6 @@ pub(crate) fn put_indentation(text: &mut Vec<u8>, level: usize) -> Result<(), Al
 pub(crate) fn put_number(text: &mut Vec<u8>, number: i64) -> Result<(), AllocError>
     ensures { OnOk result (text.new.items ≡ text.old.items ++ number_text number) }
 {
-    let alloc = *text.allocator();
-    let digits = format!(in alloc; "{number}")?;
-    put(text, &[digits.as_str()])
+    let mut digits = Buffer::new();
+    put(text, &[digits.format(number)])
 }

@@ -16,7 +16,7 @@ pub loop-number-preserved : goal.loop-number-preserved
 loop-number-preserved c =
     let taken = c.in_ok-take_put.ensures in
     goes_on c.args.graph.now c.args.instance.now c.args.puts.now c.args.self.now c.facts_are_told_apart.ensures.among c.loop-number.invariant
-    c.index-puts-number.result c.index-puts-number.is c.loop-number-test.true c.in-Ok.ensures.1
+    c.index-puts-number.result c.index-puts-number.is c.loop-number-test.true refl
     (taken.fits.0 c.if-not-branch.false) (taken.grown c.if-not-branch.false) (λ all few. taken.numbered all few c.if-not-branch.false)
 
 pub returns-clause-fits : goal.returns-clause-fits
