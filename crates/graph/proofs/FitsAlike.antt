@@ -12,7 +12,7 @@ use Rattle.terms.specs.Facts.{Fact, tag, item, done, bad, event_facts}
 use Rattle.terms.specs.Sets.{Facts, among}
 use Rattle.syntax.specs.Tree.{AreAll}
 use Rattle.graph.specs.Graph.{Collection, Step, Graph, IsOf, EnvironmentMayPutItem, EnvironmentMayPutTag}
-use Rattle.graph.specs.Fits.{IsPrescribed, AddressIsOf, TagIsOf, InstanceIsOf, PutIsOf, MayEnd, FitsAs, AllFit, FactIsOf, FitsState}
+use Rattle.graph.specs.Fits.{IsPrescribed, AddressIsOf, TagIsOf, InstanceIsOf, PutIsOf, MayEnd, Fits, FitsAs, AllFit, FactIsOf, FitsState}
 use Rattle.graph.specs.Textual.{SameStep, SameGraph}
 
 -- the step with a number, in a list of steps alike
@@ -83,7 +83,10 @@ module _ (g h : Graph) (same : SameGraph g h) where
   fits_as X (Done instance puts) fits = (may_end X instance fits.0, puts_of puts fits.1, fits.2)
   fits_as X (Stopped instance kind) fits = may_end X instance fits
 
+  pub event_of_alike : (X : Facts) (event : Event) → Fits g X event → Fits h X event
+  event_of_alike X event fits = record { working = fits.working; event_fits = fits_as X event fits.event_fits }
+
   pub events_of_alike : (before : List Fact) (events : List Event) → AllFit g before events → AllFit h before events
   events_of_alike before [] all = tt
   events_of_alike before (event ∷ events) all =
-      (record { working = all.0.working; event_fits = fits_as (among before) event all.0.event_fits }, events_of_alike (before ++ event_facts event) events all.1)
+      (event_of_alike (among before) event all.0, events_of_alike (before ++ event_facts event) events all.1)

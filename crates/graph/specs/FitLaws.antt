@@ -39,5 +39,8 @@ EventsAsSet = (g : Graph) (before other : List Fact) (events : List Event) → S
 abbrev pub StateOfAlike : Type 0
 StateOfAlike = (g h : Graph) (E X : Facts) → SameGraph g h → FitsState g E X → FitsState h E X
 
+abbrev pub EventOfAlike : Type 0
+EventOfAlike = (g h : Graph) (X : Facts) (event : Event) → SameGraph g h → Fits g X event → Fits h X event
+
 abbrev pub EventsOfAlike : Type 0
 EventsOfAlike = (g h : Graph) (before : List Fact) (events : List Event) → SameGraph g h → AllFit g before events → AllFit h before events

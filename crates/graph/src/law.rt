@@ -1,5 +1,5 @@
 //! The laws between texts and graphs, and of what fits a graph. Each is a contract, with nothing to run.
-ghost use Rattle.graph.specs.FitLaws.{FitKeeps, AllFitKeep, AllFitInParts, StateAsSet, EventAsSet, EventsAsSet, StateOfAlike, EventsOfAlike};
+ghost use Rattle.graph.specs.FitLaws.{FitKeeps, AllFitKeep, AllFitInParts, StateAsSet, EventAsSet, EventsAsSet, StateOfAlike, EventOfAlike, EventsOfAlike};
 ghost use Rattle.graph.specs.Textual.{CanonicalReads, OneCanonical, OneGraph, ReadsTextual, ReadsWithoutFault};
 
 use syntax::{one_derivation, read_without_fault, tokens_once};
@@ -33,6 +33,7 @@ pub fn fitting()
     ensures event_as_set { EventAsSet }
     ensures events_as_set { EventsAsSet }
     ensures state_of_alike { StateOfAlike }
+    ensures event_of_alike { EventOfAlike }
     ensures events_of_alike { EventsOfAlike }
 {
     facts_are_told_apart();

@@ -1,9 +1,9 @@
 //! The laws of what a side stands for. Each is a contract, with nothing to run.
 ghost use Rattle.sides.specs.Side.{OneMeaning, StandsWithGeneration, OneGeneration, AnyRest};
-ghost use Rattle.sides.specs.SideLaws.{HasJournal, StaysAlike, GrowsByEvent, SideAsSet, SideFits, BeginsSide};
+ghost use Rattle.sides.specs.SideLaws.{HasJournal, StaysAlike, GrowsByEvent, SideAsSet, SideOfText, SideFits, BeginsSide};
 
 use codec::{spellings_of_events, spellings_of_images};
-use graph::fitting;
+use graph::{fitting, one_graph};
 use journal::one_meaning;
 use terms::{facts_are_told_apart, facts_go_on};
 
@@ -21,18 +21,21 @@ pub fn one_meaning_of_a_side()
 }
 
 /// What a side's bytes stand for when others follow its image: the same where they are a journal of the same events, what an
-/// event more leaves where they are a journal of one event more. Its facts fit its graph, and an image that fits makes a side.
+/// event more leaves where they are a journal of one event more; and the same for each graph of its text. Its facts fit its graph,
+/// and an image that fits makes a side.
 pub fn sides_go_on()
     ensures journal { HasJournal }
     ensures alike { StaysAlike }
     ensures grows { GrowsByEvent }
     ensures as_set { SideAsSet }
+    ensures of_text { SideOfText }
     ensures fits { SideFits }
     ensures begins { BeginsSide }
 {
     facts_are_told_apart();
     facts_go_on();
     fitting();
+    one_graph();
 }
 
 #[cfg(test)]

@@ -6,9 +6,11 @@ use Rattle.disk.specs.Settled.{settled_only}
 use Rattle.disk.specs.Time.{Contents, MayLeaveNow, LeavesOnly}
 use Rattle.terms.specs.Sets.{Facts}
 use Rattle.graph.specs.Graph.{Graph}
+use Rattle.graph.specs.Canonical.{canonical}
+use Rattle.graph.specs.Reads.{Reads}
 use Rattle.graph.specs.FitLaws.{SameSet}
 use Rattle.sides.specs.Side.{IsSide}
-use Rattle.sides.specs.SideLaws.{SideAsSet}
+use Rattle.sides.specs.SideLaws.{SideAsSet, SideOfText}
 use Rattle.vault.specs.declared.vault.Vault.{Vault}
 use Rattle.vault.specs.Stands.{IsBehind, Stands, OneStore, other_side}
 use Rattle.vault.specs.Store.{Holds, HasGates, StandsBeforeOrAfter}
@@ -53,11 +55,11 @@ module _ {D : Type 0} (files : D → Side → File) (moment : D → ℕ) (left_a
   gates old new crashed only it = struck old new HasGates crashed only it
 
   pub openings : OpeningsLeave files moment left_at
-  openings g states first last [] leaves is = subst (LeavesOneOf files g states) (sym is) leaves
-  openings g states first last (round ∷ later) leaves cut =
-      openings g states round.1 last later (λ contents left. leaves contents (struck first round.0 (MayLeaveNow (files first)) round.1 cut.0 cut.1 contents left)) cut.2
+  openings first last [] is contents left = subst (λ (disk : D). MayLeaveNow (files disk) contents) is left
+  openings first last (round ∷ later) cut contents left =
+      struck first round.0 (MayLeaveNow (files first)) round.1 cut.0 cut.1 contents (openings round.1 last later cut.2 contents left)
 
-  module _ (as_set : SideAsSet) (one_store : OneStore) where
+  module _ (as_set : SideAsSet) (of_text : SideOfText) (one_store : OneStore) where
     -- what a vault holds, with the facts listed otherwise
     holds_as_set : (vault : Vault D) (g : Graph) (E F X Y : Facts) → SameSet E F → SameSet X Y → Holds files vault g E X → Holds files vault g F Y
     holds_as_set vault g E F X Y given stated it =
@@ -70,13 +72,31 @@ module _ {D : Type 0} (files : D → Side → File) (moment : D → ℕ) (left_a
           text = it.text;
         }
 
+    -- and for another graph of its text
+    holds_of_text : (vault : Vault D) (g h : Graph) (E X : Facts) → Reads (canonical h) h → canonical g ≡ canonical h → Holds files vault g E X → Holds files vault h E X
+    holds_of_text vault g h E X reads text it =
+        let same = of_text (it.contents vault.journal.side) g h vault.generation E X reads text it.is_live.is_side in
+        record {
+          contents = it.contents;
+          rests = it.rests;
+          is_live = record { is_side = same.0; behind = it.is_live.behind };
+          ends = it.ends ∙ sym same.1;
+          text = it.text ∙ text;
+        }
+
     pub recovers : OpeningRecovers files moment left_at
     recovers g states disk leaves reads = (
       λ none. none g stands.0.0 stands.0.1 stands.2,
       λ vault h F Y it same.
           let there = alike it.contents reading h F Y (λ side. sym (same side) ∙ ap (λ (f : File). f.content) (it.rests side)) (vault.journal.side, vault.generation, it.is_live) in
-          let one = one_store reading h g F stands.0.0 Y stands.0.1 there stands.2 in
-          (stands.0, stands.1, holds_as_set vault h F stands.0.0 Y stands.0.1 one.1 one.2 it, one.0, one.1, one.2),
+          let one = one_store reading h g F stands.0.0 Y stands.0.1 there stands.2 in (
+            stands.0,
+            stands.1,
+            holds_of_text vault h g stands.0.0 stands.0.1 stands.2.2.is_side.reads one.0 (holds_as_set vault h F stands.0.0 Y stands.0.1 one.1 one.2 it),
+            one.0,
+            one.1,
+            one.2,
+          ),
     )
       where
         reading : Contents

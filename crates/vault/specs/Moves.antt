@@ -70,15 +70,15 @@ module _ {D : Type 0} (files : D → Side → File) (moment : D → ℕ) (left_a
   GatesStay = (old new crashed : D) → LeavesOnly moment left_at old new HasGates → IsLeft files moment left_at old new crashed
       → (contents : Contents) → MayLeaveNow (files crashed) contents → HasGates contents
 
-  -- after openings that were cut off a crash leaves what it left before them
+  -- what a crash leaves after openings that were cut off, one might have left before them
   abbrev pub OpeningsLeave : Type 0
-  OpeningsLeave = (g : Graph) (states : List State) (first last : D) (openings : List (D × D)) → LeavesOneOf files g states first → CutOpenings first openings last → LeavesOneOf files g states last
+  OpeningsLeave = (first last : D) (openings : List (D × D)) → CutOpenings first openings last → (contents : Contents) → MayLeaveNow (files last) contents → MayLeaveNow (files first) contents
 
-  -- What an opening's clauses say where each crash leaves one of some states: it does not say that the files stand for nothing,
-  -- and the vault that it gives holds one of them, for a graph of the same text: what it holds is that, as sets. So the next call's
-  -- clauses speak of that state.
+  -- What an opening's clauses say where each crash leaves one of some states of a graph: it does not say that the files stand for
+  -- nothing, and the vault that it gives holds one of them. The graph that it gives has the same text, and the facts are that
+  -- state's, as sets. So the next call's clauses speak of that graph and that state.
   abbrev pub OpeningRecovers : Type 0
   OpeningRecovers = (g : Graph) (states : List State) (disk : D) → LeavesOneOf files g states disk → ((side : Side) → MayLeave (files disk side).durable (files disk side).content)
       → (((h : Graph) (F Y : Facts) → Stands (λ side. (files disk side).content) h F Y → ⊥) → ⊥)
       × ((vault : Vault D) (h : Graph) (F Y : Facts) → Holds files vault h F Y → ((side : Side) → (files vault.disk side).content ≡ (files disk side).content)
-      → (state : State) × IsOneOf state states × Holds files vault h state.0 state.1 × (canonical h ≡ canonical g) × SameSet F state.0 × SameSet Y state.1)
+      → (state : State) × IsOneOf state states × Holds files vault g state.0 state.1 × (canonical h ≡ canonical g) × SameSet F state.0 × SameSet Y state.1)

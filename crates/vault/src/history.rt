@@ -5,7 +5,8 @@ use disk::Disk;
 use sides::sides_go_on;
 
 /// A store from call to call: a crash within an append or a turnover, or behind it, leaves one of its states; openings that are cut
-/// off leave them so; and an opening that ends gives one of them to the next call, and never says that there is no store.
+/// off add nothing to that; and an opening that ends gives one of them, of the same graph, to the next call, and never says that
+/// there is no store.
 pub fn stores_go_on<D: Disk>()
     ensures held { HeldIsLeft D.files D.moment D.left_at }
     ensures ready { HeldIsReady D.files D.moment D.left_at }

@@ -34,7 +34,7 @@ pub struct Recovered<D: Disk> {
 /// `NotAStore` says that no side is open; `Damaged` names an open side, and the place of its first check that failed: a side of
 /// fewer than ten bytes (A before B, at its length), both sides of one generation (A, at 2), and of the live side its format (at
 /// 1), its graph's text, its length first (at 10 and 14), its image (at its length's place), and its journal (at the gate of the first
-/// record that is not whole, is no event, or does not fit, or where the journal's last gate is missing).
+/// record that is not whole with a gate behind it, is no event, or does not fit, or where the journal's first byte is missing).
 pub fn open<D: Disk>(alloc: Global, disk: D) -> Result<Recovered<D>, Refused<D>>
     ensures found { IsTrue D.is_honest → IfOk result (λ r. Holds D.files r.vault r.graph (environment_in r.image) (facts_in r.image)) }
     ensures ready { IsTrue D.is_honest → IfOk result (λ r. IsReady D.files r.vault) }

@@ -18,7 +18,7 @@ pub returns-clause-openings : goal.returns-clause-openings
 returns-clause-openings g c = store.openings g.D.Disk.files g.D.Disk.moment g.D.Disk.left_at
 
 pub returns-clause-recovers : goal.returns-clause-recovers
-returns-clause-recovers g c = store.recovers g.D.Disk.files g.D.Disk.moment g.D.Disk.left_at c.sides_go_on.ensures.as_set c.one_store.ensures
+returns-clause-recovers g c = store.recovers g.D.Disk.files g.D.Disk.moment g.D.Disk.left_at c.sides_go_on.ensures.as_set c.sides_go_on.ensures.of_text c.one_store.ensures
 
 pub returns-clause-ready : goal.returns-clause-ready
 returns-clause-ready g c = held_is_ready g.D.Disk.files c.sides_go_on.ensures.journal
