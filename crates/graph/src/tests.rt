@@ -1,21 +1,25 @@
 mod limits;
 mod rows;
 
-use crate::{canonical, canonical_example, parse};
+use crate::{GraphFault, canonical, canonical_example, parse};
 use rows::{ACCEPTED, BODIES, BYTES, CHECKS, FIBONACCI, LIMITS, NAMES, SYNTAX};
+use std::alloc::{AllocError, Global};
 use std::process::Abort;
 use std::test::Fail;
 
+// The canonical text of the graph that a text is, or its fault.
+fn canonical_of(alloc: Global, text: &[u8]) -> Result<Result<Vec<u8>, AllocError>, GraphFault> {
+    let graph = parse(alloc, text)?;
+    Ok(canonical(alloc, &graph))
+}
+
 // What a text is answered: its fault, or its canonical text.
 pub(crate) fn told<R: Abort + AllocGlobal>(rt: &R, text: &[u8]) -> Result<String, Fail> {
-    match parse(rt.alloc(), text) {
-        Ok(graph) => {
-            let canonical = canonical(rt.alloc(), &graph)?;
-            match str::from_utf8(&canonical) {
-                Ok(text) => Ok(String::from_str(rt.alloc(), text)?),
-                Err(_) => Ok(String::from_str(rt.alloc(), "not ASCII")?),
-            }
-        }
+    match canonical_of(rt.alloc(), text) {
+        Ok(canonical) => match str::from_utf8(&canonical?) {
+            Ok(text) => Ok(String::from_str(rt.alloc(), text)?),
+            Err(_) => Ok(String::from_str(rt.alloc(), "not ASCII")?),
+        },
         Err(fault) => Ok(format!(in rt.alloc(); "{fault}")?),
     }
 }
@@ -51,16 +55,14 @@ fn canonical_texts_read_back(rt: HostRuntime) -> Result<(), Fail> {
 
 // Whether a text is a graph; what is accepted reads back from its canonical text.
 fn reads_back<R: Abort + AllocGlobal>(rt: &R, text: &[u8]) -> Result<bool, Fail> {
-    let Ok(graph) = parse(rt.alloc(), text) else {
+    let Ok(text) = canonical_of(rt.alloc(), text) else {
         return Ok(false);
     };
-    let text = canonical(rt.alloc(), &graph)?;
-    let Ok(graph) = parse(rt.alloc(), &text) else {
-        assert!(rt; false, "{text:?}");
-        return Ok(false);
+    let text = text?;
+    let Ok(again) = canonical_of(rt.alloc(), &text) else {
+        panic!(rt; "refused: {text:?}");
     };
-    let again = canonical(rt.alloc(), &graph)?;
-    assert_eq!(rt; again.as_slice(), text.as_slice());
+    assert_eq!(rt; again?.as_slice(), text.as_slice());
     Ok(true)
 }
 

@@ -2,6 +2,7 @@ ghost use Rattle.std.specs.Prelude.{IfOk};
 ghost use Rattle.graph.specs.Small.{IsSmall, IsSmallStep};
 
 use super::graph_of;
+use crate::fault::PlacedFault;
 use crate::{GraphError, canonical};
 use std::alloc::{AllocError, Global};
 use std::process::Abort;
@@ -81,27 +82,32 @@ fn tree(alloc: Global, item: &'static str) -> Result<Tree<'static>, AllocError>
     })
 }
 
+// The canonical text of the graph that a tree is, or its fault.
+fn text_of(alloc: Global, tree: &Tree<'_>) -> Result<Result<Vec<u8>, AllocError>, PlacedFault>
+    requires { IsSmall tree.now }
+{
+    let graph = graph_of(alloc, tree)?;
+    Ok(canonical(alloc, &graph))
+}
+
 #[test]
 fn the_text_of_a_tree(rt: HostRuntime) -> Result<(), Fail> {
     let tree = tree(rt.alloc(), "one")?;
-    match graph_of(rt.alloc(), &tree) {
-        Ok(graph) => {
-            let text = canonical(rt.alloc(), &graph)?;
-            let wanted =
-                "[one: i];\n[two: i];\n<t: i>;\n<t> :: (s);\n[one] -> (s);\n(s) -> [two];\nstep s(i) {\n  var a;\n  read {\n    get a = [one: i];\n  }\n  write {\n    put [two: i] = a;\n  }\n}\n";
-            assert!(rt; text.as_slice() == wanted.as_bytes());
-        }
-        Err(fault) => panic!(rt; "{:?}", fault.error),
-    }
+    let Ok(text) = text_of(rt.alloc(), &tree) else {
+        panic!(rt; "no graph");
+    };
+    let wanted =
+        "[one: i];\n[two: i];\n<t: i>;\n<t> :: (s);\n[one] -> (s);\n(s) -> [two];\nstep s(i) {\n  var a;\n  read {\n    get a = [one: i];\n  }\n  write {\n    put [two: i] = a;\n  }\n}\n";
+    assert!(rt; text?.as_slice() == wanted.as_bytes());
     Ok(())
 }
 
 #[test]
 fn a_read_that_is_not_declared(rt: HostRuntime) -> Result<(), Fail> {
     let tree = tree(rt.alloc(), "two")?;
-    match graph_of(rt.alloc(), &tree) {
-        Ok(_) => panic!(rt; "a graph"),
-        Err(fault) => assert_eq!(rt; fault.error, GraphError::Check(CheckError::UndeclaredRead)),
-    }
+    let Err(fault) = text_of(rt.alloc(), &tree) else {
+        panic!(rt; "a graph");
+    };
+    assert_eq!(rt; fault.error, GraphError::Check(CheckError::UndeclaredRead));
     Ok(())
 }
