@@ -184,7 +184,7 @@ fn has_components(components: Option<usize>, key: &Key) -> bool
 #[cfg(test)]
 pub(crate) mod tests {
     use super::*;
-    use graph::{GraphFault, parse};
+    use graph::parse;
     use std::alloc::{AllocError, Global};
     use std::collections::{BTreeMap, BTreeSet};
     use std::test::Fail;
@@ -220,10 +220,6 @@ pub(crate) mod tests {
         }
     }
 
-    fn graph(alloc: Global, text: &str) -> Result<Graph, GraphFault> {
-        parse(alloc, text.as_bytes())
-    }
-
     type Item = (Addr, (i64, Producer));
 
     // An item of the environment and one of (0: 2).
@@ -257,18 +253,30 @@ pub(crate) mod tests {
         })
     }
 
+    // Whether that fits the graph of a text.
+    fn fits(
+        alloc: Global,
+        text: &str,
+        fault: Option<Inst>,
+        items: &[Item],
+        tags: &[(Tag, bool)],
+        done: &[Inst],
+    ) -> Result<bool, Fail> {
+        let held = held(alloc, fault, items, tags, done)?;
+        let graph = parse(alloc, text.as_bytes())?;
+        Ok(held.fits(&graph))
+    }
+
     #[test]
     fn all_that_is_held_fits(rt: HostRuntime) -> Result<(), Fail> {
-        let graph = graph(rt.alloc(), FIBONACCI)?;
-        let whole = held(rt.alloc(), None, &items(), &tags(), &[instance(2)])?;
-        assert!(&rt; whole.fits(&graph));
+        let done = [instance(2)];
+        assert!(&rt; fits(rt.alloc(), FIBONACCI, None, &items(), &tags(), &done)?);
         Ok(())
     }
 
     // Another arity, no such collection, and a producer that is not done.
     #[test]
     fn items_are_looked_at(rt: HostRuntime) -> Result<(), Fail> {
-        let graph = graph(rt.alloc(), FIBONACCI)?;
         let arity = Addr {
             key: Key::new(&[0, 1]),
             ..address(0)
@@ -286,8 +294,15 @@ pub(crate) mod tests {
         ];
         for (address, producer, wanted) in rows {
             let item = (address, (0, producer));
-            let held = held(rt.alloc(), None, &[item], &tags(), &[instance(2)])?;
-            assert_eq!(&rt; held.fits(&graph), wanted, "{address:?} of {producer:?}");
+            let told = fits(
+                rt.alloc(),
+                FIBONACCI,
+                None,
+                &[item],
+                &tags(),
+                &[instance(2)],
+            )?;
+            assert_eq!(&rt; told, wanted, "{address:?} of {producer:?}");
         }
         Ok(())
     }
@@ -295,7 +310,6 @@ pub(crate) mod tests {
     // Done and not prescribed, at fault and done, and at fault and not prescribed.
     #[test]
     fn instances_are_looked_at(rt: HostRuntime) -> Result<(), Fail> {
-        let graph = graph(rt.alloc(), FIBONACCI)?;
         let rows = [
             (Some(instance(3)), instance(2), true),
             (None, instance(4), false),
@@ -303,8 +317,8 @@ pub(crate) mod tests {
             (Some(instance(4)), instance(2), false),
         ];
         for (fault, done, wanted) in rows {
-            let held = held(rt.alloc(), fault, &[], &tags(), &[done])?;
-            assert_eq!(&rt; held.fits(&graph), wanted, "{done:?} and {fault:?}");
+            let told = fits(rt.alloc(), FIBONACCI, fault, &[], &tags(), &[done])?;
+            assert_eq!(&rt; told, wanted, "{done:?} and {fault:?}");
         }
         Ok(())
     }
@@ -312,10 +326,9 @@ pub(crate) mod tests {
     #[test]
     fn items_of_the_environment_are_looked_at(rt: HostRuntime) -> Result<(), Fail> {
         for (text, wanted) in [(OPEN, true), (CLOSED, false)] {
-            let graph = graph(rt.alloc(), text)?;
             let item = (address(0), (0, Producer::Env));
-            let held = held(rt.alloc(), None, &[item], &[], &[])?;
-            assert_eq!(&rt; held.fits(&graph), wanted, "in {text:?}");
+            let told = fits(rt.alloc(), text, None, &[item], &[], &[])?;
+            assert_eq!(&rt; told, wanted, "in {text:?}");
         }
         Ok(())
     }
@@ -328,9 +341,8 @@ pub(crate) mod tests {
             (CLOSED, true, false),
             (CLOSED, false, true),
         ] {
-            let graph = graph(rt.alloc(), text)?;
-            let held = held(rt.alloc(), None, &[], &[(tag(0), mark)], &[])?;
-            assert_eq!(&rt; held.fits(&graph), wanted, "marked {mark} in {text:?}");
+            let told = fits(rt.alloc(), text, None, &[], &[(tag(0), mark)], &[])?;
+            assert_eq!(&rt; told, wanted, "marked {mark} in {text:?}");
         }
         Ok(())
     }

@@ -227,19 +227,29 @@ mod tests {
         }
     }
 
+    // Takes events, and says whether the last one was taken, where each before it is.
+    fn take_all<R: Abort + AllocGlobal>(
+        rt: &R,
+        graph: &Graph,
+        held: &mut Holdings,
+        events: &[Event],
+    ) -> Result<bool, Fail> {
+        let mut taken = true;
+        for event in events {
+            assert!(rt; taken, "an event before the last");
+            assert!(rt; has_few_puts(event), "an event of too many puts");
+            taken = held.take(graph, event)?;
+        }
+        Ok(taken)
+    }
+
     // What the last event is answered, where each before it is taken.
     fn last_answer<R: Abort + AllocGlobal>(rt: &R, events: &[Event]) -> Result<bool, Fail> {
         let Ok(graph) = parse(rt.alloc(), FIBONACCI.as_bytes()) else {
             panic!(rt; "no graph");
         };
         let mut held = Holdings::new(rt.alloc());
-        let mut taken = true;
-        for event in events {
-            assert!(rt; taken, "an event before the last");
-            assert!(rt; has_few_puts(event), "an event of too many puts");
-            taken = held.take(&graph, event)?;
-        }
-        Ok(taken)
+        take_all(rt, &graph, &mut held, events)
     }
 
     #[test]

@@ -1,6 +1,6 @@
 use crate::fitting::tests::{FIBONACCI, address};
 use crate::{Gate, SideError, Standing, gate_of, read_side, spell_side};
-use codec::decode_image;
+use codec::{Image, decode_image};
 use graph::canonical;
 use std::alloc::{AllocError, Global};
 use std::test::Fail;
@@ -79,15 +79,26 @@ fn damage_of_first(alloc: Global, length: usize) -> Result<Option<u64>, AllocErr
     Ok(damage(alloc, &bytes))
 }
 
+// Where the journal ends, the graph's text, and the image of what is held, of the bytes of an open side.
+type Told = (u64, Result<Vec<u8>, AllocError>, Result<Image, AllocError>);
+
+fn told(alloc: Global, bytes: &[u8]) -> Result<Told, SideError> {
+    let Standing {
+        graph,
+        holdings,
+        end,
+    } = read(alloc, bytes)?;
+    Ok((end, canonical(alloc, &graph), holdings.into_image(alloc)))
+}
+
 #[test]
 fn a_new_store_is_read(rt: HostRuntime) -> Result<(), Fail> {
     let bytes = store(rt.alloc(), &[0])?;
     assert_eq!(rt; bytes.len(), 275);
-    let standing = read(rt.alloc(), &bytes)?;
-    assert_eq!(rt; standing.end, 274);
-    let text = canonical(rt.alloc(), &standing.graph)?;
+    let (end, text, image) = told(rt.alloc(), &bytes)?;
+    let (text, image) = (text?, image?);
+    assert_eq!(rt; end, 274);
     assert_eq!(rt; text.as_slice(), FIBONACCI.as_bytes());
-    let image = standing.holdings.into_image(rt.alloc())?;
     assert!(rt; image.fault.is_none() && image.items.as_slice().is_empty());
     assert!(rt; image.tags.as_slice().is_empty() && image.done.as_slice().is_empty());
     Ok(())
@@ -107,9 +118,9 @@ fn a_new_store_is_spelled(rt: HostRuntime) -> Result<(), Fail> {
 fn an_event_is_read(rt: HostRuntime) -> Result<(), Fail> {
     let bytes = store(rt.alloc(), &RECORD)?;
     assert_eq!(rt; bytes.len(), 300);
-    let standing = read(rt.alloc(), &bytes)?;
-    assert_eq!(rt; standing.end, 299);
-    let image = standing.holdings.into_image(rt.alloc())?;
+    let (end, _, image) = told(rt.alloc(), &bytes)?;
+    assert_eq!(rt; end, 299);
+    let image = image?;
     assert_eq!(rt;
         image.items.as_slice(),
         [(address(0), 0, Producer::Env)].as_slice()
