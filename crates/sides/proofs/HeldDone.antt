@@ -1,10 +1,8 @@
--- Done instances: whether one is held, and one more.
-use Rattle.std.proofs.Common.{◌≡◌, Bool, ◌||◌, List, [], ◌∷◌, ◌++◌, map, Option, refl, sym, ap, subst, ◌∙◌}
+-- Done instances: one more.
+use Rattle.std.proofs.Common.{◌≡◌, List, [], ◌∷◌, ◌++◌, map, Option, refl, sym, ap, subst, ◌∙◌}
 use Rattle.std.specs.declared.cmp.Ordering.{Ordering}
 use Rattle.std.specs.declared.cmp.Ordering.TheVariants.{Less, Equal, Greater}
 use Rattle.std.specs.Ordering.{is_eq, match_ordering}
-use Rattle.std.specs.List.{list_any}
-use Rattle.std.specs.BTreeMap.{is_at}
 use Rattle.std.specs.BTreeSet.{insert_key}
 use Rattle.std.proofs.lemmas.Bool.{or_left}
 use Rattle.std.proofs.lemmas.List.{append_assoc}
@@ -15,23 +13,12 @@ use Rattle.terms.specs.Name.{inst_cmp}
 use Rattle.terms.specs.Sets.{is_fact, among, OneFact, AmongBoth}
 use Rattle.codec.specs.declared.image.Image.{Image}
 use Rattle.codec.specs.Entries.{Item, MarkedTag}
-use Rattle.sides.specs.Image.{fault_facts, image_facts, image_environment, facts_in}
+use Rattle.sides.specs.Image.{fault_facts, image_facts, image_environment}
 use Rattle.sides.specs.Growth.{AlsoHas, Grows}
 use Rattle.sides.proofs.Grown.{behind, from_between, asked_back, held_already, unchanged, grows_on}
-use Rattle.sides.proofs.HeldNames.{item_fact, tag_fact, among_done}
-
-done_there : OneFact → (ended : List Inst) (instance : Inst) → among (map done ended) (done instance) ≡ list_any (is_at (inst_cmp instance)) ended
-done_there one_fact [] instance = refl
-done_there one_fact (first ∷ ended) instance =
-    ap (λ (b : Bool). b || among (map done ended) (done instance)) (asked_back one_fact (done first) (done instance))
-    ∙ ap (λ (b : Bool). is_eq (inst_cmp instance first) || b) (done_there one_fact ended instance)
+use Rattle.sides.proofs.HeldNames.{item_fact, tag_fact}
 
 module _ (both : AmongBoth) (one_fact : OneFact) where
-  -- an instance is done where a look-up finds it
-  pub done_as_told : {listed seen : Image} → listed ≡ seen → (instance : Inst) (found : Bool) → found ≡ list_any (is_at (inst_cmp instance)) listed.done → facts_in seen (done instance) ≡ found
-  done_as_told {listed} {seen} same instance found tells =
-      ap (λ (image : Image). facts_in image (done instance)) (sym same) ∙ among_done both listed instance ∙ done_there one_fact listed.done instance ∙ sym tells
-
   key_held_by : (order : Ordering) (first : Inst) (ended : List Inst) (instance : Inst) → order ≡ inst_cmp instance first
       → AlsoHas (done instance ∷ []) (map done ended) (map done (insert_key inst_cmp ended instance))
       → AlsoHas (done instance ∷ []) (map done (first ∷ ended)) (map done (match_ordering order (instance ∷ first ∷ ended) (first ∷ ended) (first ∷ insert_key inst_cmp ended instance)))

@@ -1,4 +1,4 @@
-ghost use Rattle.std.specs.Prelude.{◌≡◌, ◌↔◌, ◌≤◌, ◌<◌, IsTrue, IfOk, [], ◌∷◌, length, false, Some, None};
+ghost use Rattle.std.specs.Prelude.{◌≡◌, ◌↔◌, ◌≤◌, ◌<◌, IsTrue, IfOk, [], ◌∷◌, length, false, None};
 ghost use Rattle.std.specs.List.{AllByRecursion};
 ghost use Rattle.terms.specs.Facts.{tag, item, done, bad, put_fact, put_facts};
 ghost use Rattle.codec.specs.Spelling.{HasPutNumber, IsNumbered, HasFewPuts};
