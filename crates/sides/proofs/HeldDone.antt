@@ -16,7 +16,7 @@ use Rattle.codec.specs.Entries.{Item, MarkedTag}
 use Rattle.sides.specs.Image.{fault_facts, image_facts, image_environment}
 use Rattle.sides.specs.Growth.{AlsoHas, Grows}
 use Rattle.sides.proofs.Grown.{behind, from_between, asked_back, held_already, unchanged, grows_on}
-use Rattle.sides.proofs.HeldNames.{item_fact, tag_fact}
+use Rattle.sides.proofs.ListedFacts.{item_fact, tag_fact}
 
 module _ (both : AmongBoth) (one_fact : OneFact) where
   key_held_by : (order : Ordering) (first : Inst) (ended : List Inst) (instance : Inst) → order ≡ inst_cmp instance first

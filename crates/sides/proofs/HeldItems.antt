@@ -18,7 +18,7 @@ use Rattle.graph.specs.Fits.{IsAbsent}
 use Rattle.sides.specs.Image.{fault_facts, named, listed, facts_in, environment_item, environment_tag}
 use Rattle.sides.specs.Growth.{Grows}
 use Rattle.sides.proofs.Grown.{before, behind}
-use Rattle.sides.proofs.HeldNames.{item_fact, tag_fact, among_items}
+use Rattle.sides.proofs.ListedFacts.{item_fact, tag_fact, items_of}
 use Rattle.sides.proofs.Placed.{Placed, placed_entry, placed_map, placed_all, placed_fact, placed_facts}
 
 abbrev Entry : Type 0
@@ -78,11 +78,11 @@ module _ (fault : Option (Inst × FaultKind)) (entries : List Entry) (tags : Lis
       → IsTrue free ↔ IsAbsent (facts_in (listed fault entries tags ended)) address
   free_is_absent one_fact both found free finds tells = (
     λ is_free value by.
-        among_items both (listed fault entries tags ended) address value by
+        items_of both (listed fault entries tags ended) address value by
         ∙ absent_then one_fact entries address (sym finds ∙ none_where found free tells is_free) value by,
     λ absent.
         free_where found free tells
-        (finds ∙ then_absent one_fact entries address (λ value by. sym (among_items both (listed fault entries tags ended) address value by) ∙ absent value by)),
+        (finds ∙ then_absent one_fact entries address (λ value by. sym (items_of both (listed fault entries tags ended) address value by) ∙ absent value by)),
   )
 
   module _ (value : ℤ) (by : Producer) (found : Option (ℤ × Producer)) (free : Bool) (finds : found ≡ found_here) (tells : is_some found ≡ not free) (more : List Entry) (inserted : more ≡ insert_entry addr_cmp entries address (value, by)) where

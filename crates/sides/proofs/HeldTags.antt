@@ -15,7 +15,7 @@ use Rattle.codec.specs.declared.image.Image.{Image}
 use Rattle.sides.specs.Image.{fault_facts, image_facts, image_environment, facts_in, environment_item, environment_tag}
 use Rattle.sides.specs.Growth.{Grows}
 use Rattle.sides.proofs.Grown.{before, behind, asked_back, held_already, unchanged}
-use Rattle.sides.proofs.HeldNames.{item_fact, tag_fact, among_tags}
+use Rattle.sides.proofs.ListedFacts.{item_fact, tag_fact, tags_of}
 use Rattle.sides.proofs.Placed.{Placed, placed_entry, placed_fact, placed_facts}
 
 first_or_later : {X : Type 0} (here there : Bool) (x : X) (rest : Option X) (later : Bool) → here ≡ there → later ≡ is_some rest → (here || later) ≡ is_some (cond there (Some x) rest)
@@ -35,7 +35,7 @@ none_where (Some x) absent = absurd (cc)
 module _ (both : AmongBoth) where
   -- a tag is held where a look-up finds it
   pub held_if_found : OneFact → (image : Image) (name : Tag) → facts_in image (tag name) ≡ is_some (lookup (is_at (tag_cmp name)) image.tags)
-  held_if_found one_fact image name = among_tags both image name ∙ tag_there one_fact image.tags name
+  held_if_found one_fact image name = tags_of both image name ∙ tag_there one_fact image.tags name
 
   pub held_as_told : OneFact → {listed seen : Image} → listed ≡ seen → (name : Tag) (found : Bool) → found ≡ is_some (lookup (is_at (tag_cmp name)) listed.tags) → facts_in seen (tag name) ≡ found
   held_as_told one_fact {listed} {seen} same name found tells =

@@ -12,7 +12,7 @@ use Rattle.terms.specs.declared.name.Tag.{Tag}
 use Rattle.terms.specs.declared.name.Inst.{Inst}
 use Rattle.terms.specs.declared.fault.FaultKind.{FaultKind}
 use Rattle.terms.specs.declared.producer.Producer.{Producer}
-use Rattle.terms.specs.Facts.{Fact, tag, item, done}
+use Rattle.terms.specs.Facts.{Fact, tag, item, done, bad}
 use Rattle.terms.specs.Name.{tag_cmp, inst_cmp}
 use Rattle.terms.specs.Sets.{is_fact, among, OneFact, AmongBoth}
 use Rattle.codec.specs.declared.image.Image.{Image}
@@ -98,6 +98,11 @@ or_false true = refl
 or_false false = refl
 
 -- of four truths one may hold
+first_of : (a b c d : Bool) → b ≡ false → c ≡ false → d ≡ false → (((a || b) || c) || d) ≡ a
+first_of a b c d no_b no_c no_d =
+    let others : (((a || b) || c) || d) ≡ (((a || false) || false) || false) = λ i. ((a || no_b i) || no_c i) || no_d i in
+    others ∙ or_false ((a || false) || false) ∙ or_false (a || false) ∙ or_false a
+
 second : (a b c d : Bool) → a ≡ false → c ≡ false → d ≡ false → (((a || b) || c) || d) ≡ b
 second a b c d no_a no_c no_d =
     let others : (((a || b) || c) || d) ≡ ((b || false) || false) = λ i. ((no_a i || b) || no_c i) || no_d i in
@@ -124,6 +129,11 @@ no_fault_done None instance = refl
 no_fault_done (Some fault) instance = refl
 
 module _ (both : AmongBoth) (image : Image) where
+  pub faults_of : (instance : Inst) (kind : FaultKind) → facts_in image (bad instance kind) ≡ in_fault both image (bad instance kind)
+  faults_of instance kind =
+      let fact = bad instance kind in
+      in_parts both image fact ∙ first_of _ _ _ _ (none item_fact fact (λ x. refl) image.items) (none tag_fact fact (λ x. refl) image.tags) (none done fact (λ x. refl) image.done)
+
   pub items_of : (address : Addr) (value : ℤ) (by : Producer) → facts_in image (item address value by) ≡ in_items both image (item address value by)
   items_of address value by =
       let fact = item address value by in

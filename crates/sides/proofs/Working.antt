@@ -10,7 +10,7 @@ use Rattle.codec.specs.declared.image.Image.{Image}
 use Rattle.graph.specs.Graph.{Graph}
 use Rattle.graph.specs.Fits.{FitsAs, Fits}
 use Rattle.sides.specs.Image.{fault_facts, facts_in}
-use Rattle.sides.proofs.HeldNames.{among_faults}
+use Rattle.sides.proofs.ListedFacts.{faults_of}
 
 none_at_fault : (fault : Option (Inst × FaultKind)) → is_some fault ≡ false → (instance : Inst) (kind : FaultKind) → among (fault_facts fault) (bad instance kind) ≡ false
 none_at_fault None none instance kind = refl
@@ -28,7 +28,7 @@ module _ (both : AmongBoth) (g : Graph) {listed seen : Image} (same : listed ≡
     λ never. absurd (false≢true never),
     λ fits. absurd
         (one_at_fault one_fact listed.fault (sym tells ∙ is) (λ instance kind.
-        sym (among_faults both listed instance kind) ∙ ap (λ (image : Image). facts_in image (bad instance kind)) same ∙ fits.working instance kind)),
+        sym (faults_of both listed instance kind) ∙ ap (λ (image : Image). facts_in image (bad instance kind)) same ∙ fits.working instance kind)),
   )
 
   -- and else the event alone decides
@@ -37,7 +37,7 @@ module _ (both : AmongBoth) (g : Graph) {listed seen : Image} (same : listed ≡
   fits_alone at_fault tells isnt taken one is decides = (
     λ yes_taken. record {
       working = λ instance kind.
-          ap (λ (image : Image). facts_in image (bad instance kind)) (sym same) ∙ among_faults both listed instance kind ∙ none_at_fault listed.fault (sym tells ∙ isnt) instance kind;
+          ap (λ (image : Image). facts_in image (bad instance kind)) (sym same) ∙ faults_of both listed instance kind ∙ none_at_fault listed.fault (sym tells ∙ isnt) instance kind;
       event_fits = subst (FitsAs g (facts_in seen)) (sym is) (decides.0 yes_taken);
     },
     λ fits. decides.1 (subst (FitsAs g (facts_in seen)) is fits.event_fits),
