@@ -55,11 +55,10 @@ fn sum(alloc: Global) -> Result<Checked, AllocError> {
         value: Expression::Variable(total),
         rest: Box::new(alloc, Block::End)?,
     };
-    let left = Box::new(alloc, Expression::Variable(total))?;
-    let right = Box::new(alloc, Expression::Variable(turn))?;
+    let operands = (Expression::Variable(total), Expression::Variable(turn));
     let add = Block::Assign {
         variable: total,
-        value: Expression::Operation(Operator::Add, left, right),
+        value: Expression::Operation(Operator::Add, Box::new(alloc, operands)?),
         rest: Box::new(alloc, Block::End)?,
     };
     let write = Block::For {

@@ -36,11 +36,11 @@ module _ (names : List Text) where
   expression_same (Negation' _ one) (Negation' _ two) (plain.Negation' _ e) _ alike a b = absurd b
   expression_same (Negation' _ one) (Negation' _ two) _ f alike a b = absurd a
   expression_same (Negation' _ one) _ e f alike a b = absurd alike
-  expression_same (Operation' _ _ l1 _ r1) (Operation' _ _ l2 _ r2) (plain.Operation' _ _ e1 _ e2) (plain.Operation' _ _ f1 _ f2) alike a b =
+  expression_same (Operation' _ _ l1 r1) (Operation' _ _ l2 r2) (plain.Operation' _ _ e1 e2) (plain.Operation' _ _ f1 f2) alike a b =
       (a.0 ∙ alike.0 ∙ sym b.0, expression_same l1 l2 e1 f1 alike.1 a.1 b.1, expression_same r1 r2 e2 f2 alike.2 a.2 b.2)
-  expression_same (Operation' _ _ l1 _ r1) (Operation' _ _ l2 _ r2) (plain.Operation' _ _ e1 _ e2) _ alike a b = absurd b
-  expression_same (Operation' _ _ l1 _ r1) (Operation' _ _ l2 _ r2) _ f alike a b = absurd a
-  expression_same (Operation' _ _ l1 _ r1) _ e f alike a b = absurd alike
+  expression_same (Operation' _ _ l1 r1) (Operation' _ _ l2 r2) (plain.Operation' _ _ e1 e2) _ alike a b = absurd b
+  expression_same (Operation' _ _ l1 r1) (Operation' _ _ l2 r2) _ f alike a b = absurd a
+  expression_same (Operation' _ _ l1 r1) _ e f alike a b = absurd alike
 
   expressions_same : (ones twos : List NamedExpression) (es fs : List Expression) → AreAll Alike ones twos → AreExpressions names ones es → AreExpressions names twos fs → AreAll SameExpression es fs
   expressions_same [] [] [] [] alike a b = tt

@@ -23,26 +23,26 @@ abbrev pub Alike : NamedExpression → NamedExpression → Type 0
 Alike (Number m) (Number n) = m ≡ n
 Alike (Variable one) (Variable two) = SameName one two
 Alike (Negation' _ e) (Negation' _ f) = Alike e f
-Alike (Operation' how _ e1 _ e2) (Operation' also _ f1 _ f2) = (how ≡ also) × Alike e1 f1 × Alike e2 f2
+Alike (Operation' how _ e1 e2) (Operation' also _ f1 f2) = (how ≡ also) × Alike e1 f1 × Alike e2 f2
 Alike e f = ⊥
 
 mutual
   expr_alike : (expr : Expr) (one two : NamedExpression) → IsExpr expr one → IsExpr expr two → Alike one two
   expr_alike (sum_alone sum) one two a b = sum_alike sum one two a b
-  expr_alike (compared left how right) (Operation' _ _ e1 _ e2) (Operation' _ _ f1 _ f2) a b = (a.0 ∙ sym b.0, sum_alike left e1 f1 a.1 b.1, sum_alike right e2 f2 a.2 b.2)
-  expr_alike (compared left how right) (Operation' _ _ e1 _ e2) _ a b = absurd b
+  expr_alike (compared left how right) (Operation' _ _ e1 e2) (Operation' _ _ f1 f2) a b = (a.0 ∙ sym b.0, sum_alike left e1 f1 a.1 b.1, sum_alike right e2 f2 a.2 b.2)
+  expr_alike (compared left how right) (Operation' _ _ e1 e2) _ a b = absurd b
   expr_alike (compared left how right) _ two a b = absurd a
 
   sum_alike : (sum : Sum) (one two : NamedExpression) → IsSum sum one → IsSum sum two → Alike one two
   sum_alike (prod_alone prod) one two a b = prod_alike prod one two a b
-  sum_alike (added left how right) (Operation' _ _ e1 _ e2) (Operation' _ _ f1 _ f2) a b = (a.0 ∙ sym b.0, sum_alike left e1 f1 a.1 b.1, prod_alike right e2 f2 a.2 b.2)
-  sum_alike (added left how right) (Operation' _ _ e1 _ e2) _ a b = absurd b
+  sum_alike (added left how right) (Operation' _ _ e1 e2) (Operation' _ _ f1 f2) a b = (a.0 ∙ sym b.0, sum_alike left e1 f1 a.1 b.1, prod_alike right e2 f2 a.2 b.2)
+  sum_alike (added left how right) (Operation' _ _ e1 e2) _ a b = absurd b
   sum_alike (added left how right) _ two a b = absurd a
 
   prod_alike : (prod : Prod) (one two : NamedExpression) → IsProd prod one → IsProd prod two → Alike one two
   prod_alike (unary_alone unary) one two a b = unary_alike unary one two a b
-  prod_alike (multiplied left how right) (Operation' _ _ e1 _ e2) (Operation' _ _ f1 _ f2) a b = (a.0 ∙ sym b.0, prod_alike left e1 f1 a.1 b.1, unary_alike right e2 f2 a.2 b.2)
-  prod_alike (multiplied left how right) (Operation' _ _ e1 _ e2) _ a b = absurd b
+  prod_alike (multiplied left how right) (Operation' _ _ e1 e2) (Operation' _ _ f1 f2) a b = (a.0 ∙ sym b.0, prod_alike left e1 f1 a.1 b.1, unary_alike right e2 f2 a.2 b.2)
+  prod_alike (multiplied left how right) (Operation' _ _ e1 e2) _ a b = absurd b
   prod_alike (multiplied left how right) _ two a b = absurd a
 
   unary_alike : (unary : Unary) (one two : NamedExpression) → IsUnary unary one → IsUnary unary two → Alike one two

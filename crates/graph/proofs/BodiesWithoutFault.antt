@@ -59,9 +59,9 @@ module _ (names : List Text) where
   expression_clear (Negation' _ one) (Negation' _ two) (plain.Negation' _ e) alike is = expression_clear one two e alike is
   expression_clear (Negation' _ one) (Negation' _ two) _ alike is = absurd is
   expression_clear (Negation' _ one) _ e alike is = absurd alike
-  expression_clear (Operation' _ _ l1 _ r1) (Operation' _ _ l2 _ r2) (plain.Operation' _ _ e _ f) alike is = λ i. expression_clear l1 l2 e alike.1 is.1 i ++ expression_clear r1 r2 f alike.2 is.2 i
-  expression_clear (Operation' _ _ l1 _ r1) (Operation' _ _ l2 _ r2) _ alike is = absurd is
-  expression_clear (Operation' _ _ l1 _ r1) _ e alike is = absurd alike
+  expression_clear (Operation' _ _ l1 r1) (Operation' _ _ l2 r2) (plain.Operation' _ _ e f) alike is = λ i. expression_clear l1 l2 e alike.1 is.1 i ++ expression_clear r1 r2 f alike.2 is.2 i
+  expression_clear (Operation' _ _ l1 r1) (Operation' _ _ l2 r2) _ alike is = absurd is
+  expression_clear (Operation' _ _ l1 r1) _ e alike is = absurd alike
 
   components_clear : (ones twos : List NamedExpression) (es : List Expression) → AreAll Alike ones twos → AreExpressions names ones es → (component_faults names twos ≡ []) × (length twos ≡ length es)
   components_clear [] [] [] alike are = (refl, refl)

@@ -70,11 +70,11 @@ unfolding between
 between_within around operator.Add left right = refl
 between_within around _ left right = refl
 
-between_is : (op : Operator) (left right : Unary) (box other : Box (Unit {0}) Global) (one two : NamedExpression) → IsUnary left one → IsUnary right two
-    → IsExpr (between op left right) (tree.Operation' op box one other two)
+between_is : (op : Operator) (left right : Unary) (box : Box (Unit {0}) Global) (one two : NamedExpression) → IsUnary left one → IsUnary right two
+    → IsExpr (between op left right) (tree.Operation' op box one two)
 unfolding between
-between_is operator.Add left right box other one two x y = (refl, x, y)
-between_is _ left right box other one two x y = (refl, x, y)
+between_is operator.Add left right box one two x y = (refl, x, y)
+between_is _ left right box one two x y = (refl, x, y)
 
 closed : {place : ℕ} {text : List ℕ} {pieces : List Piece} → Printed never place text pieces → Printed after_sign place text pieces
 closed it = narrowed (λ rest may. anything rest) it
@@ -121,7 +121,7 @@ some_depth : (expression : Expression) → 1 ≤ depth_of expression
 some_depth (Number value) = omega arith
 some_depth (Variable slot) = omega arith
 some_depth (Negation' _ operand) = omega arith
-some_depth (Operation' op _ left _ right) = omega arith
+some_depth (Operation' op _ left right) = omega arith
 
 pub no_both : (a b : List Position) → a ≡ [] → b ≡ [] → a ++ b ≡ []
 no_both a b x y = ap (λ (l : List Position). l ++ b) x ∙ y
@@ -167,22 +167,22 @@ module _ (g : Graph) (names : List Text) (are : AreNames names) where
   up_to : Operator → Expression → List ℕ
   up_to op left = expression_text g names left ++ codes " " ++ operator_text op ++ codes " "
 
-  operation_printed : (place : ℕ) (op : Operator) (box : Box (Unit {0}) Global) (left : Expression) (other : Box (Unit {0}) Global) (right : Expression)
-      → IsPrinted g names (place + 1) left → IsPrinted g names (place + 1 + length (up_to op left)) right → IsPrinted g names place (Operation' op box left other right)
+  operation_printed : (place : ℕ) (op : Operator) (box : Box (Unit {0}) Global) (left right : Expression)
+      → IsPrinted g names (place + 1) left → IsPrinted g names (place + 1 + length (up_to op left)) right → IsPrinted g names place (Operation' op box left right)
   unfolding up_to
-  operation_printed place op box left other right one two =
+  operation_printed place op box left right one two =
       let front = sign_and_space (and (and_space one.printed) (printed_operator (place + 1 + length (expression_text g names left ++ codes " ")) op)) in
       let all = and front two.printed in record {
         unary = bracketed place (between op one.unary two.unary);
         printed = narrowed (λ rest may. anything rest)
-            (subst (λ (p : List Piece). Printed never place (expression_text g names (Operation' op box left other right)) (sign_at place sign.OpenRound ++ p ++ a_sign sign.CloseRound)) (sym (between_pieces op one.unary two.unary)) (rounded all));
+            (subst (λ (p : List Piece). Printed never place (expression_text g names (Operation' op box left right)) (sign_at place sign.OpenRound ++ p ++ a_sign sign.CloseRound)) (sym (between_pieces op one.unary two.unary)) (rounded all));
         fronts = λ rest. refl;
         depth = between_depth op one.unary two.unary ∙ ap (λ (n : ℕ). suc (max n (unary_depth two.unary))) one.depth ∙ ap (λ (n : ℕ). suc (max (depth_of left) n)) two.depth;
         within = λ around h.
             let inner = no_both _ _ (one.within (suc around) (omega arith)) (two.within (suc around) (omega arith)) in
             no_both _ _ (no_more_limit MOST_BRACKETS around place (omega (arith, some_depth left))) (between_within (suc around) op one.unary two.unary ∙ inner);
-        value = tree.Operation' op box one.value other two.value;
-        is = between_is op one.unary two.unary box other one.value two.value one.is two.is;
+        value = tree.Operation' op box one.value two.value;
+        is = between_is op one.unary two.unary box one.value two.value one.is two.is;
         resolves = (refl, one.resolves, two.resolves);
       }
 
@@ -191,5 +191,5 @@ module _ (g : Graph) (names : List Text) (are : AreNames names) where
   expression_printed (Number value) place is = subst (λ (z : ℤ). IsPrinted g names place (Number z)) (sym is.1) (number_printed place is.0 is.2)
   expression_printed (Variable slot) place is = variable_printed place slot is
   expression_printed (Negation' box operand) place is = negation_printed place box operand (expression_printed operand (place + 1 + 1) is)
-  expression_printed (Operation' op box left other right) place is =
-      operation_printed place op box left other right (expression_printed left (place + 1) is.0) (expression_printed right (place + 1 + length (up_to op left)) is.1)
+  expression_printed (Operation' op box left right) place is =
+      operation_printed place op box left right (expression_printed left (place + 1) is.0) (expression_printed right (place + 1 + length (up_to op left)) is.1)

@@ -31,32 +31,32 @@ module _ (names : List Text) where
   mutual
     expr_read : (expr : Expr) (it : NamedExpression) (e : Expression) → AreSound (expr_pieces expr) → IsExpr expr it → IsExpression names it e → IsRead e (expr_depth expr)
     expr_read (sum_alone sum) it e sound is means = sum_read sum it e sound is means
-    expr_read (compared left how right) (Operation' _ _ it _ other) (plain.Operation' _ _ e _ f) sound is means =
+    expr_read (compared left how right) (Operation' _ _ it other) (plain.Operation' _ _ e f) sound is means =
         let head = a_sign (comparison_sign how) in
         let one = sum_read left it e (front (sum_pieces left) head (front (sum_pieces left ++ head) (sum_pieces right) sound)) is.1 means.1 in
         let two = sum_read right other f (rear (sum_pieces left ++ head) (sum_pieces right) sound) is.2 means.2 in
         ((one.0, two.0), λ i. suc (max (one.1 i) (two.1 i)))
-    expr_read (compared left how right) (Operation' _ _ it _ other) _ sound is means = absurd means
+    expr_read (compared left how right) (Operation' _ _ it other) _ sound is means = absurd means
     expr_read (compared left how right) _ e sound is means = absurd is
 
     sum_read : (sum : Sum) (it : NamedExpression) (e : Expression) → AreSound (sum_pieces sum) → IsSum sum it → IsExpression names it e → IsRead e (sum_depth sum)
     sum_read (prod_alone prod) it e sound is means = prod_read prod it e sound is means
-    sum_read (added left how right) (Operation' _ _ it _ other) (plain.Operation' _ _ e _ f) sound is means =
+    sum_read (added left how right) (Operation' _ _ it other) (plain.Operation' _ _ e f) sound is means =
         let head = a_sign (addition_sign how) in
         let one = sum_read left it e (front (sum_pieces left) head (front (sum_pieces left ++ head) (prod_pieces right) sound)) is.1 means.1 in
         let two = prod_read right other f (rear (sum_pieces left ++ head) (prod_pieces right) sound) is.2 means.2 in
         ((one.0, two.0), λ i. suc (max (one.1 i) (two.1 i)))
-    sum_read (added left how right) (Operation' _ _ it _ other) _ sound is means = absurd means
+    sum_read (added left how right) (Operation' _ _ it other) _ sound is means = absurd means
     sum_read (added left how right) _ e sound is means = absurd is
 
     prod_read : (prod : Prod) (it : NamedExpression) (e : Expression) → AreSound (prod_pieces prod) → IsProd prod it → IsExpression names it e → IsRead e (prod_depth prod)
     prod_read (unary_alone unary) it e sound is means = unary_read unary it e sound is means
-    prod_read (multiplied left how right) (Operation' _ _ it _ other) (plain.Operation' _ _ e _ f) sound is means =
+    prod_read (multiplied left how right) (Operation' _ _ it other) (plain.Operation' _ _ e f) sound is means =
         let head = a_sign (multiplication_sign how) in
         let one = prod_read left it e (front (prod_pieces left) head (front (prod_pieces left ++ head) (unary_pieces right) sound)) is.1 means.1 in
         let two = unary_read right other f (rear (prod_pieces left ++ head) (unary_pieces right) sound) is.2 means.2 in
         ((one.0, two.0), λ i. suc (max (one.1 i) (two.1 i)))
-    prod_read (multiplied left how right) (Operation' _ _ it _ other) _ sound is means = absurd means
+    prod_read (multiplied left how right) (Operation' _ _ it other) _ sound is means = absurd means
     prod_read (multiplied left how right) _ e sound is means = absurd is
 
     unary_read : (unary : Unary) (it : NamedExpression) (e : Expression) → AreSound (unary_pieces unary) → IsUnary unary it → IsExpression names it e → IsRead e (unary_depth unary)

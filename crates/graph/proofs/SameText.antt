@@ -17,7 +17,7 @@ module _ (g h : Graph) (items : g.items ≡ h.items) (tags : g.tags ≡ h.tags) 
   same_expression (Number m) (Number n) same = ap number_text same
   same_expression (Variable a) (Variable b) same = ap (λ (slot : ℕ). get_or names slot []) same
   same_expression (Negation' p e) (Negation' q f) same = ap (λ (text : Text). in_rounds (codes "-" ++ text)) (same_expression e f same)
-  same_expression (Operation' how p e1 q e2) (Operation' other r f1 s f2) same =
+  same_expression (Operation' how p e1 e2) (Operation' other q f1 f2) same =
       let left = same_expression e1 f1 same.1 in
       let right = same_expression e2 f2 same.2 in
       λ i. in_rounds (left i ++ codes " " ++ operator_text (same.0 i) ++ codes " " ++ right i)

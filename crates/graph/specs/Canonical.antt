@@ -98,7 +98,7 @@ module _ (g : Graph) (names : List Text) where
   expression_text (Number number) = number_text number
   expression_text (Variable slot) = variable_text slot
   expression_text (Negation' _ operand) = in_rounds (codes "-" ++ expression_text operand)
-  expression_text (Operation' between _ left _ right) = in_rounds (expression_text left ++ codes " " ++ operator_text between ++ codes " " ++ expression_text right)
+  expression_text (Operation' between _ left right) = in_rounds (expression_text left ++ codes " " ++ operator_text between ++ codes " " ++ expression_text right)
 
   abbrev pub item_text : ℕ → List Expression → Text
   item_text number components = in_brackets (with_colon (get_or (names_in g.items) number []) (map expression_text components))

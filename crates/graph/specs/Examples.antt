@@ -16,7 +16,7 @@ Place = Box (Unit {0}) Global
 -- step add(i) { var a, b; read { get a = [fib: i - 1]; get b = [fib: i - 2]; } write { put [fib: i] = a + b; } }
 module _ (place : Place) where
   abbrev pub behind : ℕ → Expression
-  behind number = Operation' operator.Subtract place (Variable 0) place (Number (pos number))
+  behind number = Operation' operator.Subtract place (Variable 0) (Number (pos number))
 
   abbrev pub fibonacci : Graph
   fibonacci = record {
@@ -32,7 +32,7 @@ module _ (place : Place) where
       tag_puts = false ∷ [];
       body = record {
         read = Get' 1 (record { 0 = 0 }) (behind 1 ∷ []) place (Get' 2 (record { 0 = 0 }) (behind 2 ∷ []) place End);
-        write = PutItem' (record { 0 = 0 }) (Variable 0 ∷ []) (Operation' operator.Add place (Variable 1) place (Variable 2)) place End;
+        write = PutItem' (record { 0 = 0 }) (Variable 0 ∷ []) (Operation' operator.Add place (Variable 1) (Variable 2)) place End;
       };
     } ∷ [];
     environment_item_puts = true ∷ [];

@@ -41,14 +41,14 @@ abbrev pub depth_of : Expression → ℕ
 depth_of (Number number) = 1
 depth_of (Variable slot) = 1
 depth_of (Negation' _ operand) = suc (depth_of operand)
-depth_of (Operation' between _ left _ right) = suc (max (depth_of left) (depth_of right))
+depth_of (Operation' between _ left right) = suc (max (depth_of left) (depth_of right))
 
 -- numbers that a text can have, and variables among so many names
 abbrev pub IsSpelled : ℕ → Expression → Type 0
 IsSpelled names (Number number) = (value : ℕ) × (number ≡ pos value) × (value ≤ GREATEST)
 IsSpelled names (Variable slot) = slot < names
 IsSpelled names (Negation' _ operand) = IsSpelled names operand
-IsSpelled names (Operation' between _ left _ right) = IsSpelled names left × IsSpelled names right
+IsSpelled names (Operation' between _ left right) = IsSpelled names left × IsSpelled names right
 
 abbrev pub IsTextExpression : ℕ → Expression → Type 0
 IsTextExpression names expression = IsSpelled names expression × (depth_of expression ≤ MOST_DEPTH)
@@ -114,7 +114,7 @@ abbrev pub SameExpression : Expression → Expression → Type 0
 SameExpression (Number m) (Number n) = m ≡ n
 SameExpression (Variable a) (Variable b) = a ≡ b
 SameExpression (Negation' _ e) (Negation' _ f) = SameExpression e f
-SameExpression (Operation' how _ e1 _ e2) (Operation' same _ f1 _ f2) = (how ≡ same) × SameExpression e1 f1 × SameExpression e2 f2
+SameExpression (Operation' how _ e1 e2) (Operation' same _ f1 f2) = (how ≡ same) × SameExpression e1 f1 × SameExpression e2 f2
 SameExpression e f = ⊥
 
 abbrev pub SameBlock : Block → Block → Type 0

@@ -94,7 +94,7 @@ module _ (place : Place) where
   -- along two reads the body gives their sum
   gives : (X : Facts) (k : ℕ) (a b x y : ℤ) (sum : ℤ)
       → (of_one of_two : Producer) → X (item (record { collection = record { 0 = 0 }; key = a ∷ [] }) x of_one) ≡ true → X (item (record { collection = record { 0 = 0 }; key = b ∷ [] }) y of_two) ≡ true
-      → Along (record { read = Get' 1 (record { 0 = 0 }) (behind place 1 ∷ []) place (Get' 2 (record { 0 = 0 }) (behind place 2 ∷ []) place End); write = PutItem' (record { 0 = 0 }) (Variable 0 ∷ []) (Operation' operator.Add place (Variable 1) place (Variable 2)) place End })
+      → Along (record { read = Get' 1 (record { 0 = 0 }) (behind place 1 ∷ []) place (Get' 2 (record { 0 = 0 }) (behind place 2 ∷ []) place End); write = PutItem' (record { 0 = 0 }) (Variable 0 ∷ []) (Operation' operator.Add place (Variable 1) (Variable 2)) place End })
       (pos k ∷ []) ((record { collection = record { 0 = 0 }; key = a ∷ [] }, x) ∷ (record { collection = record { 0 = 0 }; key = b ∷ [] }, y) ∷ []) (Gives (put.Item (fib k) sum ∷ []))
       → BodyGives G X (add k) (put.Item (fib k) sum ∷ [])
   gives X k a b x y sum of_one of_two one two along = record {

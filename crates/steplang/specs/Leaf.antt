@@ -6,4 +6,4 @@ abbrev pub IsDeep : Expression → Type 0
 IsDeep (Number number) = ⊥
 IsDeep (Variable slot) = ⊥
 IsDeep (Negation' _ operand) = Unit {0}
-IsDeep (Operation' between _ left _ right) = Unit {0}
+IsDeep (Operation' between _ left right) = Unit {0}

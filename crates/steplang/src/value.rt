@@ -39,9 +39,9 @@ pub(crate) fn evaluate(expression: &Expression, variables: &Variables) -> Result
     ensures { result ≡ value_of expression.now variables.now }
 {
     // An operation on two leaves takes no call.
-    if let Expression::Operation(operator, left, right) = expression
-        && let Some(left) = leaf(left, variables)
-        && let Some(right) = leaf(right, variables)
+    if let Expression::Operation(operator, operands) = expression
+        && let Some(left) = leaf(&operands.0, variables)
+        && let Some(right) = leaf(&operands.1, variables)
     {
         return operate(*operator, left, right);
     }
@@ -59,7 +59,8 @@ fn evaluate_any(expression: &Expression, variables: &Variables) -> Result<i64, F
             let value = evaluate_any(operand, variables)?;
             value.checked_neg().ok_or(FaultKind::Overflow)
         }
-        Expression::Operation(operator, left, right) => {
+        Expression::Operation(operator, operands) => {
+            let (left, right) = &**operands;
             let left = match leaf(left, variables) {
                 Some(value) => value,
                 None => evaluate_any(left, variables)?,

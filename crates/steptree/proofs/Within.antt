@@ -58,7 +58,7 @@ value : (expression : Expression) (variables : List ℤ) → Valued (value_of ex
 value (Number number) variables = tt
 value (Variable slot) variables = tt
 value (Negation' p operand) variables = then_value (value_of operand variables) (λ v. held (neg_ℤ v)) (value operand variables) (λ v. held_value (neg_ℤ v))
-value (Operation' between p left q right) variables =
+value (Operation' between p left right) variables =
     then_value (value_of left variables) (λ x. with_value (value_of right variables) (λ y. operated between x y)) (value left variables) (λ x.
     then_value (value_of right variables) (λ y. operated between x y) (value right variables) (λ y. operated_value between x y))
 

@@ -30,7 +30,7 @@ abbrev pub expression_faults : List Text → NamedExpression → List CheckFault
 expression_faults names (Number number) = []
 expression_faults names (Variable name) = variable_faults names name
 expression_faults names (Negation' _ operand) = expression_faults names operand
-expression_faults names (Operation' operator _ left _ right) = expression_faults names left ++ expression_faults names right
+expression_faults names (Operation' operator _ left right) = expression_faults names left ++ expression_faults names right
 
 abbrev pub component_faults : List Text → List NamedExpression → List CheckFault
 component_faults names [] = []

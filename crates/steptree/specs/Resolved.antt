@@ -19,7 +19,7 @@ abbrev pub IsExpression : List Text → NamedExpression → Expression → Type 
 IsExpression names (named.Number m) (plain.Number n) = n ≡ m
 IsExpression names (named.Variable name) (plain.Variable slot) = slot_of names name ≡ Some slot
 IsExpression names (named.Negation' _ e) (plain.Negation' _ f) = IsExpression names e f
-IsExpression names (named.Operation' operator _ e1 _ e2) (plain.Operation' same _ f1 _ f2) = (same ≡ operator) × IsExpression names e1 f1 × IsExpression names e2 f2
+IsExpression names (named.Operation' operator _ e1 e2) (plain.Operation' same _ f1 f2) = (same ≡ operator) × IsExpression names e1 f1 × IsExpression names e2 f2
 IsExpression names e f = ⊥
 
 abbrev pub AreExpressions : List Text → List NamedExpression → List Expression → Type 0

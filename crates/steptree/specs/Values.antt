@@ -43,7 +43,7 @@ abbrev pub value_of : Expression → List ℤ → Result ℤ FaultKind
 value_of (Number number) variables = Ok number
 value_of (Variable slot) variables = Ok (get_or variables slot (pos 0))
 value_of (Negation' _ operand) variables = with_value (value_of operand variables) (λ value. held (neg_ℤ value))
-value_of (Operation' between _ left _ right) variables =
+value_of (Operation' between _ left right) variables =
     with_value (value_of left variables) (λ x. with_value (value_of right variables) (λ y. operated between x y))
 
 -- the values of several expressions, from the left

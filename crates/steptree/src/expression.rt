@@ -22,5 +22,5 @@ pub enum Expression {
     Number(i64),
     Variable(Slot),
     Negation(Box<Expression>),
-    Operation(Operator, Box<Expression>, Box<Expression>),
+    Operation(Operator, Box<(Expression, Expression)>),
 }

@@ -13,7 +13,7 @@ pub enum NamedExpression<'a> {
     Number(i64),
     Variable(Name<'a>),
     Negation(Box<NamedExpression<'a>>),
-    Operation(Operator, Box<NamedExpression<'a>>, Box<NamedExpression<'a>>),
+    Operation(Operator, Box<(NamedExpression<'a>, NamedExpression<'a>)>),
 }
 
 /// An item or a tag with names: its collection, and the expressions of its components.

@@ -51,17 +51,17 @@ multiplication_operator modulo = operator.Remainder
 abbrev mutual
   pub IsExpr : Expr → NamedExpression → Type 0
   IsExpr (sum_alone sum) expression = IsSum sum expression
-  IsExpr (compared left how right) (Operation' between _ one _ two) = (between ≡ comparison_operator how) × IsSum left one × IsSum right two
+  IsExpr (compared left how right) (Operation' between _ one two) = (between ≡ comparison_operator how) × IsSum left one × IsSum right two
   IsExpr (compared left how right) expression = ⊥
 
   pub IsSum : Sum → NamedExpression → Type 0
   IsSum (prod_alone prod) expression = IsProd prod expression
-  IsSum (added left how right) (Operation' between _ one _ two) = (between ≡ addition_operator how) × IsSum left one × IsProd right two
+  IsSum (added left how right) (Operation' between _ one two) = (between ≡ addition_operator how) × IsSum left one × IsProd right two
   IsSum (added left how right) expression = ⊥
 
   pub IsProd : Prod → NamedExpression → Type 0
   IsProd (unary_alone unary) expression = IsUnary unary expression
-  IsProd (multiplied left how right) (Operation' between _ one _ two) = (between ≡ multiplication_operator how) × IsProd left one × IsUnary right two
+  IsProd (multiplied left how right) (Operation' between _ one two) = (between ≡ multiplication_operator how) × IsProd left one × IsUnary right two
   IsProd (multiplied left how right) expression = ⊥
 
   pub IsUnary : Unary → NamedExpression → Type 0

@@ -84,9 +84,8 @@ impl<'a> Pending<'a> {
         if depth >= MOST_DEPTH || other >= MOST_DEPTH {
             return Ok(Operand::TooDeep);
         }
-        let one = Box::new(alloc, one)?;
-        let two = Box::new(alloc, two)?;
-        let tree = NamedExpression::Operation(operator, one, two);
+        let operands = Box::new(alloc, (one, two))?;
+        let tree = NamedExpression::Operation(operator, operands);
         let depth = depth.max(other) + 1;
         Ok(Operand::Kept { tree, depth })
     }

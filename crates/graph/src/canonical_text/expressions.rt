@@ -45,7 +45,8 @@ pub(crate) fn put_expression(
             put_expression(text, words, operand)?;
             put(text, &[")"])
         }
-        Expression::Operation(operator, left, right) => {
+        Expression::Operation(operator, operands) => {
+            let (left, right) = &**operands;
             put(text, &["("])?;
             put_expression(text, words, left)?;
             put(text, &[" ", sign(*operator), " "])?;

@@ -37,11 +37,6 @@ impl Trees {
         Ok(expression)
     }
 
-    fn operand(&mut self) -> Result<Box<Expression>, Fail> {
-        let value = self.value()?;
-        Ok(Box::new(self.alloc, value)?)
-    }
-
     fn block(&mut self) -> Result<Box<Block>, Fail> {
         let Some(block) = self.blocks.pop() else {
             return Err(Fail::new("a block is missing"));
@@ -67,10 +62,14 @@ impl Trees {
         Ok(match part {
             Part::Number(number) => Some(Expression::Number(number)),
             Part::Variable(place) => Some(Expression::Variable(slot(place)?)),
-            Part::Negation => Some(Expression::Negation(self.operand()?)),
+            Part::Negation => {
+                let operand = self.value()?;
+                Some(Expression::Negation(Box::new(self.alloc, operand)?))
+            }
             Part::Operation(operator) => {
-                let left = self.operand()?;
-                Some(Expression::Operation(operator, left, self.operand()?))
+                let operands = (self.value()?, self.value()?);
+                let operands = Box::new(self.alloc, operands)?;
+                Some(Expression::Operation(operator, operands))
             }
             _ => None,
         })

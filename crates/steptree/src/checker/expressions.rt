@@ -30,12 +30,12 @@ pub(crate) fn resolve_expression(
             let operand = resolve_expression(alloc, names, operand)?;
             Ok(Expression::Negation(Box::new(alloc, operand)?))
         }
-        NamedExpression::Operation(operator, left, right) => {
+        NamedExpression::Operation(operator, operands) => {
+            let (left, right) = &**operands;
             let left = resolve_expression(alloc, names, left)?;
             let right = resolve_expression(alloc, names, right)?;
-            let left = Box::new(alloc, left)?;
-            let right = Box::new(alloc, right)?;
-            Ok(Expression::Operation(*operator, left, right))
+            let operands = Box::new(alloc, (left, right))?;
+            Ok(Expression::Operation(*operator, operands))
         }
     }
 }

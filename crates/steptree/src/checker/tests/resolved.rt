@@ -13,7 +13,8 @@ fn write_expression(text: &mut String, expression: &Expression) -> Result<(), Fa
             write!(text, "-")?;
             write_expression(text, operand)?;
         }
-        Expression::Operation(operator, left, right) => {
+        Expression::Operation(operator, operands) => {
+            let (left, right) = &**operands;
             write!(text, "(")?;
             write_expression(text, left)?;
             write!(text, " {operator:?} ")?;

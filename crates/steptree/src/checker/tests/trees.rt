@@ -30,9 +30,8 @@ pub(crate) fn sum(
     left: NamedExpression<'static>,
     right: NamedExpression<'static>,
 ) -> Result<NamedExpression<'static>, AllocError> {
-    let left = Box::new(alloc, left)?;
-    let right = Box::new(alloc, right)?;
-    Ok(NamedExpression::Operation(Operator::Add, left, right))
+    let operands = Box::new(alloc, (left, right))?;
+    Ok(NamedExpression::Operation(Operator::Add, operands))
 }
 
 // A key whose components are variables.
