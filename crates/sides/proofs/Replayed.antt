@@ -68,10 +68,10 @@ module _ (both : AmongBoth) (facts_on : FactsGoOn) (given_on : EnvironmentGoesOn
         (leads_on bytes payload end (map event_bytes so_far.events) so_far.leads begins);
     fit = (parts g (image_facts old) so_far.events (next.event ∷ [])).1
         (so_far.fit, (as_set g (facts_in now) (among (image_facts old ++ facts so_far.events)) next.event so_far.facts next.fits, tt));
-    facts = λ fact. next.grown.facts fact ∙ both (image_facts now) (event_facts next.event) fact
+    facts = λ fact. next.grown.facts.same fact ∙ both (image_facts now) (event_facts next.event) fact
         ∙ set_grown both (image_facts old ++ facts so_far.events) (facts_in now) (event_facts next.event) so_far.facts fact
         ∙ ap (λ (list : List Fact). among list fact) (stated_on both facts_on given_on parts as_set (image_facts old) so_far.events next.event);
-    environment = λ fact. next.grown.environment fact ∙ both (image_environment now) (environment_facts next.event) fact
+    environment = λ fact. next.grown.environment.same fact ∙ both (image_environment now) (environment_facts next.event) fact
         ∙ set_grown both (image_environment old ++ environment so_far.events) (environment_in now) (environment_facts next.event) so_far.environment fact
         ∙ ap (λ (list : List Fact). among list fact) (put_on both facts_on given_on parts as_set (image_environment old) so_far.events next.event);
   }

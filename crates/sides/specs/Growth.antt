@@ -1,8 +1,9 @@
 -- How what is held grows by what is put.
 use Rattle.std.specs.Prelude.{◌≡◌, ⊤, List, ◌++◌}
+use Rattle.terms.specs.declared.event.Event.{Event}
 use Rattle.terms.specs.declared.put.Put.{Put}
 use Rattle.terms.specs.declared.put.Put.TheVariants as put
-use Rattle.terms.specs.Facts.{Fact}
+use Rattle.terms.specs.Facts.{Fact, event_facts, environment_facts}
 use Rattle.terms.specs.Sets.{Facts, among}
 use Rattle.codec.specs.declared.image.Image.{Image}
 use Rattle.graph.specs.Graph.{Graph}
@@ -17,6 +18,10 @@ pub record AlsoHas (stated old new : List Fact) : Type 0 where
 pub record Grows (given stated : List Fact) (old new : Image) : Type 0 where
   pub facts : AlsoHas stated (image_facts old) (image_facts new)
   pub environment : AlsoHas given (image_environment old) (image_environment new)
+
+-- by what an event states
+abbrev pub IsGrownBy : Event → Image → Image → Type 0
+IsGrownBy event = Grows (environment_facts event) (event_facts event)
 
 -- an item that is put is absent
 abbrev pub IsFree : Facts → Put → Type 0

@@ -6,8 +6,7 @@ use Rattle.terms.specs.declared.name.Inst.{Inst}
 use Rattle.terms.specs.declared.fault.FaultKind.{FaultKind}
 use Rattle.terms.specs.declared.producer.Producer.{Producer}
 use Rattle.terms.specs.declared.producer.Producer.TheVariants.{Env, By}
-use Rattle.terms.specs.declared.event.Event.{Event}
-use Rattle.terms.specs.Facts.{Fact, tag, item, done, bad, event_facts, environment_facts}
+use Rattle.terms.specs.Facts.{Fact, tag, item, done, bad}
 use Rattle.terms.specs.Name.{inst_cmp}
 use Rattle.terms.specs.Sets.{Facts, among}
 use Rattle.codec.specs.declared.image.Image.{Image}
@@ -53,11 +52,6 @@ environment_in image = among (image_environment image)
 -- the set with these facts too
 abbrev pub with_facts : Facts → List Fact → Facts
 with_facts X more fact = X fact || among more fact
-
--- the new image has what the old one has and what the event states, and nothing else
-pub record IsGrownBy (event : Event) (old new : Image) : Type 0 where
-  pub facts : (fact : Fact) → facts_in new fact ≡ among (image_facts old ++ event_facts event) fact
-  pub environment : (fact : Fact) → environment_in new fact ≡ among (image_environment old ++ environment_facts event) fact
 
 -- the image's lists rise, and the numbers of its puts are such as a put may have
 pub record IsListed (image : Image) : Type 0 where

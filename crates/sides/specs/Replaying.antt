@@ -11,7 +11,8 @@ use Rattle.graph.specs.Graph.{Graph}
 use Rattle.graph.specs.Fits.{Fits, AllFit}
 use Rattle.sides.specs.declared.replay.Replay.{Replay}
 use Rattle.sides.specs.declared.replay.Replay.TheVariants.{Ended, Broken}
-use Rattle.sides.specs.Image.{image_facts, image_environment, facts_in, environment_in, IsGrownBy}
+use Rattle.sides.specs.Image.{image_facts, image_environment, facts_in, environment_in}
+use Rattle.sides.specs.Growth.{IsGrownBy}
 use Rattle.sides.specs.Reading.{AreEvents, IsReplayed}
 
 -- a payload spells an event that fits behind what the old image has, and the new one has what it states too
