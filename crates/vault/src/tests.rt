@@ -1,5 +1,5 @@
 use crate::{Refused, Vault, VaultError, create};
-use disk::{Disk, MemDisk, Side};
+use disk::{Disk, DiskError, MemDisk, Side};
 use graph::{canonical, parse};
 use std::alloc::Global;
 use std::process::Abort;
@@ -71,12 +71,41 @@ fn first_item() -> Event
     Event::EnvItem(address, 0)
 }
 
+// A disk both files of which have these bytes.
+fn disk_with(alloc: Global, a: &[u8], b: &[u8]) -> Result<MemDisk, Fail> {
+    let mut disk = MemDisk::new(alloc);
+    write_both(&mut disk, a, b)?;
+    Ok(disk)
+}
+
+fn write_both(disk: &mut MemDisk, a: &[u8], b: &[u8]) -> Result<(), DiskError> {
+    disk.write_at(Side::A, 0, a)?;
+    disk.write_at(Side::B, 0, b)?;
+    disk.sync(Side::A)?;
+    disk.sync(Side::B)
+}
+
 // All bytes of a file.
 fn bytes_of(alloc: Global, disk: &mut MemDisk, side: Side) -> Result<Vec<u8>, Fail> {
-    let mut bytes = Vec::new(alloc);
-    bytes.resize(disk.len(side)? as usize, 0)?;
+    let count = disk.len(side)?;
+    let mut bytes = vec![in alloc; 0; count as usize]?;
     disk.read(side, 0, &mut bytes)?;
     Ok(bytes)
+}
+
+// All bytes of file A, and of file B.
+fn files_of(alloc: Global, disk: &mut MemDisk) -> Result<(Vec<u8>, Vec<u8>), Fail> {
+    let a = bytes_of(alloc, disk, Side::A)?;
+    let b = bytes_of(alloc, disk, Side::B)?;
+    Ok((a, b))
+}
+
+// Puts bytes behind their number in four.
+fn put_counted(out: &mut Vec<u8>, bytes: &[u8]) -> Result<(), Fail> {
+    let count = u32::try_from(bytes.len())?;
+    out.extend_from_slice(&count.to_le_bytes())?;
+    out.extend_from_slice(bytes)?;
+    Ok(())
 }
 
 // The bytes of file A in a new store, with these instead of the closed gate at its end.

@@ -4,10 +4,11 @@ ghost use Rattle.codec.specs.Spelling.{HasFewPuts};
 ghost use Rattle.vault.specs.Store.{IsReady};
 
 use super::turning::old_side;
-use super::{bytes_of, first_item, is_closed, new_store, side_with};
+use super::{bytes_of, files_of, first_item, is_closed, new_store, side_with};
 use crate::{Vault, VaultError};
 use disk::{Disk, DiskError, MemDisk, Side};
 use std::alloc::{AllocError, Global};
+use std::process::Abort;
 use std::test::Fail;
 use terms::{
     Addr, Event, Inst, ItemCollection, Key, Put, Puts, StepCollection, Tag, TagCollection,
@@ -18,43 +19,58 @@ const RECORD: [u8; 26] = [
     1, 20, 0, 0, 0, 1, 0, 0, 1, 0, 0, 0, 0, 0, 0, 0, 0, 0, 0, 0, 0, 0, 0, 0, 0, 0,
 ];
 
+// What a new store answers to the first item, and its disk, which fails at the call with this number, or never, where it is 0.
+pub(super) fn appended<R: Abort + AllocGlobal>(
+    rt: &R,
+    failing: u64,
+) -> Result<(Result<(), VaultError>, MemDisk), Fail> {
+    let mut vault = new_store(rt, failing)?;
+    let answer = vault.append(&first_item());
+    Ok((answer, vault.disk))
+}
+
 #[test]
 fn an_event_is_a_record_of_the_journal(rt: HostRuntime) -> Result<(), Fail> {
-    let mut vault = new_store(&rt, 0)?;
-    assert_eq!(rt; vault.append(&first_item()), Ok(()));
-    let a = bytes_of(rt.alloc(), &mut vault.disk, Side::A)?;
+    let (answer, mut disk) = appended(&rt, 0)?;
+    let (a, b) = files_of(rt.alloc(), &mut disk)?;
+    assert_eq!(rt; answer, Ok(()));
     assert_eq!(rt; a.len(), 300);
     assert_eq!(rt; (a[274], a[299]), (1, 0));
     assert!(rt; a == side_with(rt.alloc(), &RECORD)?);
-    let b = bytes_of(rt.alloc(), &mut vault.disk, Side::B)?;
     assert!(rt; is_closed(&b));
     Ok(())
 }
 
+// What a vault answers to an append, whose disk fails at this call, and, now that it is halted, to another; and what the disk
+// answers to the next call, at which it fails again.
+type Halting = (
+    Result<(), VaultError>,
+    Result<(), VaultError>,
+    Result<u64, DiskError>,
+);
+
+fn halting<R: Abort + AllocGlobal>(rt: &R, call: u64) -> Result<Halting, Fail> {
+    let mut vault = new_store(rt, call)?;
+    let first = vault.append(&first_item());
+    if !vault.halted {
+        return Err(Fail::new("the vault goes on"));
+    }
+    vault.disk.fail_call(1);
+    let again = vault.append(&first_item());
+    Ok((first, again, vault.disk.len(Side::A)))
+}
+
+// Once it has halted a vault makes no call of the disk.
 #[test]
 fn a_vault_halts_when_the_device_fails(rt: HostRuntime) -> Result<(), Fail> {
     // Creation makes eight calls. An append makes two writes, each with its sync.
     for call in 9..=12u64 {
-        let mut vault = new_store(&rt, call)?;
-        assert_eq!(rt;
-            vault.append(&first_item()),
+        let expected = (
             Err(VaultError::Device),
-            "at call {call}"
-        );
-        assert!(rt; vault.halted, "at call {call}");
-
-        // The next call of the disk would fail, and none is made.
-        vault.disk.fail_call(1);
-        assert_eq!(rt;
-            vault.append(&first_item()),
             Err(VaultError::Halted),
-            "at call {call}"
-        );
-        assert_eq!(rt;
-            vault.disk.len(Side::A),
             Err(DiskError::Device),
-            "at call {call}"
         );
+        assert_eq!(rt; halting(&rt, call)?, expected, "at call {call}");
     }
     Ok(())
 }
@@ -102,11 +118,18 @@ fn added(alloc: Global, key: i64, value: i64) -> Result<Event, AllocError>
     Ok(Event::Done(instance, Puts::new(puts)))
 }
 
+// What a new store answers to ten events, and its disk.
+fn ten_appended<R: Abort + AllocGlobal>(rt: &R) -> Result<(Result<(), VaultError>, MemDisk), Fail> {
+    let mut vault = new_store(rt, 0)?;
+    let answer = fill(rt.alloc(), &mut vault);
+    Ok((answer, vault.disk))
+}
+
 #[test]
 fn ten_events_are_appended(rt: HostRuntime) -> Result<(), Fail> {
-    let mut vault = new_store(&rt, 0)?;
-    assert_eq!(rt; fill(rt.alloc(), &mut vault), Ok(()));
-    let a = bytes_of(rt.alloc(), &mut vault.disk, Side::A)?;
+    let (answer, mut disk) = ten_appended(&rt)?;
+    let a = bytes_of(rt.alloc(), &mut disk, Side::A)?;
+    assert_eq!(rt; answer, Ok(()));
     assert_eq!(rt; a.len(), 557);
     assert!(rt; a == old_side(rt.alloc(), 1)?);
     Ok(())

@@ -1,5 +1,6 @@
-use super::{TEXT, first_item, new_store, side_with};
-use crate::{Vault, VaultError, open};
+use super::appending::appended;
+use super::{TEXT, new_store, side_with};
+use crate::{VaultError, open};
 use disk::{Fill, MemDisk};
 use std::alloc::Global;
 use std::process::Abort;
@@ -56,15 +57,18 @@ fn crashed<R: Abort + AllocGlobal>(
     } else {
         0
     };
-    let mut vault = new_store(rt, failing)?;
-    if number > 0 && vault.append(&first_item()).is_ok() == fails {
-        return Err(VaultError::Halted.into());
-    }
-    let Vault { mut disk, .. } = vault;
     let fill = Fill {
         a: left.to_vec(rt.alloc())?,
         b: vec![in rt.alloc(); 0]?,
     };
+    let (answer, mut disk) = if number == 0 {
+        (Ok(()), new_store(rt, 0)?.disk)
+    } else {
+        appended(rt, failing)?
+    };
+    if answer.is_ok() == fails {
+        return Err(VaultError::Halted.into());
+    }
     Ok(disk.crash(fill).ok().map(|()| disk))
 }
 
@@ -79,6 +83,25 @@ fn opened(alloc: Global, disk: MemDisk) -> Result<(usize, MemDisk), Fail> {
     }
 }
 
+// How many items the store on a disk has, opened once and again.
+fn opened_twice(alloc: Global, disk: MemDisk) -> Result<(usize, usize), Fail> {
+    let (first, disk) = opened(alloc, disk)?;
+    let (second, _) = opened(alloc, disk)?;
+    Ok((first, second))
+}
+
+// How many items the store has, opened once and again, after this call of an append and then a crash that leaves these bytes.
+fn recovered<R: Abort + AllocGlobal>(
+    rt: &R,
+    number: u64,
+    left: &[u8],
+) -> Result<Option<(usize, usize)>, Fail> {
+    match crashed(rt, number, left)? {
+        Some(disk) => Ok(Some(opened_twice(rt.alloc(), disk)?)),
+        None => Ok(None),
+    }
+}
+
 // Behind a creation, and at each call of an append, each filling that a crash there may leave: the store opens twice, with the
 // same items.
 #[test]
@@ -88,12 +111,10 @@ fn a_crash_leaves_the_event_or_not(rt: HostRuntime) -> Result<(), Fail> {
     for (number, may_be_left) in MAY_BE_LEFT {
         let mut crashes = 0u16;
         for (left, items) in fillings.iter() {
-            let Some(disk) = crashed(&rt, number, left)? else {
+            let Some(found) = recovered(&rt, number, left)? else {
                 continue;
             };
-            let (first, disk) = opened(rt.alloc(), disk)?;
-            let (second, _) = opened(rt.alloc(), disk)?;
-            assert_eq!(rt; (first, second), (*items, *items), "at call {number}");
+            assert_eq!(rt; found, (*items, *items), "at call {number}");
             crashes = crashes.saturating_add(1);
         }
         assert_eq!(rt; crashes, may_be_left, "at call {number}");

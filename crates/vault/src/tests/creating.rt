@@ -1,29 +1,38 @@
-use super::{bytes_of, is_closed, new_store, side_with, store_on};
-use crate::VaultError;
+use super::{files_of, is_closed, new_store, side_with, store_on};
+use crate::{Refused, VaultError};
 use disk::{Disk, MemDisk, Side};
+use std::process::Abort;
 use std::test::Fail;
+
+// File A and file B.
+type Files = (Vec<u8>, Vec<u8>);
+
+// The files of a new store; and those of one that was to be made again, and what was answered.
+fn made_again<R: Abort + AllocGlobal>(rt: &R) -> Result<(Files, Option<VaultError>, Files), Fail> {
+    let mut disk = new_store(rt, 0)?.disk;
+    let made = files_of(rt.alloc(), &mut disk)?;
+    let (error, mut disk) = match store_on(rt, disk)? {
+        Ok(vault) => (None, vault.disk),
+        Err(refused) => {
+            let Refused { disk, error } = refused;
+            (Some(error), disk)
+        }
+    };
+    Ok((made, error, files_of(rt.alloc(), &mut disk)?))
+}
 
 #[test]
 fn a_new_store_has_these_bytes(rt: HostRuntime) -> Result<(), Fail> {
-    let mut vault = new_store(&rt, 0)?;
-    let a = bytes_of(rt.alloc(), &mut vault.disk, Side::A)?;
+    let (made, error, again) = made_again(&rt)?;
+    let (a, b) = made;
     assert_eq!(rt; a.len(), 275);
     assert!(rt; a == side_with(rt.alloc(), &[0])?);
-    let b = bytes_of(rt.alloc(), &mut vault.disk, Side::B)?;
     assert!(rt; is_closed(&b));
 
     // Made again it is refused, and as it was.
-    match store_on(&rt, vault.disk)? {
-        Ok(_) => panic!(rt; "made twice"),
-        Err(mut refused) => {
-            assert_eq!(rt; refused.error, VaultError::Exists);
-            let a = bytes_of(rt.alloc(), &mut refused.disk, Side::A)?;
-            assert!(rt; a == side_with(rt.alloc(), &[0])?);
-            let b = bytes_of(rt.alloc(), &mut refused.disk, Side::B)?;
-            assert!(rt; is_closed(&b));
-            Ok(())
-        }
-    }
+    assert_eq!(rt; error, Some(VaultError::Exists));
+    assert!(rt; again.0 == a && again.1 == b);
+    Ok(())
 }
 
 #[test]

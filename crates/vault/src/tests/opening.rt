@@ -1,5 +1,6 @@
+use super::{bytes_of, disk_with, files_of, put_counted};
 use crate::{Recovered, Refused, Vault, VaultError, open};
-use disk::{Disk, MemDisk, Side};
+use disk::{MemDisk, Side};
 use std::alloc::Global;
 use std::process::Abort;
 use std::test::Fail;
@@ -17,32 +18,6 @@ const EVENT: [u8; 20] = [1, 0, 0, 1, 3, 0, 0, 0, 0, 0, 0, 0, 5, 0, 0, 0, 0, 0, 0
 const TEXT_AT: usize = 14;
 
 const JOURNAL_AT: usize = TEXT_AT + TEXT.len() + 4 + EMPTY.len();
-
-// A disk both files of which have these bytes.
-fn disk_with(alloc: Global, a: &[u8], b: &[u8]) -> Result<MemDisk, Fail> {
-    let mut disk = MemDisk::new(alloc);
-    disk.write_at(Side::A, 0, a)?;
-    disk.write_at(Side::B, 0, b)?;
-    disk.sync(Side::A)?;
-    disk.sync(Side::B)?;
-    Ok(disk)
-}
-
-// All that a file has.
-fn content(alloc: Global, disk: &mut MemDisk, side: Side) -> Result<Vec<u8>, Fail> {
-    let count = disk.len(side)?;
-    let mut bytes = vec![in alloc; 0; count as usize]?;
-    disk.read(side, 0, &mut bytes)?;
-    Ok(bytes)
-}
-
-// Puts bytes behind their number in four.
-fn put_counted(out: &mut Vec<u8>, bytes: &[u8]) -> Result<(), Fail> {
-    let count = u32::try_from(bytes.len())?;
-    out.extend_from_slice(&count.to_le_bytes())?;
-    out.extend_from_slice(bytes)?;
-    Ok(())
-}
 
 // An open side of this generation, which has nothing in its image, and this journal.
 fn side_with(alloc: Global, generation: u64, journal: &[u8]) -> Result<Vec<u8>, Fail> {
@@ -77,6 +52,19 @@ fn told(answer: Result<Recovered<MemDisk>, Refused<MemDisk>>) -> (MemDisk, Optio
     }
 }
 
+// What opening files with these bytes answers, and their bytes behind it. The disk fails at this call, or never, where it is 0.
+fn refused(
+    alloc: Global,
+    a: &[u8],
+    b: &[u8],
+    failing: u64,
+) -> Result<(Option<VaultError>, (Vec<u8>, Vec<u8>)), Fail> {
+    let mut disk = disk_with(alloc, a, b)?;
+    disk.fail_call(failing);
+    let (mut disk, error) = told(open(alloc, disk));
+    Ok((error, files_of(alloc, &mut disk)?))
+}
+
 // Opening files with these bytes answers this error, and changes no byte.
 fn expect_refusal<R: Abort + AllocGlobal>(
     rt: &R,
@@ -84,11 +72,8 @@ fn expect_refusal<R: Abort + AllocGlobal>(
     b: &[u8],
     wanted: VaultError,
 ) -> Result<(), Fail> {
-    let disk = disk_with(rt.alloc(), a, b)?;
-    let (mut disk, error) = told(open(rt.alloc(), disk));
+    let (error, (a_then, b_then)) = refused(rt.alloc(), a, b, 0)?;
     assert_eq!(rt; error, Some(wanted), "in {a:?} and {b:?}");
-    let a_then = content(rt.alloc(), &mut disk, Side::A)?;
-    let b_then = content(rt.alloc(), &mut disk, Side::B)?;
     assert!(rt;
         a_then.as_slice() == a && b_then.as_slice() == b,
         "in {a:?} and {b:?}"
@@ -145,11 +130,8 @@ fn heads_tell_what_is_damaged(rt: HostRuntime) -> Result<(), Fail> {
 fn a_call_of_the_disk_fails(rt: HostRuntime) -> Result<(), Fail> {
     let a = side_with(rt.alloc(), 1, &[0])?;
     for call in 1..=8u64 {
-        let mut disk = disk_with(rt.alloc(), &a, &[0])?;
-        disk.fail_call(call);
-        let (mut disk, error) = told(open(rt.alloc(), disk));
+        let (error, (a_then, _)) = refused(rt.alloc(), &a, &[0], call)?;
         assert_eq!(rt; error, Some(VaultError::Device), "at call {call}");
-        let a_then = content(rt.alloc(), &mut disk, Side::A)?;
         assert_eq!(rt; a_then.as_slice(), a.as_slice(), "at call {call}");
     }
     Ok(())
@@ -180,6 +162,46 @@ fn of_two_faults_the_earlier_is_told(rt: HostRuntime) -> Result<(), Fail> {
     Ok(())
 }
 
+// What an opened store tells: its live side, generation and text, the end of its journal, and how many items it has.
+#[derive(Clone, Copy, Debug, PartialEq, Eq)]
+struct OpenedStore {
+    side: Side,
+    generation: u64,
+    end: u64,
+    halted: bool,
+    items: usize,
+}
+
+// What the store on these bytes tells, its text, and the bytes of file A behind the opening; or nothing, where there is none.
+fn tells(
+    alloc: Global,
+    a: &[u8],
+    b: &[u8],
+) -> Result<Option<(OpenedStore, Vec<u8>, Vec<u8>)>, Fail> {
+    let disk = disk_with(alloc, a, b)?;
+    let Ok(recovered) = open(alloc, disk) else {
+        return Ok(None);
+    };
+    let Recovered { vault, image, .. } = recovered;
+    let Vault {
+        mut disk,
+        journal,
+        generation,
+        text,
+        halted,
+        ..
+    } = vault;
+    let told = OpenedStore {
+        side: journal.side,
+        generation,
+        end: journal.end,
+        halted,
+        items: image.items.as_slice().len(),
+    };
+    let then = bytes_of(alloc, &mut disk, Side::A)?;
+    Ok(Some((told, text, then)))
+}
+
 // Of two open sides the greater generation is live, and a side beside a closed one.
 #[test]
 fn live_side_is_read(rt: HostRuntime) -> Result<(), Fail> {
@@ -197,18 +219,18 @@ fn live_side_is_read(rt: HostRuntime) -> Result<(), Fail> {
         (&empty, &behind, Side::A, 7, 0, end),
     ];
     for (a, b, side, generation, items, end) in rows {
-        let disk = disk_with(rt.alloc(), a, b)?;
-        let Ok(recovered) = open(rt.alloc(), disk) else {
-            assert!(rt; false, "generation {generation} on {side:?}");
-            return Ok(());
+        let Some((told, text, _)) = tells(rt.alloc(), a, b)? else {
+            panic!(rt; "generation {generation} on {side:?}");
         };
-        let vault = &recovered.vault;
-        assert_eq!(rt; vault.journal.side, side);
-        assert_eq!(rt; vault.generation, generation);
-        assert_eq!(rt; vault.text.as_slice(), TEXT.as_bytes());
-        assert_eq!(rt; vault.journal.end, end);
-        assert!(rt; !vault.halted);
-        assert_eq!(rt; recovered.image.items.as_slice().len(), items);
+        let expected = OpenedStore {
+            side,
+            generation,
+            end,
+            halted: false,
+            items,
+        };
+        assert_eq!(rt; told, expected);
+        assert_eq!(rt; text.as_slice(), TEXT.as_bytes());
     }
     expect_refusal(&rt, &ahead, &put, VaultError::Damaged(Side::A, 10))
 }
@@ -220,16 +242,10 @@ fn forged_tail_stays(rt: HostRuntime) -> Result<(), Fail> {
     let mut live = side_with(rt.alloc(), 3, &[0])?;
     put_counted(&mut live, &EVENT)?;
     live.extend_from_slice(&record(rt.alloc())?)?;
-    let disk = disk_with(rt.alloc(), &live, &[0])?;
-    let Ok(recovered) = open(rt.alloc(), disk) else {
-        assert!(rt; false);
-        return Ok(());
+    let Some((told, _, then)) = tells(rt.alloc(), &live, &[0])? else {
+        panic!(rt; "no store");
     };
-    assert!(rt; recovered.image.items.as_slice().is_empty());
-    let Recovered { vault, .. } = recovered;
-    assert_eq!(rt; vault.journal.end, JOURNAL_AT as u64);
-    let Vault { mut disk, .. } = vault;
-    let then = content(rt.alloc(), &mut disk, Side::A)?;
+    assert_eq!(rt; (told.items, told.end), (0, JOURNAL_AT as u64));
     assert_eq!(rt; then.as_slice(), live.as_slice());
     Ok(())
 }

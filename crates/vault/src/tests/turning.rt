@@ -3,7 +3,7 @@ ghost use Rattle.disk.specs.MemDisk.{files_of};
 ghost use Rattle.sides.specs.Image.{IsListed};
 ghost use Rattle.vault.specs.Store.{IsReady};
 
-use super::TEXT;
+use super::{TEXT, disk_with, files_of, put_counted};
 use crate::{Vault, VaultError, open};
 use codec::{Image, encode_image};
 use disk::{Disk, DiskError, Fill, MemDisk, Side};
@@ -44,14 +44,6 @@ fn put_name(out: &mut Vec<u8>, key: u64) -> Result<(), Fail> {
 fn put_item(out: &mut Vec<u8>, key: u64, value: u64) -> Result<(), Fail> {
     put_name(out, key)?;
     out.extend_from_slice(&value.to_le_bytes())?;
-    Ok(())
-}
-
-// Bytes behind their number in four.
-fn put_counted(out: &mut Vec<u8>, bytes: &[u8]) -> Result<(), Fail> {
-    let count = u32::try_from(bytes.len())?;
-    out.extend_from_slice(&count.to_le_bytes())?;
-    out.extend_from_slice(bytes)?;
     Ok(())
 }
 
@@ -148,24 +140,6 @@ fn new_side(alloc: Global, generation: u64) -> Result<Vec<u8>, Fail> {
     side(alloc, generation, &image(alloc)?, &[0])
 }
 
-// A disk both files of which have these bytes.
-fn disk_with(alloc: Global, a: &[u8], b: &[u8]) -> Result<MemDisk, Fail> {
-    let mut disk = MemDisk::new(alloc);
-    disk.write_at(Side::A, 0, a)?;
-    disk.write_at(Side::B, 0, b)?;
-    disk.sync(Side::A)?;
-    disk.sync(Side::B)?;
-    Ok(disk)
-}
-
-// All that a file has.
-fn content(alloc: Global, disk: &mut MemDisk, side: Side) -> Result<Vec<u8>, Fail> {
-    let count = disk.len(side)?;
-    let mut bytes = vec![in alloc; 0; count as usize]?;
-    disk.read(side, 0, &mut bytes)?;
-    Ok(bytes)
-}
-
 // The vault on a disk, and the image of what it holds.
 fn opened(alloc: Global, disk: MemDisk) -> Result<(Vault<MemDisk>, Image), Fail>
     ensures ready { IfOk result (λ r. IsReady files_of r.0) }
@@ -177,16 +151,49 @@ fn opened(alloc: Global, disk: MemDisk) -> Result<(Vault<MemDisk>, Image), Fail>
     }
 }
 
+// What a vault tells behind a turnover: its answer, its live side, where its journal ends, and whether it is halted.
+#[derive(Clone, Copy, Debug, PartialEq, Eq)]
+struct TurnedStore {
+    answer: Result<u64, VaultError>,
+    side: Side,
+    end: u64,
+    halted: bool,
+}
+
+// What the store on a disk tells behind a turnover, and the disk.
+fn turned(alloc: Global, disk: MemDisk) -> Result<(TurnedStore, MemDisk), Fail> {
+    let (mut vault, image) = opened(alloc, disk)?;
+    let told = TurnedStore {
+        answer: vault.turn(&image),
+        side: vault.journal.side,
+        end: vault.journal.end,
+        halted: vault.halted,
+    };
+    Ok((told, vault.disk))
+}
+
+// What the store on a disk answers to two turnovers, and its live side behind them, and the disk.
+fn turned_twice(alloc: Global, disk: MemDisk) -> Result<((u64, u64), Side, MemDisk), Fail> {
+    let (mut vault, image) = opened(alloc, disk)?;
+    let first = vault.turn(&image)?;
+    let second = vault.turn(&image)?;
+    Ok(((first, second), vault.journal.side, vault.disk))
+}
+
 #[test]
 fn a_turnover_writes_the_other_side(rt: HostRuntime) -> Result<(), Fail> {
     let old = old_side(rt.alloc(), 1)?;
     assert_eq!(rt; old.len(), 557);
-    let (mut vault, image) = opened(rt.alloc(), disk_with(rt.alloc(), &old, &[0])?)?;
-    assert_eq!(rt; vault.turn(&image), Ok(2));
-    assert_eq!(rt; (vault.journal.side, vault.journal.end), (Side::B, 546));
-    let a = content(rt.alloc(), &mut vault.disk, Side::A)?;
+    let (told, mut disk) = turned(rt.alloc(), disk_with(rt.alloc(), &old, &[0])?)?;
+    let (a, b) = files_of(rt.alloc(), &mut disk)?;
+    let expected = TurnedStore {
+        answer: Ok(2),
+        side: Side::B,
+        end: 546,
+        halted: false,
+    };
+    assert_eq!(rt; told, expected);
     assert!(rt; a == old);
-    let b = content(rt.alloc(), &mut vault.disk, Side::B)?;
     assert_eq!(rt; b.len(), 547);
     assert_eq!(rt;
         &b[..14],
@@ -199,14 +206,11 @@ fn a_turnover_writes_the_other_side(rt: HostRuntime) -> Result<(), Fail> {
 #[test]
 fn a_second_turnover_writes_the_first_side(rt: HostRuntime) -> Result<(), Fail> {
     let old = old_side(rt.alloc(), 1)?;
-    let (mut vault, image) = opened(rt.alloc(), disk_with(rt.alloc(), &old, &[0])?)?;
-    let first = vault.turn(&image)?;
-    let second = vault.turn(&image)?;
-    assert_eq!(rt; (first, second), (2, 3));
-    assert_eq!(rt; vault.journal.side, Side::A);
-    let a = content(rt.alloc(), &mut vault.disk, Side::A)?;
+    let disk = disk_with(rt.alloc(), &old, &[0])?;
+    let (answers, side, mut disk) = turned_twice(rt.alloc(), disk)?;
+    let (a, b) = files_of(rt.alloc(), &mut disk)?;
+    assert_eq!(rt; (answers, side), ((2, 3), Side::A));
     assert!(rt; a == new_side(rt.alloc(), 3)?);
-    let b = content(rt.alloc(), &mut vault.disk, Side::B)?;
     assert!(rt; b == new_side(rt.alloc(), 2)?);
     Ok(())
 }
@@ -217,10 +221,10 @@ fn the_greatest_generation_is_the_last(rt: HostRuntime) -> Result<(), Fail> {
     let last = new_side(rt.alloc(), u64::MAX)?;
     let mut disk = disk_with(rt.alloc(), &[0], &last)?;
     disk.fail_call(OPENING + 1);
-    let (mut vault, image) = opened(rt.alloc(), disk)?;
-    assert_eq!(rt; vault.turn(&image), Err(VaultError::Full));
-    assert!(rt; !vault.halted);
-    assert_eq!(rt; vault.disk.len(Side::A), Err(DiskError::Device));
+    let (told, mut disk) = turned(rt.alloc(), disk)?;
+    let called = disk.len(Side::A);
+    assert_eq!(rt; (told.answer, told.halted), (Err(VaultError::Full), false));
+    assert_eq!(rt; called, Err(DiskError::Device));
     Ok(())
 }
 
@@ -236,21 +240,35 @@ fn failing_store(alloc: Global, number: u64) -> Result<(Vault<MemDisk>, Image), 
     opened(alloc, disk)
 }
 
+// What a vault answers to a turnover, whose disk fails at this call, and, now that it is halted, to another; and what the disk
+// answers to the next call, at which it fails again.
+type Halting = (
+    Result<u64, VaultError>,
+    Result<u64, VaultError>,
+    Result<u64, DiskError>,
+);
+
+fn halting(alloc: Global, number: u64) -> Result<Halting, Fail> {
+    let (mut vault, image) = failing_store(alloc, number)?;
+    let first = vault.turn(&image);
+    if !vault.halted {
+        return Err(Fail::new("the vault goes on"));
+    }
+    vault.disk.fail_call(1);
+    let again = vault.turn(&image);
+    Ok((first, again, vault.disk.len(Side::A)))
+}
+
 // After an error of the device no call of the disk is made.
 #[test]
 fn a_vault_halts_when_the_device_fails(rt: HostRuntime) -> Result<(), Fail> {
     for number in 1..=TURNOVER {
-        let (mut vault, image) = failing_store(rt.alloc(), number)?;
-        let first = vault.turn(&image);
-        assert_eq!(rt; first, Err(VaultError::Device), "at call {number}");
-        vault.disk.fail_call(1);
-        let again = vault.turn(&image);
-        let called = vault.disk.len(Side::A);
-        assert_eq!(rt;
-            (again, called),
-            (Err(VaultError::Halted), Err(DiskError::Device)),
-            "at call {number}"
+        let expected = (
+            Err(VaultError::Device),
+            Err(VaultError::Halted),
+            Err(DiskError::Device),
         );
+        assert_eq!(rt; halting(rt.alloc(), number)?, expected, "at call {number}");
     }
     Ok(())
 }
@@ -286,18 +304,22 @@ fn fillings(alloc: Global) -> Result<Vec<Vec<u8>>, Fail> {
     Ok(fillings)
 }
 
+// What a store answers to a turnover up to this call, and its disk.
+fn turned_up_to(alloc: Global, number: u64) -> Result<(Result<u64, VaultError>, MemDisk), Fail> {
+    let (mut vault, image) = failing_store(alloc, number)?;
+    Ok((vault.turn(&image), vault.disk))
+}
+
 // The disk of a store that was turned over up to this call, and then a crash, or `None` where no crash may leave these bytes.
 fn crashed(alloc: Global, number: u64, left: &[u8]) -> Result<Option<MemDisk>, Fail> {
-    let (mut vault, image) = failing_store(alloc, number)?;
-    let answer = vault.turn(&image);
-    if answer.is_ok() != (number > TURNOVER) {
-        return Err(VaultError::Halted.into());
-    }
-    let mut disk = vault.disk;
     let fill = Fill {
         a: left.to_vec(alloc)?,
         b: new_side(alloc, 2)?,
     };
+    let (answer, mut disk) = turned_up_to(alloc, number)?;
+    if answer.is_ok() != (number > TURNOVER) {
+        return Err(VaultError::Halted.into());
+    }
     Ok(disk.crash(fill).ok().map(|()| disk))
 }
 
@@ -321,6 +343,17 @@ fn opens(alloc: Global, disk: MemDisk) -> Result<(u64, Vec<u8>, MemDisk), Fail> 
     Ok((vault.generation, found, vault.disk))
 }
 
+// The generation of the store and the spelling of its image, opened once and again, after this call of a turnover and then a
+// crash that leaves these bytes.
+fn recovered(alloc: Global, number: u64, left: &[u8]) -> Result<Option<[(u64, Vec<u8>); 2]>, Fail> {
+    let Some(disk) = crashed(alloc, number, left)? else {
+        return Ok(None);
+    };
+    let (first, found, disk) = opens(alloc, disk)?;
+    let (second, again, _) = opens(alloc, disk)?;
+    Ok(Some([(first, found), (second, again)]))
+}
+
 // At each call of the disk, each filling that a crash there may leave: the store opens twice, with the same facts.
 #[test]
 fn a_crash_at_each_call_leaves_the_same_facts(rt: HostRuntime) -> Result<(), Fail> {
@@ -330,18 +363,16 @@ fn a_crash_at_each_call_leaves_the_same_facts(rt: HostRuntime) -> Result<(), Fai
     for (number, may_be_left) in MAY_BE_LEFT {
         let mut crashes = 0u16;
         for left in fillings.iter() {
-            let Some(disk) = crashed(rt.alloc(), number, left)? else {
+            let Some(found) = recovered(rt.alloc(), number, left)? else {
                 continue;
             };
             let generation = if *left == new { 3 } else { 2 };
-            let (first, found, disk) = opens(rt.alloc(), disk)?;
-            let (second, again, _) = opens(rt.alloc(), disk)?;
-            assert_eq!(rt;
-                (first, second),
-                (generation, generation),
-                "at call {number}"
-            );
-            assert!(rt; found == expected && again == expected, "at call {number}");
+            for (told, image) in found.iter() {
+                assert!(rt;
+                    *told == generation && *image == expected,
+                    "at call {number}"
+                );
+            }
             crashes = crashes.saturating_add(1);
         }
         assert_eq!(rt; crashes, may_be_left, "at call {number}");
