@@ -151,6 +151,10 @@ pub record SameGraph (g h : Graph) : Type 0 where
 abbrev pub OneGraph : Type 0
 OneGraph = (text : List ℕ) (t u : Tree) (g h : Graph) → IsRead text t → IsRead text u → IsGraphOf t g → IsGraphOf u h → SameGraph g h
 
+-- so a text reads as one graph at most
+abbrev pub OneReading : Type 0
+OneReading = (text : List ℕ) (g h : Graph) → Reads text g → Reads text h → SameGraph g h
+
 -- and that has one canonical text
 abbrev pub OneCanonical : Type 0
 OneCanonical = (g h : Graph) → SameGraph g h → canonical g ≡ canonical h

@@ -1,9 +1,12 @@
-ghost use Rattle.std.specs.Prelude.{◌≡◌, ◌≤◌, ◌++◌, [], IfOk, IfSome, OnOk, length, slice_get};
+ghost use Rattle.std.specs.Prelude.{◌≡◌, ◌≤◌, ◌++◌, ℕ, List, [], IfOk, IfSome, OnOk, length, slice_get};
 ghost use Rattle.std.specs.List.{flat_map};
 ghost use Rattle.std.specs.Option.{option_map};
 ghost use Rattle.graph.specs.Canonical.{canonical, declaration_lines, in_angles, in_brackets, step_relations, step_text};
 ghost use Rattle.graph.specs.Inside.{step_seen};
+ghost use Rattle.graph.specs.Graph.{Graph};
 ghost use Rattle.graph.specs.Pieces.{where_there};
+ghost use Rattle.graph.specs.Reads.{Reads};
+ghost use Rattle.graph.specs.Textual.{SameGraph};
 
 mod blocks;
 mod declarations;
@@ -15,6 +18,7 @@ mod ties;
 mod words;
 
 use crate::graph::{Graph, Prescribed};
+use crate::{canonical_reads, one_reading, reads_textual};
 use declarations::put_declarations;
 use std::alloc::{AllocError, Global};
 use steps::put_step;
@@ -83,12 +87,10 @@ fn put_steps(text: &mut Vec<u8>, graph: &Graph) -> Result<(), AllocError>
     Ok(())
 }
 
-/// The canonical text of a graph: its declarations, the relations of its steps and of its environment, and the texts of its
-/// steps, each in the order of the numbers, one to a line.
-///
-/// The error is that memory was refused; the graph is read alone.
+/// All of it: its declarations, the relations of its steps and of its environment, and the texts of its steps, each in the order of
+/// the numbers, one to a line.
 #[tactic(auto, using(std::proofs::Common::append_assoc))]
-pub fn canonical(alloc: Global, graph: &Graph) -> Result<Vec<u8>, AllocError>
+fn written(alloc: Global, graph: &Graph) -> Result<Vec<u8>, AllocError>
     ensures { IfOk result (λ text. text.items ≡ canonical graph.now) }
 {
     let mut text = Vec::new(alloc);
@@ -96,5 +98,20 @@ pub fn canonical(alloc: Global, graph: &Graph) -> Result<Vec<u8>, AllocError>
     put_all_relations(&mut text, graph)?;
     put_environment(&mut text, graph)?;
     put_steps(&mut text, graph)?;
+    Ok(text)
+}
+
+/// The canonical text of a graph. That of a graph that `parse` answered reads as that graph, and as nothing else.
+///
+/// The error is that memory was refused; the graph is read alone.
+pub fn canonical(alloc: Global, graph: &Graph) -> Result<Vec<u8>, AllocError>
+    ensures spelled { IfOk result (λ text. text.items ≡ canonical graph.now) }
+    ensures reads { IfOk result (λ text. (given : List ℕ) → Reads given graph.now → Reads text.items graph.now) }
+    ensures nothing_else { IfOk result (λ text. (given : List ℕ) (other : Graph) → Reads given graph.now → Reads text.items other → SameGraph graph.now other) }
+{
+    canonical_reads();
+    reads_textual();
+    one_reading();
+    let text = written(alloc, graph)?;
     Ok(text)
 }

@@ -1,9 +1,16 @@
 //! The laws between texts and graphs, and of what fits a graph. Each is a contract, with nothing to run.
 ghost use Rattle.graph.specs.FitLaws.{FitKeeps, AllFitKeep, AllFitInParts, StateAsSet, EventAsSet, EventsAsSet, StateOfAlike, EventOfAlike, EventsOfAlike};
-ghost use Rattle.graph.specs.Textual.{CanonicalReads, OneCanonical, OneGraph, ReadsTextual, ReadsWithoutFault};
+ghost use Rattle.std.specs.Prelude.{◌≡◌};
+ghost use Rattle.graph.specs.Textual.{CanonicalReads, OneCanonical, OneGraph, OneReading, ReadsTextual, ReadsWithoutFault};
+ghost use Rattle.graph.specs.declared.limits.TheConstants.{MOST_TEXT};
 
 use syntax::{one_derivation, read_without_fault, tokens_once};
 use terms::facts_are_told_apart;
+
+/// The limit of a text, as a number.
+pub fn text_limit()
+    ensures { MOST_TEXT ≡ 65536 }
+{}
 
 /// The canonical text of a graph that a text can give reads as that graph, where it is not too long.
 pub fn canonical_reads()
@@ -21,6 +28,13 @@ pub fn one_graph()
 {
     tokens_once();
     one_derivation();
+}
+
+/// A text reads as one graph at most.
+pub fn one_reading()
+    ensures { OneReading }
+{
+    one_graph();
 }
 
 /// What events that fit leave fits, and events fit one after another where those of each part do. How facts are listed plays no
@@ -61,9 +75,11 @@ mod tests {
 
     #[test]
     fn laws_are_there() {
+        text_limit();
         canonical_reads();
         one_canonical_text();
         one_graph();
+        one_reading();
         fitting();
         reads_textual();
         reads_without_fault();

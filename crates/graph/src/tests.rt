@@ -1,4 +1,5 @@
 mod limits;
+mod readers;
 mod rows;
 
 use crate::{GraphFault, canonical, canonical_example, parse};

@@ -6,16 +6,15 @@ use Rattle.journal.specs.Records.{records}
 use Rattle.graph.specs.Graph.{Graph}
 use Rattle.graph.specs.Canonical.{canonical}
 use Rattle.graph.specs.Reads.{Reads}
-use Rattle.graph.specs.Textual.{SameGraph, OneGraph}
+use Rattle.graph.specs.Textual.{SameGraph, OneReading}
 use Rattle.graph.specs.FitLaws.{StateOfAlike, EventsOfAlike}
 use Rattle.sides.specs.Image.{image_facts, image_environment}
 use Rattle.sides.specs.Side.{behind_gate, IsSide, end_of}
-use Rattle.sides.proofs.TextsRead.{same_graph}
 
-module _ (one_graph : OneGraph) (state : StateOfAlike) (events : EventsOfAlike) where
+module _ (one_reading : OneReading) (state : StateOfAlike) (events : EventsOfAlike) where
   module _ (bytes : List ℕ) (g h : Graph) (n : ℕ) (E X : Facts) (reads : Reads (canonical h) h) (same : canonical g ≡ canonical h) (side : IsSide bytes g n E X) where
     alike : SameGraph g h
-    alike = same_graph one_graph (canonical h) g h (subst (λ (text : List ℕ). Reads text g) same side.reads) reads
+    alike = one_reading (canonical h) g h (subst (λ (text : List ℕ). Reads text g) same side.reads) reads
 
     abbrev of_text : IsSide bytes h n E X
     of_text = record {

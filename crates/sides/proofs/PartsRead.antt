@@ -13,12 +13,11 @@ use Rattle.graph.specs.Canonical.{canonical}
 use Rattle.graph.specs.Reads.{Reads}
 use Rattle.graph.specs.Fits.{AllFit}
 use Rattle.graph.specs.FitLaws.{StateOfAlike, EventsOfAlike}
-use Rattle.graph.specs.Textual.{SameGraph, OneGraph}
+use Rattle.graph.specs.Textual.{SameGraph, OneReading}
 use Rattle.sides.specs.Image.{image_facts, image_environment, facts_in, environment_in}
 use Rattle.sides.specs.Side.{FORMAT, counted, behind_gate, HasGeneration, IsSide, end_of}
 use Rattle.sides.specs.Reading.{IsCountedAt, HasNoneAt, IsTextOf, IsImageOf, AreEvents, IsReplayed}
 use Rattle.sides.proofs.Once.{parts_of, counted_once}
-use Rattle.sides.proofs.TextsRead.{same_graph}
 
 -- ---- what the parts make
 
@@ -106,9 +105,9 @@ module _ (bytes : List ℕ) (h : Graph) (n : ℕ) (E X : Facts) (side : IsSide b
     pub has_image : HasNoneAt bytes (14 + length text) → ⊥
     has_image none = none (image_bytes side.image) side.journal (omega (arith, side.counted_image)) texts.1
 
-    module _ (one_graph : OneGraph) (g : Graph) (is_text : IsTextOf text g) where
+    module _ (one_reading : OneReading) (g : Graph) (is_text : IsTextOf text g) where
       alike : SameGraph h g
-      alike = same_graph one_graph text h g is_its_text.0 is_text.0
+      alike = one_reading text h g is_its_text.0 is_text.0
 
       module _ (part : List ℕ) (counted_part : IsCountedAt bytes (14 + length text) part) where
         images : (part ≡ image_bytes side.image) × (drop (14 + length text + 4 + length part) bytes ≡ side.journal)

@@ -3,7 +3,7 @@ ghost use Rattle.sides.specs.Side.{OneMeaning, StandsWithGeneration, OneGenerati
 ghost use Rattle.sides.specs.SideLaws.{HasJournal, StaysAlike, GrowsByEvent, SideAsSet, SideOfText, SideFits, BeginsSide};
 
 use codec::{spellings_of_events, spellings_of_images};
-use graph::{fitting, one_graph};
+use graph::{fitting, one_reading};
 use journal::one_meaning;
 use terms::{facts_are_told_apart, facts_go_on};
 
@@ -35,7 +35,7 @@ pub fn sides_go_on()
     facts_are_told_apart();
     facts_go_on();
     fitting();
-    one_graph();
+    one_reading();
 }
 
 #[cfg(test)]

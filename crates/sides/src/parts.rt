@@ -10,7 +10,7 @@ use crate::Holdings;
 use byteorder::{ByteOrder, LittleEndian};
 use codec::{CodecError, decode_image, spellings_of_images};
 use graph::{
-    Graph, GraphError, canonical, one_canonical_text, one_graph, parse, reads_without_fault,
+    Graph, GraphError, canonical, one_canonical_text, one_reading, parse, reads_without_fault,
 };
 use std::alloc::{AllocError, Global};
 
@@ -38,7 +38,7 @@ pub(crate) fn read_graph(alloc: Global, text: &[u8]) -> Result<Option<Graph>, Al
     ensures { IfOk result (λ found. MatchOption found ((g : Meant) → IsTextOf text.now g → ⊥) (IsTextOf text.now)) }
 {
     reads_without_fault();
-    one_graph();
+    one_reading();
     one_canonical_text();
     match parse(alloc, text) {
         Ok(graph) => {

@@ -13,7 +13,7 @@ use crate::parts::{COUNT, counted_at, read_graph, read_image};
 use crate::replay::{Replay, take_events};
 use crate::{Holdings, SideError};
 use codec::spellings_of_images;
-use graph::{Graph, fitting, one_graph};
+use graph::{Graph, fitting, one_reading};
 use std::alloc::Global;
 
 /// What the bytes of a side stand for.
@@ -35,7 +35,7 @@ pub fn read_side(alloc: Global, bytes: &[u8]) -> Result<Standing, SideError>
     ensures read { IfOk result (λ standing. (generation : ℕ) → HasGeneration bytes.now generation → IsRead bytes.now generation standing) }
     ensures nothing { (place : ℕ) → IsErrOf result (Damaged place) → (g : Meant) (generation : ℕ) (E X : Facts) → IsSide bytes.now g generation E X → ⊥ }
 {
-    one_graph();
+    one_reading();
     fitting();
     spellings_of_images();
     if bytes[1] != FORMAT {

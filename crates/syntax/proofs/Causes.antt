@@ -110,6 +110,7 @@ syntax_cause text spots rest tokens is =
         there = refl;
         before = begins_graph fault.count spots fault.before;
         none = λ graph goes_on. never graph goes_on.0 goes_on.1 (fault.too goes_on.0 goes_on.2);
+        told = is ∙ ap syntax fault.there;
       },
     )
   where

@@ -1,5 +1,5 @@
 -- What a text is read as, and the cause of each fault.
-use Rattle.std.specs.Prelude.{◌≡◌, ◌≤◌, ℕ, suc, List, length, map, take, get_or, slice_get, Some}
+use Rattle.std.specs.Prelude.{◌≡◌, ◌≤◌, ℕ, suc, List, length, map, take, drop, get_or, slice_get, Some}
 use Rattle.syntax.specs.declared.fault.TreeError.{TreeError}
 use Rattle.syntax.specs.declared.fault.TreeError.TheVariants as error
 use Rattle.syntax.specs.declared.fault.TreeFault.{TreeFault}
@@ -8,7 +8,7 @@ use Rattle.syntax.specs.Tokens.{Spot, AreTokens}
 use Rattle.syntax.specs.Grammar.{Position, GraphText}
 use Rattle.syntax.specs.Spelled.{Derives}
 use Rattle.syntax.specs.Limits.{IsWithin, graph_limits}
-use Rattle.syntax.specs.Expected.{run, graph_expected, too_large}
+use Rattle.syntax.specs.Expected.{run, graph_expected, syntax, too_large}
 use Rattle.syntax.specs.Tree.{IsTree}
 
 -- the text is in the grammar and within the limits, and is this tree
@@ -29,7 +29,8 @@ GoesOn spots count graph = (others : List Spot) × Derives graph others × (take
 abbrev pub position_behind : List ℕ → List Spot → ℕ → Position
 position_behind text spots count = get_or (map (λ spot. spot.1) spots) count (length text)
 
--- some graph text begins with the tokens before this place, and none goes on with the token at it, or ends there
+-- Some graph text begins with the tokens before this place, and none goes on with the token at it, or ends there; and it is there that
+-- the tokens, read one by one from the left, are told to break off, so no limit is passed in front of it.
 pub record IsSyntaxFault (text : List ℕ) (place : Position) : Type 0 where
   pub spots : List Spot
   pub tokens : AreTokens 0 text spots
@@ -39,6 +40,7 @@ pub record IsSyntaxFault (text : List ℕ) (place : Position) : Type 0 where
   -- some graph text has the tokens before
   pub before : (graph : GraphText) × (others : List Spot) × Derives graph others × (take count others ≡ take count spots)
   pub none : (graph : GraphText) → GoesOn spots count graph → ⊥
+  pub told : run graph_expected spots ≡ syntax (drop count spots)
 
 -- Some graph text begins with the tokens before one, and each that goes on with that one too, or ends there, passes a limit
 -- at this place. Also where none goes on with it, it is there that the tokens, read one by one from the left, are told to pass one.

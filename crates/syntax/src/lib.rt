@@ -38,7 +38,7 @@ mod words;
 
 pub use fault::{TreeError, TreeFault};
 pub use grammar::grammar_example;
-pub use law::{derived_may_come, one_derivation, read_without_fault, tokens_once};
+pub use law::{derived_may_come, grammar_limits, one_derivation, read_without_fault, tokens_once};
 pub use lexer::tokens;
 pub use limits::{MOST_BRACES, MOST_BRACKETS, MOST_DEPTH, MOST_NAME_BYTES};
 pub use parser::read_tree;

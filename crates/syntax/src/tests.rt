@@ -6,7 +6,8 @@ mod steps;
 mod trees;
 
 use crate::{
-    Placed, Token, derived_may_come, one_derivation, read_without_fault, tokens, tokens_once,
+    Placed, Token, derived_may_come, grammar_limits, one_derivation, read_without_fault, tokens,
+    tokens_once,
 };
 use std::process::Abort;
 use std::test::Fail;
@@ -79,6 +80,7 @@ fn texts_have_these_tokens(rt: HostRuntime) -> Result<(), Fail> {
     tokens_once();
     one_derivation();
     derived_may_come();
+    grammar_limits();
     read_without_fault();
     Ok(())
 }

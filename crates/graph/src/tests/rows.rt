@@ -60,7 +60,31 @@ pub(super) const BODIES: [(&str, &str); 10] = [
 ];
 
 // Limits that are passed.
-pub(super) const LIMITS: [(&str, &str); 5] = [
+pub(super) const LIMITS: [(&str, &str); 14] = [
+    ("<t: i, j, k, l, m>;", "10 at 1:17"),
+    ("<x23456789012345678901234567890123>;", "10 at 1:2"),
+    ("[x: i23456789012345678901234567890123];", "10 at 1:5"),
+    ("(s23456789012345678901234567890123) -> [x];", "10 at 1:2"),
+    (
+        "step s23456789012345678901234567890123() { read { } write { } }",
+        "10 at 1:6",
+    ),
+    (
+        "step s(a23456789012345678901234567890123) { read { } write { } }",
+        "10 at 1:8",
+    ),
+    (
+        "step s() { read { get a23456789012345678901234567890123 = [x]; } write { } }",
+        "10 at 1:23",
+    ),
+    (
+        "step s() { read { get a = [x23456789012345678901234567890123]; } write { } }",
+        "10 at 1:28",
+    ),
+    (
+        "step s() { read { a = x23456789012345678901234567890123; } write { } }",
+        "10 at 1:23",
+    ),
     ("[x: i, j, k, l, m];", "10 at 1:17"),
     ("[x23456789012345678901234567890123];", "10 at 1:2"),
     ("<t> :: (s23456789012345678901234567890123);", "10 at 1:9"),
@@ -72,7 +96,24 @@ pub(super) const LIMITS: [(&str, &str); 5] = [
 ];
 
 // Names and relations.
-pub(super) const NAMES: [(&str, &str); 20] = [
+pub(super) const NAMES: [(&str, &str); 25] = [
+    (
+        "[x]; <t>; <t> :: (s); [x] -> (s);\n[x] -> (s); step s() { read { } write { } }",
+        "3 at 2:1",
+    ),
+    (
+        "[x]; <t>; <t> :: (s); (s) -> [x];\n(s) -> [x]; step s() { read { } write { } }",
+        "3 at 2:1",
+    ),
+    (
+        "<t>; <t> :: (s); (s) -> <t>;\n(s) -> <t>; step s() { read { } write { } }",
+        "3 at 2:1",
+    ),
+    ("<t>; env -> <t>;\nenv -> <t>;", "3 at 2:1"),
+    (
+        "<t>; <t> :: (s); step s() { read { } write { } } step s(i) { read { } write { } }",
+        "9 at 1:55",
+    ),
     ("[x];[x];", "3 at 1:6"),
     ("[x];\n<x>;\n[x: i];", "3 at 3:2"),
     ("[x];[x];[x];", "3 at 1:6"),
@@ -117,7 +158,15 @@ pub(super) const NAMES: [(&str, &str); 20] = [
 ];
 
 // Bodies. Behind the first ones a fault of a name comes before one of a body further left.
-pub(super) const CHECKS: [(&str, &str); 14] = [
+pub(super) const CHECKS: [(&str, &str); 16] = [
+    (
+        "[x]; <t>; <t> :: (s); step s() { read { } write { put [x: 1] = 1; } }",
+        "11.4 at 1:56",
+    ),
+    (
+        "[x]; <t>; <t> :: (s); [x] -> (s); step s() { var a; read { get a = [x: 1, 2, 3, 4, 5]; } write { } }",
+        "11.2 at 1:69",
+    ),
     (
         "[fib: i];\n<n: i>;\n<n> :: (add);\n(add) -> [fib];\nenv -> [fib];\nenv -> <n>;\n[fib] -> env;\nstep add(i) {\n  var a, b;\n  read {\n    get a = [fib: (i - 1)];\n    get b = [fib: (i - 2)];\n  }\n  write {\n    put [fib: i] = (a + b);\n  }\n}\n",
         "11.3 at 11:14",

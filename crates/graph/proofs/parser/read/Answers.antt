@@ -28,7 +28,7 @@ returns-then-len-gt-MOST_TEXT c =
     let text = c.args.text.now in
     let plain : IsPlain text = (c.if-text-gt-MOST_TEXT.false, c.in_ok-plain.ensures.1) in
     let read : IsRead text c.in_ok-tree.tree = subst (λ it. IsRead it c.in_ok-tree.tree) c.in_ok-plain.ensures.0 c.in_ok-tree.ensures.read in
-    let long : MOST_TEXT < length (canonical c.in_ok-graph.graph) = omega (arith, c.if-len-gt-MOST_TEXT.true, c.len.ensures, ap length c.in_ok-canonical.ensures) in
+    let long : MOST_TEXT < length (canonical c.in_ok-graph.graph) = omega (arith, c.if-len-gt-MOST_TEXT.true, c.len.ensures, ap length c.in_ok-canonical.ensures.spelled) in
     inr (inl (refl, inr (plain, record { tree = c.in_ok-tree.tree; read = read; no_fault = c.in_ok-graph.ensures.0; g = c.in_ok-graph.graph; graph = c.in_ok-graph.ensures.1; long = long })))
 
 pub returns : goal.returns
@@ -42,5 +42,5 @@ returns c =
       read = read;
       no_fault = c.in_ok-graph.ensures.0;
       graph = c.in_ok-graph.ensures.1;
-      canonical = omega (arith, c.if-len-gt-MOST_TEXT.false, c.len.ensures, ap length c.in_ok-canonical.ensures);
+      canonical = omega (arith, c.if-len-gt-MOST_TEXT.false, c.len.ensures, ap length c.in_ok-canonical.ensures.spelled);
     }

@@ -17,7 +17,7 @@ pub returns-clause-as_set : goal.returns-clause-as_set
 returns-clause-as_set c = side_as_set
 
 pub returns-clause-of_text : goal.returns-clause-of_text
-returns-clause-of_text c = side_of_text c.one_graph.ensures c.fitting.ensures.state_of_alike c.fitting.ensures.events_of_alike
+returns-clause-of_text c = side_of_text c.one_reading.ensures c.fitting.ensures.state_of_alike c.fitting.ensures.events_of_alike
 
 pub returns-clause-fits : goal.returns-clause-fits
 returns-clause-fits c = side_fits c.fitting.ensures.all_keep c.fitting.ensures.state_as_set
