@@ -1,5 +1,5 @@
 -- What an image says: facts, and which of them the environment put.
-use Rattle.std.specs.Prelude.{◌≡◌, ◌||◌, ℤ, true, false, List, [], ◌∷◌, ◌++◌, map, Option, Some, None}
+use Rattle.std.specs.Prelude.{◌||◌, ℤ, true, false, List, [], ◌∷◌, ◌++◌, map, Option, Some, None}
 use Rattle.std.specs.List.{flat_map, AllByRecursion}
 use Rattle.terms.specs.declared.name.Addr.{Addr}
 use Rattle.terms.specs.declared.name.Inst.{Inst}

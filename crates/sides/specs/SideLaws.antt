@@ -1,8 +1,8 @@
 -- The laws of a side that a store stands on: what other bytes stand for that begin as a side does, and what a side is made of.
-use Rattle.std.specs.Prelude.{◌≡◌, ◌<◌, ◌+◌, ◌^◌, ◌||◌, ℕ, List, [], ◌∷◌, ◌++◌, length, map, take, drop}
+use Rattle.std.specs.Prelude.{◌≡◌, ◌<◌, ◌+◌, ◌^◌, ℕ, List, [], ◌∷◌, ◌++◌, length, map, take, drop}
 use Rattle.terms.specs.declared.event.Event.{Event}
-use Rattle.terms.specs.Facts.{Fact, event_facts, environment_facts}
-use Rattle.terms.specs.Sets.{Facts, among}
+use Rattle.terms.specs.Facts.{event_facts, environment_facts}
+use Rattle.terms.specs.Sets.{Facts}
 use Rattle.codec.specs.declared.image.Image.{Image}
 use Rattle.codec.specs.Spelling.{image_bytes, event_bytes, IsImage, IsEvent}
 use Rattle.journal.specs.Records.{StandsFor, record_of}

@@ -1,4 +1,4 @@
-ghost use Rattle.std.specs.Prelude.{◌≡◌, ◌≤◌, ◌<◌, ◌+◌, ◌^◌, ◌++◌, [], ◌∷◌, length, take, drop, OnOk};
+ghost use Rattle.std.specs.Prelude.{◌≡◌, ◌≤◌, ◌<◌, ◌+◌, ◌^◌, ◌++◌, ◌↔◌, [], ◌∷◌, length, take, drop, IsTrue, IfOk, OnOk};
 ghost use Rattle.byteorder.specs.Endian.{little_bytes};
 ghost use Rattle.codec.specs.Spelling.{IsInOrder, IsImage, image_bytes};
 ghost use Rattle.sides.specs.Side.{behind_gate, counted};
@@ -12,26 +12,27 @@ use std::alloc::AllocError;
 // The gate that ends a journal.
 const CLOSED: u8 = 0;
 
-/// Appends a side behind its gate: of this generation, with this graph text and this image, and no record.
+/// Appends a side behind its gate: of this generation, with this graph text and this image, and no record. It tells whether the
+/// image's bytes can be counted in four: where they cannot, what is appended is no side.
 ///
-/// An image of `2 ^ 32` bytes or more has no spelling behind its length: then what is appended is as long as it would be, and is
-/// no side. The error is that memory was refused: some of it may stand there then.
+/// The error is that memory was refused: some of it may stand there then.
 pub fn spell_side(
     out: &mut Vec<u8>,
     generation: u64,
     text: &[u8],
     image: &Image,
-) -> Result<(), AllocError>
+) -> Result<bool, AllocError>
     requires text { length text.now < 2 ^ 32 }
     requires image { IsInOrder image.now }
     ensures spelled { OnOk result (length (image_bytes image.now) < 2 ^ 32 → out.new.items ≡ out.old.items ++ behind_gate generation text.now (image_bytes image.now) (0 ∷ [])) }
-    ensures count { OnOk result (length out.new.items ≡ length out.old.items + length (behind_gate generation text.now (image_bytes image.now) (0 ∷ []))) }
+    ensures counted { IfOk result (λ counted. IsTrue counted ↔ (length (image_bytes image.now) < 2 ^ 32)) }
     ensures in_range { OnOk result (IsImage image.now) }
 {
     put_head(out, generation)?;
     put_text(out, text)?;
-    put_image(out, image)?;
-    Ok(out.push(CLOSED)?)
+    let counted = put_image(out, image)?;
+    out.push(CLOSED)?;
+    Ok(counted)
 }
 
 // The format and the generation.
@@ -55,11 +56,11 @@ fn put_text(out: &mut Vec<u8>, text: &[u8]) -> Result<(), AllocError>
     out.extend_from_slice(text)
 }
 
-// An image behind its length, which is written over four bytes once the image stands there.
-fn put_image(out: &mut Vec<u8>, image: &Image) -> Result<(), AllocError>
+// An image behind its length, which is written over four bytes once the image stands there, and whether it can be.
+fn put_image(out: &mut Vec<u8>, image: &Image) -> Result<bool, AllocError>
     requires { IsInOrder image.now }
     ensures spelled { OnOk result (length (image_bytes image.now) < 2 ^ 32 → out.new.items ≡ out.old.items ++ counted (image_bytes image.now)) }
-    ensures count { OnOk result (length out.new.items ≡ length out.old.items + length (counted (image_bytes image.now))) }
+    ensures counted { IfOk result (λ counted. IsTrue counted ↔ (length (image_bytes image.now) < 2 ^ 32)) }
     ensures in_range { OnOk result (IsImage image.now) }
 {
     let at = out.len();
@@ -68,9 +69,9 @@ fn put_image(out: &mut Vec<u8>, image: &Image) -> Result<(), AllocError>
     match u32::try_from(out.len() - at - COUNT) {
         Ok(count) => {
             write_count(out, at, count);
-            Ok(())
+            Ok(true)
         }
-        Err(_) => Ok(()),
+        Err(_) => Ok(false),
     }
 }
 

@@ -55,7 +55,7 @@ fn turn_over(rt: &HostRuntime) -> Result<(), Error> {
 
 // Prints what the store holds, in the order of its names.
 fn tell(rt: &HostRuntime, store: &Recovered<FileDisk>) -> Result<(), Error> {
-    println!(rt; "opened, generation {}", store.vault.generation)?;
+    println!(rt; "opened, generation {}", store.vault.generation())?;
     for (address, value, _) in store.image.items.as_slice() {
         println!(rt;
             "item {} {:?} = {value}",

@@ -1,5 +1,5 @@
 -- One side is live, and it stands for one thing.
-use Rattle.std.proofs.Common.{◌≡◌, ◌<◌, ℕ, List, inl, inr, subst, arith}
+use Rattle.std.proofs.Common.{◌≡◌, ◌<◌, ℕ, List, inl, inr, sym, subst, arith}
 use Rattle.disk.specs.declared.side.Side.{Side}
 use Rattle.disk.specs.declared.side.Side.TheVariants.{A, B}
 use Rattle.disk.specs.Time.{Contents}
@@ -7,8 +7,8 @@ use Rattle.terms.specs.Facts.{Fact}
 use Rattle.terms.specs.Sets.{Facts}
 use Rattle.graph.specs.Graph.{Graph}
 use Rattle.graph.specs.Canonical.{canonical}
-use Rattle.sides.specs.Side.{IsSide, IsOpen, OneMeaning, StandsWithGeneration, OneGeneration}
-use Rattle.vault.specs.Stands.{IsBehind, IsLive, Stands}
+use Rattle.sides.specs.Side.{IsSide, IsOpen, OneMeaning, StandsWithGeneration, OneGeneration, AnyRest}
+use Rattle.vault.specs.Stands.{IsBehind, IsLive, Stands, AnyTail}
 
 module _ (one_meaning : OneMeaning) (generation : StandsWithGeneration) (one_generation : OneGeneration) where
   is_open : (bytes : List ℕ) (g : Graph) (n : ℕ) (E X : Facts) → IsSide bytes g n E X → IsOpen bytes
@@ -38,3 +38,17 @@ module _ (one_meaning : OneMeaning) (generation : StandsWithGeneration) (one_gen
       of_live B B m n first second = same B m n first second
       of_live A B m n first second = absurd (not_both (contents A) (contents B) g h m n E F X Y first.is_side first.behind second.is_side second.behind)
       of_live B A m n first second = absurd (not_both (contents B) (contents A) g h m n E F X Y first.is_side first.behind second.is_side second.behind)
+
+-- it stands for that with any bytes behind its journal's end, where the other side is behind it
+pub any_tail : AnyRest → AnyTail
+any_tail any_rest contents g E X live generation it =
+    let found = any_rest (contents live) g generation E X it.is_side in (
+      found.0,
+      found.1,
+      found.2,
+      found.3,
+      λ other tail begins behind. record {
+        is_side = subst (λ (bytes : List ℕ). IsSide bytes g generation E X) (sym begins) (found.4 tail);
+        behind = behind;
+      },
+    )

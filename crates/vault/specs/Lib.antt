@@ -1,5 +1,5 @@
+pub mod Commits
 pub mod Errors
-pub mod Moves
 pub mod Opened
 pub mod Stands
 pub mod Store

@@ -1,5 +1,5 @@
 -- What the two files of a store stand for.
-use Rattle.std.specs.Prelude.{◌≡◌, ◌⊎◌, ◌<◌, ℕ, List}
+use Rattle.std.specs.Prelude.{◌≡◌, ◌⊎◌, ◌<◌, ◌+◌, ◌++◌, ℕ, List, length}
 use Rattle.disk.specs.declared.side.Side.{Side}
 use Rattle.disk.specs.declared.side.Side.TheVariants.{A, B}
 use Rattle.disk.specs.Time.{Contents}
@@ -7,7 +7,7 @@ use Rattle.terms.specs.Sets.{Facts}
 use Rattle.graph.specs.Graph.{Graph}
 use Rattle.graph.specs.Canonical.{canonical}
 use Rattle.terms.specs.Facts.{Fact}
-use Rattle.sides.specs.Side.{IsSide, IsOpen, HasGeneration}
+use Rattle.sides.specs.Side.{IsSide, IsOpen, HasGeneration, end_of}
 
 abbrev pub other_side : Side → Side
 other_side A = B
@@ -32,3 +32,9 @@ Stands contents g E X = (live : Side) × (generation : ℕ) × IsLive contents l
 abbrev pub OneStore : Type 0
 OneStore = (contents : Contents) (g h : Graph) (E F X Y : Facts) → Stands contents g E X → Stands contents h F Y
     → (canonical g ≡ canonical h) × ((fact : Fact) → E fact ≡ F fact) × ((fact : Fact) → X fact ≡ Y fact)
+
+-- behind the closed gate that ends the live side's journal there may be any bytes, and in the other file any that are behind it
+abbrev pub AnyTail : Type 0
+AnyTail = (contents : Contents) (g : Graph) (E X : Facts) (live : Side) (generation : ℕ) (it : IsLive contents live generation g E X)
+    → (front : List ℕ) × (rest : List ℕ) × (contents live ≡ front ++ rest) × (length front ≡ end_of it.is_side + 1)
+    × ((other : Contents) (tail : List ℕ) → other live ≡ front ++ tail → IsBehind (other (other_side live)) generation → IsLive other live generation g E X)

@@ -1,21 +1,32 @@
-ghost use Rattle.vault.specs.Moves.{HeldIsLeft, HeldIsReady, AppendIsLeft, TurnIsLeft, GatesStay, OpeningsLeave, OpeningRecovers};
+ghost use Rattle.std.specs.Prelude.{IsTrue};
+ghost use Rattle.vault.specs.Commits.{CreatedStore, AppendedStore, TurnedStore, RefusedStore, StoreIsReady, RestLeaves, AppendLeaves, TurnLeaves, OpeningFinds, StoreGoesOn};
 
 use crate::one_store;
 use disk::Disk;
 use sides::sides_go_on;
+use terms::{facts_are_told_apart, facts_go_on};
 
-/// A store from call to call: a crash within an append or a turnover, or behind it, leaves one of its states; openings that are cut
-/// off add nothing to that; and an opening that ends gives one of them, of the same graph, to the next call, and never says that
-/// there is no store.
+/// A store from call to call, by its commits.
+///
+/// A call that answers `Ok` adds its event to them, or none. A crash at any moment leaves a beginning of the commit order, with each
+/// acknowledged event. And behind a crash, and openings that were cut off or refused, an opening gives the store of such a
+/// beginning to the next call, and never says that there is none.
 pub fn stores_go_on<D: Disk>()
-    ensures held { HeldIsLeft D.files D.moment D.left_at }
-    ensures ready { HeldIsReady D.files D.moment D.left_at }
-    ensures append { AppendIsLeft D.files D.moment D.left_at }
-    ensures turn { TurnIsLeft D.files D.moment D.left_at }
-    ensures gates { GatesStay D.files D.moment D.left_at }
-    ensures openings { OpeningsLeave D.files D.moment D.left_at }
-    ensures recovers { OpeningRecovers D.files D.moment D.left_at }
+    ensures created { CreatedStore D.files D.moment D.left_at }
+    ensures appended { IsTrue D.is_honest → AppendedStore D.files D.moment D.left_at }
+    ensures turned { IsTrue D.is_honest → TurnedStore D.files D.moment D.left_at }
+    ensures refused { RefusedStore D.files D.moment D.left_at }
+    ensures ready { StoreIsReady D.files D.moment D.left_at }
+
+    ensures rest_leaves { IsTrue D.is_honest → RestLeaves D.files D.moment D.left_at }
+    ensures append_leaves { AppendLeaves D.files D.moment D.left_at }
+    ensures turn_leaves { TurnLeaves D.files D.moment D.left_at }
+
+    ensures finds { OpeningFinds D.files D.moment D.left_at }
+    ensures goes_on { IsTrue D.is_honest → StoreGoesOn D.files D.moment D.left_at }
 {
+    facts_are_told_apart();
+    facts_go_on();
     sides_go_on();
     one_store();
 }

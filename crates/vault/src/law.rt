@@ -1,11 +1,12 @@
 //! The law of what a store stands for. It is a contract, with nothing to run.
-ghost use Rattle.vault.specs.Stands.{OneStore};
+ghost use Rattle.vault.specs.Stands.{OneStore, AnyTail};
 
 use sides::one_meaning_of_a_side;
 
-/// Two files stand for one graph text and one set of facts at most.
+/// Two files stand for one graph text and one set of facts at most, whatever lies behind the gate that ends the live journal.
 pub fn one_store()
-    ensures { OneStore }
+    ensures one { OneStore }
+    ensures tail { AnyTail }
 {
     one_meaning_of_a_side();
 }

@@ -75,6 +75,9 @@ impl<D: Disk> Vault<D> {
                 self.journal.side = side;
                 self.journal.end = self.buffer.len() as u64;
                 self.generation = generation;
+                // A side may be long.
+                self.buffer.clear();
+                self.buffer.shrink_to_fit();
                 Ok(generation)
             }
             Err(error) => {
@@ -108,7 +111,9 @@ fn spell_next(
         return Err(VaultError::Full);
     }
     buffer.clear();
-    spell_side(buffer, generation + 1, text, image)?;
+    if !spell_side(buffer, generation + 1, text, image)? {
+        return Err(VaultError::Full);
+    }
     if buffer.len() as u64 >= LIMIT {
         return Err(VaultError::Full);
     }

@@ -1,21 +1,46 @@
 use disk::Disk;
 use journal::Journal;
 
+ghost use Rattle.std.specs.Prelude.{◌≡◌};
+
 /// A store on two files, open.
 ///
 /// What it holds is told by its files alone: the fields say where the next record goes. After an error that a call of the disk
 /// answered in `append` or `turn` the vault is halted, until its disk is opened again.
 #[derive(Drop)]
 pub struct Vault<D: Disk> {
-    pub disk: D,
-    /// The journal of the live side.
-    pub journal: Journal,
-    /// The generation of the live side.
-    pub generation: u64,
-    /// The canonical text of the graph.
-    pub text: Vec<u8>,
-    /// Whether an error of the disk came before.
-    pub halted: bool,
+    pub(crate) disk: D,
+    // The journal of the live side.
+    pub(crate) journal: Journal,
+    // The generation of the live side.
+    pub(crate) generation: u64,
+    // The canonical text of the graph.
+    pub(crate) text: Vec<u8>,
+    // Whether an error of the disk came before.
+    pub(crate) halted: bool,
     // Holds an event while it is appended, and a side while it is written.
     pub(crate) buffer: Vec<u8>,
+}
+
+impl<D: Disk> Vault<D> {
+    /// The generation of the live side: 1 of a new store, and one more with each turnover.
+    pub fn generation(&self) -> u64
+        ensures { result ≡ self.now.generation }
+    {
+        self.generation
+    }
+
+    /// Whether an error of the disk came before, so that its disk must be opened again.
+    pub fn is_halted(&self) -> bool
+        ensures { result ≡ self.now.halted }
+    {
+        self.halted
+    }
+
+    /// Gives the disk back, for another opening.
+    pub fn into_disk(self) -> D
+        ensures { result ≡ self.disk }
+    {
+        self.disk
+    }
 }

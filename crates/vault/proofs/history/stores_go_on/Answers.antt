@@ -1,24 +1,38 @@
 use Rattle.vault.proofs.GoesOn as store
-use Rattle.vault.proofs.Ready.{held_is_ready}
 use Rattle.vault.proofs.history.stores_go_on.Goals as goal
 
-pub returns-clause-held : goal.returns-clause-held
-returns-clause-held g c = store.held g.D.Disk.files g.D.Disk.moment g.D.Disk.left_at
+pub returns-clause-appended : goal.returns-clause-appended
+returns-clause-appended g c honest =
+    store.appended g.D.Disk.files g.D.Disk.moment g.D.Disk.left_at (g.met.D.Disk.at_now honest) (g.met.D.Disk.reads_left honest)
+    c.facts_are_told_apart.ensures.among c.facts_go_on.ensures.all c.facts_go_on.ensures.environment
 
-pub returns-clause-append : goal.returns-clause-append
-returns-clause-append g c = store.append g.D.Disk.files g.D.Disk.moment g.D.Disk.left_at
+pub returns-clause-turned : goal.returns-clause-turned
+returns-clause-turned g c honest =
+    store.turned g.D.Disk.files g.D.Disk.moment g.D.Disk.left_at (g.met.D.Disk.at_now honest) (g.met.D.Disk.reads_left honest)
 
-pub returns-clause-turn : goal.returns-clause-turn
-returns-clause-turn g c = store.turn g.D.Disk.files g.D.Disk.moment g.D.Disk.left_at
-
-pub returns-clause-gates : goal.returns-clause-gates
-returns-clause-gates g c = store.gates g.D.Disk.files g.D.Disk.moment g.D.Disk.left_at
-
-pub returns-clause-openings : goal.returns-clause-openings
-returns-clause-openings g c = store.openings g.D.Disk.files g.D.Disk.moment g.D.Disk.left_at
-
-pub returns-clause-recovers : goal.returns-clause-recovers
-returns-clause-recovers g c = store.recovers g.D.Disk.files g.D.Disk.moment g.D.Disk.left_at c.sides_go_on.ensures.as_set c.sides_go_on.ensures.of_text c.one_store.ensures
+pub returns-clause-refused : goal.returns-clause-refused
+returns-clause-refused g c = store.refused g.D.Disk.files g.D.Disk.moment g.D.Disk.left_at
 
 pub returns-clause-ready : goal.returns-clause-ready
-returns-clause-ready g c = held_is_ready g.D.Disk.files c.sides_go_on.ensures.journal
+returns-clause-ready g c = store.ready g.D.Disk.files g.D.Disk.moment g.D.Disk.left_at c.sides_go_on.ensures.journal
+
+pub returns-clause-rest_leaves : goal.returns-clause-rest_leaves
+returns-clause-rest_leaves g c honest = store.rest_leaves g.D.Disk.files g.D.Disk.moment g.D.Disk.left_at (g.met.D.Disk.at_now honest)
+
+pub returns-clause-append_leaves : goal.returns-clause-append_leaves
+returns-clause-append_leaves g c =
+    store.append_leaves g.D.Disk.files g.D.Disk.moment g.D.Disk.left_at
+    c.facts_are_told_apart.ensures.among c.facts_go_on.ensures.all c.facts_go_on.ensures.environment
+
+pub returns-clause-turn_leaves : goal.returns-clause-turn_leaves
+returns-clause-turn_leaves g c = store.turn_leaves g.D.Disk.files g.D.Disk.moment g.D.Disk.left_at
+
+pub returns-clause-finds : goal.returns-clause-finds
+returns-clause-finds g c =
+    store.finds g.D.Disk.files g.D.Disk.moment g.D.Disk.left_at
+    c.sides_go_on.ensures.as_set c.sides_go_on.ensures.of_text c.one_store.ensures.one
+
+pub returns-clause-goes_on : goal.returns-clause-goes_on
+returns-clause-goes_on g c honest =
+    store.goes_on g.D.Disk.files g.D.Disk.moment g.D.Disk.left_at
+    c.sides_go_on.ensures.as_set c.sides_go_on.ensures.of_text c.one_store.ensures.one (g.met.D.Disk.reads_left honest)

@@ -1,0 +1,127 @@
+-- The commits of a store, and what is left of them from call to call: by a crash, by openings that were cut off, and by the opening that
+-- gives the store back.
+--
+-- A commit is the events of one record, and a record has one event. The commit order of a store is the list of its events since its
+-- creation, in the order of their gates. An event is acknowledged where the call that made it answered `Ok`.
+use Rattle.std.specs.Prelude.{◌≡◌, ◌⊎◌, ◌≤◌, ℕ, List, [], ◌∷◌, ◌++◌}
+use Rattle.disk.specs.declared.side.Side.{Side}
+use Rattle.disk.specs.File.{File}
+use Rattle.disk.specs.Time.{Contents, MayLeaveNow, LeavesOnly}
+use Rattle.terms.specs.declared.event.Event.{Event}
+use Rattle.terms.specs.Facts.{event_facts, environment_facts, facts, environment}
+use Rattle.terms.specs.Sets.{Facts, among}
+use Rattle.graph.specs.Graph.{Graph}
+use Rattle.graph.specs.Canonical.{canonical}
+use Rattle.graph.specs.FitLaws.{SameSet}
+use Rattle.sides.specs.Image.{with_facts}
+use Rattle.vault.specs.declared.vault.Vault.{Vault}
+use Rattle.vault.specs.Opened.{contents_of}
+use Rattle.vault.specs.Stands.{Stands}
+use Rattle.vault.specs.Store.{Holds, HasGates, IsReady, IsSame, StandsBeforeOrAfter, nothing}
+
+-- what these commits state, and what of that the environment put, as sets
+abbrev pub stated : List Event → Facts
+stated commits = among (facts commits)
+
+abbrev pub given : List Event → Facts
+given commits = among (environment commits)
+
+-- The bytes stand for a beginning of the commit order in which each acknowledged event is: for those, and for some of the pending
+-- ones, of which none is passed over. And each file has its first byte.
+pub record StandsForBeginning (g : Graph) (acknowledged pending : List Event) (contents : Contents) : Type 0 where
+  pub made : List Event
+  pub later : List Event
+  pub beginning : pending ≡ made ++ later
+  pub stands : Stands contents g (given (acknowledged ++ made)) (stated (acknowledged ++ made))
+  pub gates : HasGates contents
+
+-- a vault whose store has these commits, and whose files each have their first byte
+pub record IsStoreOf {D : Type 0} (files : D → Side → File) (vault : Vault D) (g : Graph) (commits : List Event) : Type 0 where
+  pub holds : Holds files vault g (given commits) (stated commits)
+  pub gates : HasGates (contents_of (files vault.disk))
+
+module _ {D : Type 0} (files : D → Side → File) (moment : D → ℕ) (left_at : D → ℕ → Contents → Type 0) where
+  -- a crash at a moment of a call, or behind it, left this disk
+  pub record IsLeft (before after crashed : D) : Type 0 where
+    pub struck : ℕ
+    pub begun : moment before ≤ struck
+    pub ended : struck ≤ moment after
+    pub crash : (contents : Contents) → MayLeaveNow (files crashed) contents → left_at after struck contents
+
+  -- an opening ended in this way: a crash cut it off, or it was refused and the disk was handed back
+  abbrev pub WasCutOff : D → D → D → Type 0
+  WasCutOff before after next = LeavesOnly moment left_at before after (MayLeaveNow (files before)) × IsLeft before after next
+
+  abbrev pub WasRefused : D → D → D → Type 0
+  WasRefused before after next = (next ≡ after) × ((contents : Contents) → MayLeaveNow (files after) contents → MayLeaveNow (files before) contents)
+
+  -- openings one after another, none of which gave the store, from the first disk to the last
+  abbrev pub Openings : D → List (D × D) → D → Type 0
+  Openings first [] last = last ≡ first
+  Openings first ((after, next) ∷ others) last = (WasCutOff first after next ⊎ WasRefused first after next) × Openings next others last
+
+  -- ---- laws: what a call makes of a store
+
+  -- a new store has no commits
+  abbrev pub CreatedStore : Type 0
+  CreatedStore = (vault : Vault D) (g : Graph) → Holds files vault g nothing nothing → HasGates (contents_of (files vault.disk)) → IsStoreOf files vault g []
+
+  -- an append that answered `Ok` adds its event to them, behind the others
+  abbrev pub AppendedStore : Type 0
+  AppendedStore = (old new : Vault D) (g : Graph) (commits : List Event) (event : Event)
+      → Holds files new g (with_facts (given commits) (environment_facts event)) (with_facts (stated commits) (event_facts event))
+      → LeavesOnly moment left_at old.disk new.disk HasGates
+      → IsStoreOf files new g (commits ++ event ∷ [])
+
+  -- a turnover leaves them
+  abbrev pub TurnedStore : Type 0
+  TurnedStore = (old new : Vault D) (g : Graph) (commits : List Event)
+      → Holds files new g (given commits) (stated commits) → LeavesOnly moment left_at old.disk new.disk HasGates
+      → IsStoreOf files new g commits
+
+  -- and so does a refusal that does not halt
+  abbrev pub RefusedStore : Type 0
+  RefusedStore = (old new : Vault D) (g : Graph) (commits : List Event) → IsStoreOf files old g commits → IsSame old new → IsStoreOf files new g commits
+
+  -- such a vault is ready for the next call
+  abbrev pub StoreIsReady : Type 0
+  StoreIsReady = (vault : Vault D) (g : Graph) (commits : List Event) → IsStoreOf files vault g commits → IsReady files vault
+
+  -- ---- laws: what a crash leaves at each moment
+
+  -- between calls, all of them
+  abbrev pub RestLeaves : Type 0
+  RestLeaves = (vault : Vault D) (g : Graph) (commits : List Event) → IsStoreOf files vault g commits
+      → LeavesOnly moment left_at vault.disk vault.disk (StandsForBeginning g commits [])
+
+  -- in an append, all of them, and its event or not
+  abbrev pub AppendLeaves : Type 0
+  AppendLeaves = (old new : Vault D) (g : Graph) (commits : List Event) (event : Event)
+      → LeavesOnly moment left_at old.disk new.disk (StandsBeforeOrAfter g (given commits) (stated commits) event) → LeavesOnly moment left_at old.disk new.disk HasGates
+      → LeavesOnly moment left_at old.disk new.disk (StandsForBeginning g commits (event ∷ []))
+
+  -- in a turnover, all of them
+  abbrev pub TurnLeaves : Type 0
+  TurnLeaves = (old new : Vault D) (g : Graph) (commits : List Event)
+      → LeavesOnly moment left_at old.disk new.disk (λ contents. Stands contents g (given commits) (stated commits)) → LeavesOnly moment left_at old.disk new.disk HasGates
+      → LeavesOnly moment left_at old.disk new.disk (StandsForBeginning g commits [])
+
+  -- ---- laws: what an opening gives
+
+  -- Where the files stand for a graph and facts, that is what an opening finds: the vault that it gives holds them, and the graph that
+  -- it gives has the same text.
+  abbrev pub OpeningFinds : Type 0
+  OpeningFinds = (disk : D) (g : Graph) (E X : Facts) → Stands (contents_of (files disk)) g E X
+      → (vault : Vault D) (h : Graph) (F Y : Facts) → Holds files vault h F Y → ((side : Side) → (files vault.disk side).content ≡ (files disk side).content)
+      → Holds files vault g E X × (canonical h ≡ canonical g) × SameSet F E × SameSet Y X
+
+  -- From a call to the next one: at each moment of a call a crash leaves a beginning of the commit order with each acknowledged event. A
+  -- crash at one of them left a disk, behind which openings were cut off or refused. Then the files stand for something, so none of
+  -- these said that they do not; and what an opening gives is a store of such a beginning, of the same graph's text, for the next call.
+  abbrev pub StoreGoesOn : Type 0
+  StoreGoesOn = (g : Graph) (acknowledged pending : List Event) (before after crashed last : D) (openings : List (D × D))
+      → LeavesOnly moment left_at before after (StandsForBeginning g acknowledged pending) → IsLeft before after crashed → Openings crashed openings last
+      → (((h : Graph) (F Y : Facts) → Stands (contents_of (files last)) h F Y → ⊥) → ⊥)
+      × ((vault : Vault D) (h : Graph) (F Y : Facts) → Holds files vault h F Y → ((side : Side) → (files vault.disk side).content ≡ (files last side).content)
+      → (made later : List Event) × (pending ≡ made ++ later) × IsStoreOf files vault g (acknowledged ++ made)
+      × (canonical h ≡ canonical g) × SameSet F (given (acknowledged ++ made)) × SameSet Y (stated (acknowledged ++ made)))
