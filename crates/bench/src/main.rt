@@ -10,6 +10,12 @@ use anyhow::Error;
 use std::env;
 use std::process::ExitCode;
 
+const USAGE: &str = "usage: bench canonical FILE
+       bench parse FILE
+       bench codec ITEMS
+       bench evaluate STATEMENTS
+       bench open RECORDS";
+
 fn main(rt: HostRuntime) -> Result<ExitCode, Error> {
     let words: Vec<String> = env::args(&rt)?.collect(rt.alloc())?;
     if words.len() == 3 {
@@ -23,11 +29,11 @@ fn main(rt: HostRuntime) -> Result<ExitCode, Error> {
             _ => {}
         }
     }
-    println!(rt; "usage: bench canonical FILE")?;
-    println!(rt; "       bench parse FILE")?;
-    println!(rt; "       bench codec ITEMS")?;
-    println!(rt; "       bench evaluate STATEMENTS")?;
-    println!(rt; "       bench open RECORDS")?;
+    if words.len() > 1 {
+        eprintln!(rt; "{USAGE}")?;
+        return Ok(ExitCode::from(2));
+    }
+    println!(rt; "{USAGE}")?;
     Ok(ExitCode::from(0))
 }
 

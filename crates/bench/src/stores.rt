@@ -1,7 +1,7 @@
 //! How long it takes to open a store on real files, beside a read of the same bytes.
-use anyhow::Error;
+use anyhow::{Error, bail};
 use codec::{decode_image, encode_event};
-use disk::{Disk, FileDisk};
+use disk::{Disk, FileDisk, Side};
 use sides::spell_side;
 use std::alloc::Global;
 use std::fs;
@@ -14,12 +14,23 @@ use vault::{Recovered, Refused, VaultError};
 const GRAPH: &str = "[cell: i];\nenv -> [cell];\n[cell] -> env;\n";
 
 /// Makes a store of so many records in the folder that it is run in, and one of as many items in its image, and prints the
-/// milliseconds that opening each takes, and a read of its live file.
+/// milliseconds that opening each takes, and a read of its live file. It makes none in a folder whose file A or B is not empty.
 pub(crate) fn measure(rt: &HostRuntime, count: u32) -> Result<(), Error> {
+    if !is_free(rt)? {
+        bail!("the files A and B of this folder are not empty");
+    }
     let records = with_records(rt.alloc(), count)?;
     opened(rt, "records", &records)?;
     let image = with_image(rt.alloc(), count)?;
     opened(rt, "items", &image)
+}
+
+// Whether the files of the folder that this is run in are empty.
+fn is_free(rt: &HostRuntime) -> Result<bool, Error> {
+    let mut disk = FileDisk::open(rt.alloc(), rt, ".")?;
+    let a = disk.len(Side::A)?;
+    let b = disk.len(Side::B)?;
+    Ok(a == 0 && b == 0)
 }
 
 // The milliseconds of an opening of a store with this file A, and of a read of the file.

@@ -2,6 +2,7 @@
 use crate::images::copying;
 use anyhow::Error;
 use graph::{GraphError, canonical, parse};
+use std::alloc::{AllocError, Global};
 use std::fs;
 use std::io::{Print, Write};
 use std::num::nearest_usize_to_f64;
@@ -15,18 +16,25 @@ const BYTES: u32 = 20_000_000;
 /// memory.
 pub(crate) fn print_canonical(rt: &HostRuntime, path: &str) -> Result<ExitCode, Error> {
     let text = fs::read(rt, path)?;
-    match parse(rt.alloc(), &text) {
-        Ok(graph) => {
-            rt.stdout().write_all(&canonical(rt.alloc(), &graph)?)?;
-            Ok(ExitCode::from(0))
-        }
+    let (status, told) = told(rt.alloc(), &text)?;
+    if status == 0 {
+        rt.stdout().write_all(&told)?;
+    } else {
+        rt.stderr().write_all(&told)?;
+    }
+    Ok(ExitCode::from(status))
+}
+
+// What is printed of a graph text, and the status.
+fn told(alloc: Global, text: &[u8]) -> Result<(u8, Vec<u8>), AllocError> {
+    match parse(alloc, text) {
+        Ok(graph) => Ok((0, canonical(alloc, &graph)?)),
         Err(fault) if fault.error == GraphError::NoMemory => {
-            eprintln!(rt; "no memory")?;
-            Ok(ExitCode::from(5))
+            Ok((5, b"no memory\n".to_vec(alloc)?))
         }
         Err(fault) => {
-            eprintln!(rt; "graph refused {fault}")?;
-            Ok(ExitCode::from(2))
+            let line = format!(in alloc; "graph refused {fault}\n")?;
+            Ok((2, line.as_bytes().to_vec(alloc)?))
         }
     }
 }
@@ -61,4 +69,32 @@ fn parsing(rt: &HostRuntime, text: &[u8], rounds: u32) -> Result<f64, Error> {
         let _graph = parse(rt.alloc(), text);
     }
     Ok(start.elapsed(rt)?.as_secs_f64())
+}
+
+#[cfg(test)]
+mod tests {
+    use super::*;
+    use std::test::Fail;
+
+    // Texts, the status, and what is printed.
+    const ROWS: [(&str, u8, &str); 4] = [
+        ("", 0, ""),
+        ("[x];<t: k>;", 0, "[x];\n<t: i>;\n"),
+        ("[x", 2, "graph refused 2 at 1:3\n"),
+        (
+            "<t>; <t> :: (s); step s() { read { a = 1; } write { } }",
+            2,
+            "graph refused 11.1 at 1:36\n",
+        ),
+    ];
+
+    #[test]
+    fn texts_are_told(rt: HostRuntime) -> Result<(), Fail> {
+        for (text, status, printed) in ROWS {
+            let (found, bytes) = told(rt.alloc(), text.as_bytes())?;
+            assert_eq!(rt; found, status, "of {text:?}");
+            assert_eq!(rt; bytes.as_slice(), printed.as_bytes(), "of {text:?}");
+        }
+        Ok(())
+    }
 }
