@@ -1,15 +1,12 @@
-ghost use Rattle.std.specs.Prelude.{◌≡◌, ◌≢◌, ◌≤◌, ◌<◌, ◌↔◌, ℕ, false, IsTrue, IfOk, IfErr, IsErrAnd, IsErrOf, OnOk};
+ghost use Rattle.std.specs.Prelude.{◌≡◌, ◌≤◌, ◌<◌, ◌↔◌, ℕ, false, IsTrue, IfOk, IfErr, IsErrAnd, IsErrOf, OnOk};
 ghost use Rattle.disk.specs.declared.side.Side.{Side};
 ghost use Rattle.disk.specs.File.{at_rest};
 ghost use Rattle.disk.specs.Time.{Contents, LeavesOnly, MayLeaveNow, HasCause};
-ghost use Rattle.terms.specs.Sets.{Facts};
-ghost use Rattle.graph.specs.Graph.{Graph};
 ghost use Rattle.sides.specs.Image.{IsListed, facts_in, environment_in};
 ghost use Rattle.sides.specs.Side.{IsOpen};
-ghost use Rattle.vault.specs.Stands.{Stands};
 ghost use Rattle.vault.specs.Store.{Holds, IsReady, SaysNothing, disk_of_opening};
 ghost use Rattle.vault.specs.Opened.{OnlyReads, IsFound, StandsForNothing, NoneIsOpen, IsOfOpening, contents_of};
-ghost use Rattle.vault.specs.declared.error.VaultError.TheVariants.{Device, Full, Halted, Exists, NotAStore, Damaged};
+ghost use Rattle.vault.specs.declared.error.VaultError.TheVariants.{Device, NotAStore, Damaged};
 
 use crate::found::{Found, found_in};
 use crate::heads::live_side;
@@ -40,8 +37,8 @@ pub fn open<D: Disk>(alloc: Global, disk: D) -> Result<Recovered<D>, Refused<D>>
     ensures ready { IsTrue D.is_honest → IfOk result (λ r. IsReady D.files r.vault) }
     ensures listed { IfOk result (λ r. IsListed r.image) }
     ensures working { IfOk result (λ r. r.vault.halted ≡ false) }
-    ensures nothing { IsTrue D.is_honest → IfErr result (λ refused. SaysNothing refused.error → (g : Graph) (E X : Facts) → Stands (λ side. (D.files disk side).content) g E X → ⊥) }
-    ensures not_a_store { IsTrue D.is_honest → IfErr result (λ refused. refused.error ≡ NotAStore → (side : Side) → IsOpen (D.files disk side).content → ⊥) }
+    ensures nothing { IsTrue D.is_honest → IfErr result (λ refused. SaysNothing refused.error → StandsForNothing (contents_of (D.files disk))) }
+    ensures not_a_store { IsTrue D.is_honest → IfErr result (λ refused. refused.error ≡ NotAStore → NoneIsOpen (contents_of (D.files disk))) }
     ensures damaged { IsTrue D.is_honest → (side : Side) (place : ℕ) → IfErr result (λ refused. refused.error ≡ Damaged side place → IsOpen (D.files disk side).content) }
 
     // What reads give stays, and a crash at any moment of the call leaves what one might have left before it.
@@ -49,7 +46,7 @@ pub fn open<D: Disk>(alloc: Global, disk: D) -> Result<Recovered<D>, Refused<D>>
     ensures any_moment { IsTrue D.is_honest → LeavesOnly D.moment D.left_at disk (disk_of_opening result) (MayLeaveNow (D.files disk)) }
     ensures left { IsTrue D.is_honest → (contents : Contents) → MayLeaveNow (D.files (disk_of_opening result)) contents → MayLeaveNow (D.files disk) contents }
 
-    ensures others { IfErr result (λ refused. (refused.error ≢ Full) × (refused.error ≢ Halted) × (refused.error ≢ Exists)) }
+    ensures others { IfErr result (λ refused. IsOfOpening refused.error) }
     ensures device { IsErrAnd result (λ refused. refused.error ≡ Device) ↔ (D.failures disk < D.failures (disk_of_opening result)) }
     ensures failures { D.failures disk ≤ D.failures (disk_of_opening result) }
 {
