@@ -1,7 +1,7 @@
+ghost use Rattle.std.specs.Prelude.{◌≡◌};
+
 use disk::Disk;
 use journal::Journal;
-
-ghost use Rattle.std.specs.Prelude.{◌≡◌};
 
 /// A store on two files, open.
 ///
