@@ -8,9 +8,13 @@ use terms::{Addr, Event, ItemCollection, Key};
 
 mod appending;
 mod crashing;
+mod crashing_turnovers;
 mod creating;
+mod fibonacci;
 mod opening;
+mod reopening;
 mod turning;
+mod turnovers;
 
 ghost use Rattle.std.specs.Prelude.{◌≡◌, true, IfOk, length};
 ghost use Rattle.disk.specs.MemDisk.{files_of};

@@ -3,8 +3,8 @@ ghost use Rattle.disk.specs.MemDisk.{files_of};
 ghost use Rattle.codec.specs.Spelling.{HasFewPuts};
 ghost use Rattle.vault.specs.Store.{IsReady};
 
-use super::turning::old_side;
-use super::{bytes_of, files_of, first_item, is_closed, new_store, side_with};
+use super::fibonacci::old_side;
+use super::{files_of, first_item, is_closed, new_store, side_with};
 use crate::{Vault, VaultError};
 use disk::{Disk, DiskError, MemDisk, Side};
 use std::alloc::{AllocError, Global};
@@ -118,19 +118,21 @@ fn added(alloc: Global, key: i64, value: i64) -> Result<Event, AllocError>
     Ok(Event::Done(instance, Puts::new(puts)))
 }
 
-// What a new store answers to ten events, and its disk.
-fn ten_appended<R: Abort + AllocGlobal>(rt: &R) -> Result<(Result<(), VaultError>, MemDisk), Fail> {
+// The disk of a new store to which ten events were added.
+pub(super) fn ten_appended<R: Abort + AllocGlobal>(rt: &R) -> Result<MemDisk, Fail> {
     let mut vault = new_store(rt, 0)?;
-    let answer = fill(rt.alloc(), &mut vault);
-    Ok((answer, vault.disk))
+    match fill(rt.alloc(), &mut vault) {
+        Ok(()) => Ok(vault.disk),
+        Err(error) => Err(error.into()),
+    }
 }
 
 #[test]
 fn ten_events_are_appended(rt: HostRuntime) -> Result<(), Fail> {
-    let (answer, mut disk) = ten_appended(&rt)?;
-    let a = bytes_of(rt.alloc(), &mut disk, Side::A)?;
-    assert_eq!(rt; answer, Ok(()));
+    let mut disk = ten_appended(&rt)?;
+    let (a, b) = files_of(rt.alloc(), &mut disk)?;
     assert_eq!(rt; a.len(), 557);
     assert!(rt; a == old_side(rt.alloc(), 1)?);
+    assert!(rt; is_closed(&b));
     Ok(())
 }

@@ -1,6 +1,8 @@
 use super::appending::appended;
+use super::fibonacci::put_item;
+use super::reopening::opened_twice;
 use super::{TEXT, new_store, side_with};
-use crate::{VaultError, open};
+use crate::VaultError;
 use disk::{Fill, MemDisk};
 use std::alloc::Global;
 use std::process::Abort;
@@ -26,23 +28,34 @@ fn left(alloc: Global, gate: u8, behind: &[u8]) -> Result<Vec<u8>, Fail> {
     Ok(side_with(alloc, &journal)?)
 }
 
-// What may be left of file A, with the number of items that the store then has: as synced, as written with each of four gates,
-// full of one value behind the gate, and with an open record behind it.
-fn fillings(alloc: Global) -> Result<Vec<(Vec<u8>, usize)>, Fail> {
+// What may be left of file A, with whether the event is there: as synced, as written with each of four gates, full of one value
+// behind the gate, and with an open record behind it.
+fn fillings(alloc: Global) -> Result<Vec<(Vec<u8>, bool)>, Fail> {
     let mut fillings = Vec::new(alloc);
-    fillings.push((left(alloc, 0, &[])?, 0))?;
-    for (gate, items) in [(0, 0), (1, 1), (7, 0), (255, 0)] {
-        fillings.push((left(alloc, gate, &BEHIND)?, items))?;
+    fillings.push((left(alloc, 0, &[])?, false))?;
+    for (gate, is_there) in [(0, false), (1, true), (7, false), (255, false)] {
+        fillings.push((left(alloc, gate, &BEHIND)?, is_there))?;
     }
     for value in [0, 1, 255] {
-        fillings.push((left(alloc, 0, &[value; 25])?, 0))?;
+        fillings.push((left(alloc, 0, &[value; 25])?, false))?;
     }
     let mut forged = Vec::new(alloc);
     forged.extend_from_slice(&BEHIND[..24])?;
     forged.push(1)?;
     forged.extend_from_slice(&BEHIND)?;
-    fillings.push((left(alloc, 0, &forged)?, 0))?;
+    fillings.push((left(alloc, 0, &forged)?, false))?;
     Ok(fillings)
+}
+
+// The image of nothing, or of the first item, which the environment put: no fault, the items, no tags, and no instances.
+fn image(alloc: Global, is_there: bool) -> Result<Vec<u8>, Fail> {
+    let mut image = vec![in alloc; 0, is_there as u8, 0, 0, 0]?;
+    if is_there {
+        put_item(&mut image, 0, 0)?;
+        image.push(0)?;
+    }
+    image.extend_from_slice(&[0; 8])?;
+    Ok(image)
 }
 
 // The disk of a new store after this call of an append, and then a crash, or `None` where no crash may leave these bytes.
@@ -72,52 +85,45 @@ fn crashed<R: Abort + AllocGlobal>(
     Ok(disk.crash(fill).ok().map(|()| disk))
 }
 
-// How many items the store on a disk has, and the disk.
-fn opened(alloc: Global, disk: MemDisk) -> Result<(usize, MemDisk), Fail> {
-    match open(alloc, disk) {
-        Ok(recovered) => {
-            let items = recovered.image.items.as_slice().len();
-            Ok((items, recovered.vault.disk))
-        }
-        Err(refused) => Err(refused.error.into()),
-    }
-}
-
-// How many items the store on a disk has, opened once and again.
-fn opened_twice(alloc: Global, disk: MemDisk) -> Result<(usize, usize), Fail> {
-    let (first, disk) = opened(alloc, disk)?;
-    let (second, _) = opened(alloc, disk)?;
-    Ok((first, second))
-}
-
-// How many items the store has, opened once and again, after this call of an append and then a crash that leaves these bytes.
+// The generation of the store and the spelling of its image, behind this call of an append and a crash that leaves these bytes.
 fn recovered<R: Abort + AllocGlobal>(
     rt: &R,
     number: u64,
     left: &[u8],
-) -> Result<Option<(usize, usize)>, Fail> {
+) -> Result<Option<(u64, Vec<u8>)>, Fail> {
     match crashed(rt, number, left)? {
         Some(disk) => Ok(Some(opened_twice(rt.alloc(), disk)?)),
         None => Ok(None),
     }
 }
 
-// Behind a creation, and at each call of an append, each filling that a crash there may leave: the store opens twice, with the
-// same items.
+// How many of these fillings a crash at this call of an append may leave. Behind each the store opens twice, with the event or
+// with nothing.
+fn crashes<R: Abort + AllocGlobal>(
+    rt: &R,
+    number: u64,
+    fillings: &[(Vec<u8>, bool)],
+) -> Result<u16, Fail> {
+    let mut crashes = 0u16;
+    for (left, is_there) in fillings {
+        let Some((generation, found)) = recovered(rt, number, left)? else {
+            continue;
+        };
+        let expected = image(rt.alloc(), *is_there)?;
+        assert!(rt; generation == 1 && found == expected, "at call {number}");
+        crashes = crashes.saturating_add(1);
+    }
+    Ok(crashes)
+}
+
+// Behind a creation, and at each call of an append, each filling that a crash there may leave.
 #[test]
 fn a_crash_leaves_the_event_or_not(rt: HostRuntime) -> Result<(), Fail> {
     assert_eq!(rt; TEXT.len(), 243);
     let fillings = fillings(rt.alloc())?;
     for (number, may_be_left) in MAY_BE_LEFT {
-        let mut crashes = 0u16;
-        for (left, items) in fillings.iter() {
-            let Some(found) = recovered(&rt, number, left)? else {
-                continue;
-            };
-            assert_eq!(rt; found, (*items, *items), "at call {number}");
-            crashes = crashes.saturating_add(1);
-        }
-        assert_eq!(rt; crashes, may_be_left, "at call {number}");
+        let found = crashes(&rt, number, &fillings)?;
+        assert_eq!(rt; found, may_be_left, "at call {number}");
     }
     Ok(())
 }
