@@ -87,8 +87,8 @@ fn put_steps(text: &mut Vec<u8>, graph: &Graph) -> Result<(), AllocError>
     Ok(())
 }
 
-/// All of it: its declarations, the relations of its steps and of its environment, and the texts of its steps, each in the order of
-/// the numbers, one to a line.
+/// The canonical text, as it is spelled: the declarations, the relations of the steps and of the environment, and the texts of the
+/// steps, each in the order of the numbers, one to a line.
 #[tactic(auto, using(std::proofs::Common::append_assoc))]
 fn written(alloc: Global, graph: &Graph) -> Result<Vec<u8>, AllocError>
     ensures { IfOk result (λ text. text.items ≡ canonical graph.now) }

@@ -1,4 +1,6 @@
+mod counts;
 mod limits;
+mod nesting;
 mod readers;
 mod rows;
 

@@ -259,237 +259,11 @@ const BYTES: [Row; 4] = [
     },
 ];
 
-// A front, a part, how often it stands there, and a back; and the fault, or none.
-type Repeated = (
-    &'static str,
-    &'static str,
-    usize,
-    &'static str,
-    &'static str,
-);
-
-// Depth, in each place where an expression may stand, and of minus signs.
-const DEPTHS: [Repeated; 8] = [
-    (
-        "[x:k];<t>;<t>::(s);[x]->(s);step s(){var a;read{get a=[x:1",
-        "+1",
-        63,
-        "];}write{}}",
-        "",
-    ),
-    (
-        "[x:k];<t>;<t>::(s);[x]->(s);step s(){var a;read{get a=[x:1",
-        "+1",
-        64,
-        "];}write{}}",
-        "10 at 1:58",
-    ),
-    (
-        "<t>;<t>::(s);step s(){var a;read{if(1",
-        "+1",
-        63,
-        "){}}write{}}",
-        "",
-    ),
-    (
-        "<t>;<t>::(s);step s(){var a;read{if(1",
-        "+1",
-        64,
-        "){}}write{}}",
-        "10 at 1:37",
-    ),
-    (
-        "<t>;<t>::(s);step s(){var a;read{for a in 0..1",
-        "+1",
-        63,
-        "{}}write{}}",
-        "",
-    ),
-    (
-        "<t>;<t>::(s);step s(){var a;read{for a in 0..1",
-        "+1",
-        64,
-        "{}}write{}}",
-        "10 at 1:46",
-    ),
-    (
-        "<t>;<t>::(s);step s(){var a;read{a=",
-        "-",
-        63,
-        "1;}write{}}",
-        "",
-    ),
-    (
-        "<t>;<t>::(s);step s(){var a;read{a=",
-        "-",
-        64,
-        "1;}write{}}",
-        "10 at 1:36",
-    ),
-];
-
-// Brackets within those of a condition, which are not counted, and braces of the other blocks.
-const NESTED: [(Repeated, &str, usize, &str); 6] = [
-    (
-        ("<t>;<t>::(s);step s(){var a;read{if(", "(", 64, "1", ""),
-        ")",
-        64,
-        "){}}write{}}",
-    ),
-    (
-        (
-            "<t>;<t>::(s);step s(){var a;read{if(",
-            "(",
-            65,
-            "1",
-            "10 at 1:101",
-        ),
-        ")",
-        65,
-        "){}}write{}}",
-    ),
-    (
-        (
-            "<t>;<t>::(s);step s(){var a;read{",
-            "for a in 0..1{",
-            16,
-            "",
-            "",
-        ),
-        "}",
-        16,
-        "}write{}}",
-    ),
-    (
-        (
-            "<t>;<t>::(s);step s(){var a;read{",
-            "for a in 0..1{",
-            17,
-            "",
-            "10 at 1:271",
-        ),
-        "}",
-        17,
-        "}write{}}",
-    ),
-    (
-        (
-            "<t>;<t>::(s);step s(){var a;read{",
-            "if(a){}else{",
-            16,
-            "",
-            "",
-        ),
-        "}",
-        16,
-        "}write{}}",
-    ),
-    (
-        (
-            "<t>;<t>::(s);step s(){var a;read{",
-            "if(a){}else{",
-            17,
-            "",
-            "10 at 1:231",
-        ),
-        "}",
-        17,
-        "}write{}}",
-    ),
-];
-
-// Parts that are numbered from 0 on, each list of so many: what stands before it, and before and behind each number; then a back; and
-// the fault, or none.
-struct Numbers {
-    lists: &'static [(&'static str, &'static str, &'static str)],
-    count: usize,
-    back: &'static str,
-    fault: &'static str,
-}
-
-// Collections, steps and a step's names, no two of them one.
-const DISTINCT: [Numbers; 8] = [
-    Numbers {
-        lists: &[("", "[x", "];")],
-        count: 64,
-        back: "",
-        fault: "",
-    },
-    Numbers {
-        lists: &[("", "[x", "];")],
-        count: 65,
-        back: "",
-        fault: "10 at 1:376",
-    },
-    Numbers {
-        lists: &[("", "<x", ">;")],
-        count: 64,
-        back: "",
-        fault: "",
-    },
-    Numbers {
-        lists: &[("", "<x", ">;")],
-        count: 65,
-        back: "",
-        fault: "10 at 1:376",
-    },
-    Numbers {
-        lists: &[
-            ("<t>;", "<t>::(s", ");"),
-            ("", "step s", "(){read{}write{}}"),
-        ],
-        count: 64,
-        back: "",
-        fault: "",
-    },
-    Numbers {
-        lists: &[
-            ("<t>;", "<t>::(s", ");"),
-            ("", "step s", "(){read{}write{}}"),
-        ],
-        count: 65,
-        back: "",
-        fault: "10 at 1:2305",
-    },
-    Numbers {
-        lists: &[("<t:i>;<t>::(s);step s(p){var ", "v", ",")],
-        count: 62,
-        back: "z;read{}write{}}",
-        fault: "",
-    },
-    Numbers {
-        lists: &[("<t:i>;<t>::(s);step s(p){var ", "v", ",")],
-        count: 63,
-        back: "z;read{}write{}}",
-        fault: "10 at 1:272",
-    },
-];
-
-fn numbered<R: AllocGlobal>(rt: &R, row: &Numbers) -> Result<String, Fail> {
-    let mut text = String::new(rt.alloc());
-    for (front, before, behind) in row.lists {
-        text.push_str(front)?;
-        for number in 0..row.count {
-            write!(text, "{before}{number}{behind}")?;
-        }
-    }
-    text.push_str(row.back)?;
-    Ok(text)
-}
-
-fn push_repeated(text: &mut String, part: &str, count: usize) -> Result<(), Fail> {
+pub(super) fn push_repeated(text: &mut String, part: &str, count: usize) -> Result<(), Fail> {
     for _ in 0..count {
         text.push_str(part)?;
     }
     Ok(())
-}
-
-fn repeated<R: AllocGlobal>(rt: &R, row: Repeated) -> Result<String, Fail> {
-    let (front, part, count, back, _) = row;
-    let mut text = String::from_str(rt.alloc(), front)?;
-    push_repeated(&mut text, part, count)?;
-    text.push_str(back)?;
-    Ok(text)
 }
 
 fn text_of<R: AllocGlobal>(rt: &R, row: &Row) -> Result<String, Fail> {
@@ -502,7 +276,11 @@ fn text_of<R: AllocGlobal>(rt: &R, row: &Row) -> Result<String, Fail> {
 }
 
 // Asserts that a text has this fault, or none.
-fn assert_fault<R: Abort + AllocGlobal>(rt: &R, text: &str, fault: &str) -> Result<(), Fail> {
+pub(super) fn assert_fault<R: Abort + AllocGlobal>(
+    rt: &R,
+    text: &str,
+    fault: &str,
+) -> Result<(), Fail> {
     let found = told(rt, text.as_bytes())?;
     if fault.is_empty() {
         assert!(rt; !found.as_str().contains(" at "), "{found}");
@@ -527,17 +305,5 @@ fn limits_are_kept(rt: HostRuntime) -> Result<(), Fail> {
     assert_rows(&rt, &BRACES)?;
     assert_rows(&rt, &COUNTS)?;
     assert_rows(&rt, &BYTES)?;
-    for row in DEPTHS {
-        assert_fault(&rt, repeated(&rt, row)?.as_str(), row.4)?;
-    }
-    for (row, part, count, back) in NESTED {
-        let mut text = repeated(&rt, row)?;
-        push_repeated(&mut text, part, count)?;
-        text.push_str(back)?;
-        assert_fault(&rt, text.as_str(), row.4)?;
-    }
-    for row in &DISTINCT {
-        assert_fault(&rt, numbered(&rt, row)?.as_str(), row.fault)?;
-    }
     Ok(())
 }
