@@ -13,7 +13,7 @@ use Rattle.syntax.proofs.Fillings.{Whole, Filling, Fillings, fillings_pieces}
 use Rattle.syntax.proofs.FilledExpressions.{sound_operand, ends_here, closing_ends}
 use Rattle.syntax.proofs.FilledRelations.{sound_related}
 use Rattle.syntax.proofs.FilledGraphs.{sound_front, closes_front, declared_without}
-use Rattle.syntax.proofs.Filled.{AllSound, all_sound}
+use Rattle.syntax.proofs.Filled.{AllBegun, AllSound, all_sound}
 
 -- ---- something stands for each thing
 
@@ -128,17 +128,21 @@ before_none stack spots =
     let them = some_spots (fillings_pieces stack fillings) in
     record { fillings = fillings; others = them.spots; are = them.are; same = refl }
 
--- behind one token that is taken
-pub before_one : (stack after : List Expected) (spot : Spot) (spots : List Spot) (count : ℕ) → next stack spot ≡ on after → Before after count spots → Before stack (suc count) (spot ∷ spots)
-before_one stack after spot spots count is later =
-    let sound = subst (λ (it : Next). AllSound stack spot it) is (all_sound stack spot) in
-    let begun = sound later.fillings in
+-- behind one token that begins all
+pub before_all : (stack after : List Expected) (spot : Spot) (spots : List Spot) (count : ℕ) → ((later : Fillings after) → AllBegun stack spot (fillings_pieces after later))
+    → Before after count spots → Before stack (suc count) (spot ∷ spots)
+before_all stack after spot spots count all later =
+    let begun = all later.fillings in
     record {
       fillings = begun.fillings;
       others = spot ∷ later.others;
       are = subst (λ (pieces : List Piece). ArePieces pieces (spot ∷ later.others)) (sym begun.spelled) (begun.is, later.are);
       same = ap (λ (list : List Spot). spot ∷ list) later.same;
     }
+
+-- behind one that is taken
+pub before_one : (stack after : List Expected) (spot : Spot) (spots : List Spot) (count : ℕ) → next stack spot ≡ on after → Before after count spots → Before stack (suc count) (spot ∷ spots)
+before_one stack after spot spots count is later = before_all stack after spot spots count (subst (λ (it : Next). AllSound stack spot it) is (all_sound stack spot)) later
 
 pub begins_graph : (count : ℕ) (spots : List Spot) → Before graph_expected count spots → (graph : GraphText) × (others : List Spot) × Derives graph others × (take count others ≡ take count spots)
 begins_graph count spots before =

@@ -1,13 +1,14 @@
 -- A token that is taken begins what stands for all that may come.
-use Rattle.std.proofs.Common.{◌≡◌, List, [], ◌∷◌, ◌++◌, refl, sym, ap, ◌∙◌, append_assoc}
+use Rattle.std.proofs.Common.{◌≡◌, ◌≢◌, ◌⊎◌, inl, inr, List, [], ◌∷◌, ◌++◌, refl, sym, ap, ◌∙◌, append_assoc}
 use Rattle.std.specs.Prelude.{⊤}
-use Rattle.syntax.specs.Tokens.{Lexeme, Spot}
+use Rattle.syntax.specs.Tokens.{Lexeme, unknown, Spot}
 use Rattle.syntax.specs.Grammar.{Position}
 use Rattle.syntax.specs.Spelled.{Piece, IsPiece}
 use Rattle.syntax.specs.Expected.{Expected, Move, taken, left_out, wrong, passed, look, Next, on, nothing_left, at_fault, limit_passed, met, next}
 use Rattle.syntax.specs.Expected.{exactly, keyword, a_name, whole, operand, behind_operand, components, more_components, statements, nested_brace, or_else, put_target, declarations, front, front_named, front_closed}
 use Rattle.syntax.specs.Expected.{component_name, behind_component, relations, reader, related, steps, step_name, parameters, parameter, behind_parameter, variables, step_variable, behind_variable}
-use Rattle.syntax.proofs.Fillings.{filling_pieces, Fillings, fillings_pieces, Sound}
+use Rattle.syntax.proofs.Lost.{Never, never_lost, never_behind}
+use Rattle.syntax.proofs.Fillings.{filling_pieces, Fillings, fillings_pieces, Made, Begun, Sound}
 use Rattle.syntax.proofs.FilledExpressions.{sound_operand, sound_whole, sound_behind}
 use Rattle.syntax.proofs.FilledKeys.{sound_exactly, sound_keyword, sound_a_name, sound_components, sound_more_components}
 use Rattle.syntax.proofs.FilledStatements.{sound_statements, sound_brace, sound_else, sound_target}
@@ -71,14 +72,21 @@ pub record AllBegun (stack : List Expected) (spot : Spot) (rest : List Piece) : 
   pub fillings : Fillings stack
   pub spelled : fillings_pieces stack fillings ≡ piece ∷ rest
 
+-- the same, whatever comes behind it, of a token that is known
+pub record AllBegins (stack : List Expected) (spot : Spot) : Type 0 where
+  pub known : spot.0 ≢ unknown
+  pub after : List Expected
+  pub begun : (later : Fillings after) → AllBegun stack spot (fillings_pieces after later)
+
 abbrev pub AllSound : List Expected → Spot → Next → Type 0
 AllSound stack spot (on after) = (later : Fillings after) → AllBegun stack spot (fillings_pieces after later)
 AllSound stack spot nothing_left = ⊤
 AllSound stack spot at_fault = ⊤
-AllSound stack spot (limit_passed place) = ⊤
+AllSound stack spot (limit_passed place) = AllBegins stack spot ⊎ Never stack
 
-met_sound : (first : Expected) (rest : List Expected) (spot : Spot) (move : Move) (without : Next) → Sound first spot move → AllSound rest spot without → AllSound (first ∷ rest) spot (met move rest without)
-met_sound first rest spot (taken more) without here behind = λ later.
+all_taken : (first : Expected) (rest : List Expected) (spot : Spot) (more : List Expected) → ((later : Fillings more) → Begun first spot (fillings_pieces more later))
+    → (later : Fillings (more ++ rest)) → AllBegun (first ∷ rest) spot (fillings_pieces (more ++ rest) later)
+all_taken first rest spot more here later =
     let parts = apart more rest later in
     let begun = here parts.front in
     record {
@@ -87,19 +95,26 @@ met_sound first rest spot (taken more) without here behind = λ later.
       fillings = record { first = begun.made.filling; rest = parts.back };
       spelled = ap (λ (list : List Piece). list ++ fillings_pieces rest parts.back) begun.made.spelled ∙ ap (λ (list : List Piece). begun.piece ∷ list) (sym parts.spelled);
     }
-met_sound first rest spot left_out (on after) here behind = λ later.
-    let begun = behind later in
-    record {
-      piece = begun.piece;
-      is = begun.is;
-      fillings = record { first = here.filling; rest = begun.fillings };
-      spelled = ap (λ (list : List Piece). list ++ fillings_pieces rest begun.fillings) here.spelled ∙ begun.spelled;
-    }
+
+all_left_out : (first : Expected) (rest : List Expected) (spot : Spot) (pieces : List Piece) → Made first [] → AllBegun rest spot pieces → AllBegun (first ∷ rest) spot pieces
+all_left_out first rest spot pieces here begun = record {
+  piece = begun.piece;
+  is = begun.is;
+  fillings = record { first = here.filling; rest = begun.fillings };
+  spelled = ap (λ (list : List Piece). list ++ fillings_pieces rest begun.fillings) here.spelled ∙ begun.spelled;
+}
+
+met_sound : (first : Expected) (rest : List Expected) (spot : Spot) (move : Move) (without : Next) → Sound first spot move → AllSound rest spot without → AllSound (first ∷ rest) spot (met move rest without)
+met_sound first rest spot (taken more) without here behind = all_taken first rest spot more here
+met_sound first rest spot left_out (on after) here behind = λ later. all_left_out first rest spot (fillings_pieces after later) here (behind later)
 met_sound first rest spot left_out nothing_left here behind = tt
 met_sound first rest spot left_out at_fault here behind = tt
-met_sound first rest spot left_out (limit_passed place) here behind = tt
+met_sound first rest spot left_out (limit_passed place) here (inl it) =
+    inl (record { known = it.known; after = it.after; begun = λ later. all_left_out first rest spot (fillings_pieces it.after later) here (it.begun later) })
+met_sound first rest spot left_out (limit_passed place) here (inr none) = inr (never_behind first rest none)
 met_sound first rest spot wrong without here behind = tt
-met_sound first rest spot (passed place) without here behind = tt
+met_sound first rest spot (passed place) without (inl it) behind = inl (record { known = it.known; after = it.more ++ rest; begun = all_taken first rest spot it.more it.begun })
+met_sound first rest spot (passed place) without (inr lost) behind = inr (λ spots. never_lost spots rest first lost)
 
 pub all_sound : (stack : List Expected) (spot : Spot) → AllSound stack spot (next stack spot)
 all_sound [] spot = tt

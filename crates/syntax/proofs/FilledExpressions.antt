@@ -1,25 +1,27 @@
 -- What stands for an expression and its parts, from one token to the next.
-use Rattle.std.proofs.Common.{◌≡◌, List, [], ◌∷◌, ◌++◌, Option, Some, None, refl, sym, ap, subst, ◌∙◌, append_assoc}
+use Rattle.std.proofs.Common.{◌≡◌, ◌≢◌, ◌<◌, inl, inr, true, false, Bool, nat_lt, if◌then◌else◌, rules, List, [], ◌∷◌, ◌++◌, Option, Some, None, refl, sym, ap, subst, ◌∙◌, append_assoc}
 use Rattle.std.specs.Prelude.{⊤}
 use Rattle.std.proofs.lemmas.List.{append-nil}
 use Rattle.syntax.specs.declared.token.Symbol.TheVariants as sign
-use Rattle.syntax.specs.Tokens.{Lexeme, name, number, symbol, Spot}
+use Rattle.syntax.specs.declared.limits.TheConstants.{MOST_DEPTH}
+use Rattle.syntax.specs.Tokens.{Lexeme, name, number, symbol, unknown, Spot}
 use Rattle.syntax.specs.Grammar.{Position, Expr, Prod, Unary, literal, variable, bracketed, Multiplication, times, over, modulo, Addition, plus, minus, Comparison, equal, not_equal, less, less_or_equal, greater, greater_or_equal}
 use Rattle.syntax.specs.Spelled.{Piece, plain, at, IsPiece, expr_pieces, prod_pieces, unary_pieces, multiplication_sign, addition_sign, comparison_sign}
-use Rattle.syntax.specs.Limits.{name_limits}
+use Rattle.syntax.specs.Limits.{name_limits, expr_depth}
 use Rattle.syntax.specs.Expected.{Comparing, never, possible, behind_left, Level, Expression, Expected, whole, operand, behind_operand, Move, taken, left_out, wrong, passed, within, begun, head, look, look_operand, broken_off, finished, level_expr, sum_of, compared_of, product_behind}
 use Rattle.syntax.specs.Expected.{negating, bracketing, passing, without_product, awaiting_product, awaiting_sum, awaiting_comparison, closed, look_end, look_close, look_comparison, awaits, read_operand}
 use Rattle.syntax.specs.Partial.{outermost, state_pieces}
 use Rattle.syntax.proofs.Onward.{same_outermost, negating_pieces, bracketing_pieces, operand_pieces, awaiting_product_pieces, awaiting_sum_pieces, awaiting_comparison_pieces, closing_pieces, added_pieces, compared_pieces}
+use Rattle.syntax.proofs.Lost.{EndsDeep}
 use Rattle.syntax.proofs.Fillings.{Fits, Ends, EndsOperand, EndsBehind, Fillings, fillings_pieces, Begun, Sound}
 
-pub sound_within : (first : Expected) (spot : Spot) (limits : List Position) (move : Move) → Sound first spot move → Sound first spot (within limits move)
-sound_within first spot [] move sound = sound
-sound_within first spot (place ∷ limits) move sound = tt
+pub sound_within : (first : Expected) (spot : Spot) (limits : List Position) (more : List Expected) → spot.0 ≢ unknown → Sound first spot (taken more) → Sound first spot (within limits (taken more))
+sound_within first spot [] more known sound = sound
+sound_within first spot (place ∷ limits) more known sound = inl (record { known = known; more = more; begun = sound })
 
-pub sound_broken : (first : Expected) (spot : Spot) (place : Option Position) → Sound first spot (broken_off place)
-sound_broken first spot None = tt
-sound_broken first spot (Some place) = tt
+sound_broken : (state : Expression) (prod : Prod) (spot : Spot) (place : Option Position) → state.passed ≡ place → Sound (behind_operand state prod) spot (broken_off place)
+sound_broken state prod spot None same = tt
+sound_broken state prod spot (Some place) same = inr (inl (place, same))
 
 one_behind : (pieces : List Piece) (piece : Piece) (rest : List Piece) → (pieces ++ piece ∷ []) ++ rest ≡ pieces ++ (piece ∷ (rest ++ []))
 one_behind pieces piece rest = append_assoc pieces (piece ∷ []) rest ∙ ap (λ (list : List Piece). pieces ++ (piece ∷ list)) (sym (append-nil rest))
@@ -38,11 +40,11 @@ abbrev Goes : Expression → Spot → Move → Type 0
 Goes state spot (taken more) = (later : Fillings more) → (piece : Piece) × IsPiece piece spot × EndsOperand state (piece ∷ fillings_pieces more later)
 Goes state spot left_out = ⊥
 Goes state spot wrong = ⊤
-Goes state spot (passed place) = ⊤
+Goes state spot (passed place) = state.passed ≡ Some place
 
-goes_broken : (state : Expression) (spot : Spot) (place : Option Position) → Goes state spot (broken_off place)
-goes_broken state spot None = tt
-goes_broken state spot (Some place) = tt
+goes_broken : (state : Expression) (spot : Spot) (place : Option Position) → state.passed ≡ place → Goes state spot (broken_off place)
+goes_broken state spot None same = tt
+goes_broken state spot (Some place) same = same
 
 goes_minus : (state : Expression) (place : Position) → Goes state (symbol sign.Minus, place) (awaits (negating state place))
 goes_minus state place later =
@@ -68,7 +70,7 @@ goes state (symbol sign.Minus) place = goes_minus state place
 goes state (symbol sign.OpenRound) place = goes_bracket state place
 goes state (number value) place = goes_operand state (literal place value) (at place (number value)) (number value, place) refl (refl, refl)
 goes state (name text) place = goes_operand (passing state (name_limits (text, place))) (variable (text, place)) (at place (name text)) (name text, place) refl (refl, refl)
-goes state _ place = goes_broken state _ state.passed
+goes state _ place = goes_broken state _ state.passed refl
 
 operand_goes : (state : Expression) (spot : Spot) (move : Move) → Goes state spot move → Sound (operand state) spot move
 operand_goes state spot (taken more) on = λ later.
@@ -76,7 +78,7 @@ operand_goes state spot (taken more) on = λ later.
     record { piece = it.0; is = it.1; made = record { filling = record { rest = it.0 ∷ fillings_pieces more later; makes = it.2 }; spelled = refl } }
 operand_goes state spot left_out on = absurd on
 operand_goes state spot wrong on = tt
-operand_goes state spot (passed place) on = tt
+operand_goes state spot (passed place) on = inr (inl (place, on))
 
 pub sound_operand : (state : Expression) (lexeme : Lexeme) (place : Position) → Sound (operand state) (lexeme, place) (look (operand state) lexeme place)
 sound_operand state lexeme place = operand_goes state (lexeme, place) (look_operand state place (head lexeme)) (goes state lexeme place)
@@ -94,7 +96,7 @@ whole_goes : (comparing : Comparing) (place : Position) (spot : Spot) (move : Mo
 whole_goes comparing place spot (taken more) on = λ later. let it = on later in whole_begun comparing place spot it.0 (fillings_pieces more later) it.1 it.2
 whole_goes comparing place spot left_out on = absurd on
 whole_goes comparing place spot wrong on = tt
-whole_goes comparing place spot (passed other) on = tt
+whole_goes comparing place spot (passed other) on = absurd (cc)
 
 pub sound_whole : (comparing : Comparing) (lexeme : Lexeme) (place : Position) → Sound (whole comparing) (lexeme, place) (look (whole comparing) lexeme place)
 sound_whole comparing lexeme place = whole_goes comparing place (lexeme, place) (look_operand (begun comparing place) place (head lexeme)) (goes (begun comparing place) lexeme place)
@@ -118,15 +120,19 @@ ends_here state prod none behind = record {
     alone (behind_left left how) = tt
 
 sound_finished : (state : Expression) (prod : Prod) (spot : Spot) → state.outer ≡ [] → Sound (behind_operand state prod) spot (finished state (level_expr state.level prod))
-sound_finished state prod spot none = sound_within (behind_operand state prod) spot _ _ (by state.passed)
+sound_finished state prod spot none = by (nat_lt MOST_DEPTH (expr_depth (level_expr state.level prod))) state.passed refl refl
   where
-    by : (place : Option Position) → Sound (behind_operand state prod) spot (elim place [ None ↦ left_out | Some other ↦ passed other ])
-    by None = record { filling = record { rest = []; makes = ends_here state prod none }; spelled = refl }
-    by (Some other) = tt
+    by : (deep : Bool) (place : Option Position) → nat_lt MOST_DEPTH (expr_depth (level_expr state.level prod)) ≡ deep → state.passed ≡ place
+        → Sound (behind_operand state prod) spot (within (if deep then state.first ∷ [] else []) (elim place [ None ↦ left_out | Some other ↦ passed other ]))
+    by true place more same =
+        let deep : MOST_DEPTH < expr_depth (level_expr state.level prod) = search (rules, more) in
+        inr (inr (subst (λ (outer : List (Level × Position)). EndsDeep state.level outer prod) (sym none) deep))
+    by false None more same = record { filling = record { rest = []; makes = ends_here state prod none }; spelled = refl }
+    by false (Some other) more same = inr (inl (other, same))
 
 sound_end : (state : Expression) (outer : List (Level × Position)) (prod : Prod) (spot : Spot) → state.outer ≡ outer → Sound (behind_operand state prod) spot (look_end state outer prod)
 sound_end state [] prod spot same = sound_finished state prod spot same
-sound_end state (around ∷ outer) prod spot same = sound_broken (behind_operand state prod) spot state.passed
+sound_end state (around ∷ outer) prod spot same = sound_broken state prod spot state.passed refl
 
 -- the bracket closes
 pub closing_ends : (state : Expression) (level : Level) (place : Position) (outer : List (Level × Position)) (prod : Prod) (rest : List Piece) → state.outer ≡ (level, place) ∷ outer

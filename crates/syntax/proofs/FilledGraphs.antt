@@ -1,5 +1,5 @@
 -- What stands for declarations and whole graph texts, from one token to the next.
-use Rattle.std.proofs.Common.{◌≡◌, ℕ, List, [], ◌∷◌, ◌++◌, Option, Some, None, refl, sym, ap, ◌∙◌, append_assoc}
+use Rattle.std.proofs.Common.{◌≡◌, inl, inr, ℕ, List, [], ◌∷◌, ◌++◌, Option, Some, None, refl, sym, ap, ◌∙◌, append_assoc}
 use Rattle.std.specs.List.{flat_map}
 use Rattle.std.proofs.lemmas.List.{append-nil}
 use Rattle.syntax.specs.declared.token.Symbol.TheVariants as sign
@@ -7,7 +7,7 @@ use Rattle.syntax.specs.Tokens.{Lexeme, name, number, word, symbol, unknown, Spo
 use Rattle.syntax.specs.Grammar.{Position, Named, Names, Declaration, item_declared, tag_declared, GraphText}
 use Rattle.syntax.specs.Spelled.{Piece, plain, after_colon, IsPiece, named, declaration_pieces, relation_pieces, step_pieces, graph_pieces}
 use Rattle.syntax.specs.Expected.{Expected, exactly, component_name, declarations, front, front_named, front_closed, relations, reader, Kind, item, tag, opening, closing, declared, declared_limits, semicolon_relations, prescribed_rest, Move, taken, left_out, wrong, passed, look, look_relation, look_front_named, look_front_closed}
-use Rattle.syntax.proofs.Fillings.{Opened, RelationsAndSteps, fillings_pieces, Made, Sound}
+use Rattle.syntax.proofs.Fillings.{Opened, RelationsAndSteps, fillings_pieces, Made, Begun, Sound}
 use Rattle.syntax.proofs.FilledExpressions.{sound_within}
 use Rattle.syntax.proofs.FilledKeys.{begun_plain, sound_name}
 use Rattle.syntax.proofs.FilledRelations.{sound_relation, read_relation, prescribed_relation}
@@ -16,13 +16,15 @@ use Rattle.syntax.proofs.FilledRelations.{sound_relation, read_relation, prescri
 abbrev without_declarations : RelationsAndSteps → GraphText
 without_declarations them = record { declarations = []; relations = them.relations; steps = them.steps }
 
+begun_without : (items tags : ℕ) (spot : Spot) (rest : List Piece) → Begun relations spot rest → Begun (declarations items tags) spot rest
+begun_without items tags spot rest begun = record { piece = begun.piece; is = begun.is; made = record { filling = without_declarations begun.made.filling; spelled = begun.made.spelled } }
+
 ends_declarations : (items tags : ℕ) (spot : Spot) (move : Move) → Sound relations spot move → Sound (declarations items tags) spot move
-ends_declarations items tags spot (taken more) sound = λ later.
-    let begun = sound later in
-    record { piece = begun.piece; is = begun.is; made = record { filling = without_declarations begun.made.filling; spelled = begun.made.spelled } }
+ends_declarations items tags spot (taken more) sound = λ later. begun_without items tags spot (fillings_pieces more later) (sound later)
 ends_declarations items tags spot left_out sound = record { filling = without_declarations sound.filling; spelled = sound.spelled }
 ends_declarations items tags spot wrong sound = tt
-ends_declarations items tags spot (passed place) sound = tt
+ends_declarations items tags spot (passed place) (inl it) = inl (record { known = it.known; more = it.more; begun = λ later. begun_without items tags spot (fillings_pieces it.more later) (it.begun later) })
+ends_declarations items tags spot (passed place) (inr lost) = absurd lost
 
 sound_front_begun : (kind : Kind) (items tags : ℕ) (place : Position) → Sound (declarations items tags) (symbol (opening kind), place) (taken (front kind items tags ∷ []))
 sound_front_begun kind items tags place later =
@@ -102,7 +104,7 @@ closes_front kind items tags place other later =
 
 sound_colon : (kind : Kind) (items tags : ℕ) (place other : Position) → Sound (front_named kind items tags place) (symbol sign.Colon, other) (look_front_named kind items tags place (symbol sign.Colon))
 sound_colon kind items tags place other =
-    sound_within (front_named kind items tags place) (symbol sign.Colon, other) (declared_limits kind items tags place) (taken (colon_rest kind items tags)) (declared_with kind items tags place other)
+    sound_within (front_named kind items tags place) (symbol sign.Colon, other) (declared_limits kind items tags place) (colon_rest kind items tags) (λ e. cc) (declared_with kind items tags place other)
 
 pub sound_front_named : (kind : Kind) (items tags : ℕ) (place : Position) (lexeme : Lexeme) (other : Position) → Sound (front_named kind items tags place) (lexeme, other) (look (front_named kind items tags place) lexeme other)
 sound_front_named item items tags place (symbol sign.Colon) other = sound_colon item items tags place other
@@ -122,7 +124,7 @@ declared_without tag items tags place other later =
 
 sound_semicolon : (kind : Kind) (items tags : ℕ) (place other : Position) → Sound (front_closed kind items tags place) (symbol sign.Semicolon, other) (look_front_closed kind items tags place (symbol sign.Semicolon))
 sound_semicolon kind items tags place other =
-    sound_within (front_closed kind items tags place) (symbol sign.Semicolon, other) (declared_limits kind items tags place) (taken (declared kind items tags ∷ [])) (declared_without kind items tags place other)
+    sound_within (front_closed kind items tags place) (symbol sign.Semicolon, other) (declared_limits kind items tags place) (declared kind items tags ∷ []) (λ e. cc) (declared_without kind items tags place other)
 
 -- no declaration, but a relation
 opened_relation : (kind : Kind) (place : Position) (piece : Piece) (rest : List Piece) → IsPiece piece (symbol (opening kind), place) → Made relations (piece ∷ rest) → Opened kind place rest

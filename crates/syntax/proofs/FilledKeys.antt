@@ -85,7 +85,7 @@ sound_if_word first it more _ place none some = none
 
 pub sound_name : (first : Expected) (limits : List Position) (more : List Expected) (lexeme : Lexeme) (place : Position)
     → ((text : List ℕ) (later : Fillings more) → Made first (named (text, place) ∷ fillings_pieces more later)) → Sound first (lexeme, place) (look_name lexeme place limits more)
-sound_name first limits more (name text) place some = sound_within first (name text, place) (name_limits (text, place) ++ limits) (taken more) (λ later. begun_at (some text later))
+sound_name first limits more (name text) place some = sound_within first (name text, place) (name_limits (text, place) ++ limits) more (λ e. cc) (λ later. begun_at (some text later))
 sound_name first limits more _ place some = tt
 
 pub sound_a_name : (lexeme : Lexeme) (place : Position) → Sound a_name (lexeme, place) (look a_name lexeme place)

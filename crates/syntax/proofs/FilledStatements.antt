@@ -103,13 +103,13 @@ sound_assigned part around text place later =
     begun_at (record { filling = and_then (assigned (text, place) later.rest.first) later.rest.rest.rest.first; spelled = simp (append_assoc, append-nil) })
 
 pub sound_statements : (part : Part) (around : ℕ) (lexeme : Lexeme) (place : Position) → Sound (statements part around) (lexeme, place) (look (statements part around) lexeme place)
-sound_statements part around (name text) place = sound_within (statements part around) (name text, place) (name_limits (text, place)) (taken (assigned_rest part around)) (sound_assigned part around text place)
+sound_statements part around (name text) place = sound_within (statements part around) (name text, place) (name_limits (text, place)) (assigned_rest part around) (λ e. cc) (sound_assigned part around text place)
 sound_statements part around (word it) place = sound_statement_word part around it place
 sound_statements part around _ place = no_statement part around
 
 pub sound_brace : (around : ℕ) (lexeme : Lexeme) (place : Position) → Sound (nested_brace around) (lexeme, place) (look (nested_brace around) lexeme place)
 sound_brace around (symbol sign.OpenBrace) place =
-    sound_within (nested_brace around) (symbol sign.OpenBrace, place) (one_more MOST_BRACES around place) (taken []) (λ later. begun_at (record { filling = place; spelled = refl }))
+    sound_within (nested_brace around) (symbol sign.OpenBrace, place) (one_more MOST_BRACES around place) [] (λ e. cc) (λ later. begun_at (record { filling = place; spelled = refl }))
 sound_brace around _ place = tt
 
 pub sound_else : (part : Part) (around : ℕ) (lexeme : Lexeme) (place : Position) → Sound (or_else part around) (lexeme, place) (look (or_else part around) lexeme place)

@@ -1,9 +1,9 @@
 -- What stands for each thing that may come, and the pieces that this spells.
-use Rattle.std.specs.Prelude.{◌≡◌, ⊤, List, [], ◌∷◌, ◌++◌, Option, Some, None}
+use Rattle.std.specs.Prelude.{◌≡◌, ◌≢◌, ◌⊎◌, ⊤, List, [], ◌∷◌, ◌++◌, Option, Some, None}
 use Rattle.std.specs.List.{flat_map}
 use Rattle.syntax.specs.declared.token.Word.TheVariants as kept
 use Rattle.syntax.specs.declared.token.Symbol.TheVariants as sign
-use Rattle.syntax.specs.Tokens.{symbol, Spot}
+use Rattle.syntax.specs.Tokens.{symbol, unknown, Spot}
 use Rattle.syntax.specs.Grammar.{Position, Named, Expr, sum_alone, Sum, Prod, Sums, Statements, Get, Put, Names, Relation, StepText, GraphText}
 use Rattle.syntax.specs.Spelled.{Piece, plain, IsPiece, named, a_sign, sign_at, a_word, expr_pieces, sum_pieces, prod_pieces, sums_pieces, in_braces_at, statements_pieces, get_pieces, put_pieces}
 use Rattle.syntax.specs.Spelled.{names_pieces, item_at, step_at, environment_at, arrow, relation_pieces, parameters_pieces, variables_pieces, step_pieces, graph_pieces}
@@ -11,6 +11,7 @@ use Rattle.syntax.specs.Expected.{Comparing, never, possible, behind_left, Expre
 use Rattle.syntax.specs.Expected.{exactly, keyword, a_name, whole, operand, behind_operand, components, more_components, statements, nested_brace, or_else, put_target, declarations, front, front_named, front_closed}
 use Rattle.syntax.specs.Expected.{component_name, behind_component, relations, reader, related, steps, step_name, parameters, parameter, behind_parameter, variables, step_variable, behind_variable}
 use Rattle.syntax.specs.Partial.{outermost, state_pieces, comparison_waiting, IsBehind}
+use Rattle.syntax.proofs.Lost.{Lost}
 
 -- ---- expressions
 
@@ -216,9 +217,16 @@ pub record Begun (first : Expected) (spot : Spot) (rest : List Piece) : Type 0 w
   pub is : IsPiece piece spot
   pub made : Made first (piece ∷ rest)
 
--- a token that is taken begins what stands here, and where none is taken that may be nothing
+-- what stands here begins with this token, which is known
+pub record Begins (first : Expected) (spot : Spot) : Type 0 where
+  pub known : spot.0 ≢ unknown
+  pub more : List Expected
+  pub begun : (later : Fillings more) → Begun first spot (fillings_pieces more later)
+
+-- A token that is taken begins what stands here, and where none is taken that may be nothing. Where a limit is told the token
+-- begins what stands here all the same, or no tokens are accepted.
 abbrev pub Sound : Expected → Spot → Move → Type 0
 Sound first spot (taken more) = (later : Fillings more) → Begun first spot (fillings_pieces more later)
 Sound first spot left_out = Made first []
 Sound first spot wrong = ⊤
-Sound first spot (passed place) = ⊤
+Sound first spot (passed place) = Begins first spot ⊎ Lost first

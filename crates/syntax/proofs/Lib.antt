@@ -28,6 +28,7 @@ pub mod JudgedStatements
 pub mod JudgedSteps
 pub mod KeyParts
 pub mod ListParts
+pub mod Lost
 pub mod Moves
 pub mod NameParts
 pub mod Natural

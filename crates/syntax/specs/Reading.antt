@@ -1,5 +1,5 @@
 -- What a text is read as, and the cause of each fault.
-use Rattle.std.specs.Prelude.{◌≡◌, ◌≤◌, ℕ, suc, List, length, map, take, drop, get_or, slice_get, Some}
+use Rattle.std.specs.Prelude.{◌≡◌, ◌⊎◌, ◌≤◌, ℕ, suc, List, length, map, take, drop, get_or, slice_get, Some}
 use Rattle.syntax.specs.declared.fault.TreeError.{TreeError}
 use Rattle.syntax.specs.declared.fault.TreeError.TheVariants as error
 use Rattle.syntax.specs.declared.fault.TreeFault.{TreeFault}
@@ -42,15 +42,19 @@ pub record IsSyntaxFault (text : List ℕ) (place : Position) : Type 0 where
   pub none : (graph : GraphText) → GoesOn spots count graph → ⊥
   pub told : run graph_expected spots ≡ syntax (drop count spots)
 
--- Some graph text begins with the tokens before one, and each that goes on with that one too, or ends there, passes a limit
--- at this place. Also where none goes on with it, it is there that the tokens, read one by one from the left, are told to pass one.
+-- Some graph text begins with so many tokens, and none that does is within the limits. Each that goes on with the next token too, or
+-- ends there, passes a limit at this place. Also where none goes on so, behind an expression that passes a limit, it is there that the
+-- tokens, read one by one from the left, are told to pass one.
 pub record IsLimitFault (text : List ℕ) (place : Position) : Type 0 where
   pub spots : List Spot
   pub tokens : AreTokens 0 text spots
   pub count : ℕ
   pub counted : count ≤ length spots
-  -- some graph text has the tokens before
-  pub before : (graph : GraphText) × (others : List Spot) × Derives graph others × (take count others ≡ take count spots)
+  -- so many tokens pass it: those before one, or that one with them
+  pub passing : ℕ
+  pub is_passing : (passing ≡ count) ⊎ (passing ≡ suc count)
+  pub begins : (graph : GraphText) × (others : List Spot) × Derives graph others × (take passing others ≡ take passing spots)
+  pub past : (graph : GraphText) (others : List Spot) → Derives graph others → take passing others ≡ take passing spots → IsWithin graph → ⊥
   pub passed : (graph : GraphText) → GoesOn spots count graph → (i : ℕ) × (slice_get (graph_limits graph) i ≡ Some place)
   pub told : run graph_expected spots ≡ too_large place
 

@@ -2,7 +2,7 @@
 //!
 //! A text is one list of tokens, each the longest that stands there (`AreTokens`), and the tree that the grammar derives
 //! from them within the limits (`IsRead`). The layer above stands on `read_tree`, which answers that tree or the cause of a
-//! fault, and on the law `tokens_once`.
+//! fault, and on the laws `tokens_once`, `one_derivation` and `read_without_fault`.
 #![tactic(auto)]
 
 mod blocks;

@@ -58,8 +58,9 @@ fn fault_of(cursor: &Cursor<'_, '_>, stop: Stop, end: usize) -> TreeFault
 /// The tree of a graph text, which is ASCII.
 ///
 /// `Syntax` comes at the first token with which no graph text goes on behind those in front of it, and at the end of the
-/// text where it ends too early. `TooLarge` comes where a limit is passed at its place, whatever follows: a name too many or
-/// too long, an expression that is too deep, a bracket or a brace too many. `NoMemory` comes where a growth is refused.
+/// text where it ends too early. `TooLarge` comes at the place of a limit that is passed in front of it: a name too many or too
+/// long, a bracket or a brace too many, and, once it is whole, an expression that is too deep, at its first token. A collection
+/// too many is told at its name, once what follows tells that it is declared. `NoMemory` comes where a growth is refused.
 #[tactic(auto, using(crate::proofs::Natural::natural_tokens))]
 pub fn read_tree<'a>(alloc: Global, text: &'a str) -> Result<Tree<'a>, TreeFault>
     requires ascii { AllByRecursion (λ byte. byte < 128) text.now }
