@@ -2,7 +2,7 @@
 -- gives the store back.
 --
 -- A commit is the events of one record, and a record has one event. The commit order of a store is the list of its events since its
--- creation, in the order of their gates. An event is acknowledged where the call that made it answered `Ok`.
+-- creation, in the order of their appends, each of which opens the gate of its record. An event is acknowledged where the call that made it answered `Ok`.
 use Rattle.std.specs.Prelude.{◌≡◌, ◌⊎◌, ◌≤◌, ℕ, List, [], ◌∷◌, ◌++◌}
 use Rattle.disk.specs.declared.side.Side.{Side}
 use Rattle.disk.specs.File.{File}

@@ -1,4 +1,5 @@
-ghost use Rattle.std.specs.Prelude.{◌≡◌, ◌≤◌, ◌<◌, ◌+◌, ◌⊎◌, ◌↔◌, ℕ, true, false, length, IsTrue, OnOk, OnErr, IsErrOf};
+ghost use Rattle.std.specs.Prelude.{◌≡◌, ◌≤◌, ◌<◌, ◌+◌, ◌⊎◌, ◌↔◌, ℕ, [], ◌∷◌, ◌++◌, true, false, length, IsTrue, OnOk, OnErr, IsErrOf};
+ghost use Rattle.disk.specs.File.{at_rest, overwritten};
 ghost use Rattle.disk.specs.Time.{LeavesOnly, OtherStays};
 ghost use Rattle.terms.specs.Facts.{event_facts, environment_facts};
 ghost use Rattle.terms.specs.Sets.{Facts};
@@ -32,6 +33,10 @@ impl<D: Disk> Vault<D> {
 
         ensures added { IsTrue D.is_honest → (g : Graph) (E X : Facts) → Holds D.files self.old g E X → Fits g X event.now
             → OnOk result (Holds D.files self.new g (with_facts E (environment_facts event.now)) (with_facts X (event_facts event.now))) }
+
+        // Its record, and a closed gate, are written over the gate that ended the journal.
+        ensures written { IsTrue D.is_honest → OnOk result (D.files self.new.disk self.old.journal.side
+            ≡ at_rest (overwritten (D.files self.old.disk self.old.journal.side).content self.old.journal.end (record_of (event_bytes event.now) ++ 0 ∷ []))) }
 
         // A crash at any moment of the call leaves the state before the event or behind it.
         ensures any_moment { IsTrue D.is_honest → (g : Graph) (E X : Facts) → Holds D.files self.old g E X → Fits g X event.now

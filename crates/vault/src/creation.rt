@@ -23,7 +23,7 @@ use std::alloc::{AllocError, Global};
 ///
 /// `Exists` says that a file is not empty. Where one is not, both are left as they are, whatever is answered, and a crash at any
 /// moment of the call leaves what one might have left before it. Of two empty files nothing is said of what they hold after
-/// `Device`, or a `NoMemory` of the disk.
+/// `Device` or `NoMemory`.
 pub fn create<D: Disk>(alloc: Global, disk: D, text: &[u8]) -> Result<Vault<D>, Refused<D>>
     requires { IsCanonical text.now }
     ensures created { IsTrue D.is_honest → (g : Graph) → Reads text.now g → text.now ≡ canonical g → IfOk result (λ vault. Holds D.files vault g nothing nothing) }

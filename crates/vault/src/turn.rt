@@ -34,6 +34,7 @@ impl<D: Disk> Vault<D> {
         ensures turned { IsTrue D.is_honest → (g : Graph) (E X : Facts) → Holds D.files self.old g E X → Lists image.now E X → OnOk result (Holds D.files self.new g E X) }
         ensures side { IfOk result (λ generation. (generation ≡ self.old.generation + 1) × (self.new.generation ≡ generation) × (self.new.journal.side ≡ other_side self.old.journal.side)) }
         ensures written { IsTrue D.is_honest → IfOk result (λ generation. D.files self.new.disk (other_side self.old.journal.side) ≡ at_rest (new_side generation self.old.text.items image.now)) }
+        ensures stays { OnErr result ((self.new.generation ≡ self.old.generation) × (self.new.journal.side ≡ self.old.journal.side)) }
         ensures live { IsTrue D.is_honest → D.files self.new.disk self.old.journal.side ≡ D.files self.old.disk self.old.journal.side }
 
         ensures ready { IsTrue D.is_honest → OnOk result (IsReady D.files self.new) }

@@ -23,7 +23,8 @@ pub struct Vault<D: Disk> {
 }
 
 impl<D: Disk> Vault<D> {
-    /// The generation of the live side: 1 of a new store, and one more with each turnover.
+    /// The generation of the live side, where the vault is not halted: 1 of a new store, and one more with each turnover. A turnover
+    /// that halts leaves it as it was, whichever side is live then.
     pub fn generation(&self) -> u64
         ensures { result ≡ self.now.generation }
     {

@@ -1,4 +1,5 @@
 use Rattle.std.proofs.Common.{refl, ap, ◌∙◌, subst, ◌++◌, ◌∷◌, [], ◌+◌, length, List, ℕ}
+use Rattle.disk.specs.File.{at_rest, overwritten}
 use Rattle.disk.specs.Moments.{begun}
 use Rattle.codec.specs.Spelling.{event_bytes}
 use Rattle.journal.specs.Records.{record_of}
@@ -90,3 +91,10 @@ returns-in-Err-Within-clause-gates g c honest gr E X holds gates =
     let vault = c.args.self.now in
     gates_appended g.D.Disk.files g.D.Disk.moment g.D.Disk.left_at vault gr E X holds gates journal c.try_append.new.disk c.deref.result.now
     (c.try_append.ensures.any_moment honest (start journal g.D.Disk.files vault gr E X holds) (payloads journal g.D.Disk.files vault gr E X holds) (holds.contents vault.journal.side) (holds.rests vault.journal.side) (is_at journal g.D.Disk.files vault gr E X holds))
+
+pub returns-in-Ok-clause-written : goal.returns-in-Ok-clause-written
+returns-in-Ok-clause-written g c honest =
+    let vault = c.args.self.now in
+    let spelled = alone c.deref.result.now _ _ (event_bytes c.args.event.now) c.deref.ensures.value c.in_ok-encode_event.ensures.spelled c.clear.ensures.items in
+    c.in-Ok.ensures.file honest
+    ∙ ap (λ (p : List ℕ). at_rest (overwritten (g.D.Disk.files vault.disk vault.journal.side).content vault.journal.end (record_of p ++ 0 ∷ []))) spelled
