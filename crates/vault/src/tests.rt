@@ -13,6 +13,7 @@ mod creating;
 mod fibonacci;
 mod opening;
 mod reopening;
+mod stopping;
 mod turning;
 mod turnovers;
 

@@ -41,6 +41,16 @@ fn an_event_is_a_record_of_the_journal(rt: HostRuntime) -> Result<(), Fail> {
     Ok(())
 }
 
+// Creation makes eight calls, and an append four: the next one is not made.
+#[test]
+fn an_append_makes_four_calls(rt: HostRuntime) -> Result<(), Fail> {
+    let (answer, mut disk) = appended(&rt, 13)?;
+    let called = disk.len(Side::A);
+    assert_eq!(rt; answer, Ok(()));
+    assert_eq!(rt; called, Err(DiskError::Device));
+    Ok(())
+}
+
 // What a vault answers to an append, whose disk fails at this call, and, now that it is halted, to another; and what the disk
 // answers to the next call, at which it fails again.
 type Halting = (
@@ -98,9 +108,16 @@ fn number(key: i64) -> Addr {
     }
 }
 
-fn tag(key: i64) -> Tag {
+pub(super) fn tag(key: i64) -> Tag {
     Tag {
         collection: TagCollection(0),
+        key: Key::new(&[key]),
+    }
+}
+
+pub(super) fn instance(key: i64) -> Inst {
+    Inst {
+        collection: StepCollection(0),
         key: Key::new(&[key]),
     }
 }
@@ -109,13 +126,9 @@ fn tag(key: i64) -> Tag {
 fn added(alloc: Global, key: i64, value: i64) -> Result<Event, AllocError>
     ensures { IfOk result HasFewPuts }
 {
-    let instance = Inst {
-        collection: StepCollection(0),
-        key: Key::new(&[key]),
-    };
     let mut puts = Vec::new(alloc);
     puts.push(Put::Item(number(key), value))?;
-    Ok(Event::Done(instance, Puts::new(puts)))
+    Ok(Event::Done(instance(key), Puts::new(puts)))
 }
 
 // The disk of a new store to which ten events were added.

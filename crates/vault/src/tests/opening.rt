@@ -137,6 +137,19 @@ fn a_call_of_the_disk_fails(rt: HostRuntime) -> Result<(), Fail> {
     Ok(())
 }
 
+// Both files are synced before anything of them is looked at.
+#[test]
+fn a_sync_fails_in_front_of_a_fault(rt: HostRuntime) -> Result<(), Fail> {
+    let rows: [(&[u8], &[u8]); 2] = [(&[], &[]), (&[1], &[0])];
+    for (a, b) in rows {
+        for call in 1..=2u64 {
+            let (error, _) = refused(rt.alloc(), a, b, call)?;
+            assert_eq!(rt; error, Some(VaultError::Device), "in {a:?} at call {call}");
+        }
+    }
+    Ok(())
+}
+
 // Faults are added from the last place to the first, and each time the new one is told.
 #[test]
 fn of_two_faults_the_earlier_is_told(rt: HostRuntime) -> Result<(), Fail> {
