@@ -39,8 +39,9 @@ const DEPTH: [Row; 2] = [
     },
 ];
 
-// Depth comes before a limit that is passed further right, and a token at fault before the depth of what is not whole.
-const ORDER: [Row; 2] = [
+// Depth comes before a limit that is passed further right, and before a token at fault behind the whole expression; but a token at
+// fault before the depth of what is not whole. A relation, and what breaks off, is no declaration more.
+const ORDER: [Row; 6] = [
     Row {
         front: "<t>;<t>::(s);step s(){var a;read{a=1",
         part: "+1",
@@ -60,6 +61,46 @@ const ORDER: [Row; 2] = [
         others: 0,
         back: ";}write{}}",
         fault: "2 at 1:166",
+    },
+    Row {
+        front: "<t>;<t>::(s);step s(){var a;read{a=1",
+        part: "+1",
+        count: 64,
+        middle: " a",
+        other: "",
+        others: 0,
+        back: ";}write{}}",
+        fault: "10 at 1:36",
+    },
+    Row {
+        front: "",
+        part: "[a];",
+        count: 64,
+        middle: "[a",
+        other: "",
+        others: 0,
+        back: "",
+        fault: "2 at 1:259",
+    },
+    Row {
+        front: "",
+        part: "[a];",
+        count: 64,
+        middle: "[a] x",
+        other: "",
+        others: 0,
+        back: "",
+        fault: "2 at 1:261",
+    },
+    Row {
+        front: "",
+        part: "[a];",
+        count: 64,
+        middle: "[a] -> (s);",
+        other: "",
+        others: 0,
+        back: "",
+        fault: "3 at 1:6",
     },
 ];
 

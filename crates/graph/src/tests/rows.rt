@@ -1,7 +1,7 @@
 //! Texts, and what each is answered.
 
 // Tokens with which no graph text goes on: of declarations, relations and steps.
-pub(super) const SYNTAX: [(&str, &str); 26] = [
+pub(super) const SYNTAX: [(&str, &str); 28] = [
     ("[x", "2 at 1:3"),
     ("[x]", "2 at 1:4"),
     ("[x];;", "2 at 1:5"),
@@ -14,6 +14,9 @@ pub(super) const SYNTAX: [(&str, &str); 26] = [
     ("[x: i j];", "2 at 1:7"),
     ("[x: 1];", "2 at 1:5"),
     ("[1x];", "2 at 1:2"),
+    // Also where a limit would be passed, if a name might stand there.
+    ("[x: i, j, k, l, in];", "2 at 1:17"),
+    ("[x] -> a23456789012345678901234567890123;", "2 at 1:8"),
     ("$", "2 at 1:1"),
     ("[x]; .", "2 at 1:6"),
     ("[x];\n\n  ! ", "2 at 3:3"),
@@ -59,8 +62,8 @@ pub(super) const BODIES: [(&str, &str); 10] = [
     ("step s() { read { a == 1; } write { } }", "2 at 1:21"),
 ];
 
-// Limits that are passed.
-pub(super) const LIMITS: [(&str, &str); 14] = [
+// Limits that are passed, one of them in an expression that breaks off.
+pub(super) const LIMITS: [(&str, &str); 15] = [
     ("<t: i, j, k, l, m>;", "10 at 1:17"),
     ("<x23456789012345678901234567890123>;", "10 at 1:2"),
     ("[x: i23456789012345678901234567890123];", "10 at 1:5"),
@@ -83,6 +86,10 @@ pub(super) const LIMITS: [(&str, &str); 14] = [
     ),
     (
         "step s() { read { a = x23456789012345678901234567890123; } write { } }",
+        "10 at 1:23",
+    ),
+    (
+        "step s() { read { a = x23456789012345678901234567890123 + ; } write { } }",
         "10 at 1:23",
     ),
     ("[x: i, j, k, l, m];", "10 at 1:17"),
