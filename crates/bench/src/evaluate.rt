@@ -3,8 +3,7 @@ use anyhow::Error;
 use std::alloc::{AllocError, Global};
 use std::io::Print;
 use std::time::{Clock, Instant};
-use steplang::{Run, Turn};
-use steptree::{Block, Body, Checked, Components, Expression, Operator, Slot};
+use steplang::{Block, Body, Checked, Components, Expression, Operator, Run, Slot, Turn};
 use terms::{Inst, ItemCollection, Key, StepCollection};
 
 /// The turns of an instance: its loop, its turns, an assignment at each and its put are all that one instance may take.

@@ -2,7 +2,8 @@
 //!
 //! A `Graph` is seen as the `Graph` of `specs/Graph.antt`: what a text says of its collections. The layers above stand on
 //! `parse`, which answers the graph that a text reads as (`Reads`) or a fault with its cause, on `canonical`, on the readers of
-//! `Graph`, each exact, and on `Fits`, the rule by which an event fits a graph and facts, without a look at the bodies of steps.
+//! `Graph`, each exact, on the laws of texts and graphs (`law`), and on `Fits`, the rule by which an event fits a graph and facts,
+//! without a look at the bodies of steps (`fitting`).
 #![tactic(auto)]
 
 mod bodies;
@@ -35,3 +36,4 @@ pub use law::{
 };
 pub use limits::MOST_TEXT;
 pub use parser::parse;
+pub use steptree::{CheckError, Checked};

@@ -1,4 +1,5 @@
-//! The evaluator of steps' bodies: it stops at each item that a step gets, and goes on with its value.
+//! The evaluator of steps' bodies: it stops at each item that a step gets, and goes on with its value. The trees of the bodies
+//! and their check stand in `steptree`, and are passed on here.
 #![tactic(auto)]
 
 mod machine;
@@ -10,3 +11,7 @@ mod value;
 
 pub use outcome::{Bad, Given, Parked, Reads, Turn};
 pub use run::Run;
+pub use steptree::{
+    Block, Body, CheckError, CheckFault, Checked, Components, Declared, Expression, Name,
+    NamedBlock, NamedExpression, NamedKey, Operator, Sheet, Slot, Step, check,
+};
