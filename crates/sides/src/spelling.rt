@@ -15,7 +15,7 @@ const CLOSED: u8 = 0;
 /// Appends a side behind its gate: of this generation, with this graph text and this image, and no record. It tells whether the
 /// image's bytes can be counted in four: where they cannot, what is appended is no side.
 ///
-/// The error is that memory was refused: some of it may stand there then.
+/// The error is that memory was refused; what `out` holds then is open.
 pub fn spell_side(
     out: &mut Vec<u8>,
     generation: u64,
