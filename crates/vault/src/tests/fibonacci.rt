@@ -93,7 +93,12 @@ fn put_names(out: &mut Vec<u8>, behind: &[u8]) -> Result<(), Fail> {
 }
 
 // An open side of this generation, with this image and this journal.
-fn side(alloc: Global, generation: u64, image: &[u8], journal: &[u8]) -> Result<Vec<u8>, Fail> {
+pub(super) fn side(
+    alloc: Global,
+    generation: u64,
+    image: &[u8],
+    journal: &[u8],
+) -> Result<Vec<u8>, Fail> {
     let mut side = vec![in alloc; 1, 1]?;
     side.extend_from_slice(&generation.to_le_bytes())?;
     put_counted(&mut side, TEXT.as_bytes())?;

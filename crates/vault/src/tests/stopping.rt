@@ -5,8 +5,9 @@ ghost use Rattle.codec.specs.Spelling.{HasFewPuts};
 ghost use Rattle.vault.specs.Store.{IsReady};
 
 use super::appending::{instance, tag};
+use super::fibonacci::side;
 use super::reopening::{opened, opened_twice};
-use super::{TEXT, files_of, is_closed, new_store, put_counted, side_with};
+use super::{files_of, is_closed, new_store, side_with};
 use crate::{Vault, VaultError};
 use disk::MemDisk;
 use std::alloc::{AllocError, Global};
@@ -63,15 +64,6 @@ fn turned(alloc: Global, disk: MemDisk) -> Result<MemDisk, Fail> {
     Ok(vault.into_disk())
 }
 
-// A side of the second generation with this image and no record.
-fn second_side(alloc: Global) -> Result<Vec<u8>, Fail> {
-    let mut side = vec![in alloc; 1, 1, 2, 0, 0, 0, 0, 0, 0, 0]?;
-    put_counted(&mut side, TEXT.as_bytes())?;
-    put_counted(&mut side, &IMAGE)?;
-    side.push(0)?;
-    Ok(side)
-}
-
 #[test]
 fn tags_and_a_fault_are_appended(rt: HostRuntime) -> Result<(), Fail> {
     let mut disk = stopped(&rt)?;
@@ -88,7 +80,7 @@ fn tags_and_a_fault_are_appended(rt: HostRuntime) -> Result<(), Fail> {
 fn tags_and_a_fault_are_turned_over(rt: HostRuntime) -> Result<(), Fail> {
     let mut disk = turned(rt.alloc(), stopped(&rt)?)?;
     let (_, b) = files_of(rt.alloc(), &mut disk)?;
-    assert!(rt; b == second_side(rt.alloc())?);
+    assert!(rt; b == side(rt.alloc(), 2, &IMAGE, &[0])?);
     let (generation, found) = opened_twice(rt.alloc(), disk)?;
     assert_eq!(rt; generation, 2);
     assert_eq!(rt; found.as_slice(), IMAGE.as_slice());
