@@ -11,7 +11,6 @@ use steptree::Checked;
 use terms::{ItemCollection, StepCollection, TagCollection};
 
 /// A step: what prescribes it, what it may read and put by the numbers of the collections, and its body.
-#[derive(Drop)]
 pub(crate) struct Prescribed {
     pub(crate) prescriber: TagCollection,
     pub(crate) reads: Vec<bool>,
@@ -20,11 +19,23 @@ pub(crate) struct Prescribed {
     pub(crate) checked: Checked,
 }
 
+impl Drop for Prescribed {
+    // By hand, so that it is one call wherever a step goes.
+    fn drop(self) {
+        let Prescribed {
+            prescriber: _,
+            reads: _,
+            item_puts: _,
+            tag_puts: _,
+            checked: _,
+        } = self;
+    }
+}
+
 /// A graph: its collections by their numbers, what each step may read and put, what the environment may put and get, and the
 /// bodies of the steps.
 ///
 /// No reader takes memory.
-#[derive(Drop)]
 pub struct Graph {
     pub(crate) items: Numbered<usize>,
     pub(crate) tags: Numbered<usize>,
@@ -34,6 +45,21 @@ pub struct Graph {
     pub(crate) environment_item_puts: Vec<bool>,
     pub(crate) environment_tag_puts: Vec<bool>,
     pub(crate) environment_gets: Vec<bool>,
+}
+
+impl Drop for Graph {
+    // By hand, so that it is one call wherever a graph goes.
+    fn drop(self) {
+        let Graph {
+            items: _,
+            tags: _,
+            prescribes: _,
+            steps: _,
+            environment_item_puts: _,
+            environment_tag_puts: _,
+            environment_gets: _,
+        } = self;
+    }
 }
 
 impl Model for Graph {

@@ -8,9 +8,15 @@ use std::alloc::{AllocError, Global};
 use std::marker::Model;
 
 /// Names by their numbers, each once, and with each a value.
-#[derive(Drop)]
 pub(crate) struct Numbered<V> {
     entries: IndexMap<String, V>,
+}
+
+impl<V: Drop> Drop for Numbered<V> {
+    // By hand, so that it is one call wherever names go.
+    fn drop(self) {
+        let Numbered { entries: _ } = self;
+    }
 }
 
 impl<V> Model for Numbered<V> {

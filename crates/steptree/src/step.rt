@@ -8,7 +8,6 @@ pub struct Name<'a> {
 }
 
 /// An expression with names.
-#[derive(Drop)]
 pub enum NamedExpression<'a> {
     Number(i64),
     Variable(Name<'a>),
@@ -16,11 +15,32 @@ pub enum NamedExpression<'a> {
     Operation(Operator, Box<(NamedExpression<'a>, NamedExpression<'a>)>),
 }
 
+impl<'a> Drop for NamedExpression<'a> {
+    // By hand, so that it is one call wherever an expression goes.
+    fn drop(self) {
+        match self {
+            NamedExpression::Number(_) => {}
+            NamedExpression::Variable(_) => {}
+            NamedExpression::Negation(_) => {}
+            NamedExpression::Operation(_, _) => {}
+        }
+    }
+}
+
 /// An item or a tag with names: its collection, and the expressions of its components.
-#[derive(Drop)]
 pub struct NamedKey<'a> {
     pub collection: Name<'a>,
     pub components: Vec<NamedExpression<'a>>,
+}
+
+impl<'a> Drop for NamedKey<'a> {
+    // By hand, so that it is one call wherever a key goes.
+    fn drop(self) {
+        let NamedKey {
+            collection: _,
+            components: _,
+        } = self;
+    }
 }
 
 /// The statements of a block with names: the first, and in its `rest` those behind it.
@@ -101,11 +121,23 @@ impl<'a> Drop for NamedBlock<'a> {
 }
 
 /// A step as its text has it.
-#[derive(Drop)]
 pub struct Step<'a> {
     pub name: Name<'a>,
     pub parameters: Vec<Name<'a>>,
     pub variables: Vec<Name<'a>>,
     pub read: NamedBlock<'a>,
     pub write: NamedBlock<'a>,
+}
+
+impl<'a> Drop for Step<'a> {
+    // By hand, so that it is one call wherever a step goes.
+    fn drop(self) {
+        let Step {
+            name: _,
+            parameters: _,
+            variables: _,
+            read: _,
+            write: _,
+        } = self;
+    }
 }

@@ -21,7 +21,6 @@ use steptree::{Name, NamedExpression, Operator};
 
 /// What waits within one bracket, or outside of all: the left operands of a comparison, a sum and a product, and how many
 /// minus signs stand in front of the operand.
-#[derive(Drop)]
 pub(crate) struct Level<'a> {
     pub(crate) may_compare: bool,
     pub(crate) comparison: Option<Pending<'a>>,
@@ -30,14 +29,38 @@ pub(crate) struct Level<'a> {
     pub(crate) negations: usize,
 }
 
+impl<'a> Drop for Level<'a> {
+    // By hand, so that it is one call wherever a level goes.
+    fn drop(self) {
+        let Level {
+            may_compare: _,
+            comparison: _,
+            sum: _,
+            product: _,
+            negations: _,
+        } = self;
+    }
+}
+
 /// An expression so far: the place of its first token, the first limit that is passed within it, its innermost level, and
 /// those around it, the outermost first.
-#[derive(Drop)]
 pub(crate) struct Partial<'a> {
     pub(crate) first: usize,
     pub(crate) passed: Option<usize>,
     pub(crate) level: Level<'a>,
     pub(crate) outer: Vec<Level<'a>>,
+}
+
+impl<'a> Drop for Partial<'a> {
+    // By hand, so that it is one call wherever one goes.
+    fn drop(self) {
+        let Partial {
+            first: _,
+            passed: _,
+            level: _,
+            outer: _,
+        } = self;
+    }
 }
 
 /// What comes of an expression behind an operand.

@@ -52,9 +52,19 @@ pub enum Relation<'a> {
 }
 
 /// A graph as its text has it.
-#[derive(Drop)]
 pub struct Tree<'a> {
     pub declarations: Vec<Declaration<'a>>,
     pub relations: Vec<Relation<'a>>,
     pub steps: Vec<Step<'a>>,
+}
+
+impl<'a> Drop for Tree<'a> {
+    // By hand, so that it is one call wherever a tree goes.
+    fn drop(self) {
+        let Tree {
+            declarations: _,
+            relations: _,
+            steps: _,
+        } = self;
+    }
 }

@@ -7,7 +7,6 @@ use journal::Journal;
 ///
 /// What it holds is told by its files alone: the fields say where the next record goes. After an error that a call of the disk
 /// answered in `append` or `turn` the vault is halted, until its disk is opened again.
-#[derive(Drop)]
 pub struct Vault<D: Disk> {
     pub(crate) disk: D,
     // The journal of the live side.
@@ -20,6 +19,20 @@ pub struct Vault<D: Disk> {
     pub(crate) halted: bool,
     // Holds an event while it is appended, and a side while it is written.
     pub(crate) buffer: Vec<u8>,
+}
+
+impl<D: Disk + Drop> Drop for Vault<D> {
+    // By hand, so that it is one call wherever a vault goes.
+    fn drop(self) {
+        let Vault {
+            disk: _,
+            journal: _,
+            generation: _,
+            text: _,
+            halted: _,
+            buffer: _,
+        } = self;
+    }
 }
 
 impl<D: Disk> Vault<D> {
@@ -42,6 +55,14 @@ impl<D: Disk> Vault<D> {
     pub fn into_disk(self) -> D
         ensures { result ≡ self.disk }
     {
-        self.disk
+        let Vault {
+            disk,
+            journal: _,
+            generation: _,
+            text: _,
+            halted: _,
+            buffer: _,
+        } = self;
+        disk
     }
 }
