@@ -25,7 +25,7 @@ use Rattle.codec.specs.Spelling.{HasPutNumber}
 use Rattle.sides.specs.Image.{named, listed, IsListed}
 
 module _ {X : Type 0} (cmp : X → X → Ordering) where
-  rest_rises : (x : X) (xs : List X) → Rises cmp (x ∷ xs) → Rises cmp xs
+  pub rest_rises : (x : X) (xs : List X) → Rises cmp (x ∷ xs) → Rises cmp xs
   rest_rises x [] rises = tt
   rest_rises x (y ∷ ys) rises = rises.1
 
@@ -34,7 +34,7 @@ module _ {X : Type 0} (cmp : X → X → Ordering) where
   below_each total x y [] less above = tt
   below_each total x y (z ∷ zs) less above = (total.trans x y z less above.0, below_each total x y zs less above.1)
 
-  first_is_least : IsTotalOrder cmp → (x : X) (xs : List X) → Rises cmp (x ∷ xs) → AllByRecursion (λ z. cmp x z ≡ Less) xs
+  pub first_is_least : IsTotalOrder cmp → (x : X) (xs : List X) → Rises cmp (x ∷ xs) → AllByRecursion (λ z. cmp x z ≡ Less) xs
   first_is_least total x [] rises = tt
   first_is_least total x (y ∷ ys) rises = (rises.0, below_each total x y ys rises.0 (first_is_least total y ys rises.1))
 

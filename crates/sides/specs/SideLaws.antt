@@ -9,9 +9,9 @@ use Rattle.journal.specs.Records.{StandsFor, record_of}
 use Rattle.graph.specs.Graph.{Graph}
 use Rattle.graph.specs.Canonical.{canonical}
 use Rattle.graph.specs.Reads.{Reads}
-use Rattle.graph.specs.Fits.{Fits, FitsState}
+use Rattle.graph.specs.Fits.{Fits, FitsState, HasOneItemEach}
 use Rattle.graph.specs.FitLaws.{SameSet}
-use Rattle.sides.specs.Image.{facts_in, environment_in, with_facts}
+use Rattle.sides.specs.Image.{facts_in, environment_in, with_facts, IsListed}
 use Rattle.sides.specs.Side.{behind_gate, IsSide, start_of, end_of}
 
 -- from where its journal begins on, a side's bytes are a journal of its events
@@ -51,3 +51,7 @@ BeginsSide = (g : Graph) (generation : ℕ) (image : Image) → generation < 2 ^
     → FitsState g (environment_in image) (facts_in image)
     → (side : IsSide (1 ∷ behind_gate generation (canonical g) (image_bytes image) (0 ∷ [])) g generation (environment_in image) (facts_in image))
     × (end_of side ≡ length (1 ∷ behind_gate generation (canonical g) (image_bytes image) []))
+
+-- an image whose lists rise has one item at an address
+abbrev pub ListedOnce : Type 0
+ListedOnce = (image : Image) → IsListed image → HasOneItemEach (facts_in image)

@@ -1,11 +1,11 @@
 //! The laws of what a side stands for. Each is a contract, with nothing to run.
 ghost use Rattle.sides.specs.Side.{OneMeaning, StandsWithGeneration, OneGeneration, AnyRest};
-ghost use Rattle.sides.specs.SideLaws.{HasJournal, StaysAlike, GrowsByEvent, SideAsSet, SideOfText, SideFits, BeginsSide};
+ghost use Rattle.sides.specs.SideLaws.{HasJournal, StaysAlike, GrowsByEvent, SideAsSet, SideOfText, SideFits, BeginsSide, ListedOnce};
 
 use codec::{spellings_of_events, spellings_of_images};
 use graph::{fitting, one_reading};
 use journal::one_meaning;
-use terms::{facts_are_told_apart, facts_go_on};
+use terms::{facts_are_told_apart, facts_go_on, orders_are_total};
 
 /// The bytes of a side stand for one graph text, one generation and one set of facts at most, whatever lies behind the gate
 /// that ends its journal.
@@ -38,13 +38,10 @@ pub fn sides_go_on()
     one_reading();
 }
 
-#[cfg(test)]
-mod tests {
-    use super::*;
-
-    #[test]
-    fn laws_are_there() {
-        one_meaning_of_a_side();
-        sides_go_on();
-    }
+/// An image whose lists rise has one item at an address.
+pub fn one_item_each()
+    ensures { ListedOnce }
+{
+    facts_are_told_apart();
+    orders_are_total();
 }

@@ -19,6 +19,6 @@ mod taking;
 pub use error::SideError;
 pub use gate::{Gate, HEAD, OPEN, gate_of};
 pub use holdings::Holdings;
-pub use law::{one_meaning_of_a_side, sides_go_on};
+pub use law::{one_item_each, one_meaning_of_a_side, sides_go_on};
 pub use reading::{Standing, read_side};
 pub use spelling::spell_side;

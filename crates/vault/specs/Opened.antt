@@ -6,7 +6,9 @@ use Rattle.disk.specs.Time.{Contents, MayLeaveNow, LeavesOnly}
 use Rattle.terms.specs.Sets.{Facts}
 use Rattle.graph.specs.Graph.{Graph}
 use Rattle.graph.specs.Canonical.{canonical}
-use Rattle.sides.specs.Image.{facts_in, environment_in}
+use Rattle.codec.specs.declared.image.Image.{Image}
+use Rattle.graph.specs.Fits.{FitsState, HasOneItemEach}
+use Rattle.sides.specs.Image.{facts_in, environment_in, IsListed}
 use Rattle.sides.specs.Side.{IsSide, IsOpen, HasGeneration, end_of}
 use Rattle.vault.specs.declared.found.Found.{Found}
 use Rattle.vault.specs.declared.error.VaultError.{VaultError}
@@ -47,6 +49,13 @@ abbrev pub NoneIsOpen : Contents → Type 0
 NoneIsOpen contents = (side : Side) → IsOpen (contents side) → ⊥
 
 -- ---- what a side gives
+
+-- What an opening gives fits together, whatever the disk is: the lists of the image rise, its facts fit the graph, and each
+-- address has one item.
+pub record IsSound (g : Graph) (image : Image) : Type 0 where
+  pub listed : IsListed image
+  pub fits : FitsState g (environment_in image) (facts_in image)
+  pub one_item : HasOneItemEach (facts_in image)
 
 -- the bytes of the side stand for what was found of them
 pub record IsFoundIn (side : Side) (bytes : List ℕ) (found : Found) : Type 0 where

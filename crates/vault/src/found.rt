@@ -6,7 +6,7 @@ ghost use Rattle.sides.specs.Reading.{IsRead};
 ghost use Rattle.sides.specs.Image.{IsListed};
 ghost use Rattle.sides.specs.Side.{HasGeneration};
 ghost use Rattle.vault.specs.Store.{SaysNothing};
-ghost use Rattle.vault.specs.Opened.{IsFoundIn, IsNoSide, IsOfOpening};
+ghost use Rattle.vault.specs.Opened.{IsFoundIn, IsNoSide, IsOfOpening, IsSound};
 ghost use Rattle.vault.specs.declared.error.VaultError.TheVariants.{Device, NotAStore, Damaged};
 
 use crate::VaultError;
@@ -14,7 +14,7 @@ use codec::Image;
 use disk::Side;
 use graph::{Graph, canonical};
 use journal::Journal;
-use sides::{Gate, SideError, Standing, gate_of, read_side};
+use sides::{Gate, SideError, Standing, gate_of, one_item_each, read_side, sides_go_on};
 use std::alloc::{AllocError, Global};
 
 // What the bytes of a side gave.
@@ -30,13 +30,15 @@ pub(crate) struct Found {
 // Reads the bytes of a side.
 pub(crate) fn found_in(alloc: Global, side: Side, bytes: &[u8]) -> Result<Found, VaultError>
     ensures found { IfOk result (IsFoundIn side bytes.now) }
-    ensures listed { IfOk result (λ found. IsListed found.image) }
+    ensures sound { IfOk result (λ found. IsSound found.graph found.image) }
     ensures nothing { (generation : ℕ) → HasGeneration bytes.now generation → IfErr result (λ error. SaysNothing error → IsNoSide bytes.now) }
     ensures not_a_store { (generation : ℕ) → HasGeneration bytes.now generation → IfErr result (λ error. error ≢ NotAStore) }
     ensures damaged { (here : Side) (place : ℕ) → IfErr result (λ error. error ≡ Damaged here place → side ≡ here) }
     ensures others { IfErr result IsOfOpening }
     ensures device { IsErrOf result Device → ⊥ }
 {
+    sides_go_on();
+    one_item_each();
     // The head of the file was open before: a disk that gives another one now is not honest.
     let Gate::Open(generation) = gate_of(bytes) else {
         return Err(VaultError::NotAStore);

@@ -2,10 +2,10 @@ ghost use Rattle.std.specs.Prelude.{◌≡◌, ◌≤◌, ◌<◌, ◌↔◌, �
 ghost use Rattle.disk.specs.declared.side.Side.{Side};
 ghost use Rattle.disk.specs.File.{at_rest};
 ghost use Rattle.disk.specs.Time.{Contents, LeavesOnly, MayLeaveNow, HasCause};
-ghost use Rattle.sides.specs.Image.{IsListed, facts_in, environment_in};
+ghost use Rattle.sides.specs.Image.{facts_in, environment_in};
 ghost use Rattle.sides.specs.Side.{IsOpen};
 ghost use Rattle.vault.specs.Store.{Holds, IsReady, SaysNothing, disk_of_opening};
-ghost use Rattle.vault.specs.Opened.{OnlyReads, IsFound, StandsForNothing, NoneIsOpen, IsOfOpening, contents_of};
+ghost use Rattle.vault.specs.Opened.{OnlyReads, IsFound, IsSound, StandsForNothing, NoneIsOpen, IsOfOpening, contents_of};
 ghost use Rattle.vault.specs.declared.error.VaultError.TheVariants.{Device, NotAStore, Damaged};
 
 use crate::found::{Found, found_in};
@@ -35,7 +35,9 @@ pub struct Recovered<D: Disk> {
 pub fn open<D: Disk>(alloc: Global, disk: D) -> Result<Recovered<D>, Refused<D>>
     ensures found { IsTrue D.is_honest → IfOk result (λ r. Holds D.files r.vault r.graph (environment_in r.image) (facts_in r.image)) }
     ensures ready { IsTrue D.is_honest → IfOk result (λ r. IsReady D.files r.vault) }
-    ensures listed { IfOk result (λ r. IsListed r.image) }
+
+    // What it gives fits together on every disk.
+    ensures sound { IfOk result (λ r. IsSound r.graph r.image) }
     ensures working { IfOk result (λ r. r.vault.halted ≡ false) }
     ensures nothing { IsTrue D.is_honest → IfErr result (λ refused. SaysNothing refused.error → StandsForNothing (contents_of (D.files disk))) }
     ensures not_a_store { IsTrue D.is_honest → IfErr result (λ refused. refused.error ≡ NotAStore → NoneIsOpen (contents_of (D.files disk))) }
@@ -82,7 +84,7 @@ pub fn open<D: Disk>(alloc: Global, disk: D) -> Result<Recovered<D>, Refused<D>>
 // Syncs both files, and reads what they stand for.
 fn recover<D: Disk>(alloc: Global, disk: &mut D) -> Result<Found, VaultError>
     ensures found { IsTrue D.is_honest → IfOk result (IsFound (contents_of (D.files disk.old))) }
-    ensures listed { IfOk result (λ found. IsListed found.image) }
+    ensures sound { IfOk result (λ found. IsSound found.graph found.image) }
     ensures rests { IsTrue D.is_honest → OnOk result ((side : Side) → D.files disk.new side ≡ at_rest (D.files disk.old side).content) }
     ensures nothing { IsTrue D.is_honest → IfErr result (λ error. SaysNothing error → StandsForNothing (contents_of (D.files disk.old))) }
     ensures not_a_store { IsTrue D.is_honest → IfErr result (λ error. error ≡ NotAStore → NoneIsOpen (contents_of (D.files disk.old))) }
@@ -109,7 +111,7 @@ fn settle<D: Disk>(disk: &mut D) -> Result<(), DiskError>
 // Reads what the files stand for.
 fn look<D: Disk>(alloc: Global, disk: &mut D) -> Result<Found, VaultError>
     ensures found { IsTrue D.is_honest → IfOk result (IsFound (contents_of (D.files disk.old))) }
-    ensures listed { IfOk result (λ found. IsListed found.image) }
+    ensures sound { IfOk result (λ found. IsSound found.graph found.image) }
     ensures nothing { IsTrue D.is_honest → IfErr result (λ error. SaysNothing error → StandsForNothing (contents_of (D.files disk.old))) }
     ensures not_a_store { IsTrue D.is_honest → IfErr result (λ error. error ≡ NotAStore → NoneIsOpen (contents_of (D.files disk.old))) }
     ensures damaged { IsTrue D.is_honest → (here : Side) (place : ℕ) → IfErr result (λ error. error ≡ Damaged here place → IsOpen (D.files disk.old here).content) }
