@@ -1,0 +1,62 @@
+//! Bytes of events and images: what they are read as, and that it is spelled by the same bytes again.
+use crate::telling::{tell_event, tell_image};
+use codec::{CodecError, decode_event, decode_image, encode_event, encode_image};
+use std::alloc::{AllocError, Global};
+
+/// The event that the bytes spell, or their fault. A clone of it is spelled again.
+pub(crate) fn event(alloc: Global, bytes: &[u8]) -> Result<String, AllocError> {
+    let mut out = String::new(alloc);
+    let mut again = Vec::new(alloc);
+    match decode_event(alloc, bytes) {
+        Ok(event) => {
+            tell_event(&mut out, &event)?;
+            encode_event(&mut again, &event.try_clone(alloc)?)?;
+            compare(&mut out, bytes, &again)?;
+        }
+        Err(fault) => writeln!(out, "{fault}")?,
+    }
+    Ok(out)
+}
+
+/// The image that the bytes spell, or their fault.
+pub(crate) fn image(alloc: Global, bytes: &[u8]) -> Result<String, AllocError> {
+    let mut out = String::new(alloc);
+    let mut again = Vec::new(alloc);
+    match decode_image(alloc, bytes) {
+        Ok(image) => {
+            tell_image(&mut out, &image)?;
+            encode_image(&mut again, &image)?;
+            compare(&mut out, bytes, &again)?;
+        }
+        Err(fault) => writeln!(out, "{fault}")?,
+    }
+    Ok(out)
+}
+
+// Tells the bytes that something is spelled by, if they are not those that it was read from.
+fn compare(out: &mut String, bytes: &[u8], again: &[u8]) -> Result<(), AllocError> {
+    if again != bytes {
+        write!(out, ", spelled {again:?}")?;
+    }
+    out.push_str("\n")
+}
+
+/// How many beginnings the bytes have, and how many of them are told to be short.
+pub(crate) fn beginnings(
+    alloc: Global,
+    bytes: &[u8],
+    are_events: bool,
+) -> Result<String, AllocError> {
+    let mut short = 0u64;
+    for length in 0..bytes.len() {
+        let fault = if are_events {
+            decode_event(alloc, &bytes[..length]).err()
+        } else {
+            decode_image(alloc, &bytes[..length]).err()
+        };
+        if fault == Some(CodecError::Short) {
+            short = short.saturating_add(1);
+        }
+    }
+    format!(in alloc; "{short} of {} short\n", bytes.len())
+}

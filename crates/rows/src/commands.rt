@@ -1,0 +1,73 @@
+//! The commands.
+//!
+//! - `text NAME`, `bytes NAME`: names what stands below it
+//! - `tokens`, `parse`, `reads`, `graph`, `beginnings`, `refuses BYTES`: a graph text (`graphs`)
+//! - `run NAME`: instances of a graph's steps, with the values of what they get (`bodies`)
+//! - `event`, `image`, `short event`, `short image`: bytes that spell one (`codecs`)
+//! - `rising KIND`: values that rise (`orders`)
+//! - `first`: bytes that begin with a record (`journals`)
+//! - `store NUMBERS`: a story of a store on a memory disk, once for each number (`stories`)
+use crate::names::Names;
+use crate::{bodies, bytes, codecs, graphs, journals, orders, stories, texts};
+use std::alloc::{AllocError, Global};
+
+/// What a command answers to its input.
+pub(crate) fn answer(
+    alloc: Global,
+    names: &mut Names,
+    command: &str,
+    input: &str,
+) -> Result<String, AllocError> {
+    let (word, rest) = command.split_once(' ').unwrap_or((command, ""));
+    match word {
+        "text" => {
+            names.give(rest, texts::lines_of(alloc, input)?.into_bytes())?;
+            Ok(String::new(alloc))
+        }
+        "bytes" => give_bytes(alloc, names, rest, input),
+        "tokens" | "parse" | "reads" | "graph" | "beginnings" | "refuses" => {
+            let text = texts::text_of(alloc, input)?;
+            graphs::answer(alloc, names, word, rest, text.as_str())
+        }
+        "run" => bodies::answer(alloc, names.bytes(rest), input),
+        "store" => stories::answer(alloc, names, rest, input),
+        "rising" => orders::answer(alloc, names, rest, input),
+        _ => answer_bytes(alloc, names, command, input),
+    }
+}
+
+// Names bytes; it answers nothing where they are some.
+fn give_bytes(
+    alloc: Global,
+    names: &mut Names,
+    name: &str,
+    input: &str,
+) -> Result<String, AllocError> {
+    match bytes::bytes_of(alloc, names, input)? {
+        Some(bytes) => {
+            names.give(name, bytes)?;
+            Ok(String::new(alloc))
+        }
+        None => String::from_str(alloc, "no bytes\n"),
+    }
+}
+
+// A command on bytes.
+fn answer_bytes(
+    alloc: Global,
+    names: &Names,
+    command: &str,
+    input: &str,
+) -> Result<String, AllocError> {
+    let Some(bytes) = bytes::bytes_of(alloc, names, input)? else {
+        return String::from_str(alloc, "no bytes\n");
+    };
+    match command {
+        "event" => codecs::event(alloc, &bytes),
+        "image" => codecs::image(alloc, &bytes),
+        "short event" => codecs::beginnings(alloc, &bytes, true),
+        "short image" => codecs::beginnings(alloc, &bytes, false),
+        "first" => journals::first(alloc, &bytes),
+        _ => String::from_str(alloc, "no such command\n"),
+    }
+}

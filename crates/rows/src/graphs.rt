@@ -1,0 +1,198 @@
+//! Graph texts.
+//!
+//! - `tokens`: its tokens, each behind its place
+//! - `parse`: its fault, or its graph's canonical text behind the number of its bytes
+//! - `reads`: its fault, or that it is a graph
+//! - `graph`: what its graph tells of its collections, and of one more of each kind
+//! - `beginnings`: the lengths of its beginnings that are graphs
+//! - `refuses BYTES`: at how many places one of these characters can stand in place of what the text has there
+use crate::names::Names;
+use graph::{Graph, canonical, parse};
+use std::alloc::{AllocError, Global};
+use syntax::tokens;
+use terms::{ItemCollection, StepCollection, TagCollection};
+
+/// What a command answers to this text.
+pub(crate) fn answer(
+    alloc: Global,
+    names: &Names,
+    command: &str,
+    more: &str,
+    text: &str,
+) -> Result<String, AllocError> {
+    let mut out = String::new(alloc);
+    match command {
+        "tokens" => tell_tokens(alloc, text, &mut out)?,
+        "parse" => tell_canonical(alloc, text.as_bytes(), &mut out)?,
+        "reads" => {
+            tell_fault(alloc, text.as_bytes(), &mut out)?;
+            out.push_str("\n")?;
+        }
+        "graph" => tell_graph(alloc, text.as_bytes(), &mut out)?,
+        "beginnings" => tell_beginnings(alloc, text.as_bytes(), &mut out)?,
+        _ => tell_changes(alloc, text.as_bytes(), names.bytes(more), &mut out)?,
+    }
+    Ok(out)
+}
+
+#[tactic(auto, using(syntax::proofs::Runs::ascii_text))]
+fn tell_tokens(alloc: Global, text: &str, out: &mut String) -> Result<(), AllocError> {
+    if !text.is_ascii() {
+        return out.push_str("not ASCII\n");
+    }
+    for placed in &tokens(alloc, text)? {
+        let place = placed.place;
+        let token = placed.token;
+        writeln!(out, "{place} {token:?}")?;
+    }
+    Ok(())
+}
+
+// The fault of a text, or that it is a graph.
+fn tell_fault(alloc: Global, text: &[u8], out: &mut String) -> Result<(), AllocError> {
+    match parse(alloc, text) {
+        Ok(_) => out.push_str("a graph"),
+        Err(fault) => write!(out, "{fault}"),
+    }
+}
+
+// The canonical text of the graph that a text is, if it is one.
+fn canonical_of(alloc: Global, text: &[u8]) -> Result<Option<Vec<u8>>, AllocError> {
+    match parse(alloc, text) {
+        Ok(graph) => Ok(Some(canonical(alloc, &graph)?)),
+        Err(_) => Ok(None),
+    }
+}
+
+fn tell_canonical(alloc: Global, text: &[u8], out: &mut String) -> Result<(), AllocError> {
+    let Some(canonical) = canonical_of(alloc, text)? else {
+        tell_fault(alloc, text, out)?;
+        return out.push_str("\n");
+    };
+    writeln!(out, "{} bytes", canonical.len())?;
+    out.push_str(str::from_utf8(&canonical).unwrap_or("not ASCII\n"))
+}
+
+// Whether a text is a graph, and its canonical text is its own.
+fn is_graph(alloc: Global, text: &[u8]) -> Result<bool, AllocError> {
+    let Some(once) = canonical_of(alloc, text)? else {
+        return Ok(false);
+    };
+    Ok(canonical_of(alloc, &once)?.as_ref() == Some(&once))
+}
+
+fn tell_beginnings(alloc: Global, text: &[u8], out: &mut String) -> Result<(), AllocError> {
+    for length in 0..=text.len() {
+        if is_graph(alloc, &text[..length])? {
+            write!(out, "{length} ")?;
+        }
+    }
+    out.push_str("\n")
+}
+
+fn tell_changes(
+    alloc: Global,
+    text: &[u8],
+    bytes: &[u8],
+    out: &mut String,
+) -> Result<(), AllocError> {
+    let mut changed = text.to_vec(alloc)?;
+    let mut taken = 0u64;
+    for place in 0..changed.len() {
+        for byte in bytes {
+            let old = changed[place];
+            changed[place] = *byte;
+            if is_graph(alloc, &changed)? {
+                taken = taken.saturating_add(1);
+            }
+            changed[place] = old;
+        }
+    }
+    writeln!(out, "{taken} taken")
+}
+
+fn tell_graph(alloc: Global, text: &[u8], out: &mut String) -> Result<(), AllocError> {
+    match parse(alloc, text) {
+        Ok(graph) => {
+            tell_items(&graph, out)?;
+            tell_tags(&graph, out)?;
+            tell_steps(&graph, out)
+        }
+        Err(fault) => writeln!(out, "{fault}"),
+    }
+}
+
+fn tell_items(graph: &Graph, out: &mut String) -> Result<(), AllocError> {
+    let count = graph.item_count() as u16;
+    writeln!(out, "{count} items")?;
+    for number in 0..count.saturating_add(1) {
+        let item = ItemCollection(number);
+        let name = graph.item_name(item).unwrap_or("none");
+        let components = graph.item_components(item);
+        let found = graph.item_number(name);
+        let puts = graph.environment_may_put_item(item);
+        let gets = graph.environment_may_get(item);
+        writeln!(
+            out,
+            "[{name}] {components:?} {found:?} put {puts} get {gets}"
+        )?;
+    }
+    Ok(())
+}
+
+fn tell_tags(graph: &Graph, out: &mut String) -> Result<(), AllocError> {
+    let count = graph.tag_count() as u16;
+    writeln!(out, "{count} tags")?;
+    for number in 0..count.saturating_add(1) {
+        let tag = TagCollection(number);
+        let name = graph.tag_name(tag).unwrap_or("none");
+        let components = graph.tag_components(tag);
+        let found = graph.tag_number(name);
+        let puts = graph.environment_may_put_tag(tag);
+        let steps = graph.prescribed_by(tag);
+        writeln!(
+            out,
+            "<{name}> {components:?} {found:?} put {puts} {steps:?}"
+        )?;
+    }
+    Ok(())
+}
+
+fn tell_steps(graph: &Graph, out: &mut String) -> Result<(), AllocError> {
+    let count = graph.step_count() as u16;
+    writeln!(out, "{count} steps")?;
+    for number in 0..count.saturating_add(1) {
+        tell_step(graph, StepCollection(number), out)?;
+    }
+    Ok(())
+}
+
+fn tell_step(graph: &Graph, step: StepCollection, out: &mut String) -> Result<(), AllocError> {
+    let name = graph.step_name(step).unwrap_or("none");
+    let parameters = graph.step_parameters(step);
+    let found = graph.step_number(name);
+    let prescriber = graph.prescriber(step);
+    let names = graph.body(step).map(|checked| checked.names.len());
+    write!(
+        out,
+        "({name}) {parameters:?} {found:?} {prescriber:?} {names:?}"
+    )?;
+    out.push_str(" reads ")?;
+    for item in 0..graph.item_count() as u16 {
+        push_mark(out, graph.may_read(step, ItemCollection(item)))?;
+    }
+    out.push_str(" puts ")?;
+    for item in 0..graph.item_count() as u16 {
+        push_mark(out, graph.may_put_item(step, ItemCollection(item)))?;
+    }
+    out.push_str(" ")?;
+    for tag in 0..graph.tag_count() as u16 {
+        push_mark(out, graph.may_put_tag(step, TagCollection(tag)))?;
+    }
+    out.push_str("\n")
+}
+
+fn push_mark(out: &mut String, is_marked: bool) -> Result<(), AllocError> {
+    out.push(if is_marked { '1' } else { '0' })?;
+    Ok(())
+}

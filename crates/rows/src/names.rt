@@ -1,0 +1,33 @@
+use std::alloc::{AllocError, Global};
+use std::collections::BTreeMap;
+
+/// The bytes and texts that a file has named.
+#[derive(Drop)]
+pub(crate) struct Names {
+    alloc: Global,
+    bytes: BTreeMap<String, Vec<u8>>,
+}
+
+impl Names {
+    pub(crate) fn new(alloc: Global) -> Self {
+        Names {
+            alloc,
+            bytes: BTreeMap::new(alloc),
+        }
+    }
+
+    /// Names these bytes, in place of what the name had.
+    pub(crate) fn give(&mut self, name: &str, bytes: Vec<u8>) -> Result<(), AllocError> {
+        let name = String::from_str(self.alloc, name)?;
+        self.bytes.insert(name, bytes)?;
+        Ok(())
+    }
+
+    /// What a name stands for; nothing, where it is not given.
+    pub(crate) fn bytes(&self, name: &str) -> &[u8] {
+        match self.bytes.get(name) {
+            Some(bytes) => bytes.as_slice(),
+            None => &[],
+        }
+    }
+}

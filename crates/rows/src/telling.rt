@@ -1,0 +1,158 @@
+//! Names, events and images in words, their collections by number. A list of more than eight is told by its length and its last.
+use codec::Image;
+use std::alloc::AllocError;
+use terms::{Addr, Event, Inst, Key, Producer, Put, Tag};
+
+/// The greatest number of elements that are told one by one.
+pub(crate) const MOST_TOLD: usize = 8;
+
+/// The components of a key behind what stands in front of them.
+pub(crate) fn tell_key(out: &mut String, key: &Key) -> Result<(), AllocError> {
+    for (place, component) in key.components().iter().enumerate() {
+        out.push_str(if place == 0 { ": " } else { ", " })?;
+        write!(out, "{component}")?;
+    }
+    Ok(())
+}
+
+fn tell_address(out: &mut String, address: &Addr) -> Result<(), AllocError> {
+    write!(out, "[{}", address.collection.0)?;
+    tell_key(out, &address.key)?;
+    out.push_str("]")
+}
+
+fn tell_tag(out: &mut String, tag: &Tag) -> Result<(), AllocError> {
+    write!(out, "<{}", tag.collection.0)?;
+    tell_key(out, &tag.key)?;
+    out.push_str(">")
+}
+
+fn tell_instance(out: &mut String, instance: &Inst) -> Result<(), AllocError> {
+    write!(out, "({}", instance.collection.0)?;
+    tell_key(out, &instance.key)?;
+    out.push_str(")")
+}
+
+fn tell_put(out: &mut String, put: &Put) -> Result<(), AllocError> {
+    match put {
+        Put::Item(address, value) => {
+            tell_address(out, address)?;
+            write!(out, " = {value}")
+        }
+        Put::Tag(tag) => tell_tag(out, tag),
+    }
+}
+
+/// An event.
+pub(crate) fn tell_event(out: &mut String, event: &Event) -> Result<(), AllocError> {
+    match event {
+        Event::EnvItem(address, value) => {
+            out.push_str("env puts ")?;
+            tell_put(out, &Put::Item(*address, *value))
+        }
+        Event::EnvTag(tag) => {
+            out.push_str("env puts ")?;
+            tell_tag(out, tag)
+        }
+        Event::Done(instance, puts) => {
+            tell_instance(out, instance)?;
+            out.push_str(" puts")?;
+            tell_puts(out, puts.as_slice())
+        }
+        Event::Stopped(instance, kind) => {
+            write!(out, "fault {} at ", kind.number())?;
+            tell_instance(out, instance)
+        }
+    }
+}
+
+fn tell_puts(out: &mut String, puts: &[Put]) -> Result<(), AllocError> {
+    let mut told = puts;
+    if puts.len() > MOST_TOLD {
+        write!(out, " {}, the last", puts.len())?;
+        told = &puts[puts.len() - 1..];
+    }
+    for put in told {
+        out.push_str(" ")?;
+        tell_put(out, put)?;
+    }
+    Ok(())
+}
+
+fn tell_item(out: &mut String, item: &(Addr, i64, Producer)) -> Result<(), AllocError> {
+    tell_put(out, &Put::Item(item.0, item.1))?;
+    match item.2 {
+        Producer::Env => out.push_str(" by env"),
+        Producer::By(instance, number) => {
+            out.push_str(" by ")?;
+            tell_instance(out, &instance)?;
+            write!(out, " {number}")
+        }
+    }
+}
+
+// What stands before an element of a list: nothing, or what parts it from those before.
+fn part(out: &mut String) -> Result<(), AllocError> {
+    if !out.is_empty() {
+        out.push_str(", ")?;
+    }
+    Ok(())
+}
+
+fn tell_items(out: &mut String, items: &[(Addr, i64, Producer)]) -> Result<(), AllocError> {
+    let mut told = items;
+    if items.len() > MOST_TOLD {
+        part(out)?;
+        write!(out, "{} items, the last", items.len())?;
+        told = &items[items.len() - 1..];
+    }
+    for item in told {
+        part(out)?;
+        tell_item(out, item)?;
+    }
+    Ok(())
+}
+
+fn tell_tags(out: &mut String, tags: &[(Tag, bool)]) -> Result<(), AllocError> {
+    let mut told = tags;
+    if tags.len() > MOST_TOLD {
+        part(out)?;
+        write!(out, "{} tags, the last", tags.len())?;
+        told = &tags[tags.len() - 1..];
+    }
+    for (tag, is_of_environment) in told {
+        part(out)?;
+        tell_tag(out, tag)?;
+        out.push_str(if *is_of_environment { " by env" } else { "" })?;
+    }
+    Ok(())
+}
+
+fn tell_done(out: &mut String, done: &[Inst]) -> Result<(), AllocError> {
+    let mut told = done;
+    if done.len() > MOST_TOLD {
+        part(out)?;
+        write!(out, "{} done, the last", done.len())?;
+        told = &done[done.len() - 1..];
+    }
+    for instance in told {
+        part(out)?;
+        tell_instance(out, instance)?;
+    }
+    Ok(())
+}
+
+/// An image: its fault, its items, its tags, its done instances. `out` is empty.
+pub(crate) fn tell_image(out: &mut String, image: &Image) -> Result<(), AllocError> {
+    if let Some((instance, kind)) = &image.fault {
+        write!(out, "fault {} at ", kind.number())?;
+        tell_instance(out, instance)?;
+    }
+    tell_items(out, image.items.as_slice())?;
+    tell_tags(out, image.tags.as_slice())?;
+    tell_done(out, image.done.as_slice())?;
+    if out.is_empty() {
+        out.push_str("nothing")?;
+    }
+    Ok(())
+}

@@ -1,0 +1,242 @@
+//! The calls of a store.
+ghost use Rattle.std.specs.Prelude.{◌≡◌, true, false, IfOk};
+ghost use Rattle.std.proofs.Props.{props};
+ghost use Rattle.codec.specs.Spelling.{HasFewPuts};
+ghost use Rattle.disk.specs.MemDisk.{files_of};
+ghost use Rattle.sides.specs.Image.{IsListed};
+ghost use Rattle.vault.specs.Store.{IsCanonical, IsReady};
+
+use crate::bytes::bytes_of;
+use crate::names::Names;
+use crate::telling::tell_image;
+use codec::{Image, decode_event, decode_image, encode_image};
+use disk::MemDisk;
+use graph::{canonical, parse};
+use std::alloc::{AllocError, Global};
+use terms::Event;
+use vault::{Recovered, Refused, Vault, VaultError, create, open};
+
+/// A disk, or a store that is open on it.
+#[derive(Drop)]
+pub(crate) enum World {
+    Closed(MemDisk),
+    Open(Live),
+}
+
+/// A store that is open, and the bytes that spell the image which its opening gave.
+#[derive(Drop)]
+pub(crate) struct Live {
+    vault: Vault<MemDisk>,
+    image: Vec<u8>,
+    ghost is_ready: { vault.halted ≡ false → IsReady files_of vault } by { Prim.hlevel props },
+}
+
+/// The disk, closed.
+pub(crate) fn closed(world: World) -> MemDisk {
+    match world {
+        World::Closed(disk) => disk,
+        World::Open(live) => {
+            let Live { vault, image: _ } = live;
+            vault.into_disk()
+        }
+    }
+}
+
+/// The call of the disk with this number from now on is to fail.
+pub(crate) fn fail(world: World, number: &str) -> World {
+    let mut disk = closed(world);
+    disk.fail_call(number.parse::<u64>().unwrap_or(0));
+    World::Closed(disk)
+}
+
+// Whether a text is the canonical one of the graph that it reads as.
+fn is_canonical(alloc: Global, text: &[u8]) -> Result<bool, AllocError>
+    ensures { IfOk result (λ is. is ≡ true → IsCanonical text.now) }
+{
+    match parse(alloc, text) {
+        Ok(graph) => Ok(canonical(alloc, &graph)?.as_slice() == text),
+        Err(_) => Ok(false),
+    }
+}
+
+/// Makes a store of the graph with this text.
+pub(crate) fn create_store(
+    alloc: Global,
+    world: World,
+    text: &[u8],
+    told: &mut String,
+) -> Result<World, AllocError> {
+    let disk = closed(world);
+    if !is_canonical(alloc, text)? {
+        told.push_str("not canonical")?;
+        return Ok(World::Closed(disk));
+    }
+    let (world, error) = created(alloc, disk, text, vec![in alloc; 0; 13]?);
+    tell_error(error, "created", told)?;
+    Ok(world)
+}
+
+// A store, which has the image with these bytes.
+fn created(alloc: Global, disk: MemDisk, text: &[u8], image: Vec<u8>) -> (World, Option<VaultError>)
+    requires { IsCanonical text.now }
+{
+    match create(alloc, disk, text) {
+        Ok(vault) => (World::Open(Live { vault, image }), None),
+        Err(refused) => handed_back(refused),
+    }
+}
+
+fn handed_back(refused: Refused<MemDisk>) -> (World, Option<VaultError>) {
+    let Refused { disk, error } = refused;
+    (World::Closed(disk), Some(error))
+}
+
+/// Opens the store, and tells its generation.
+pub(crate) fn open_store(
+    alloc: Global,
+    world: World,
+    told: &mut String,
+) -> Result<World, AllocError> {
+    let (world, generation, error) = opened(alloc, closed(world))?;
+    tell_error(error, "generation ", told)?;
+    if error.is_none() {
+        write!(told, "{generation}")?;
+    }
+    Ok(world)
+}
+
+fn opened(alloc: Global, disk: MemDisk) -> Result<(World, u64, Option<VaultError>), AllocError> {
+    match open(alloc, disk) {
+        Ok(recovered) => {
+            let Recovered {
+                vault,
+                graph: _,
+                image,
+            } = recovered;
+            let generation = vault.generation();
+            let image = spelled(alloc, &image)?;
+            Ok((World::Open(Live { vault, image }), generation, None))
+        }
+        Err(refused) => {
+            let (world, error) = handed_back(refused);
+            Ok((world, 0, error))
+        }
+    }
+}
+
+// The bytes that spell an image, none where it is longer than bytes can count.
+fn spelled(alloc: Global, image: &Image) -> Result<Vec<u8>, AllocError>
+    requires { IsListed image.now }
+{
+    let longest = image
+        .items
+        .as_slice()
+        .len()
+        .max(image.tags.as_slice().len())
+        .max(image.done.as_slice().len());
+    let mut bytes = Vec::new(alloc);
+    if longest <= u32::MAX as usize {
+        encode_image(&mut bytes, image)?;
+    }
+    Ok(bytes)
+}
+
+/// Tells what the store held when it was opened.
+pub(crate) fn tell_facts(
+    alloc: Global,
+    world: World,
+    told: &mut String,
+) -> Result<World, AllocError> {
+    match &world {
+        World::Open(live) => match decode_image(alloc, &live.image) {
+            Ok(image) => tell_image(told, &image)?,
+            Err(fault) => write!(told, "{fault}")?,
+        },
+        World::Closed(_) => told.push_str("not open")?,
+    }
+    Ok(world)
+}
+
+/// Appends the event that these bytes spell.
+pub(crate) fn append_event(
+    alloc: Global,
+    names: &Names,
+    world: World,
+    text: &str,
+    told: &mut String,
+) -> Result<World, AllocError> {
+    let bytes = bytes_of(alloc, names, text)?.unwrap_or(Vec::new(alloc));
+    match (world, decode_event(alloc, &bytes)) {
+        (World::Open(live), Ok(event)) => {
+            let (live, error) = appended(live, &event);
+            tell_answer(&live, error, "appended", told)?;
+            Ok(World::Open(live))
+        }
+        (world, _) => {
+            told.push_str("not open, or no event")?;
+            Ok(world)
+        }
+    }
+}
+
+fn appended(live: Live, event: &Event) -> (Live, Option<VaultError>)
+    requires { HasFewPuts event.now }
+{
+    let Live { mut vault, image } = live;
+    match vault.append(event) {
+        Ok(()) => (Live { vault, image }, None),
+        Err(error) => (Live { vault, image }, Some(error)),
+    }
+}
+
+/// Turns the store over, and tells its generation.
+pub(crate) fn turn_over(
+    alloc: Global,
+    world: World,
+    told: &mut String,
+) -> Result<World, AllocError> {
+    match world {
+        World::Open(live) => {
+            let (live, answer) = turned(alloc, live);
+            match answer {
+                Ok(generation) => write!(told, "turned to generation {generation}")?,
+                Err(error) => tell_answer(&live, Some(error), "", told)?,
+            }
+            Ok(World::Open(live))
+        }
+        closed => {
+            told.push_str("not open")?;
+            Ok(closed)
+        }
+    }
+}
+
+fn turned(alloc: Global, live: Live) -> (Live, Result<u64, VaultError>) {
+    let Live { mut vault, image } = live;
+    let answer = match decode_image(alloc, &image) {
+        Ok(listed) => vault.turn(&listed),
+        Err(_) => Err(VaultError::NoMemory),
+    };
+    (Live { vault, image }, answer)
+}
+
+// An answer, and whether the store is halted now.
+fn tell_answer(
+    live: &Live,
+    error: Option<VaultError>,
+    done: &str,
+    told: &mut String,
+) -> Result<(), AllocError> {
+    tell_error(error, done, told)?;
+    if live.vault.is_halted() && error != Some(VaultError::Halted) {
+        told.push_str(", halts")?;
+    }
+    Ok(())
+}
+
+fn tell_error(error: Option<VaultError>, done: &str, told: &mut String) -> Result<(), AllocError> {
+    match error {
+        Some(error) => write!(told, "{error}"),
+        None => told.push_str(done),
+    }
+}
