@@ -70,31 +70,3 @@ fn parsing(rt: &HostRuntime, text: &[u8], rounds: u32) -> Result<f64, Error> {
     }
     Ok(start.elapsed(rt)?.as_secs_f64())
 }
-
-#[cfg(test)]
-mod tests {
-    use super::*;
-    use std::test::Fail;
-
-    // Texts, the status, and what is printed.
-    const ROWS: [(&str, u8, &str); 4] = [
-        ("", 0, ""),
-        ("[x];<t: k>;", 0, "[x];\n<t: i>;\n"),
-        ("[x", 2, "graph refused 2 at 1:3\n"),
-        (
-            "<t>; <t> :: (s); step s() { read { a = 1; } write { } }",
-            2,
-            "graph refused 11.1 at 1:36\n",
-        ),
-    ];
-
-    #[test]
-    fn texts_are_told(rt: HostRuntime) -> Result<(), Fail> {
-        for (text, status, printed) in ROWS {
-            let (found, bytes) = told(rt.alloc(), text.as_bytes())?;
-            assert_eq!(rt; found, status, "of {text:?}");
-            assert_eq!(rt; bytes.as_slice(), printed.as_bytes(), "of {text:?}");
-        }
-        Ok(())
-    }
-}

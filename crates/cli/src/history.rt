@@ -13,6 +13,3 @@ pub fn histories_keep<D: Disk>()
     ensures base { BaseStays D.files }
     ensures stays { AnswersStay D.files }
 {}
-
-#[cfg(test)]
-mod tests;

@@ -284,6 +284,3 @@ fn wanted<'a>(alloc: Global, name: &'a str, parser: ValueParser<'a>, help: &'a s
         .value_parser(parser)
         .help(help)
 }
-
-#[cfg(test)]
-mod tests;

@@ -21,6 +21,3 @@ pub use encode::{encode_event, encode_image};
 pub use error::CodecError;
 pub use image::{Image, Instances, Items, Tags};
 pub use law::{spellings_of_events, spellings_of_images};
-
-#[cfg(test)]
-mod tests;

@@ -20,12 +20,22 @@ const GREATEST_POSITION: u64 = i64::MAX as u64;
 /// A call answers `Device` where the system refuses what it asks, where a read meets the end of its file, and where a
 /// range ends past `2 ^ 63 - 1`, the greatest position that the system can count.
 /// While the disk lives, it holds an exclusive advisory lock on `A`.
-#[derive(Drop)]
 pub struct FileDisk {
     a: File,
     b: File,
     // One unit for each failure of the device.
     failures: Vec<()>,
+}
+
+impl Drop for FileDisk {
+    // By hand, so that it is one call wherever a disk goes.
+    fn drop(self) {
+        let FileDisk {
+            a: _,
+            b: _,
+            failures: _,
+        } = self;
+    }
 }
 
 impl FileDisk {
@@ -168,51 +178,5 @@ impl Disk for FileDisk {
     fn sync(&mut self, side: Side) -> Result<(), DiskError> {
         let answer = self.file(side).sync_all();
         self.outcome(answer)
-    }
-}
-
-#[cfg(test)]
-mod tests {
-    use super::*;
-    use std::test::Fail;
-    use std::{env, fs, process};
-
-    #[test]
-    fn keeps_two_files(rt: HostRuntime) -> Result<(), Fail> {
-        let name = format!(in rt.alloc(); "file_disk_{}", process::id(rt.process()))?;
-        let path = env::temp_dir(&rt)?.join(rt.alloc(), name)?;
-        let directory = path.as_str();
-        let _ = fs::remove_dir_all(&rt, directory);
-        let missing = FileDisk::open(rt.alloc(), &rt, directory).err();
-        assert_eq!(rt; missing, Some(DiskError::Device));
-
-        fs::create_dir(&rt, directory)?;
-        let mut disk = FileDisk::open(rt.alloc(), &rt, directory)?;
-        disk.write_at(Side::A, 0, &[1, 2, 3])?;
-        disk.sync(Side::A)?;
-        assert_eq!(rt; disk.len(Side::A)?, 3);
-        let mut bytes = [0; 2];
-        disk.read(Side::A, 1, &mut bytes)?;
-        assert_eq!(rt; bytes, [2, 3]);
-        disk.cut(Side::A, 1)?;
-        assert_eq!(rt; disk.len(Side::A)?, 1);
-        assert_eq!(rt; disk.len(Side::B)?, 0);
-
-        let refused = Err(DiskError::Device);
-        assert_eq!(rt; disk.read(Side::A, 0, &mut bytes), refused, "past the end");
-        assert_eq!(rt; disk.read(Side::A, u64::MAX, &mut bytes), refused);
-        assert_eq!(rt; disk.write_at(Side::B, GREATEST_POSITION, &[1]), refused);
-        assert_eq!(rt; disk.cut(Side::A, GREATEST_POSITION + 1), refused);
-
-        let second = FileDisk::open(rt.alloc(), &rt, directory).err();
-        assert_eq!(rt; second, Some(DiskError::Device), "while the first lives");
-        drop(disk);
-        let kept = fs::read(&rt, path.join(rt.alloc(), "A")?)?;
-        assert_eq!(rt; kept.as_slice(), [1].as_slice());
-        let mut again = FileDisk::open(rt.alloc(), &rt, directory)?;
-        assert_eq!(rt; again.len(Side::A)?, 1);
-        drop(again);
-        fs::remove_dir_all(&rt, directory)?;
-        Ok(())
     }
 }

@@ -137,32 +137,3 @@ fn after_ok_there_is_nothing_to_choose(rt: HostRuntime) -> Result<(), Fail> {
     assert_eq!(rt; allowed, 1);
     Ok(())
 }
-
-// At each call of the disk, each filling that a crash there may leave.
-#[test]
-fn a_crash_at_each_call_leaves_the_same_cells_twice(rt: HostRuntime) -> Result<(), Fail> {
-    // The numbers of the calls with how many of the tails and of the gates may be left there, and behind `ok`.
-    for (numbers, may_be_left) in [
-        (1..=4, [1u16, 0]),
-        (5..=6, [22, 1]),
-        (7..=8, [0, 256]),
-        (9..=9, [0, 1]),
-    ] {
-        for number in numbers {
-            let mut left = [0u16; 2];
-            for (table, count) in [tails(rt.alloc())?, gates(rt.alloc())?]
-                .iter()
-                .zip(left.iter_mut())
-            {
-                for bytes in table {
-                    if let Some(disk) = crashed(&rt, number, bytes)? {
-                        *count = count.saturating_add(1);
-                        opens_twice(&rt, disk, bytes.first() == Some(&1))?;
-                    }
-                }
-            }
-            assert_eq!(rt; left, may_be_left, "call {number}");
-        }
-    }
-    Ok(())
-}

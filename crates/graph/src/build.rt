@@ -36,6 +36,3 @@ pub(crate) fn graph_of(alloc: Global, tree: &Tree<'_>) -> Result<Graph, PlacedFa
         environment_gets: relations.environment_gets,
     })
 }
-
-#[cfg(test)]
-mod tests;

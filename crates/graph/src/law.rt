@@ -68,20 +68,3 @@ pub fn reads_without_fault()
     one_graph();
     one_canonical_text();
 }
-
-#[cfg(test)]
-mod tests {
-    use super::*;
-
-    #[test]
-    fn laws_are_there() {
-        text_limit();
-        canonical_reads();
-        one_canonical_text();
-        one_graph();
-        one_reading();
-        fitting();
-        reads_textual();
-        reads_without_fault();
-    }
-}

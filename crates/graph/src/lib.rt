@@ -23,8 +23,6 @@ mod relations;
 mod resolved;
 mod steps;
 mod tables;
-#[cfg(test)]
-mod tests;
 
 pub use canonical_text::canonical;
 pub use examples::canonical_example;

@@ -30,15 +30,3 @@ pub fn refused_examples()
     facts_are_told_apart();
     ends_once();
 }
-
-#[cfg(test)]
-mod tests {
-    use super::*;
-
-    #[test]
-    fn examples_are_there() {
-        fibonacci_numbers();
-        item_put_twice();
-        refused_examples();
-    }
-}

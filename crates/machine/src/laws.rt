@@ -69,19 +69,3 @@ pub fn each_instance_can_go_on()
     facts_are_told_apart();
     ends_once();
 }
-
-#[cfg(test)]
-mod tests {
-    use super::*;
-
-    #[test]
-    fn laws_are_there() {
-        stays_within();
-        quiet_is_meaning();
-        stopped_is_not_clean();
-        one_end();
-        legal_lists_go_on();
-        legal_events_fit();
-        each_instance_can_go_on();
-    }
-}

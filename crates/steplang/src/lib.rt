@@ -5,8 +5,6 @@
 mod machine;
 mod outcome;
 mod run;
-#[cfg(test)]
-mod tests;
 mod value;
 
 pub use outcome::{Bad, Given, Parked, Reads, Turn};

@@ -84,6 +84,3 @@ pub fn check(alloc: Global, step: &Step<'_>, sheet: &Sheet<'_>) -> Result<Checke
         body: Body { read, write },
     })
 }
-
-#[cfg(test)]
-mod tests;

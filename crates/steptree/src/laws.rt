@@ -45,18 +45,3 @@ pub fn ends_once()
     ensures some { LookUpEnds }
     ensures one { LookUpEndsOnce }
 {}
-
-#[cfg(test)]
-mod tests {
-    use super::*;
-
-    #[test]
-    fn laws_are_there() {
-        limits();
-        along_one_list();
-        ends_within_limits();
-        keeps_to_its_sheet();
-        growth_keeps();
-        ends_once();
-    }
-}

@@ -1,14 +1,16 @@
-//! A store on the files of the folder that this runs in: where there is none it is made, filled, turned over and opened again.
-//! Started again, it tells what the store holds.
+//! A store on the files of the folder that this runs in: where there is none it is made, filled, turned over and opened again,
+//! and before that the calls of a disk are tried on two other files. Started again, it tells what the store holds.
 #![tactic(auto)]
 
 ghost use Rattle.std.specs.Prelude.{IfOk};
 ghost use Rattle.sides.specs.Image.{IsListed};
 
+mod files;
 mod filling;
 
 use anyhow::Error;
 use disk::FileDisk;
+use files::tell_calls;
 use filling::{fill, make};
 use std::io::Print;
 use vault::{Recovered, VaultError, open};
@@ -18,6 +20,7 @@ fn main(rt: HostRuntime) -> Result<(), Error> {
     match open(rt.alloc(), disk) {
         Ok(recovered) => tell(&rt, &recovered),
         Err(refused) if refused.error == VaultError::NotAStore => {
+            tell_calls(&rt)?;
             let mut vault = make(rt.alloc(), refused.disk)?;
             println!(rt; "made")?;
             fill(rt.alloc(), &mut vault)?;

@@ -30,8 +30,6 @@ mod step_names;
 mod steps;
 mod stop;
 mod symbols;
-#[cfg(test)]
-mod tests;
 mod token;
 mod tree;
 mod words;

@@ -25,16 +25,3 @@ pub fn examples_of_facts()
     ensures environment { EnvironmentOfExample }
     ensures numbers { NumbersOfPuts }
 {}
-
-#[cfg(test)]
-mod tests {
-    use super::*;
-
-    #[test]
-    fn laws_are_there() {
-        facts_go_on();
-        environment_is_stated();
-        facts_are_told_apart();
-        examples_of_facts();
-    }
-}

@@ -46,26 +46,3 @@ impl FaultKind {
         }
     }
 }
-
-#[cfg(test)]
-mod tests {
-    use super::*;
-
-    #[test]
-    fn kinds_have_numbers(rt: HostRuntime) {
-        let rows = [
-            (1, FaultKind::Overflow),
-            (2, FaultKind::DivisionByZero),
-            (3, FaultKind::Budget),
-            (4, FaultKind::DoublePut),
-            (5, FaultKind::TooManyPuts),
-        ];
-        for (number, kind) in rows {
-            assert_eq!(rt; kind.number(), number, "of {kind:?}");
-            assert_eq!(rt; FaultKind::numbered(number), Some(kind), "at {number}");
-        }
-        for number in [0, 6, 255] {
-            assert_eq!(rt; FaultKind::numbered(number), None, "at {number}");
-        }
-    }
-}

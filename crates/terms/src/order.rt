@@ -65,39 +65,3 @@ pub fn orders_are_total()
     ensures producers { IsTotalOrder producer_cmp }
     ensures producers_tie { IsAntisymmetric producer_cmp }
 {}
-
-#[cfg(test)]
-mod tests {
-    use super::*;
-    use crate::{ItemCollection, Key, StepCollection, TagCollection};
-
-    #[test]
-    fn the_collection_comes_first(rt: HostRuntime) {
-        key_order();
-        orders_are_total();
-        let (small, great) = (Key::new(&[0]), Key::new(&[i64::MAX]));
-
-        let item = |number, key| Addr {
-            collection: ItemCollection(number),
-            key,
-        };
-        let (before, after) = (item(0, great), item(1, small));
-        assert_eq!(rt; addr_order(&before, &after), Ordering::Less);
-        assert!(rt; after > before && after < item(1, great));
-        assert!(rt; after == item(1, small) && after != before);
-
-        let tag = |number, key| Tag {
-            collection: TagCollection(number),
-            key,
-        };
-        let (before, after) = (tag(0, great), tag(1, small));
-        assert_eq!(rt; tag_order(&before, &after), Ordering::Less);
-
-        let instance = |number, key| Inst {
-            collection: StepCollection(number),
-            key,
-        };
-        let (before, after) = (instance(0, great), instance(1, small));
-        assert_eq!(rt; inst_order(&before, &after), Ordering::Less);
-    }
-}
