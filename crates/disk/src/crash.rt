@@ -106,6 +106,3 @@ fn reaches_past(at: u64, count: u64, position: u64) -> bool
 {
     at > position || count > position - at
 }
-
-#[cfg(test)]
-mod tests;

@@ -12,8 +12,6 @@ mod law;
 mod payloads;
 mod records;
 mod scan;
-#[cfg(test)]
-mod tests;
 
 pub use error::{AppendError, JournalError};
 pub use journal::{Journal, LIMIT};

@@ -5,9 +5,6 @@ ghost use Rattle.sides.specs.Side.{IsOpen, HasGeneration, IsSide};
 ghost use Rattle.sides.specs.Reading.{IsRead};
 ghost use Rattle.sides.specs.declared.error.SideError.TheVariants.{Damaged};
 
-#[cfg(test)]
-mod tests;
-
 use crate::gate::{FORMAT, HEAD};
 use crate::parts::{COUNT, counted_at, read_graph, read_image};
 use crate::replay::{Replay, take_events};

@@ -1,4 +1,5 @@
 mod Appended
+pub mod BegunMoments
 mod Created
 mod FirstBytes
 mod GatesBytes

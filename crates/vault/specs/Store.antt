@@ -1,6 +1,7 @@
 -- What a vault keeps between two calls, and what its calls leave.
 use Rattle.std.specs.Prelude.{◌≡◌, ◌≢◌, ◌⊎◌, ◌+◌, ◌≤◌, ◌<◌, ◌^◌, ℕ, List, [], ◌∷◌, length, None, Result, Ok, Err}
 use Rattle.disk.specs.declared.side.Side.{Side}
+use Rattle.disk.specs.declared.side.Side.TheVariants.{A, B}
 use Rattle.disk.specs.File.{File, at_rest}
 use Rattle.disk.specs.Time.{Contents}
 use Rattle.terms.specs.declared.event.Event.{Event}
@@ -67,6 +68,10 @@ HasGates contents = (side : Side) → contents side ≢ []
 -- two files stand for the state before an event or for that behind it
 abbrev pub StandsBeforeOrAfter : Graph → Facts → Facts → Event → Contents → Type 0
 StandsBeforeOrAfter g E X event contents = Stands contents g E X ⊎ Stands contents g (with_facts E (environment_facts event)) (with_facts X (event_facts event))
+
+-- file A is empty, or file B has its closed gate: no crash within a creation leaves a side where a turnover could not begin
+abbrev pub BeginsBehindB : Contents → Type 0
+BeginsBehindB contents = (contents A ≡ []) ⊎ (contents B ≡ 0 ∷ [])
 
 -- ---- sides
 

@@ -30,14 +30,3 @@ pub fn stores_go_on<D: Disk>()
     sides_go_on();
     one_store();
 }
-
-#[cfg(test)]
-mod tests {
-    use super::*;
-    use disk::MemDisk;
-
-    #[test]
-    fn law_is_there() {
-        stores_go_on::<MemDisk>();
-    }
-}

@@ -10,13 +10,3 @@ pub fn one_store()
 {
     one_meaning_of_a_side();
 }
-
-#[cfg(test)]
-mod tests {
-    use super::*;
-
-    #[test]
-    fn law_is_there() {
-        one_store();
-    }
-}

@@ -15,8 +15,6 @@ mod history;
 mod law;
 mod opening;
 mod refused;
-#[cfg(test)]
-mod tests;
 mod turn;
 mod vault;
 

@@ -1,5 +1,7 @@
+use Rattle.std.proofs.Common.{◌∙◌}
 use Rattle.disk.specs.Moments.{begun}
 use Rattle.disk.specs.Time.{MayLeaveNow}
+use Rattle.vault.proofs.BegunMoments.{looked, both}
 use Rattle.vault.proofs.creation.write_store.Goals as goal
 
 pub returns-then-branch-clause-exists : goal.returns-then-branch-clause-exists
@@ -14,3 +16,31 @@ pub returns-in_err-buffer-clause-kept_moments : goal.returns-in_err-buffer-claus
 returns-in_err-buffer-clause-kept_moments g c honest some full =
     let disk = c.args.disk.now in
     begun g.D.Disk.moment g.D.Disk.left_at disk (MayLeaveNow (g.D.Disk.files disk)) (λ contents now. (g.met.D.Disk.at_now honest disk contents).0 now)
+
+pub returns-in_err-kept-clause-begins : goal.returns-in_err-kept-clause-begins
+returns-in_err-kept-clause-begins g c honest rests =
+    let disk = c.args.disk.now in
+    looked g.D.Disk.files g.D.Disk.moment g.D.Disk.left_at disk disk rests
+    (begun g.D.Disk.moment g.D.Disk.left_at disk (MayLeaveNow (g.D.Disk.files disk)) (λ contents now. (g.met.D.Disk.at_now honest disk contents).0 now))
+
+pub returns-in_err-buffer-clause-begins : goal.returns-in_err-buffer-clause-begins
+returns-in_err-buffer-clause-begins g c honest rests =
+    let disk = c.args.disk.now in
+    looked g.D.Disk.files g.D.Disk.moment g.D.Disk.left_at disk disk rests
+    (begun g.D.Disk.moment g.D.Disk.left_at disk (MayLeaveNow (g.D.Disk.files disk)) (λ contents now. (g.met.D.Disk.at_now honest disk contents).0 now))
+
+pub returns-in_err-is_there-clause-begins : goal.returns-in_err-is_there-clause-begins
+returns-in_err-is_there-clause-begins g c honest rests =
+    looked g.D.Disk.files g.D.Disk.moment g.D.Disk.left_at c.args.disk.now c.is_there.new.disk rests (c.is_there.ensures.only_reads honest).any_moment
+
+pub returns-in_err-write_sides-clause-begins : goal.returns-in_err-write_sides-clause-begins
+returns-in_err-write_sides-clause-begins g c honest rests =
+    both g.D.Disk.files g.D.Disk.moment g.D.Disk.left_at c.args.disk.now c.is_there.new.disk c.write_sides.new.disk
+    (looked g.D.Disk.files g.D.Disk.moment g.D.Disk.left_at c.args.disk.now c.is_there.new.disk rests (c.is_there.ensures.only_reads honest).any_moment)
+    (c.write_sides.ensures.begins honest (λ side. c.is_there.ensures.same honest side ∙ rests side))
+
+pub returns-clause-begins : goal.returns-clause-begins
+returns-clause-begins g c honest rests =
+    both g.D.Disk.files g.D.Disk.moment g.D.Disk.left_at c.args.disk.now c.is_there.new.disk c.write_sides.new.disk
+    (looked g.D.Disk.files g.D.Disk.moment g.D.Disk.left_at c.args.disk.now c.is_there.new.disk rests (c.is_there.ensures.only_reads honest).any_moment)
+    (c.write_sides.ensures.begins honest (λ side. c.is_there.ensures.same honest side ∙ rests side))
