@@ -12,4 +12,3 @@ pub mod PutMoments
 mod ReadLemmas
 pub mod Replies
 mod RowLemmas
-pub mod ToldRounds

@@ -10,14 +10,13 @@ use Rattle.terms.specs.declared.event.Event.{Event}
 use Rattle.terms.specs.declared.event.Event.TheVariants.{EnvItem, EnvTag, Done, Stopped}
 use Rattle.terms.specs.Facts.{Fact, tag, item, done, bad, facts, event_facts}
 use Rattle.terms.specs.Same.{is_same, same_itself, same_address}
-use Rattle.terms.specs.Sets.{Facts, among, OneFact, AmongBoth}
+use Rattle.terms.specs.Sets.{Facts, among, OneFact, AmongBoth, stated}
 use Rattle.steptree.specs.Bodies.{Ending, Gives, Faults, Asks}
 use Rattle.steptree.specs.Laws.{LookUpEnds}
 use Rattle.graph.specs.Graph.{Graph, BodyMeans}
 use Rattle.graph.specs.Fits.{IsAbsent, IsPrescribed, HasNoFault, addresses, IsIn, IsTwiceIn, AreNew, Fits}
 use Rattle.machine.specs.Meaning.{items}
 use Rattle.machine.specs.Legal.{Conflicts, IsMeant, IsLegal, AreLegal, IsBlocked}
-use Rattle.machine.specs.Laws.{stated}
 use Rattle.machine.proofs.Sets.{behind_first, the_first, not_both}
 use Rattle.machine.proofs.Grown.{some_ending}
 use Rattle.machine.proofs.PutFacts.{in_first, in_rest, twice_first, twice_rest}

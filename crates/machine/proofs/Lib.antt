@@ -2,8 +2,10 @@ pub mod Fit
 pub mod GoesOn
 pub mod Grown
 pub mod Kept
+pub mod MixedRow
 pub mod PutFacts
 pub mod Quiet
+pub mod Reached
 pub mod Rows
 pub mod Sets
 pub mod Within

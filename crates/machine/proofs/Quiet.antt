@@ -9,14 +9,14 @@ use Rattle.terms.specs.declared.put.Put.{Put}
 use Rattle.terms.specs.declared.event.Event.{Event}
 use Rattle.terms.specs.declared.event.Event.TheVariants.{Stopped}
 use Rattle.terms.specs.Facts.{Fact, item, done, bad, facts, put_facts}
-use Rattle.terms.specs.Sets.{Facts, among, OneFact, AmongBoth}
+use Rattle.terms.specs.Sets.{Facts, among, OneFact, AmongBoth, stated, put_by_environment}
 use Rattle.steptree.specs.Bodies.{Ending, Gives, Faults, Asks}
 use Rattle.steptree.specs.Laws.{LookUpEndsOnce}
 use Rattle.graph.specs.Graph.{Graph, BodyMeans}
 use Rattle.graph.specs.Fits.{IsPrescribed}
 use Rattle.machine.specs.Meaning.{items, BodyGives, BodyFaults, IsAnother, IsDoubled, IsClosed, Meaning, IsClean}
 use Rattle.machine.specs.Legal.{AreLegal, IsQuiet}
-use Rattle.machine.specs.Laws.{stated, put_by_environment, IsThere}
+use Rattle.machine.specs.Laws.{IsThere}
 use Rattle.machine.proofs.Sets.{not_both, same_truth, given_is_stated}
 use Rattle.machine.proofs.Grown.{one_ending}
 use Rattle.machine.proofs.PutFacts.{put_has_item}

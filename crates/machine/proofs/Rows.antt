@@ -14,14 +14,14 @@ use Rattle.terms.specs.declared.put.Put.TheVariants as put
 use Rattle.terms.specs.declared.event.Event.{Event}
 use Rattle.terms.specs.declared.event.Event.TheVariants.{EnvItem, EnvTag, Stopped}
 use Rattle.terms.specs.Facts.{Fact, tag, item, done, bad, facts, environment}
-use Rattle.terms.specs.Sets.{Facts, is_fact, among, OneFact, AmongBoth}
+use Rattle.terms.specs.Sets.{Facts, is_fact, among, OneFact, AmongBoth, stated}
 use Rattle.steptree.specs.Bodies.{Ending, Gives, Asks, Along}
 use Rattle.steptree.specs.Laws.{LookUpEndsOnce}
 use Rattle.graph.specs.Graph.{Graph, Step, Prescribes, BodyMeans, EnvironmentMayPutItem, EnvironmentMayPutTag}
 use Rattle.graph.specs.Fits.{IsAbsent, IsPrescribed, AreNew}
 use Rattle.machine.specs.Meaning.{items, BodyGives, IsClosed}
 use Rattle.machine.specs.Legal.{IsLegal, AreLegal, IsBlocked, IsQuiet}
-use Rattle.machine.specs.Laws.{stated, IsThere}
+use Rattle.machine.specs.Laws.{IsThere}
 use Rattle.steptree.specs.declared.expression.Operator.TheVariants as operator
 use Rattle.steptree.specs.declared.expression.Expression.TheVariants.{Variable, Operation'}
 use Rattle.steptree.specs.declared.block.Block.TheVariants.{End, Get', PutItem'}
@@ -69,7 +69,7 @@ module _ (g : Graph) (step : Step) (only : g.steps ≡ step ∷ []) where
       (sym (only_step step it.step instance.collection.0 (ap (λ (steps : List Step). slice_get steps instance.collection.0) (sym only) ∙ it.is_step))) (sym it.key)
 
 -- where each of a list is in a set, all among the list are
-all_in : OneFact → (list : List Fact) (Y : Facts) → AllByRecursion (λ fact. Y fact ≡ true) list → Within (among list) Y
+pub all_in : OneFact → (list : List Fact) (Y : Facts) → AllByRecursion (λ fact. Y fact ≡ true) list → Within (among list) Y
 all_in told [] Y all fact there = absurd (false≢true there)
 all_in told (first ∷ rest) Y all fact there =
     elim (of_list told first rest fact there) [ inl same ↦ subst (λ (f : Fact). Y f ≡ true) same all.0 | inr later ↦ all_in told rest Y all.1 fact later ]

@@ -11,11 +11,10 @@ use Rattle.terms.specs.declared.put.Put.{Put}
 use Rattle.terms.specs.declared.event.Event.{Event}
 use Rattle.terms.specs.declared.event.Event.TheVariants.{EnvItem, EnvTag, Done, Stopped}
 use Rattle.terms.specs.Facts.{Fact, item, done, bad, facts, environment, event_facts, environment_facts, put_facts}
-use Rattle.terms.specs.Sets.{Facts, among, OneFact, AmongBoth}
+use Rattle.terms.specs.Sets.{Facts, among, OneFact, AmongBoth, stated, put_by_environment}
 use Rattle.graph.specs.Graph.{Graph}
 use Rattle.machine.specs.Meaning.{IsAnother, IsDoubled, IsClosed, Meaning}
 use Rattle.machine.specs.Legal.{Conflicts, IsLegal, AreLegal}
-use Rattle.machine.specs.Laws.{stated, put_by_environment}
 use Rattle.machine.proofs.Sets.{Within, of_list, of_both, in_one, in_two, not_both}
 use Rattle.machine.proofs.Grown.{prescribed_within, gives_within, faults_within}
 use Rattle.machine.proofs.Kept.{Kept, ProducersAreDone, kept_nothing, kept_event, kept_list, only}

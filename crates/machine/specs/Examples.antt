@@ -11,7 +11,7 @@ use Rattle.terms.specs.declared.put.Put.TheVariants as put
 use Rattle.terms.specs.declared.event.Event.{Event}
 use Rattle.terms.specs.declared.event.Event.TheVariants.{EnvItem, EnvTag, Done, Stopped}
 use Rattle.terms.specs.Facts.{Fact, item}
-use Rattle.terms.specs.Sets.{among}
+use Rattle.terms.specs.Sets.{among, stated, put_by_environment}
 use Rattle.steptree.specs.declared.expression.Operator.TheVariants as operator
 use Rattle.steptree.specs.declared.expression.Expression.{Expression}
 use Rattle.steptree.specs.declared.expression.Expression.TheVariants.{Number, Variable, Operation'}
@@ -22,7 +22,7 @@ use Rattle.graph.specs.Graph.{Graph, BodyMeans}
 use Rattle.graph.specs.Examples.{Place, fibonacci}
 use Rattle.machine.specs.Meaning.{items, IsClosed, Meaning}
 use Rattle.machine.specs.Legal.{IsLegal, AreLegal, IsQuiet}
-use Rattle.machine.specs.Laws.{stated, put_by_environment, IsThere}
+use Rattle.machine.specs.Laws.{IsThere}
 
 abbrev pub fib : ℕ → Addr
 fib number = record { collection = record { 0 = 0 }; key = pos number ∷ [] }

@@ -4,20 +4,13 @@ use Rattle.terms.specs.declared.name.Inst.{Inst}
 use Rattle.terms.specs.declared.fault.FaultKind.{FaultKind}
 use Rattle.terms.specs.declared.event.Event.{Event}
 use Rattle.terms.specs.declared.event.Event.TheVariants.{Done, Stopped}
-use Rattle.terms.specs.Facts.{Fact, done, bad, facts, environment, event_facts}
-use Rattle.terms.specs.Sets.{Facts, among}
+use Rattle.terms.specs.Facts.{Fact, done, bad, facts, event_facts}
+use Rattle.terms.specs.Sets.{Facts, among, stated, put_by_environment}
 use Rattle.graph.specs.Graph.{Graph, IsGraph}
 use Rattle.terms.specs.declared.put.Put.{Put}
 use Rattle.graph.specs.Fits.{AllFit, IsPrescribed, HasNoFault, AreNew, Fits, FitsState, HasOneItemEach}
 use Rattle.machine.specs.Meaning.{Meaning, IsClean}
 use Rattle.machine.specs.Legal.{Conflicts, IsMeant, IsLegal, AreLegal, IsBlocked, IsQuiet}
-
--- what the events of a list state, and what of it the environment put
-abbrev pub stated : List Event → Facts
-stated events = among (facts events)
-
-abbrev pub put_by_environment : List Event → Facts
-put_by_environment events = among (environment events)
 
 -- after a legal list from nothing the facts are within the meaning
 abbrev pub StaysWithin : Type 0

@@ -47,9 +47,13 @@ abbrev pub AreLegal : Graph → List Fact → List Event → Type 0
 AreLegal g before [] = ⊤
 AreLegal g before (event ∷ events) = IsLegal g (among before) event × AreLegal g (before ++ event_facts event) events
 
--- over the items of the set the instance needs one that is not there: it asks for it, and is not answered
+-- over the items of the set the instance needs this one, which is not there: it asks for it, and is not answered
+abbrev pub Needs : Graph → Facts → Inst → Addr → Type 0
+Needs g X instance address = BodyMeans g instance (items X) (Asks address)
+
+-- it needs some item
 abbrev pub IsBlocked : Graph → Facts → Inst → Type 0
-IsBlocked g X instance = (address : Addr) × BodyMeans g instance (items X) (Asks address)
+IsBlocked g X instance = (address : Addr) × Needs g X instance address
 
 -- no instance is at fault, and each that is prescribed is done or asks for an item that is not there
 pub record IsQuiet (g : Graph) (X : Facts) : Type 0 where

@@ -1,6 +1,7 @@
 //! Worked examples of what a graph means. Each is a contract, with nothing to run.
 ghost use Rattle.graph.specs.Examples.{Place};
 ghost use Rattle.machine.specs.Examples.{FiveNumbers, OneNumber, Conflict, PutTwice, Refused};
+ghost use Rattle.machine.specs.Mixed.{MixedIsRefused};
 
 use steptree::ends_once;
 use terms::facts_are_told_apart;
@@ -26,6 +27,14 @@ pub fn item_put_twice()
 /// What the definitions refuse: sets that are not quiet, not closed or not meant, and lists that are not legal.
 pub fn refused_examples()
     ensures { (place : Place) → Refused place }
+{
+    facts_are_told_apart();
+    ends_once();
+}
+
+/// A state that is within the meaning, and that no legal list reaches: two steps put one item, and a third read what is not there.
+pub fn meant_and_not_reached()
+    ensures { (place : Place) → MixedIsRefused place }
 {
     facts_are_told_apart();
     ends_once();

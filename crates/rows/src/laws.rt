@@ -57,6 +57,7 @@ fn meanings_hold() {
     machine::fibonacci_numbers();
     machine::item_put_twice();
     machine::refused_examples();
+    machine::meant_and_not_reached();
     machine::stays_within();
     machine::quiet_is_meaning();
     machine::stopped_is_not_clean();
@@ -64,6 +65,10 @@ fn meanings_hold() {
     machine::legal_lists_go_on();
     machine::legal_events_fit();
     machine::each_instance_can_go_on();
+    machine::reached_goes_on();
+    machine::reached_within();
+    machine::reached_and_quiet();
+    machine::unfinished_wait();
 }
 
 fn files_hold() {
@@ -83,4 +88,5 @@ fn stores_hold() {
     sides::one_item_each();
     vault::one_store();
     vault::stores_go_on::<MemDisk>();
+    vault::half_a_commit();
 }

@@ -7,7 +7,7 @@ use Rattle.std.proofs.Math.Seq.{drop-append_seam, take-append_seam}
 use Rattle.byteorder.specs.Endian.{little_bytes}
 use Rattle.terms.specs.declared.event.Event.{Event}
 use Rattle.terms.specs.Facts.{Fact, facts, environment, event_facts, environment_facts, FactsGoOn, EnvironmentGoesOn}
-use Rattle.terms.specs.Sets.{Facts, among, AmongBoth}
+use Rattle.terms.specs.Sets.{Facts, among, with_facts, AmongBoth}
 use Rattle.codec.specs.declared.image.Image.{Image}
 use Rattle.codec.specs.Spelling.{image_bytes, event_bytes, IsEvent}
 use Rattle.journal.specs.Records.{StandsFor, record_of, records}
@@ -15,7 +15,7 @@ use Rattle.graph.specs.Graph.{Graph}
 use Rattle.graph.specs.Canonical.{canonical}
 use Rattle.graph.specs.Fits.{Fits}
 use Rattle.graph.specs.FitLaws.{SameSet, AllFitInParts, EventAsSet}
-use Rattle.sides.specs.Image.{image_facts, image_environment, with_facts}
+use Rattle.sides.specs.Image.{image_facts, image_environment}
 use Rattle.sides.specs.Side.{FORMAT, counted, behind_gate, IsSide, start_of, end_of}
 
 -- a side up to its journal

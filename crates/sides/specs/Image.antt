@@ -1,5 +1,5 @@
 -- What an image says: facts, and which of them the environment put.
-use Rattle.std.specs.Prelude.{◌||◌, ℤ, true, false, List, [], ◌∷◌, ◌++◌, map, Option, Some, None}
+use Rattle.std.specs.Prelude.{ℤ, true, false, List, [], ◌∷◌, ◌++◌, map, Option, Some, None}
 use Rattle.std.specs.List.{flat_map, AllByRecursion}
 use Rattle.terms.specs.declared.name.Addr.{Addr}
 use Rattle.terms.specs.declared.name.Inst.{Inst}
@@ -48,10 +48,6 @@ facts_in image = among (image_facts image)
 
 abbrev pub environment_in : Image → Facts
 environment_in image = among (image_environment image)
-
--- the set with these facts too
-abbrev pub with_facts : Facts → List Fact → Facts
-with_facts X more fact = X fact || among more fact
 
 -- the image's lists rise, and the numbers of its puts are such as a put may have
 pub record IsListed (image : Image) : Type 0 where

@@ -2,7 +2,7 @@
 use Rattle.std.specs.Prelude.{◌≡◌, ◌<◌, ◌+◌, ◌^◌, ℕ, List, [], ◌∷◌, ◌++◌, length, map, take, drop}
 use Rattle.terms.specs.declared.event.Event.{Event}
 use Rattle.terms.specs.Facts.{event_facts, environment_facts}
-use Rattle.terms.specs.Sets.{Facts}
+use Rattle.terms.specs.Sets.{Facts, with_facts}
 use Rattle.codec.specs.declared.image.Image.{Image}
 use Rattle.codec.specs.Spelling.{image_bytes, event_bytes, IsImage, IsEvent}
 use Rattle.journal.specs.Records.{StandsFor, record_of}
@@ -11,7 +11,7 @@ use Rattle.graph.specs.Canonical.{canonical}
 use Rattle.graph.specs.Reads.{Reads}
 use Rattle.graph.specs.Fits.{Fits, FitsState, HasOneItemEach}
 use Rattle.graph.specs.FitLaws.{SameSet}
-use Rattle.sides.specs.Image.{facts_in, environment_in, with_facts, IsListed}
+use Rattle.sides.specs.Image.{facts_in, environment_in, IsListed}
 use Rattle.sides.specs.Side.{behind_gate, IsSide, start_of, end_of}
 
 -- from where its journal begins on, a side's bytes are a journal of its events

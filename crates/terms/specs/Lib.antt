@@ -1,3 +1,4 @@
+pub mod Commits
 pub mod Facts
 pub mod Fault
 pub mod Key

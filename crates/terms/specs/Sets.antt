@@ -5,7 +5,8 @@ use Rattle.terms.specs.Fault.{fault_number}
 use Rattle.terms.specs.Name.{tag_cmp, inst_cmp}
 use Rattle.terms.specs.Put.{producer_cmp}
 use Rattle.terms.specs.Same.{is_same}
-use Rattle.terms.specs.Facts.{Fact, tag, item, done, bad}
+use Rattle.terms.specs.declared.event.Event.{Event}
+use Rattle.terms.specs.Facts.{Fact, tag, item, done, bad, facts, environment}
 
 -- whether two facts are one
 abbrev pub is_fact : Fact → Fact → Bool
@@ -23,6 +24,17 @@ Facts = Fact → Bool
 abbrev pub among : List Fact → Facts
 among [] fact = false
 among (first ∷ rest) fact = is_fact first fact || among rest fact
+
+-- the set with these facts too
+abbrev pub with_facts : Facts → List Fact → Facts
+with_facts X more fact = X fact || among more fact
+
+-- what the events of a list state, and what of it the environment put
+abbrev pub stated : List Event → Facts
+stated events = among (facts events)
+
+abbrev pub put_by_environment : List Event → Facts
+put_by_environment events = among (environment events)
 
 -- two facts are one where this tells so, and nowhere else
 abbrev pub OneFact : Type 0

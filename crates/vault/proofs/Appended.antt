@@ -1,6 +1,6 @@
 -- What a store stands for while an event is appended, and then.
 use Rattle.std.proofs.Common.{◌≡◌, ◌≢◌, ◌+◌, ◌≤◌, ◌<◌, ℕ, List, [], ◌∷◌, ◌++◌, length, take, drop, map, inl, inr, sym, ap, subst, ◌∙◌, arith, length-append, length-take, length-drop, take-append-drop}
-use Rattle.std.proofs.lemmas.List.{take-append-le}
+use Rattle.std.proofs.lemmas.List.{append-nil, take-append-le}
 use Rattle.disk.specs.declared.side.Side.{Side}
 use Rattle.disk.specs.declared.side.Side.TheVariants.{A, B}
 use Rattle.disk.specs.Side.{which}
@@ -9,15 +9,15 @@ use Rattle.disk.specs.Settled.{settled_only}
 use Rattle.disk.specs.Time.{Contents, MayLeaveNow, OtherStays, OtherMayBe, LeavesOnly}
 use Rattle.disk.specs.Moments.{weakened}
 use Rattle.terms.specs.declared.event.Event.{Event}
-use Rattle.terms.specs.Facts.{event_facts, environment_facts}
-use Rattle.terms.specs.Sets.{Facts}
+use Rattle.terms.specs.Commits.{Commit}
+use Rattle.terms.specs.Facts.{Fact, facts, environment, event_facts, environment_facts}
+use Rattle.terms.specs.Sets.{Facts, with_facts}
 use Rattle.codec.specs.Spelling.{event_bytes, IsEvent}
 use Rattle.journal.specs.Records.{records, record_of}
 use Rattle.journal.specs.declared.journal.Journal.{Journal}
 use Rattle.journal.specs.Journal.{IsAt, BeforeOrAfter}
 use Rattle.graph.specs.Graph.{Graph}
 use Rattle.graph.specs.Fits.{Fits}
-use Rattle.sides.specs.Image.{with_facts}
 use Rattle.sides.specs.Side.{IsSide, start_of, end_of}
 use Rattle.sides.specs.SideLaws.{HasJournal, StaysAlike, GrowsByEvent}
 use Rattle.vault.specs.declared.vault.Vault.{Vault}
@@ -46,6 +46,13 @@ gate_within : (journal : Journal) (start : ℕ) (content : List ℕ) (payloads :
 gate_within journal start content payloads at =
     omega (arith, at.end, ap length at.stands.spelled, length-drop start content, length-append (records payloads) (at.stands.gate ∷ at.stands.rest))
 
+-- what a commit of one event leaves is what the event leaves
+pub as_commit : (P : Facts → Facts → Type 0) (E X : Facts) (event : Event) → P (with_facts E (environment_facts event)) (with_facts X (event_facts event))
+    → P (with_facts E (environment (event ∷ []))) (with_facts X (facts (event ∷ [])))
+as_commit P E X event it =
+    subst (λ (list : List Fact). P (with_facts E list) (with_facts X (facts (event ∷ [])))) (sym (append-nil (environment_facts event)))
+    (subst (λ (list : List Fact). P (with_facts E (environment_facts event)) (with_facts X list)) (sym (append-nil (event_facts event))) it)
+
 module _ (has_journal : HasJournal) {D : Type 0} (files : D → Side → File) (vault : Vault D) (g : Graph) (E X : Facts) (holds : Holds files vault g E X) where
   abbrev live : Side
   live = vault.journal.side
@@ -69,8 +76,8 @@ module _ (has_journal : HasJournal) {D : Type 0} (files : D → Side → File) (
   end_within = gate_within vault.journal start (files vault.disk live).content payloads is_at_file
 
   -- a crash now leaves what the vault holds
-  pub stands_now : (event : Event) (left : Contents) → MayLeaveNow (files vault.disk) left → StandsBeforeOrAfter g E X event left
-  stands_now event left now = inl (subst (λ (contents : Contents). Stands contents g E X) (λ i side. sym (rests side) i) (live, vault.generation, holds.is_live))
+  pub stands_now : (commit : Commit) (left : Contents) → MayLeaveNow (files vault.disk) left → StandsBeforeOrAfter g E X commit left
+  stands_now commit left now = inl (subst (λ (contents : Contents). Stands contents g E X) (λ i side. sym (rests side) i) (live, vault.generation, holds.is_live))
     where
       rests : (side : Side) → left side ≡ holds.contents side
       rests side = settled_only (holds.contents side) (left side) (subst (λ (f : File). MayLeave f.durable (left side)) (holds.rests side) (now side))
@@ -90,15 +97,16 @@ module _ (has_journal : HasJournal) {D : Type 0} (files : D → Side → File) (
     X_after = with_facts X (event_facts event)
 
     -- a crash while the event is appended
-    stands_either : (left : Contents) → BeforeOrAfter start (holds.contents live) payloads (event_bytes event) (left live) × OtherMayBe live (files vault.disk) left → StandsBeforeOrAfter g E X event left
+    stands_either : (left : Contents) → BeforeOrAfter start (holds.contents live) payloads (event_bytes event) (left live) × OtherMayBe live (files vault.disk) left → StandsBeforeOrAfter g E X (event ∷ []) left
     stands_either left either = elim either.0.stands [
       | inl before ↦ inl (live, vault.generation, record { is_side = (alike (holds.contents live) (left live) g vault.generation E X is_side either.0.front before).0; behind = still_behind left either.1 })
-      | inr after ↦ inr (live, vault.generation, record { is_side = (grows (holds.contents live) (left live) g vault.generation E X is_side event is_event fits either.0.front after).0; behind = still_behind left either.1 })
+      | inr after ↦ inr (as_commit (Stands left g) E X event
+          (live, vault.generation, record { is_side = (grows (holds.contents live) (left live) g vault.generation E X is_side event is_event fits either.0.front after).0; behind = still_behind left either.1 }))
     ]
 
     pub moments : (moment : D → ℕ) (left_at : D → ℕ → Contents → Type 0) (new : D) (payload : List ℕ) → payload ≡ event_bytes event
         → LeavesOnly moment left_at vault.disk new (λ contents. BeforeOrAfter start (holds.contents live) payloads payload (contents live) × OtherMayBe live (files vault.disk) contents)
-        → LeavesOnly moment left_at vault.disk new (StandsBeforeOrAfter g E X event)
+        → LeavesOnly moment left_at vault.disk new (StandsBeforeOrAfter g E X (event ∷ []))
     moments moment left_at new payload spelled only =
         weakened moment left_at vault.disk new _ _ only
         (λ left either. stands_either left (subst (λ (p : List ℕ). BeforeOrAfter start (holds.contents live) payloads p (left live)) spelled either.0, either.1))
@@ -139,5 +147,5 @@ module _ (has_journal : HasJournal) {D : Type 0} (files : D → Side → File) (
           (subst (λ (here : Side). IsFound here vault.generation) (sym side)
           (record { is_side = grown.0; behind = behind }, moved ∙ ap (λ (n : ℕ). n + length (record_of (event_bytes event))) holds.ends ∙ sym grown.1))
 
-      pub holds_more : Holds files new g E_after X_after
-      holds_more = record { contents = now; rests = rests; is_live = found.0; ends = found.1; text = text ∙ holds.text }
+      pub holds_more : Holds files new g (with_facts E (environment (event ∷ []))) (with_facts X (facts (event ∷ [])))
+      holds_more = as_commit (Holds files new g) E X event (record { contents = now; rests = rests; is_live = found.0; ends = found.1; text = text ∙ holds.text })

@@ -1,59 +1,76 @@
 -- A store from call to call, by its commits.
-use Rattle.std.proofs.Common.{◌≡◌, ◌++◌, ℕ, List, [], ◌∷◌, inl, inr, refl, sym, ap, subst, ◌∙◌, arith}
+use Rattle.std.proofs.Common.{◌≡◌, ◌++◌, ℕ, Bool, true, false, ◌||◌, List, [], ◌∷◌, inl, inr, refl, sym, ap, subst, ◌∙◌, arith}
 use Rattle.std.specs.Prelude.{◌↔◌, Vec}
 use Rattle.std.specs.declared.alloc.Global.{Global}
-use Rattle.std.proofs.lemmas.List.{append-nil}
+use Rattle.std.proofs.lemmas.List.{append_assoc, append-nil}
 use Rattle.disk.specs.declared.side.Side.{Side}
 use Rattle.disk.specs.File.{File}
 use Rattle.disk.specs.Time.{Contents, MayLeaveNow, LeavesOnly}
 use Rattle.terms.specs.declared.event.Event.{Event}
-use Rattle.terms.specs.Facts.{Fact, facts, environment, event_facts, environment_facts, FactsGoOn, EnvironmentGoesOn}
-use Rattle.terms.specs.Sets.{Facts, among, AmongBoth}
+use Rattle.terms.specs.Commits.{Commit, events_of, facts_behind, environment_behind}
+use Rattle.terms.specs.Facts.{Fact, facts, environment, FactsGoOn, EnvironmentGoesOn}
+use Rattle.terms.specs.Sets.{Facts, among, with_facts, AmongBoth}
 use Rattle.graph.specs.Graph.{Graph}
 use Rattle.graph.specs.Canonical.{canonical}
-use Rattle.sides.specs.Image.{with_facts}
 use Rattle.sides.specs.Side.{IsSide, end_of}
 use Rattle.sides.specs.SideLaws.{HasJournal, SideAsSet, SideOfText}
 use Rattle.vault.specs.declared.vault.Vault.{Vault}
 use Rattle.vault.specs.Opened.{contents_of}
 use Rattle.vault.specs.Stands.{IsLive, Stands, OneStore}
 use Rattle.vault.specs.Store.{Holds, HasGates, StandsBeforeOrAfter}
-use Rattle.vault.specs.Commits.{stated, given, StandsForBeginning, IsLeft, Openings}
-use Rattle.vault.specs.Commits.{AppendedStore, TurnedStore, RefusedStore, StoreIsReady, RestLeaves, AppendLeaves, TurnLeaves, OpeningFinds, StoreGoesOn}
+use Rattle.vault.specs.Commits.{StandsForBeginning, IsLeft, Openings}
+use Rattle.vault.specs.Commits.{BegunStore, AppendedStore, TurnedStore, RefusedStore, RefusedHolds, StoreIsReady, RestLeaves, HeldLeaves, AppendLeaves, TurnLeaves, OpeningFinds, StoreGoesOn}
 use Rattle.vault.proofs.FirstBytes.{gates_before}
 use Rattle.vault.proofs.Ready.{held_is_ready}
 use Rattle.vault.proofs.TurnedStores.{held_moments}
 
 -- ---- one commit more
 
--- the set of a list of facts, with those of another one
-with_more : AmongBoth → (old more whole : List Fact) → whole ≡ old ++ more → with_facts (among old) more ≡ among whole
-with_more both old more whole is = λ i fact. (sym (both old more fact) ∙ ap (λ (list : List Fact). among list fact) (sym is)) i
+or_false : (b : Bool) → (b || false) ≡ b
+or_false true = refl
+or_false false = refl
 
-module _ (both : AmongBoth) (facts_on : FactsGoOn) (given_on : EnvironmentGoesOn) (commits : List Event) (event : Event) where
-  states_more : with_facts (stated commits) (event_facts event) ≡ stated (commits ++ event ∷ [])
-  states_more = with_more both (facts commits) (event_facts event) (facts (commits ++ event ∷ []))
-      (facts_on commits (event ∷ []) ∙ ap (λ (last : List Fact). facts commits ++ last) (append-nil (event_facts event)))
+or_or : (a b c : Bool) → ((a || b) || c) ≡ (a || (b || c))
+or_or true b c = refl
+or_or false b c = refl
 
-  gives_more : with_facts (given commits) (environment_facts event) ≡ given (commits ++ event ∷ [])
-  gives_more = with_more both (environment commits) (environment_facts event) (environment (commits ++ event ∷ []))
-      (given_on commits (event ∷ []) ∙ ap (λ (last : List Fact). environment commits ++ last) (append-nil (environment_facts event)))
+-- a set with no facts more, and one with those of two lists
+pub with_none : (X : Facts) → with_facts X [] ≡ X
+with_none X = λ i fact. or_false (X fact) i
 
-  -- what holds of the two sets with the event's facts holds of those of the commits with it
+with_both : AmongBoth → (X : Facts) (one two whole : List Fact) → whole ≡ one ++ two → with_facts (with_facts X one) two ≡ with_facts X whole
+with_both both X one two whole is = λ i fact.
+    (or_or (X fact) (among one fact) (among two fact) ∙ ap (λ (b : Bool). X fact || b) (sym (both one two fact) ∙ ap (λ (list : List Fact). among list fact) (sym is))) i
+
+-- the events of commits and one more
+events_more : (commits : List Commit) (commit : Commit) → events_of (commits ++ commit ∷ []) ≡ events_of commits ++ commit
+events_more [] commit = append-nil commit
+events_more (first ∷ commits) commit = ap (λ (events : List Event). first ++ events) (events_more commits commit) ∙ sym (append_assoc first (events_of commits) commit)
+
+module _ (both : AmongBoth) (facts_on : FactsGoOn) (environment_on : EnvironmentGoesOn) (E X : Facts) (commits : List Commit) (commit : Commit) where
+  states_more : with_facts (facts_behind X commits) (facts commit) ≡ facts_behind X (commits ++ commit ∷ [])
+  states_more = with_both both X (facts (events_of commits)) (facts commit) (facts (events_of (commits ++ commit ∷ [])))
+      (ap facts (events_more commits commit) ∙ facts_on (events_of commits) commit)
+
+  gives_more : with_facts (environment_behind E commits) (environment commit) ≡ environment_behind E (commits ++ commit ∷ [])
+  gives_more = with_both both E (environment (events_of commits)) (environment commit) (environment (events_of (commits ++ commit ∷ [])))
+      (ap environment (events_more commits commit) ∙ environment_on (events_of commits) commit)
+
+  -- what holds of the two sets with the commit's facts holds of those behind the commits with it
   of_more : (P : Facts → Facts → Type 0)
-      → P (with_facts (given commits) (environment_facts event)) (with_facts (stated commits) (event_facts event))
-      → P (given (commits ++ event ∷ [])) (stated (commits ++ event ∷ []))
-  of_more P it = subst (λ (E : Facts). P E (stated (commits ++ event ∷ []))) gives_more
-      (subst (P (with_facts (given commits) (environment_facts event))) states_more it)
+      → P (with_facts (environment_behind E commits) (environment commit)) (with_facts (facts_behind X commits) (facts commit))
+      → P (environment_behind E (commits ++ commit ∷ [])) (facts_behind X (commits ++ commit ∷ []))
+  of_more P it = subst (λ (F : Facts). P F (facts_behind X (commits ++ commit ∷ []))) gives_more
+      (subst (P (with_facts (environment_behind E commits) (environment commit))) states_more it)
 
 -- bytes that stand for the acknowledged commits stand for a beginning, whatever is pending
-none_made : (g : Graph) (commits pending : List Event) (contents : Contents) → Stands contents g (given commits) (stated commits)
-    → HasGates contents → StandsForBeginning g commits pending contents
-none_made g commits pending contents stands gates = record {
+none_made : (g : Graph) (E X : Facts) (commits pending : List Commit) (contents : Contents) → Stands contents g (environment_behind E commits) (facts_behind X commits)
+    → HasGates contents → StandsForBeginning g E X commits pending contents
+none_made g E X commits pending contents stands gates = record {
   made = [];
   later = pending;
   beginning = refl;
-  stands = subst (λ (all : List Event). Stands contents g (given all) (stated all)) (sym (append-nil commits)) stands;
+  stands = subst (λ (all : List Commit). Stands contents g (environment_behind E all) (facts_behind X all)) (sym (append-nil commits)) stands;
   gates = gates;
 }
 
@@ -70,30 +87,33 @@ module _ {D : Type 0} (files : D → Side → File) (moment : D → ℕ) (left_a
   }
 
   pub turn_leaves : TurnLeaves files moment left_at
-  turn_leaves old new g commits =
-      paired old.disk new.disk (λ contents. Stands contents g (given commits) (stated commits)) HasGates (StandsForBeginning g commits [])
-      (none_made g commits [])
+  turn_leaves old new g E X commits =
+      paired old.disk new.disk (λ contents. Stands contents g (environment_behind E commits) (facts_behind X commits)) HasGates (StandsForBeginning g E X commits [])
+      (none_made g E X commits [])
 
   pub append_leaves : AmongBoth → FactsGoOn → EnvironmentGoesOn → AppendLeaves files moment left_at
-  append_leaves both facts_on given_on old new g commits event =
-      paired old.disk new.disk (StandsBeforeOrAfter g (given commits) (stated commits) event) HasGates
-      (StandsForBeginning g commits (event ∷ []))
+  append_leaves both facts_on environment_on old new g E X commits commit =
+      paired old.disk new.disk (StandsBeforeOrAfter g (environment_behind E commits) (facts_behind X commits) commit) HasGates
+      (StandsForBeginning g E X commits (commit ∷ []))
       (λ contents either gates. elim either [
-        | inl stands ↦ none_made g commits (event ∷ []) contents stands gates
+        | inl stands ↦ none_made g E X commits (commit ∷ []) contents stands gates
         | inr stands ↦ record {
-          made = event ∷ [];
+          made = commit ∷ [];
           later = [];
           beginning = refl;
-          stands = of_more both facts_on given_on commits event (Stands contents g) stands;
+          stands = of_more both facts_on environment_on E X commits commit (Stands contents g) stands;
           gates = gates;
         }
       ])
 
   module _ (at_now : (disk : D) (contents : Contents) → left_at disk (moment disk) contents ↔ MayLeaveNow (files disk) contents) where
+    pub held_leaves : HeldLeaves files moment left_at
+    held_leaves vault g E X holds = held_moments files moment left_at at_now vault g E X holds
+
     pub rest_leaves : RestLeaves files moment left_at
-    rest_leaves vault g commits it = turn_leaves vault vault g commits
-        (held_moments files moment left_at at_now vault g (given commits) (stated commits) it.holds)
-        (gates_before files moment left_at vault g (given commits) (stated commits) it.holds it.gates at_now)
+    rest_leaves vault g E X commits it = turn_leaves vault vault g E X commits
+        (held_leaves vault g (environment_behind E commits) (facts_behind X commits) it.holds)
+        (gates_before files moment left_at vault g (environment_behind E commits) (facts_behind X commits) it.holds it.gates at_now)
 
     -- ---- what a call makes of a store
 
@@ -105,13 +125,19 @@ module _ {D : Type 0} (files : D → Side → File) (moment : D → ℕ) (left_a
           only.each (moment new) now only.later (omega arith) ((at_now new now).1 (reads_left new))
 
       pub turned : TurnedStore files moment left_at
-      turned old new g commits holds only = record { holds = holds; gates = at_end old.disk new.disk HasGates only }
+      turned old new g E X commits holds only = record { holds = holds; gates = at_end old.disk new.disk HasGates only }
 
       pub appended : AmongBoth → FactsGoOn → EnvironmentGoesOn → AppendedStore files moment left_at
-      appended both facts_on given_on old new g commits event holds only = record {
-        holds = of_more both facts_on given_on commits event (Holds files new g) holds;
+      appended both facts_on environment_on old new g E X commits commit holds only = record {
+        holds = of_more both facts_on environment_on E X commits commit (Holds files new g) holds;
         gates = at_end old.disk new.disk HasGates only;
       }
+
+  pub begun : BegunStore files moment left_at
+  begun vault g E X holds gates = record {
+    holds = subst (λ (F : Facts). Holds files vault g F (with_facts X [])) (sym (with_none E)) (subst (λ (Y : Facts). Holds files vault g E Y) (sym (with_none X)) holds);
+    gates = gates;
+  }
 
   -- a live side by its name and its generation
   named_so : (contents : Contents) (s t : Side) (m n : ℕ) (g : Graph) (E X : Facts) → t ≡ s → n ≡ m → (it : IsLive contents s m g E X)
@@ -120,23 +146,25 @@ module _ {D : Type 0} (files : D → Side → File) (moment : D → ℕ) (left_a
       subst (λ (named : Side × ℕ). (too : IsLive contents named.0 named.1 g E X) × (end_of too.is_side ≡ end_of it.is_side))
       (λ i. (sym sides i, sym generations i)) (it, refl)
 
-  pub refused : RefusedStore files moment left_at
-  refused old new g commits it same =
-      let live = named_so it.holds.contents old.journal.side new.journal.side old.generation new.generation g (given commits) (stated commits)
-      same.side same.generation it.holds.is_live in
+  pub refused_holds : RefusedHolds files moment left_at
+  refused_holds old new g E X it same =
+      let live = named_so it.contents old.journal.side new.journal.side old.generation new.generation g E X same.side same.generation it.is_live in
       record {
-        holds = record {
-          contents = it.holds.contents;
-          rests = λ side. ap (λ (disk : D). files disk side) same.disk ∙ it.holds.rests side;
-          is_live = live.0;
-          ends = same.end ∙ it.holds.ends ∙ sym live.1;
-          text = ap (λ (text : Vec ℕ Global). text.items) same.text ∙ it.holds.text;
-        };
-        gates = subst (λ (disk : D). HasGates (contents_of (files disk))) (sym same.disk) it.gates;
+        contents = it.contents;
+        rests = λ side. ap (λ (disk : D). files disk side) same.disk ∙ it.rests side;
+        is_live = live.0;
+        ends = same.end ∙ it.ends ∙ sym live.1;
+        text = ap (λ (text : Vec ℕ Global). text.items) same.text ∙ it.text;
       }
 
+  pub refused : RefusedStore files moment left_at
+  refused old new g E X commits it same = record {
+    holds = refused_holds old new g (environment_behind E commits) (facts_behind X commits) it.holds same;
+    gates = subst (λ (disk : D). HasGates (contents_of (files disk))) (sym same.disk) it.gates;
+  }
+
   pub ready : HasJournal → StoreIsReady files moment left_at
-  ready journal vault g commits it = held_is_ready files journal vault g (given commits) (stated commits) it.holds
+  ready journal vault g E X commits it = held_is_ready files journal vault g (environment_behind E commits) (facts_behind X commits) it.holds
 
   -- ---- openings
 
@@ -179,17 +207,17 @@ module _ {D : Type 0} (files : D → Side → File) (moment : D → ℕ) (left_a
         (holds_too vault h g F E Y X it (text_too.0, text_too.1 ∙ facts_too.1) one.0, one.0, one.1, one.2)
 
     pub goes_on : ((disk : D) → MayLeaveNow (files disk) (contents_of (files disk))) → StoreGoesOn files moment left_at
-    goes_on reads_left g acknowledged pending before after crashed last openings only left ended = (
-      λ none. none g (given commits) (stated commits) found.stands,
+    goes_on reads_left g E X acknowledged pending before after crashed last openings only left ended = (
+      λ none. none g (environment_behind E commits) (facts_behind X commits) found.stands,
       λ vault h F Y it same.
-          let one = finds last g (given commits) (stated commits) found.stands vault h F Y it same in
+          let one = finds last g (environment_behind E commits) (facts_behind X commits) found.stands vault h F Y it same in
           let gates = subst HasGates (λ i side. sym (same side) i) found.gates in
           (found.made, found.later, found.beginning, record { holds = one.0; gates = gates }, one.1, one.2, one.3),
     )
       where
-        found : StandsForBeginning g acknowledged pending (contents_of (files last))
-        found = struck before after (StandsForBeginning g acknowledged pending) crashed only left (contents_of (files last))
+        found : StandsForBeginning g E X acknowledged pending (contents_of (files last))
+        found = struck before after (StandsForBeginning g E X acknowledged pending) crashed only left (contents_of (files last))
             (openings_leave crashed last openings ended (contents_of (files last)) (reads_left last))
 
-        commits : List Event
+        commits : List Commit
         commits = acknowledged ++ found.made

@@ -4,16 +4,16 @@ use Rattle.disk.specs.declared.side.Side.{Side}
 use Rattle.disk.specs.declared.side.Side.TheVariants.{A, B}
 use Rattle.disk.specs.File.{File, at_rest}
 use Rattle.disk.specs.Time.{Contents}
-use Rattle.terms.specs.declared.event.Event.{Event}
-use Rattle.terms.specs.Facts.{Fact, event_facts, environment_facts}
-use Rattle.terms.specs.Sets.{Facts, among}
+use Rattle.terms.specs.Commits.{Commit}
+use Rattle.terms.specs.Facts.{Fact, facts, environment}
+use Rattle.terms.specs.Sets.{Facts, among, with_facts}
 use Rattle.codec.specs.declared.image.Image.{Image}
 use Rattle.codec.specs.Spelling.{image_bytes}
 use Rattle.journal.specs.declared.journal.TheConstants.{LIMIT}
 use Rattle.graph.specs.Graph.{Graph}
 use Rattle.graph.specs.Canonical.{canonical}
 use Rattle.graph.specs.Reads.{Reads}
-use Rattle.sides.specs.Image.{facts_in, environment_in, with_facts}
+use Rattle.sides.specs.Image.{facts_in, environment_in}
 use Rattle.sides.specs.Side.{behind_gate, end_of}
 use Rattle.vault.specs.declared.vault.Vault.{Vault}
 use Rattle.vault.specs.declared.refused.Refused.{Refused}
@@ -65,9 +65,9 @@ pub record IsSame {D : Type 0} (old new : Vault D) : Type 0 where
 abbrev pub HasGates : Contents → Type 0
 HasGates contents = (side : Side) → contents side ≢ []
 
--- two files stand for the state before an event or for that behind it
-abbrev pub StandsBeforeOrAfter : Graph → Facts → Facts → Event → Contents → Type 0
-StandsBeforeOrAfter g E X event contents = Stands contents g E X ⊎ Stands contents g (with_facts E (environment_facts event)) (with_facts X (event_facts event))
+-- two files stand for the state before a commit or for that behind it, and for nothing between
+abbrev pub StandsBeforeOrAfter : Graph → Facts → Facts → Commit → Contents → Type 0
+StandsBeforeOrAfter g E X commit contents = Stands contents g E X ⊎ Stands contents g (with_facts E (environment commit)) (with_facts X (facts commit))
 
 -- file A is empty, or file B has its closed gate: no crash within a creation leaves a side where a turnover could not begin
 abbrev pub BeginsBehindB : Contents → Type 0

@@ -1,8 +1,8 @@
 ghost use Rattle.std.specs.Prelude.{◌≡◌, ◌≤◌, ◌<◌, ◌+◌, ◌⊎◌, ◌↔◌, ℕ, [], ◌∷◌, ◌++◌, true, false, length, IsTrue, OnOk, OnErr, IsErrOf};
 ghost use Rattle.disk.specs.File.{at_rest, overwritten};
 ghost use Rattle.disk.specs.Time.{LeavesOnly, OtherStays};
-ghost use Rattle.terms.specs.Facts.{event_facts, environment_facts};
-ghost use Rattle.terms.specs.Sets.{Facts};
+ghost use Rattle.terms.specs.Facts.{facts, environment};
+ghost use Rattle.terms.specs.Sets.{Facts, with_facts};
 ghost use Rattle.codec.specs.Spelling.{HasFewPuts, event_bytes};
 ghost use Rattle.journal.specs.Records.{record_of};
 ghost use Rattle.journal.specs.declared.error.JournalError.TheVariants as JournalError;
@@ -10,7 +10,6 @@ ghost use Rattle.journal.specs.declared.journal.TheConstants.{LIMIT};
 ghost use Rattle.graph.specs.Graph.{Graph};
 ghost use Rattle.graph.specs.Fits.{Fits};
 ghost use Rattle.disk.specs.declared.side.Side.{Side};
-ghost use Rattle.sides.specs.Image.{with_facts};
 ghost use Rattle.vault.specs.Opened.{contents_of};
 ghost use Rattle.vault.specs.Store.{Holds, HasGates, IsReady, IsSame, StandsBeforeOrAfter};
 ghost use Rattle.vault.specs.declared.error.VaultError.TheVariants.{Device, NoMemory, Damaged, Full, NotAStore, Halted, Exists};
@@ -32,15 +31,15 @@ impl<D: Disk> Vault<D> {
         requires store { IsTrue D.is_honest → self.old.halted ≡ false → IsReady D.files self.old }
 
         ensures added { IsTrue D.is_honest → (g : Graph) (E X : Facts) → Holds D.files self.old g E X → Fits g X event.now
-            → OnOk result (Holds D.files self.new g (with_facts E (environment_facts event.now)) (with_facts X (event_facts event.now))) }
+            → OnOk result (Holds D.files self.new g (with_facts E (environment (event.now ∷ []))) (with_facts X (facts (event.now ∷ [])))) }
 
         // Its record, and a closed gate, are written over the gate that ended the journal.
         ensures written { IsTrue D.is_honest → OnOk result (D.files self.new.disk self.old.journal.side
             ≡ at_rest (overwritten (D.files self.old.disk self.old.journal.side).content self.old.journal.end (record_of (event_bytes event.now) ++ 0 ∷ []))) }
 
-        // A crash at any moment of the call leaves the state before the event or behind it.
+        // A crash at any moment of the call leaves the state before the commit of this one event or behind it.
         ensures any_moment { IsTrue D.is_honest → (g : Graph) (E X : Facts) → Holds D.files self.old g E X → Fits g X event.now
-            → LeavesOnly D.moment D.left_at self.old.disk self.new.disk (StandsBeforeOrAfter g E X event.now) }
+            → LeavesOnly D.moment D.left_at self.old.disk self.new.disk (StandsBeforeOrAfter g E X (event.now ∷ [])) }
 
         // It leaves each file its first byte.
         ensures gates { IsTrue D.is_honest → (g : Graph) (E X : Facts) → Holds D.files self.old g E X → HasGates (contents_of (D.files self.old.disk))

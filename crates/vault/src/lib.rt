@@ -20,7 +20,7 @@ mod vault;
 
 pub use creation::create;
 pub use error::VaultError;
-pub use history::stores_go_on;
+pub use history::{half_a_commit, stores_go_on};
 pub use law::one_store;
 pub use opening::{Recovered, open};
 pub use refused::Refused;

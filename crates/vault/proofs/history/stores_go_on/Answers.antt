@@ -1,6 +1,15 @@
 use Rattle.vault.proofs.GoesOn as store
 use Rattle.vault.proofs.history.stores_go_on.Goals as goal
 
+pub returns-clause-begun : goal.returns-clause-begun
+returns-clause-begun g c = store.begun g.D.Disk.files g.D.Disk.moment g.D.Disk.left_at
+
+pub returns-clause-refused_holds : goal.returns-clause-refused_holds
+returns-clause-refused_holds g c = store.refused_holds g.D.Disk.files g.D.Disk.moment g.D.Disk.left_at
+
+pub returns-clause-held_leaves : goal.returns-clause-held_leaves
+returns-clause-held_leaves g c honest = store.held_leaves g.D.Disk.files g.D.Disk.moment g.D.Disk.left_at (g.met.D.Disk.at_now honest)
+
 pub returns-clause-appended : goal.returns-clause-appended
 returns-clause-appended g c honest =
     store.appended g.D.Disk.files g.D.Disk.moment g.D.Disk.left_at (g.met.D.Disk.at_now honest) (g.met.D.Disk.reads_left honest)

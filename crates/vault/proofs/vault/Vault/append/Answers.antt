@@ -12,12 +12,12 @@ use Rattle.vault.proofs.vault.Vault.append.Goals as goal
 pub returns-then-self-clause-any_moment : goal.returns-then-self-clause-any_moment
 returns-then-self-clause-any_moment g c honest gr E X holds fits =
     begun g.D.Disk.moment g.D.Disk.left_at c.args.self.now.disk _ (λ contents left.
-    stands_now c.sides_go_on.ensures.journal g.D.Disk.files c.args.self.now gr E X holds c.args.event.now contents ((g.met.D.Disk.at_now honest c.args.self.now.disk contents).0 left))
+    stands_now c.sides_go_on.ensures.journal g.D.Disk.files c.args.self.now gr E X holds (c.args.event.now ∷ []) contents ((g.met.D.Disk.at_now honest c.args.self.now.disk contents).0 left))
 
 pub returns-in_err-encode_event-clause-any_moment : goal.returns-in_err-encode_event-clause-any_moment
 returns-in_err-encode_event-clause-any_moment g c honest gr E X holds fits =
     begun g.D.Disk.moment g.D.Disk.left_at c.args.self.now.disk _ (λ contents left.
-    stands_now c.sides_go_on.ensures.journal g.D.Disk.files c.args.self.now gr E X holds c.args.event.now contents ((g.met.D.Disk.at_now honest c.args.self.now.disk contents).0 left))
+    stands_now c.sides_go_on.ensures.journal g.D.Disk.files c.args.self.now gr E X holds (c.args.event.now ∷ []) contents ((g.met.D.Disk.at_now honest c.args.self.now.disk contents).0 left))
 
 pub try_append-requires : goal.try_append-requires
 try_append-requires g c honest = (c.requires.store honest c.if-self.false).within

@@ -1,0 +1,44 @@
+//! The laws of states, which have sets of facts in place of lists of events. Each is a contract, with nothing to run.
+ghost use Rattle.machine.specs.StateLaws.{NothingIsReached, ReachedGoesOn, LegalAsSet, ReachedIsWithin, ReachedHasOneItem, ReachedIsMeaning, OneMeaningEach, ReachedStoppedOrQuiet, ReachedCanGoOn, NeedsStays, QuietWaits};
+
+use steptree::ends_once;
+use terms::{facts_are_told_apart, facts_go_on};
+
+/// Nothing is reached, and from a state that is reached each legal list of events goes on to one that is.
+pub fn reached_goes_on()
+    ensures nothing { NothingIsReached }
+    ensures goes_on { ReachedGoesOn }
+    ensures as_set { LegalAsSet }
+{
+    facts_are_told_apart();
+    facts_go_on();
+}
+
+/// A state that is reached is within the meaning, and has one item at an address.
+pub fn reached_within()
+    ensures within { ReachedIsWithin }
+    ensures one_item { ReachedHasOneItem }
+{
+    facts_are_told_apart();
+}
+
+/// A state that is reached and quiet is the meaning, which is then clean, and there is one. None is quiet where one has a fault.
+pub fn reached_and_quiet()
+    ensures meaning { ReachedIsMeaning }
+    ensures one { OneMeaningEach }
+    ensures stopped { ReachedStoppedOrQuiet }
+{
+    facts_are_told_apart();
+    ends_once();
+}
+
+/// Of the instances that are prescribed and not done: each is blocked or can be ended; what it needs it needs until it is there;
+/// and those that wait in a state that is reached and quiet are those that the meaning leaves unfinished.
+pub fn unfinished_wait()
+    ensures can_go_on { ReachedCanGoOn }
+    ensures stays { NeedsStays }
+    ensures quiet { QuietWaits }
+{
+    facts_are_told_apart();
+    ends_once();
+}

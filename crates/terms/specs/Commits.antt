@@ -1,0 +1,22 @@
+-- Commits: events that become durable together, all of them or none; and the state behind a list of commits.
+use Rattle.std.specs.Prelude.{List, [], ◌∷◌, ◌++◌}
+use Rattle.terms.specs.declared.event.Event.{Event}
+use Rattle.terms.specs.Facts.{facts, environment}
+use Rattle.terms.specs.Sets.{Facts, with_facts}
+
+-- the events of one record, in order
+abbrev pub Commit : Type 0
+Commit = List Event
+
+-- the events of commits, one behind another
+abbrev pub events_of : List Commit → List Event
+events_of [] = []
+events_of (commit ∷ commits) = commit ++ events_of commits
+
+-- what is there behind these commits, where the facts X were there before them
+abbrev pub facts_behind : Facts → List Commit → Facts
+facts_behind X commits = with_facts X (facts (events_of commits))
+
+-- and what of that the environment put, where it had put E
+abbrev pub environment_behind : Facts → List Commit → Facts
+environment_behind E commits = with_facts E (environment (events_of commits))
