@@ -1,18 +1,17 @@
 -- The state of `specs/Mixed.antt` is meant, and not reached.
-use Rattle.std.proofs.Common.{◌≡◌, pos, true, false, List, [], ◌∷◌, refl, sym, subst}
+use Rattle.std.proofs.Common.{◌≡◌, pos, true, List, [], ◌∷◌, refl, sym, subst}
 use Rattle.std.proofs.lemmas.Bool.{false≢true}
 use Rattle.terms.specs.declared.producer.Producer.TheVariants.{By}
 use Rattle.terms.specs.declared.put.Put.{Put}
 use Rattle.terms.specs.declared.put.Put.TheVariants as put
-use Rattle.terms.specs.Facts.{Fact, tag, item, done, put_facts}
+use Rattle.terms.specs.Facts.{Fact, tag, item, put_facts}
 use Rattle.terms.specs.Sets.{Facts, among, stated, OneFact, AmongBoth}
 use Rattle.steptree.specs.Bodies.{Gives}
 use Rattle.steptree.specs.Laws.{LookUpEndsOnce}
 use Rattle.graph.specs.Graph.{Graph}
 use Rattle.graph.specs.Fits.{IsPrescribed}
 use Rattle.graph.specs.Examples.{Place}
-use Rattle.machine.specs.Meaning.{BodyGives, IsClosed, Meaning}
-use Rattle.machine.specs.State.{IsReached}
+use Rattle.machine.specs.Meaning.{BodyGives, IsClosed}
 use Rattle.machine.specs.Mixed.{named_item, the_tag, of_step, two_putters, mixed, MixedIsRefused}
 use Rattle.machine.proofs.Grown.{one_ending}
 use Rattle.machine.proofs.Kept.{Kept, Gave}

@@ -1,6 +1,5 @@
 -- The laws of states, from those of lists.
 use Rattle.std.proofs.Common.{◌≡◌, ◌⊎◌, ◌↔◌, ℤ, Bool, true, false, ◌||◌, List, [], ◌∷◌, ◌++◌, refl, sym, ap, subst, ◌∙◌}
-use Rattle.std.proofs.lemmas.Bool.{false≢true}
 use Rattle.std.specs.List.{AllByRecursion}
 use Rattle.terms.specs.declared.name.Addr.{Addr}
 use Rattle.terms.specs.declared.name.Inst.{Inst}
@@ -11,9 +10,8 @@ use Rattle.terms.specs.declared.event.Event.{Event}
 use Rattle.terms.specs.declared.event.Event.TheVariants.{Done, Stopped}
 use Rattle.terms.specs.Facts.{Fact, tag, item, done, bad, facts, environment, event_facts, FactsGoOn, EnvironmentGoesOn}
 use Rattle.terms.specs.Sets.{Facts, among, with_facts, stated, put_by_environment, OneFact, AmongBoth}
-use Rattle.steptree.specs.declared.body.Body.{Body}
 use Rattle.steptree.specs.Run.{Read}
-use Rattle.steptree.specs.Bodies.{Asks, Means}
+use Rattle.steptree.specs.Bodies.{Asks}
 use Rattle.steptree.specs.Laws.{LookUpEndsOnce, LookUpEnds}
 use Rattle.graph.specs.Graph.{Graph, BodyMeans}
 use Rattle.graph.specs.Fits.{IsPrescribed, HasNoFault, HasOneItemEach}

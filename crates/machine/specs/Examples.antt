@@ -1,6 +1,5 @@
 -- Worked examples of what graphs mean: a graph of Fibonacci numbers, and a step that puts one item twice.
-use Rattle.std.specs.Prelude.{◌≡◌, ℕ, ℤ, pos, true, false, List, [], ◌∷◌, ◌++◌, codes, Box}
-use Rattle.std.specs.declared.alloc.Global.{Global}
+use Rattle.std.specs.Prelude.{◌≡◌, ℕ, ℤ, pos, true, false, List, [], ◌∷◌, ◌++◌, codes}
 use Rattle.terms.specs.declared.name.Addr.{Addr}
 use Rattle.terms.specs.declared.name.Tag.{Tag}
 use Rattle.terms.specs.declared.name.Inst.{Inst}
@@ -12,11 +11,9 @@ use Rattle.terms.specs.declared.event.Event.{Event}
 use Rattle.terms.specs.declared.event.Event.TheVariants.{EnvItem, EnvTag, Done, Stopped}
 use Rattle.terms.specs.Facts.{Fact, item}
 use Rattle.terms.specs.Sets.{among, stated, put_by_environment}
-use Rattle.steptree.specs.declared.expression.Operator.TheVariants as operator
-use Rattle.steptree.specs.declared.expression.Expression.{Expression}
-use Rattle.steptree.specs.declared.expression.Expression.TheVariants.{Number, Variable, Operation'}
+use Rattle.steptree.specs.declared.expression.Expression.TheVariants.{Number, Variable}
 use Rattle.steptree.specs.declared.block.Block.{Block}
-use Rattle.steptree.specs.declared.block.Block.TheVariants.{End, Get', PutItem'}
+use Rattle.steptree.specs.declared.block.Block.TheVariants.{End, PutItem'}
 use Rattle.steptree.specs.Bodies.{Asks}
 use Rattle.graph.specs.Graph.{Graph, BodyMeans}
 use Rattle.graph.specs.Examples.{Place, fibonacci}

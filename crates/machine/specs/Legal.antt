@@ -8,7 +8,7 @@ use Rattle.terms.specs.declared.producer.Producer.{Producer}
 use Rattle.terms.specs.declared.put.Put.{Put}
 use Rattle.terms.specs.declared.event.Event.{Event}
 use Rattle.terms.specs.declared.event.Event.TheVariants.{EnvItem, EnvTag, Done, Stopped}
-use Rattle.terms.specs.Facts.{Fact, tag, item, done, event_facts}
+use Rattle.terms.specs.Facts.{Fact, item, done, event_facts}
 use Rattle.terms.specs.Sets.{Facts, among}
 use Rattle.steptree.specs.Bodies.{Asks}
 use Rattle.graph.specs.Graph.{Graph, BodyMeans}

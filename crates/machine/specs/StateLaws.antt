@@ -9,7 +9,7 @@ use Rattle.terms.specs.declared.event.Event.{Event}
 use Rattle.terms.specs.declared.event.Event.TheVariants.{Done, Stopped}
 use Rattle.terms.specs.Facts.{Fact, item, done, bad, facts, environment}
 use Rattle.terms.specs.Sets.{Facts, among, with_facts}
-use Rattle.graph.specs.Graph.{Graph, IsGraph}
+use Rattle.graph.specs.Graph.{Graph}
 use Rattle.graph.specs.Fits.{IsPrescribed, HasNoFault, HasOneItemEach}
 use Rattle.machine.specs.Meaning.{Meaning, IsClean}
 use Rattle.machine.specs.Legal.{IsLegal, AreLegal, Needs, IsBlocked, IsQuiet}

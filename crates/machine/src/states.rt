@@ -32,8 +32,8 @@ pub fn reached_and_quiet()
     ends_once();
 }
 
-/// Of the instances that are prescribed and not done: each is blocked or can be ended; what it needs it needs until it is there;
-/// and those that wait in a state that is reached and quiet are those that the meaning leaves unfinished.
+/// Of the instances that are prescribed and not done: where a state that is reached has no fault, each is blocked or can be ended; what
+/// one needs it needs until it is there; and those that wait in a state that is reached and quiet are those that the meaning leaves unfinished.
 pub fn unfinished_wait()
     ensures can_go_on { ReachedCanGoOn }
     ensures stays { NeedsStays }

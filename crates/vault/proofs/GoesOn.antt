@@ -5,11 +5,12 @@ use Rattle.std.specs.declared.alloc.Global.{Global}
 use Rattle.std.proofs.lemmas.List.{append_assoc, append-nil}
 use Rattle.disk.specs.declared.side.Side.{Side}
 use Rattle.disk.specs.File.{File}
+use Rattle.disk.specs.Moments.{weakened}
 use Rattle.disk.specs.Time.{Contents, MayLeaveNow, LeavesOnly}
 use Rattle.terms.specs.declared.event.Event.{Event}
 use Rattle.terms.specs.Commits.{Commit, events_of, facts_behind, environment_behind}
 use Rattle.terms.specs.Facts.{Fact, facts, environment, FactsGoOn, EnvironmentGoesOn}
-use Rattle.terms.specs.Sets.{Facts, among, with_facts, AmongBoth}
+use Rattle.terms.specs.Sets.{Facts, among, with_facts, stated, AmongBoth}
 use Rattle.graph.specs.Graph.{Graph}
 use Rattle.graph.specs.Canonical.{canonical}
 use Rattle.sides.specs.Side.{IsSide, end_of}
@@ -19,7 +20,7 @@ use Rattle.vault.specs.Opened.{contents_of}
 use Rattle.vault.specs.Stands.{IsLive, Stands, OneStore}
 use Rattle.vault.specs.Store.{Holds, HasGates, StandsBeforeOrAfter}
 use Rattle.vault.specs.Commits.{StandsForBeginning, IsLeft, Openings}
-use Rattle.vault.specs.Commits.{BegunStore, AppendedStore, TurnedStore, RefusedStore, RefusedHolds, StoreIsReady, RestLeaves, HeldLeaves, AppendLeaves, TurnLeaves, OpeningFinds, StoreGoesOn}
+use Rattle.vault.specs.Commits.{HalfIsNoBeginning, BegunStore, AppendedStore, RefusedStore, StoreIsReady, HeldLeaves, RestLeaves, AppendLeaves, TurnLeaves, GatesRest, GatesStay, GatesGoOn, OpeningFinds, StoreGoesOn}
 use Rattle.vault.proofs.FirstBytes.{gates_before}
 use Rattle.vault.proofs.Ready.{held_is_ready}
 use Rattle.vault.proofs.TurnedStores.{held_moments}
@@ -63,46 +64,58 @@ module _ (both : AmongBoth) (facts_on : FactsGoOn) (environment_on : Environment
   of_more P it = subst (λ (F : Facts). P F (facts_behind X (commits ++ commit ∷ []))) gives_more
       (subst (P (with_facts (environment_behind E commits) (environment commit))) states_more it)
 
+-- ---- half a commit
+
+true_is_not_false : true ≡ false → ⊥
+true_is_not_false is = cc
+
+-- of a beginning of one commit of two events the facts of the first event are all there is, or none of them, or there are others
+half : (X : Facts) (first second : Event) (one other : Fact) (made later : List Commit) → (first ∷ second ∷ []) ∷ [] ≡ made ++ later
+    → X one ≡ false → stated (first ∷ []) one ≡ true → X other ≡ false → stated (first ∷ []) other ≡ false → stated (first ∷ second ∷ []) other ≡ true
+    → ((fact : Fact) → with_facts X (facts (first ∷ [])) fact ≡ facts_behind X made fact) → ⊥
+half X first second one other [] later is one_is_new one_there other_is_new not_first other_there same =
+    true_is_not_false (sym one_there ∙ ap (λ (b : Bool). b || stated (first ∷ []) one) (sym one_is_new) ∙ same one ∙ or_false (X one) ∙ one_is_new)
+half X first second one other (commit ∷ []) later is one_is_new one_there other_is_new not_first other_there same =
+    let whole : commit ≡ first ∷ second ∷ [] = cc in
+    let behind : facts_behind X (commit ∷ []) other ≡ true =
+    ap (λ (b : Bool). b || among (facts (commit ++ [])) other) other_is_new ∙ ap (λ (all : Commit). among (facts (all ++ [])) other) whole ∙ other_there in
+    let first_alone : with_facts X (facts (first ∷ [])) other ≡ false = ap (λ (b : Bool). b || stated (first ∷ []) other) other_is_new ∙ not_first in
+    true_is_not_false (sym behind ∙ sym (same other) ∙ first_alone)
+half X first second one other (commit ∷ more ∷ made) later is one_is_new one_there other_is_new not_first other_there same = cc
+
+pub half_is_no_beginning : OneStore → HalfIsNoBeginning
+half_is_no_beginning one_store contents g E X first second one other stands one_is_new one_there other_is_new not_first other_there it =
+    half X first second one other it.made it.later it.beginning one_is_new one_there other_is_new not_first other_there
+    (one_store contents g g (with_facts E (environment (first ∷ []))) (environment_behind E it.made) (with_facts X (facts (first ∷ []))) (facts_behind X it.made) stands it.stands).2
+
+-- ---- what a crash leaves at each moment
+
 -- bytes that stand for the acknowledged commits stand for a beginning, whatever is pending
 none_made : (g : Graph) (E X : Facts) (commits pending : List Commit) (contents : Contents) → Stands contents g (environment_behind E commits) (facts_behind X commits)
-    → HasGates contents → StandsForBeginning g E X commits pending contents
-none_made g E X commits pending contents stands gates = record {
+    → StandsForBeginning g E X commits pending contents
+none_made g E X commits pending contents stands = record {
   made = [];
   later = pending;
   beginning = refl;
   stands = subst (λ (all : List Commit). Stands contents g (environment_behind E all) (facts_behind X all)) (sym (append-nil commits)) stands;
-  gates = gates;
 }
 
 module _ {D : Type 0} (files : D → Side → File) (moment : D → ℕ) (left_at : D → ℕ → Contents → Type 0) where
-  -- ---- what a crash leaves at each moment
-
-  -- what has two properties there has what follows from both
-  paired : (old new : D) (P Q R : Contents → Type 0) → ((contents : Contents) → P contents → Q contents → R contents)
-      → LeavesOnly moment left_at old new P → LeavesOnly moment left_at old new Q → LeavesOnly moment left_at old new R
-  paired old new P Q R so first second = record {
-    later = first.later;
-    each = λ t contents from to left. so contents (first.each t contents from to left) (second.each t contents from to left);
-    stays = first.stays;
-  }
-
   pub turn_leaves : TurnLeaves files moment left_at
-  turn_leaves old new g E X commits =
-      paired old.disk new.disk (λ contents. Stands contents g (environment_behind E commits) (facts_behind X commits)) HasGates (StandsForBeginning g E X commits [])
-      (none_made g E X commits [])
+  turn_leaves old new g E X commits only =
+      weakened moment left_at old.disk new.disk (λ contents. Stands contents g (environment_behind E commits) (facts_behind X commits)) (StandsForBeginning g E X commits [])
+      only (none_made g E X commits [])
 
   pub append_leaves : AmongBoth → FactsGoOn → EnvironmentGoesOn → AppendLeaves files moment left_at
-  append_leaves both facts_on environment_on old new g E X commits commit =
-      paired old.disk new.disk (StandsBeforeOrAfter g (environment_behind E commits) (facts_behind X commits) commit) HasGates
-      (StandsForBeginning g E X commits (commit ∷ []))
-      (λ contents either gates. elim either [
-        | inl stands ↦ none_made g E X commits (commit ∷ []) contents stands gates
+  append_leaves both facts_on environment_on old new g E X commits commit only =
+      weakened moment left_at old.disk new.disk (StandsBeforeOrAfter g (environment_behind E commits) (facts_behind X commits) commit) (StandsForBeginning g E X commits (commit ∷ [])) only
+      (λ contents either. elim either [
+        | inl stands ↦ none_made g E X commits (commit ∷ []) contents stands
         | inr stands ↦ record {
           made = commit ∷ [];
           later = [];
           beginning = refl;
           stands = of_more both facts_on environment_on E X commits commit (Stands contents g) stands;
-          gates = gates;
         }
       ])
 
@@ -111,33 +124,24 @@ module _ {D : Type 0} (files : D → Side → File) (moment : D → ℕ) (left_a
     held_leaves vault g E X holds = held_moments files moment left_at at_now vault g E X holds
 
     pub rest_leaves : RestLeaves files moment left_at
-    rest_leaves vault g E X commits it = turn_leaves vault vault g E X commits
-        (held_leaves vault g (environment_behind E commits) (facts_behind X commits) it.holds)
-        (gates_before files moment left_at vault g (environment_behind E commits) (facts_behind X commits) it.holds it.gates at_now)
+    rest_leaves vault g E X commits it = turn_leaves vault vault g E X commits (held_leaves vault g (environment_behind E commits) (facts_behind X commits) it)
 
-    -- ---- what a call makes of a store
+    pub gates_rest : GatesRest files moment left_at
+    gates_rest vault g E X holds gates = gates_before files moment left_at vault g E X holds gates at_now
 
-    module _ (reads_left : (disk : D) → MayLeaveNow (files disk) (contents_of (files disk))) where
-      -- what each crash up to the end leaves, reads give there
-      at_end : (old new : D) (P : Contents → Type 0) → LeavesOnly moment left_at old new P → P (contents_of (files new))
-      at_end old new P only =
-          let now = contents_of (files new) in
-          only.each (moment new) now only.later (omega arith) ((at_now new now).1 (reads_left new))
+    pub gates_stay : ((disk : D) → MayLeaveNow (files disk) (contents_of (files disk))) → GatesStay files moment left_at
+    gates_stay reads_left before after only =
+        let now = contents_of (files after) in
+        only.each (moment after) now only.later (omega arith) ((at_now after now).1 (reads_left after))
 
-      pub turned : TurnedStore files moment left_at
-      turned old new g E X commits holds only = record { holds = holds; gates = at_end old.disk new.disk HasGates only }
-
-      pub appended : AmongBoth → FactsGoOn → EnvironmentGoesOn → AppendedStore files moment left_at
-      appended both facts_on environment_on old new g E X commits commit holds only = record {
-        holds = of_more both facts_on environment_on E X commits commit (Holds files new g) holds;
-        gates = at_end old.disk new.disk HasGates only;
-      }
+  -- ---- what a call makes of a store
 
   pub begun : BegunStore files moment left_at
-  begun vault g E X holds gates = record {
-    holds = subst (λ (F : Facts). Holds files vault g F (with_facts X [])) (sym (with_none E)) (subst (λ (Y : Facts). Holds files vault g E Y) (sym (with_none X)) holds);
-    gates = gates;
-  }
+  begun vault g E X holds =
+      subst (λ (F : Facts). Holds files vault g F (with_facts X [])) (sym (with_none E)) (subst (λ (Y : Facts). Holds files vault g E Y) (sym (with_none X)) holds)
+
+  pub appended : AmongBoth → FactsGoOn → EnvironmentGoesOn → AppendedStore files moment left_at
+  appended both facts_on environment_on vault g E X commits commit = of_more both facts_on environment_on E X commits commit (Holds files vault g)
 
   -- a live side by its name and its generation
   named_so : (contents : Contents) (s t : Side) (m n : ℕ) (g : Graph) (E X : Facts) → t ≡ s → n ≡ m → (it : IsLive contents s m g E X)
@@ -146,8 +150,8 @@ module _ {D : Type 0} (files : D → Side → File) (moment : D → ℕ) (left_a
       subst (λ (named : Side × ℕ). (too : IsLive contents named.0 named.1 g E X) × (end_of too.is_side ≡ end_of it.is_side))
       (λ i. (sym sides i, sym generations i)) (it, refl)
 
-  pub refused_holds : RefusedHolds files moment left_at
-  refused_holds old new g E X it same =
+  pub refused : RefusedStore files moment left_at
+  refused old new g E X it same =
       let live = named_so it.contents old.journal.side new.journal.side old.generation new.generation g E X same.side same.generation it.is_live in
       record {
         contents = it.contents;
@@ -157,14 +161,8 @@ module _ {D : Type 0} (files : D → Side → File) (moment : D → ℕ) (left_a
         text = ap (λ (text : Vec ℕ Global). text.items) same.text ∙ it.text;
       }
 
-  pub refused : RefusedStore files moment left_at
-  refused old new g E X commits it same = record {
-    holds = refused_holds old new g (environment_behind E commits) (facts_behind X commits) it.holds same;
-    gates = subst (λ (disk : D). HasGates (contents_of (files disk))) (sym same.disk) it.gates;
-  }
-
   pub ready : HasJournal → StoreIsReady files moment left_at
-  ready journal vault g E X commits it = held_is_ready files journal vault g (environment_behind E commits) (facts_behind X commits) it.holds
+  ready journal vault g E X holds = held_is_ready files journal vault g E X holds
 
   -- ---- openings
 
@@ -183,6 +181,15 @@ module _ {D : Type 0} (files : D → Side → File) (moment : D → ℕ) (left_a
         | inl cut ↦ struck first after (MayLeaveNow (files first)) next cut.0 cut.1 contents now
         | inr refused ↦ refused.1 contents (subst (λ (disk : D). MayLeaveNow (files disk) contents) refused.0 now)
       ]
+
+  -- what has a property at each moment of a call has it behind a crash and openings
+  behind_openings : ((disk : D) → MayLeaveNow (files disk) (contents_of (files disk))) → (P : Contents → Type 0) (before after crashed last : D) (openings : List (D × D))
+      → LeavesOnly moment left_at before after P → IsLeft files moment left_at before after crashed → Openings files moment left_at crashed openings last → P (contents_of (files last))
+  behind_openings reads_left P before after crashed last openings only left ended =
+      struck before after P crashed only left (contents_of (files last)) (openings_leave crashed last openings ended (contents_of (files last)) (reads_left last))
+
+  pub gates_go_on : ((disk : D) → MayLeaveNow (files disk) (contents_of (files disk))) → GatesGoOn files moment left_at
+  gates_go_on reads_left = behind_openings reads_left HasGates
 
   -- a vault holds what its live side stands for too
   holds_too : (vault : Vault D) (g h : Graph) (E F X Y : Facts) (it : Holds files vault g E X)
@@ -207,17 +214,7 @@ module _ {D : Type 0} (files : D → Side → File) (moment : D → ℕ) (left_a
         (holds_too vault h g F E Y X it (text_too.0, text_too.1 ∙ facts_too.1) one.0, one.0, one.1, one.2)
 
     pub goes_on : ((disk : D) → MayLeaveNow (files disk) (contents_of (files disk))) → StoreGoesOn files moment left_at
-    goes_on reads_left g E X acknowledged pending before after crashed last openings only left ended = (
-      λ none. none g (environment_behind E commits) (facts_behind X commits) found.stands,
-      λ vault h F Y it same.
-          let one = finds last g (environment_behind E commits) (facts_behind X commits) found.stands vault h F Y it same in
-          let gates = subst HasGates (λ i side. sym (same side) i) found.gates in
-          (found.made, found.later, found.beginning, record { holds = one.0; gates = gates }, one.1, one.2, one.3),
-    )
-      where
-        found : StandsForBeginning g E X acknowledged pending (contents_of (files last))
-        found = struck before after (StandsForBeginning g E X acknowledged pending) crashed only left (contents_of (files last))
-            (openings_leave crashed last openings ended (contents_of (files last)) (reads_left last))
-
-        commits : List Commit
-        commits = acknowledged ++ found.made
+    goes_on reads_left g E X acknowledged pending before after crashed last openings only left ended =
+        let found = behind_openings reads_left (StandsForBeginning g E X acknowledged pending) before after crashed last openings only left ended in
+        let commits = acknowledged ++ found.made in
+        (found, λ vault h F Y it same. finds last g (environment_behind E commits) (facts_behind X commits) found.stands vault h F Y it same)

@@ -4,14 +4,14 @@
 -- A commit is the events of one record, all of which are there after a crash, or none; today a record has one event. The commits of a
 -- store begin at a state: at nothing where it was created, at what an opening gave where it was opened. They are in the order of their
 -- appends, each of which opens the gate of its record. A commit is acknowledged where the call that made it answered `Ok`.
-use Rattle.std.specs.Prelude.{◌≡◌, ◌⊎◌, ◌≤◌, ℕ, List, [], ◌∷◌, ◌++◌}
+use Rattle.std.specs.Prelude.{◌≡◌, ◌⊎◌, ◌≤◌, ℕ, true, false, List, [], ◌∷◌, ◌++◌}
 use Rattle.disk.specs.declared.side.Side.{Side}
 use Rattle.disk.specs.File.{File}
 use Rattle.disk.specs.Time.{Contents, MayLeaveNow, LeavesOnly}
 use Rattle.terms.specs.declared.event.Event.{Event}
 use Rattle.terms.specs.Commits.{Commit, facts_behind, environment_behind}
-use Rattle.terms.specs.Facts.{facts, environment}
-use Rattle.terms.specs.Sets.{Facts, with_facts}
+use Rattle.terms.specs.Facts.{Fact, facts, environment}
+use Rattle.terms.specs.Sets.{Facts, with_facts, stated}
 use Rattle.graph.specs.Graph.{Graph}
 use Rattle.graph.specs.Canonical.{canonical}
 use Rattle.graph.specs.FitLaws.{SameSet}
@@ -21,22 +21,25 @@ use Rattle.vault.specs.Stands.{Stands}
 use Rattle.vault.specs.Store.{Holds, HasGates, IsReady, IsSame, StandsBeforeOrAfter}
 
 -- The bytes stand for a beginning of the commit order in which each acknowledged commit is: for those, and for some of the pending
--- ones, of which none is passed over and none is there in part. And each file has its first byte.
+-- ones, of which none is passed over and none is there in part.
 pub record StandsForBeginning (g : Graph) (E X : Facts) (acknowledged pending : List Commit) (contents : Contents) : Type 0 where
   pub made : List Commit
   pub later : List Commit
   pub beginning : pending ≡ made ++ later
   pub stands : Stands contents g (environment_behind E (acknowledged ++ made)) (facts_behind X (acknowledged ++ made))
-  pub gates : HasGates contents
 
--- an example that it refuses: of one pending commit of two events the first alone is no beginning
+-- An example that it refuses: where one commit of two events is pending, the first of which states a new fact, and the second one too,
+-- bytes that stand for what the first alone states are no beginning.
 abbrev pub HalfIsNoBeginning : Type 0
-HalfIsNoBeginning = (first second : Event) (later : List Commit) → (first ∷ second ∷ []) ∷ [] ≡ ((first ∷ []) ∷ []) ++ later → ⊥
+HalfIsNoBeginning = (contents : Contents) (g : Graph) (E X : Facts) (first second : Event) (one other : Fact)
+    → Stands contents g (with_facts E (environment (first ∷ []))) (with_facts X (facts (first ∷ [])))
+    → X one ≡ false → stated (first ∷ []) one ≡ true
+    → X other ≡ false → stated (first ∷ []) other ≡ false → stated (first ∷ second ∷ []) other ≡ true
+    → StandsForBeginning g E X [] ((first ∷ second ∷ []) ∷ []) contents → ⊥
 
--- a vault whose store has these commits behind the facts X, of which the environment put E, and whose files each have their first byte
-pub record IsStoreOf {D : Type 0} (files : D → Side → File) (vault : Vault D) (g : Graph) (E X : Facts) (commits : List Commit) : Type 0 where
-  pub holds : Holds files vault g (environment_behind E commits) (facts_behind X commits)
-  pub gates : HasGates (contents_of (files vault.disk))
+-- a vault whose store has these commits behind the facts X, of which the environment put E
+abbrev pub IsStoreOf : {D : Type 0} → (D → Side → File) → Vault D → Graph → Facts → Facts → List Commit → Type 0
+IsStoreOf files vault g E X commits = Holds files vault g (environment_behind E commits) (facts_behind X commits)
 
 module _ {D : Type 0} (files : D → Side → File) (moment : D → ℕ) (left_at : D → ℕ → Contents → Type 0) where
   -- a crash at a moment of a call, or behind it, left this disk
@@ -62,53 +65,57 @@ module _ {D : Type 0} (files : D → Side → File) (moment : D → ℕ) (left_a
 
   -- what is held is a store without commits behind it: a new store behind nothing, and one that was opened behind what it has
   abbrev pub BegunStore : Type 0
-  BegunStore = (vault : Vault D) (g : Graph) (E X : Facts) → Holds files vault g E X → HasGates (contents_of (files vault.disk)) → IsStoreOf files vault g E X []
+  BegunStore = (vault : Vault D) (g : Graph) (E X : Facts) → Holds files vault g E X → IsStoreOf files vault g E X []
 
   -- an append that answered `Ok` adds its commit, behind the others
   abbrev pub AppendedStore : Type 0
-  AppendedStore = (old new : Vault D) (g : Graph) (E X : Facts) (commits : List Commit) (commit : Commit)
-      → Holds files new g (with_facts (environment_behind E commits) (environment commit)) (with_facts (facts_behind X commits) (facts commit))
-      → LeavesOnly moment left_at old.disk new.disk HasGates
-      → IsStoreOf files new g E X (commits ++ commit ∷ [])
+  AppendedStore = (vault : Vault D) (g : Graph) (E X : Facts) (commits : List Commit) (commit : Commit)
+      → Holds files vault g (with_facts (environment_behind E commits) (environment commit)) (with_facts (facts_behind X commits) (facts commit))
+      → IsStoreOf files vault g E X (commits ++ commit ∷ [])
 
-  -- a turnover leaves them
-  abbrev pub TurnedStore : Type 0
-  TurnedStore = (old new : Vault D) (g : Graph) (E X : Facts) (commits : List Commit)
-      → Holds files new g (environment_behind E commits) (facts_behind X commits) → LeavesOnly moment left_at old.disk new.disk HasGates
-      → IsStoreOf files new g E X commits
-
-  -- and so does a refusal that does not halt
+  -- a refusal that does not halt leaves what is held
   abbrev pub RefusedStore : Type 0
-  RefusedStore = (old new : Vault D) (g : Graph) (E X : Facts) (commits : List Commit) → IsStoreOf files old g E X commits → IsSame old new → IsStoreOf files new g E X commits
-
-  abbrev pub RefusedHolds : Type 0
-  RefusedHolds = (old new : Vault D) (g : Graph) (E X : Facts) → Holds files old g E X → IsSame old new → Holds files new g E X
+  RefusedStore = (old new : Vault D) (g : Graph) (E X : Facts) → Holds files old g E X → IsSame old new → Holds files new g E X
 
   -- such a vault is ready for the next call
   abbrev pub StoreIsReady : Type 0
-  StoreIsReady = (vault : Vault D) (g : Graph) (E X : Facts) (commits : List Commit) → IsStoreOf files vault g E X commits → IsReady files vault
+  StoreIsReady = (vault : Vault D) (g : Graph) (E X : Facts) → Holds files vault g E X → IsReady files vault
 
   -- ---- laws: what a crash leaves at each moment
 
-  -- between calls, all of them, and so what is held
+  -- between calls, what is held, and so all of the commits
+  abbrev pub HeldLeaves : Type 0
+  HeldLeaves = (vault : Vault D) (g : Graph) (E X : Facts) → Holds files vault g E X → LeavesOnly moment left_at vault.disk vault.disk (λ contents. Stands contents g E X)
+
   abbrev pub RestLeaves : Type 0
   RestLeaves = (vault : Vault D) (g : Graph) (E X : Facts) (commits : List Commit) → IsStoreOf files vault g E X commits
       → LeavesOnly moment left_at vault.disk vault.disk (StandsForBeginning g E X commits [])
 
-  abbrev pub HeldLeaves : Type 0
-  HeldLeaves = (vault : Vault D) (g : Graph) (E X : Facts) → Holds files vault g E X → LeavesOnly moment left_at vault.disk vault.disk (λ contents. Stands contents g E X)
-
   -- in an append, all of them, and its commit or not
   abbrev pub AppendLeaves : Type 0
   AppendLeaves = (old new : Vault D) (g : Graph) (E X : Facts) (commits : List Commit) (commit : Commit)
-      → LeavesOnly moment left_at old.disk new.disk (StandsBeforeOrAfter g (environment_behind E commits) (facts_behind X commits) commit) → LeavesOnly moment left_at old.disk new.disk HasGates
+      → LeavesOnly moment left_at old.disk new.disk (StandsBeforeOrAfter g (environment_behind E commits) (facts_behind X commits) commit)
       → LeavesOnly moment left_at old.disk new.disk (StandsForBeginning g E X commits (commit ∷ []))
 
   -- in a turnover, all of them
   abbrev pub TurnLeaves : Type 0
   TurnLeaves = (old new : Vault D) (g : Graph) (E X : Facts) (commits : List Commit)
-      → LeavesOnly moment left_at old.disk new.disk (λ contents. Stands contents g (environment_behind E commits) (facts_behind X commits)) → LeavesOnly moment left_at old.disk new.disk HasGates
+      → LeavesOnly moment left_at old.disk new.disk (λ contents. Stands contents g (environment_behind E commits) (facts_behind X commits))
       → LeavesOnly moment left_at old.disk new.disk (StandsForBeginning g E X commits [])
+
+  -- ---- laws: first bytes
+
+  -- Where each file of a vault that holds something has its first byte, a crash between calls leaves each file one.
+  abbrev pub GatesRest : Type 0
+  GatesRest = (vault : Vault D) (g : Graph) (E X : Facts) → Holds files vault g E X → HasGates (contents_of (files vault.disk)) → LeavesOnly moment left_at vault.disk vault.disk HasGates
+
+  -- Where each crash of a call leaves each file its first byte, each file has it behind the call, and behind a crash and openings.
+  abbrev pub GatesStay : Type 0
+  GatesStay = (before after : D) → LeavesOnly moment left_at before after HasGates → HasGates (contents_of (files after))
+
+  abbrev pub GatesGoOn : Type 0
+  GatesGoOn = (before after crashed last : D) (openings : List (D × D)) → LeavesOnly moment left_at before after HasGates
+      → IsLeft before after crashed → Openings crashed openings last → HasGates (contents_of (files last))
 
   -- ---- laws: what an opening gives
 
@@ -120,12 +127,12 @@ module _ {D : Type 0} (files : D → Side → File) (moment : D → ℕ) (left_a
       → Holds files vault g E X × (canonical h ≡ canonical g) × SameSet F E × SameSet Y X
 
   -- From a call to the next one: at each moment of a call a crash leaves a beginning of the commit order with each acknowledged commit. A
-  -- crash at one of them left a disk, behind which openings were cut off or refused. Then the files stand for something, so none of
-  -- these said that they do not; and what an opening gives is a store of such a beginning, of the same graph's text, for the next call.
+  -- crash at one of them left a disk, behind which openings were cut off or refused. Then the files stand for such a beginning, so none
+  -- of these said that they stand for nothing; and what an opening gives is a store of it, of the same graph's text, for the next call.
   abbrev pub StoreGoesOn : Type 0
   StoreGoesOn = (g : Graph) (E X : Facts) (acknowledged pending : List Commit) (before after crashed last : D) (openings : List (D × D))
       → LeavesOnly moment left_at before after (StandsForBeginning g E X acknowledged pending) → IsLeft before after crashed → Openings crashed openings last
-      → (((h : Graph) (F Y : Facts) → Stands (contents_of (files last)) h F Y → ⊥) → ⊥)
+      → (it : StandsForBeginning g E X acknowledged pending (contents_of (files last)))
       × ((vault : Vault D) (h : Graph) (F Y : Facts) → Holds files vault h F Y → ((side : Side) → (files vault.disk side).content ≡ (files last side).content)
-      → (made later : List Commit) × (pending ≡ made ++ later) × IsStoreOf files vault g E X (acknowledged ++ made)
-      × (canonical h ≡ canonical g) × SameSet F (environment_behind E (acknowledged ++ made)) × SameSet Y (facts_behind X (acknowledged ++ made)))
+      → IsStoreOf files vault g E X (acknowledged ++ it.made) × (canonical h ≡ canonical g)
+      × SameSet F (environment_behind E (acknowledged ++ it.made)) × SameSet Y (facts_behind X (acknowledged ++ it.made)))

@@ -50,9 +50,14 @@ NoneIsOpen contents = (side : Side) → IsOpen (contents side) → ⊥
 
 -- ---- what a side gives
 
--- What an opening gives fits together, whatever the disk is: the lists of the image rise, its facts fit the graph, and each
--- address has one item.
-pub record IsSound (g : Graph) (image : Image) : Type 0 where
+-- What an opening gives fits together, whatever the disk is. One list of bytes is a side of this graph, this generation and the image's
+-- facts, whose journal ends at this place; the text is the graph's; the image's lists rise, its facts fit the graph, and each address
+-- has one item.
+pub record IsSound (g : Graph) (image : Image) (generation end : ℕ) (text : List ℕ) : Type 0 where
+  pub bytes : List ℕ
+  pub is_side : IsSide bytes g generation (environment_in image) (facts_in image)
+  pub ends : end ≡ end_of is_side
+  pub text_is : text ≡ canonical g
   pub listed : IsListed image
   pub fits : FitsState g (environment_in image) (facts_in image)
   pub one_item : HasOneItemEach (facts_in image)

@@ -69,9 +69,9 @@ HasGates contents = (side : Side) → contents side ≢ []
 abbrev pub StandsBeforeOrAfter : Graph → Facts → Facts → Commit → Contents → Type 0
 StandsBeforeOrAfter g E X commit contents = Stands contents g E X ⊎ Stands contents g (with_facts E (environment commit)) (with_facts X (facts commit))
 
--- file A is empty, or file B has its closed gate: no crash within a creation leaves a side where a turnover could not begin
-abbrev pub BeginsBehindB : Contents → Type 0
-BeginsBehindB contents = (contents A ≡ []) ⊎ (contents B ≡ 0 ∷ [])
+-- file B has its closed gate before file A has a byte
+abbrev pub BComesFirst : Contents → Type 0
+BComesFirst contents = (contents A ≡ []) ⊎ (contents B ≡ 0 ∷ [])
 
 -- ---- sides
 

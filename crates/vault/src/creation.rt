@@ -8,7 +8,7 @@ ghost use Rattle.graph.specs.Canonical.{canonical};
 ghost use Rattle.graph.specs.Reads.{Reads};
 ghost use Rattle.codec.specs.Spelling.{image_bytes};
 ghost use Rattle.sides.specs.Side.{behind_gate};
-ghost use Rattle.vault.specs.Store.{Holds, IsReady, IsCanonical, BeginsBehindB, disk_of, empty, new_side, nothing};
+ghost use Rattle.vault.specs.Store.{Holds, IsReady, IsCanonical, BComesFirst, disk_of, empty, new_side, nothing};
 ghost use Rattle.vault.specs.Opened.{OnlyReads};
 ghost use Rattle.vault.specs.declared.error.VaultError.TheVariants.{Device, NoMemory, Exists};
 
@@ -22,8 +22,8 @@ use std::alloc::{AllocError, Global};
 /// Makes a store without facts on two empty files. The text is the canonical text of its graph.
 ///
 /// `Exists` says that a file is not empty. Where one is not, both are left as they are, whatever is answered, and a crash at any
-/// moment of the call leaves what one might have left before it. Of two empty files nothing is said of what they hold after
-/// `Device` or `NoMemory`.
+/// moment of the call leaves what one might have left before it. Of two empty files it is said only that B gets its closed gate
+/// before A gets a byte, where they hold no store after `Device` or `NoMemory`.
 pub fn create<D: Disk>(alloc: Global, disk: D, text: &[u8]) -> Result<Vault<D>, Refused<D>>
     requires { IsCanonical text.now }
     ensures created { IsTrue D.is_honest → (g : Graph) → Reads text.now g → text.now ≡ canonical g → IfOk result (λ vault. Holds D.files vault g nothing nothing) }
@@ -32,8 +32,8 @@ pub fn create<D: Disk>(alloc: Global, disk: D, text: &[u8]) -> Result<Vault<D>, 
     ensures ready { IsTrue D.is_honest → IfOk result (IsReady D.files) }
     ensures working { IfOk result (λ vault. vault.halted ≡ false) }
 
-    // On two empty files of which all is on the disk a crash at any moment leaves A empty, or B with its closed gate.
-    ensures begins { IsTrue D.is_honest → ((side : Side) → D.files disk side ≡ at_rest []) → LeavesOnly D.moment D.left_at disk (disk_of result) BeginsBehindB }
+    // Where A is empty, and nothing of it is on its way to the disk, a crash at any moment leaves A empty, or B with its closed gate.
+    ensures begins { IsTrue D.is_honest → D.files disk A ≡ at_rest [] → LeavesOnly D.moment D.left_at disk (disk_of result) BComesFirst }
 
     ensures were_empty { IsTrue D.is_honest → (side : Side) → OnOk result ((D.files disk side).content ≡ []) }
     ensures exists { IsTrue D.is_honest → IfErr result (λ refused. refused.error ≡ Exists → ((D.files disk A).content ≢ []) ⊎ ((D.files disk B).content ≢ [])) }
@@ -82,7 +82,7 @@ fn write_store<D: Disk>(alloc: Global, disk: &mut D, text: &[u8]) -> Result<Made
     ensures side { IfOk result (λ made. made.journal.side ≡ A) }
     ensures end { IfOk result (λ made. made.journal.end ≡ length (1 ∷ behind_gate 1 text.now (image_bytes empty) [])) }
     ensures text { IfOk result (λ made. made.kept.items ≡ text.now) }
-    ensures begins { IsTrue D.is_honest → ((side : Side) → D.files disk.old side ≡ at_rest []) → LeavesOnly D.moment D.left_at disk.old disk.new BeginsBehindB }
+    ensures begins { IsTrue D.is_honest → D.files disk.old A ≡ at_rest [] → LeavesOnly D.moment D.left_at disk.old disk.new BComesFirst }
     ensures were_empty { IsTrue D.is_honest → (side : Side) → OnOk result ((D.files disk.old side).content ≡ []) }
     ensures exists { IsTrue D.is_honest → IfErr result (λ error. error ≡ Exists → ((D.files disk.old A).content ≢ []) ⊎ ((D.files disk.old B).content ≢ [])) }
     ensures untouched { IsTrue D.is_honest → IsErrOf result Exists → (side : Side) → D.files disk.new side ≡ D.files disk.old side }
@@ -148,7 +148,7 @@ fn is_there<D: Disk>(disk: &mut D) -> Result<bool, DiskError>
 fn write_sides<D: Disk>(disk: &mut D, bytes: &[u8]) -> Result<(), DiskError>
     ensures a { IsTrue D.is_honest → (rest : List ℕ) → bytes.now ≡ 0 ∷ rest → (D.files disk.old A).content ≡ [] → OnOk result (D.files disk.new A ≡ at_rest (1 ∷ rest)) }
     ensures b { IsTrue D.is_honest → (D.files disk.old B).content ≡ [] → OnOk result (D.files disk.new B ≡ at_rest (0 ∷ [])) }
-    ensures begins { IsTrue D.is_honest → ((side : Side) → D.files disk.old side ≡ at_rest []) → LeavesOnly D.moment D.left_at disk.old disk.new BeginsBehindB }
+    ensures begins { IsTrue D.is_honest → D.files disk.old A ≡ at_rest [] → (D.files disk.old B).content ≡ [] → LeavesOnly D.moment D.left_at disk.old disk.new BComesFirst }
     ensures cause { HasCause (D.failures disk.old) (D.failures disk.new) result }
 {
     write_synced(disk, Side::B, 0, &[0])?;

@@ -37,7 +37,7 @@ pub fn open<D: Disk>(alloc: Global, disk: D) -> Result<Recovered<D>, Refused<D>>
     ensures ready { IsTrue D.is_honest → IfOk result (λ r. IsReady D.files r.vault) }
 
     // What it gives fits together on every disk.
-    ensures sound { IfOk result (λ r. IsSound r.graph r.image) }
+    ensures sound { IfOk result (λ r. IsSound r.graph r.image r.vault.generation r.vault.journal.end r.vault.text.items) }
     ensures working { IfOk result (λ r. r.vault.halted ≡ false) }
     ensures nothing { IsTrue D.is_honest → IfErr result (λ refused. SaysNothing refused.error → StandsForNothing (contents_of (D.files disk))) }
     ensures not_a_store { IsTrue D.is_honest → IfErr result (λ refused. refused.error ≡ NotAStore → NoneIsOpen (contents_of (D.files disk))) }
@@ -84,7 +84,7 @@ pub fn open<D: Disk>(alloc: Global, disk: D) -> Result<Recovered<D>, Refused<D>>
 // Syncs both files, and reads what they stand for.
 fn recover<D: Disk>(alloc: Global, disk: &mut D) -> Result<Found, VaultError>
     ensures found { IsTrue D.is_honest → IfOk result (IsFound (contents_of (D.files disk.old))) }
-    ensures sound { IfOk result (λ found. IsSound found.graph found.image) }
+    ensures sound { IfOk result (λ found. IsSound found.graph found.image found.generation found.journal.end found.text.items) }
     ensures rests { IsTrue D.is_honest → OnOk result ((side : Side) → D.files disk.new side ≡ at_rest (D.files disk.old side).content) }
     ensures nothing { IsTrue D.is_honest → IfErr result (λ error. SaysNothing error → StandsForNothing (contents_of (D.files disk.old))) }
     ensures not_a_store { IsTrue D.is_honest → IfErr result (λ error. error ≡ NotAStore → NoneIsOpen (contents_of (D.files disk.old))) }
@@ -111,7 +111,7 @@ fn settle<D: Disk>(disk: &mut D) -> Result<(), DiskError>
 // Reads what the files stand for.
 fn look<D: Disk>(alloc: Global, disk: &mut D) -> Result<Found, VaultError>
     ensures found { IsTrue D.is_honest → IfOk result (IsFound (contents_of (D.files disk.old))) }
-    ensures sound { IfOk result (λ found. IsSound found.graph found.image) }
+    ensures sound { IfOk result (λ found. IsSound found.graph found.image found.generation found.journal.end found.text.items) }
     ensures nothing { IsTrue D.is_honest → IfErr result (λ error. SaysNothing error → StandsForNothing (contents_of (D.files disk.old))) }
     ensures not_a_store { IsTrue D.is_honest → IfErr result (λ error. error ≡ NotAStore → NoneIsOpen (contents_of (D.files disk.old))) }
     ensures damaged { IsTrue D.is_honest → (here : Side) (place : ℕ) → IfErr result (λ error. error ≡ Damaged here place → IsOpen (D.files disk.old here).content) }

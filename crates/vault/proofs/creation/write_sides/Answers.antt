@@ -1,20 +1,24 @@
-use Rattle.std.proofs.Common.{◌∙◌, ap, [], ◌∷◌}
+use Rattle.std.proofs.Common.{◌∙◌, ap, ℕ, List, [], ◌∷◌}
 use Rattle.disk.specs.declared.side.Side.TheVariants.{B}
-use Rattle.disk.specs.File.{File, at_rest, overwritten}
+use Rattle.disk.specs.File.{at_rest, overwritten}
 use Rattle.vault.proofs.BegunMoments.{b_is_not_a, closed, written}
 use Rattle.vault.proofs.creation.write_sides.Goals as goal
 
+pub returns-in_err-write_synced-clause-begins : goal.returns-in_err-write_synced-clause-begins
+returns-in_err-write_synced-clause-begins g c honest rests empty =
+    closed g.D.Disk.files g.D.Disk.moment g.D.Disk.left_at c.args.disk.now c.write_synced.new.disk _ rests (c.write_synced.ensures.touches honest)
+
 pub returns-in_err-write_synced-2-clause-begins : goal.returns-in_err-write_synced-2-clause-begins
-returns-in_err-write_synced-2-clause-begins g c honest rests =
+returns-in_err-write_synced-2-clause-begins g c honest rests empty =
     let files = g.D.Disk.files in
-    let b = c.in_ok-write_synced.ensures.ok honest ∙ ap (λ (f : File). at_rest (overwritten f.content 0 (0 ∷ []))) (rests B) in
+    let b = c.in_ok-write_synced.ensures.ok honest ∙ ap (λ (content : List ℕ). at_rest (overwritten content 0 (0 ∷ []))) empty in
     let first = closed files g.D.Disk.moment g.D.Disk.left_at c.args.disk.now c.write_synced.new.disk _ rests (c.write_synced.ensures.touches honest) in
     written files g.D.Disk.moment g.D.Disk.left_at c.args.disk.now c.write_synced.new.disk c.write_synced-2.new.disk _ first b (c.write_synced-2.ensures.touches honest)
 
 pub returns-clause-begins : goal.returns-clause-begins
-returns-clause-begins g c honest rests =
+returns-clause-begins g c honest rests empty =
     let files = g.D.Disk.files in
-    let b = c.in_ok-write_synced.ensures.ok honest ∙ ap (λ (f : File). at_rest (overwritten f.content 0 (0 ∷ []))) (rests B) in
+    let b = c.in_ok-write_synced.ensures.ok honest ∙ ap (λ (content : List ℕ). at_rest (overwritten content 0 (0 ∷ []))) empty in
     let first = closed files g.D.Disk.moment g.D.Disk.left_at c.args.disk.now c.write_synced.new.disk _ rests (c.write_synced.ensures.touches honest) in
     let second = written files g.D.Disk.moment g.D.Disk.left_at c.args.disk.now c.write_synced.new.disk c.write_synced-2.new.disk _ first b (c.write_synced-2.ensures.touches honest) in
     written files g.D.Disk.moment g.D.Disk.left_at c.args.disk.now c.write_synced-2.new.disk c.write_synced-3.new.disk _ second (c.write_synced-2.ensures.other honest B b_is_not_a ∙ b)

@@ -1,4 +1,6 @@
-use Rattle.std.proofs.Common.{◌∙◌}
+use Rattle.std.proofs.Common.{◌∙◌, ap}
+use Rattle.disk.specs.declared.side.Side.TheVariants.{A, B}
+use Rattle.disk.specs.File.{File}
 use Rattle.disk.specs.Moments.{begun}
 use Rattle.disk.specs.Time.{MayLeaveNow}
 use Rattle.vault.proofs.BegunMoments.{looked, both}
@@ -33,14 +35,18 @@ pub returns-in_err-is_there-clause-begins : goal.returns-in_err-is_there-clause-
 returns-in_err-is_there-clause-begins g c honest rests =
     looked g.D.Disk.files g.D.Disk.moment g.D.Disk.left_at c.args.disk.now c.is_there.new.disk rests (c.is_there.ensures.only_reads honest).any_moment
 
+pub returns-then-branch-clause-begins : goal.returns-then-branch-clause-begins
+returns-then-branch-clause-begins g c honest rests =
+    looked g.D.Disk.files g.D.Disk.moment g.D.Disk.left_at c.args.disk.now c.is_there.new.disk rests (c.is_there.ensures.only_reads honest).any_moment
+
 pub returns-in_err-write_sides-clause-begins : goal.returns-in_err-write_sides-clause-begins
 returns-in_err-write_sides-clause-begins g c honest rests =
     both g.D.Disk.files g.D.Disk.moment g.D.Disk.left_at c.args.disk.now c.is_there.new.disk c.write_sides.new.disk
     (looked g.D.Disk.files g.D.Disk.moment g.D.Disk.left_at c.args.disk.now c.is_there.new.disk rests (c.is_there.ensures.only_reads honest).any_moment)
-    (c.write_sides.ensures.begins honest (λ side. c.is_there.ensures.same honest side ∙ rests side))
+    (c.write_sides.ensures.begins honest (c.is_there.ensures.same honest A ∙ rests) (ap (λ (f : File). f.content) (c.is_there.ensures.same honest B) ∙ c.in_ok-is_there.ensures.empty honest B c.if-branch.false))
 
 pub returns-clause-begins : goal.returns-clause-begins
 returns-clause-begins g c honest rests =
     both g.D.Disk.files g.D.Disk.moment g.D.Disk.left_at c.args.disk.now c.is_there.new.disk c.write_sides.new.disk
     (looked g.D.Disk.files g.D.Disk.moment g.D.Disk.left_at c.args.disk.now c.is_there.new.disk rests (c.is_there.ensures.only_reads honest).any_moment)
-    (c.write_sides.ensures.begins honest (λ side. c.is_there.ensures.same honest side ∙ rests side))
+    (c.write_sides.ensures.begins honest (c.is_there.ensures.same honest A ∙ rests) (ap (λ (f : File). f.content) (c.is_there.ensures.same honest B) ∙ c.in_ok-is_there.ensures.empty honest B c.if-branch.false))
