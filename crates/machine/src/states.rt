@@ -22,7 +22,8 @@ pub fn reached_within()
     facts_are_told_apart();
 }
 
-/// A state that is reached and quiet is the meaning, which is then clean, and there is one. None is quiet where one has a fault.
+/// A state that is reached and quiet is the meaning, which is then clean, and there is one. Where a state that is reached has a fault,
+/// none that is reached on its environment is quiet.
 pub fn reached_and_quiet()
     ensures meaning { ReachedIsMeaning }
     ensures one { OneMeaningEach }

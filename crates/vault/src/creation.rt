@@ -22,8 +22,8 @@ use std::alloc::{AllocError, Global};
 /// Makes a store without facts on two empty files. The text is the canonical text of its graph.
 ///
 /// `Exists` says that a file is not empty. Where one is not, both are left as they are, whatever is answered, and a crash at any
-/// moment of the call leaves what one might have left before it. Of two empty files it is said only that B gets its closed gate
-/// before A gets a byte, where they hold no store after `Device` or `NoMemory`.
+/// moment of the call leaves what one might have left before it. Where both were empty, nothing is said of
+/// what they hold after `Device` or `NoMemory`, but that A is empty or B has its closed gate.
 pub fn create<D: Disk>(alloc: Global, disk: D, text: &[u8]) -> Result<Vault<D>, Refused<D>>
     requires { IsCanonical text.now }
     ensures created { IsTrue D.is_honest → (g : Graph) → Reads text.now g → text.now ≡ canonical g → IfOk result (λ vault. Holds D.files vault g nothing nothing) }
