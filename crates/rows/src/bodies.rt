@@ -1,7 +1,7 @@
 //! Instances of a graph's steps: `run NAME`, where the graph's text is named so, and below it a line for each instance: its step,
 //! its key and, behind `<-`, the values of the items that it gets. What comes of it is a line: what it needs, what it read and
 //! gave, or its fault, or where it is parked if the values end before it does.
-use crate::telling::{MOST_TOLD, tell_key};
+use crate::telling::{tell_key, told_of};
 use graph::{Graph, parse};
 use std::alloc::{AllocError, Global};
 use steplang::{Checked, Run, Turn};
@@ -131,10 +131,9 @@ fn tell_reads(graph: &Graph, reads: &[(Addr, i64)], out: &mut String) -> Result<
 
 fn tell_puts(graph: &Graph, puts: &[Put], out: &mut String) -> Result<(), AllocError> {
     out.push_str("puts")?;
-    let mut told = puts;
-    if puts.len() > MOST_TOLD {
+    let told = told_of(puts);
+    if told.len() < puts.len() {
         write!(out, " {}, the last", puts.len())?;
-        told = &puts[puts.len() - 1..];
     }
     for put in told {
         out.push_str(" ")?;

@@ -98,6 +98,25 @@ fn push_number(kind: &str, number: &str, bytes: &mut Vec<u8>) -> Result<bool, Al
     Ok(true)
 }
 
+// What is named so, or its first bytes.
+fn push_named(names: &Names, word: &str, bytes: &mut Vec<u8>) -> Result<bool, AllocError> {
+    let (name, end) = word.split_once("..").unwrap_or((word, ""));
+    let Some(named) = names.bytes(name) else {
+        return Ok(false);
+    };
+    if end.is_empty() {
+        bytes.extend_from_slice(named)?;
+        return Ok(true);
+    }
+    match end.parse::<usize>() {
+        Ok(count) if count <= named.len() => {
+            bytes.extend_from_slice(&named[..count])?;
+            Ok(true)
+        }
+        _ => Ok(false),
+    }
+}
+
 // A name, or digits.
 fn push_digits(
     alloc: Global,
@@ -106,11 +125,7 @@ fn push_digits(
     bytes: &mut Vec<u8>,
 ) -> Result<bool, AllocError> {
     if word.starts_with(|letter: char| letter.is_ascii_uppercase()) {
-        let (name, count) = word.split_once("..").unwrap_or((word, ""));
-        let named = names.bytes(name);
-        let count = count.parse::<usize>().unwrap_or(named.len());
-        bytes.extend_from_slice(&named[..count.min(named.len())])?;
-        return Ok(!named.is_empty());
+        return push_named(names, word, bytes);
     }
     let (digits, count) = word.split_once('*').unwrap_or((word, "1"));
     let (Ok(part), Ok(count)) = (hex::decode(alloc, digits), count.parse::<u32>()) else {

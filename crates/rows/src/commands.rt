@@ -29,7 +29,10 @@ pub(crate) fn answer(
             let text = texts::text_of(alloc, input)?;
             graphs::answer(alloc, names, word, rest, text.as_str())
         }
-        "run" => bodies::answer(alloc, names.bytes(rest), input),
+        "run" => match names.bytes(rest) {
+            Some(text) => bodies::answer(alloc, text, input),
+            None => String::from_str(alloc, "no such name\n"),
+        },
         "store" => stories::answer(alloc, names, rest, input),
         "rising" => orders::answer(alloc, names, rest, input),
         _ => answer_bytes(alloc, names, command, input),

@@ -18,33 +18,73 @@ pub(crate) fn take(
         return crash(alloc, names, disk, rest, told);
     }
     let (name, more) = rest.split_once(' ').unwrap_or((rest, ""));
-    let side = if name == "A" { Side::A } else { Side::B };
-    let (number, behind) = more.split_once(' ').unwrap_or((more, ""));
-    let place = number.parse::<u64>().unwrap_or(0);
+    let side = match name {
+        "A" => Side::A,
+        "B" => Side::B,
+        _ => return no_such(word, told),
+    };
     match word {
-        "write" => {
-            let bytes = bytes_of(alloc, names, behind)?.unwrap_or(Vec::new(alloc));
-            tell_call(write(disk, side, place, &bytes), told)
-        }
-        "cut" => tell_call(cut(disk, side, place), told),
         "sync" => tell_call(disk.sync(side), told),
         "length" => tell_length(disk, side, told),
-        "read" => {
-            let count = behind.parse::<usize>().unwrap_or(0);
-            let mut buffer = vec![in alloc; 0; count]?;
-            tell_call(read(disk, side, place, &mut buffer), told)?;
-            write!(told, "{buffer:?}")
-        }
-        "has" => compare(alloc, names, disk, side, more, told),
-        "scan" => journals::scan(alloc, disk, side, place, told),
-        "record" => {
-            let (failing, bytes) = behind.split_once(' ').unwrap_or((behind, ""));
-            let payload = bytes_of(alloc, names, bytes)?.unwrap_or(Vec::new(alloc));
-            let failing = failing.parse::<u64>().unwrap_or(0);
-            journals::record(alloc, disk, (side, place), failing, &payload, told)
-        }
-        _ => write!(told, "no such call: {word}"),
+        "has" => match bytes_of(alloc, names, more)? {
+            Some(wanted) => compare(alloc, disk, side, &wanted, told),
+            None => no_such(word, told),
+        },
+        _ => take_at(alloc, names, disk, side, word, more, told),
     }
+}
+
+// One call at a place of a file.
+fn take_at(
+    alloc: Global,
+    names: &Names,
+    disk: &mut MemDisk,
+    side: Side,
+    word: &str,
+    more: &str,
+    told: &mut String,
+) -> Result<(), AllocError> {
+    let (number, behind) = more.split_once(' ').unwrap_or((more, ""));
+    let Ok(place) = number.parse::<u64>() else {
+        return no_such(word, told);
+    };
+    match word {
+        "write" => match bytes_of(alloc, names, behind)? {
+            Some(bytes) => write(disk, side, place, &bytes, told),
+            None => no_such(word, told),
+        },
+        "cut" => cut(disk, side, place, told),
+        "read" => match behind.parse::<usize>() {
+            Ok(count) => read(alloc, disk, side, place, count, told),
+            Err(_) => no_such(word, told),
+        },
+        "scan" => journals::scan(alloc, disk, side, place, told),
+        "record" => record(alloc, names, disk, (side, place), behind, told),
+        _ => no_such(word, told),
+    }
+}
+
+// Begins a journal there, and appends a record, where a call fails, or none.
+fn record(
+    alloc: Global,
+    names: &Names,
+    disk: &mut MemDisk,
+    place: (Side, u64),
+    text: &str,
+    told: &mut String,
+) -> Result<(), AllocError> {
+    let (failing, bytes) = text.split_once(' ').unwrap_or((text, ""));
+    match (failing.parse::<u64>(), bytes_of(alloc, names, bytes)?) {
+        (Ok(failing), Some(payload)) => {
+            journals::record(alloc, disk, place, failing, &payload, told)
+        }
+        _ => no_such("record", told),
+    }
+}
+
+// Tells that a call is not written as one is.
+fn no_such(word: &str, told: &mut String) -> Result<(), AllocError> {
+    write!(told, "no such call: {word}")
 }
 
 // Tells an error of a call.
@@ -62,24 +102,47 @@ fn tell_length(disk: &mut MemDisk, side: Side, told: &mut String) -> Result<(), 
     }
 }
 
-// Writes from a place on that lies within the file, or from its end on.
-fn write(disk: &mut MemDisk, side: Side, at: u64, bytes: &[u8]) -> Result<(), DiskError> {
-    let count = disk.len(side)?;
-    disk.write_at(side, at.min(count), bytes)
+// Writes from a place within the file, or from its end on.
+fn write(
+    disk: &mut MemDisk,
+    side: Side,
+    at: u64,
+    bytes: &[u8],
+    told: &mut String,
+) -> Result<(), AllocError> {
+    match disk.len(side) {
+        Ok(count) if at <= count => tell_call(disk.write_at(side, at, bytes), told),
+        Ok(_) => told.push_str("past the end"),
+        Err(error) => write!(told, "{error}"),
+    }
 }
 
-fn cut(disk: &mut MemDisk, side: Side, length: u64) -> Result<(), DiskError> {
-    let count = disk.len(side)?;
-    disk.cut(side, length.min(count))
+// Cuts the file to a length that is not greater than its own.
+fn cut(disk: &mut MemDisk, side: Side, length: u64, told: &mut String) -> Result<(), AllocError> {
+    match disk.len(side) {
+        Ok(count) if length <= count => tell_call(disk.cut(side, length), told),
+        Ok(_) => told.push_str("past the end"),
+        Err(error) => write!(told, "{error}"),
+    }
 }
 
 // Reads what lies within the file.
-fn read(disk: &mut MemDisk, side: Side, at: u64, buffer: &mut [u8]) -> Result<(), DiskError> {
-    let count = disk.len(side)?;
-    if at <= count && buffer.len() as u64 <= count - at {
-        disk.read(side, at, buffer)
-    } else {
-        Ok(())
+fn read(
+    alloc: Global,
+    disk: &mut MemDisk,
+    side: Side,
+    at: u64,
+    count: usize,
+    told: &mut String,
+) -> Result<(), AllocError> {
+    let mut buffer = vec![in alloc; 0; count]?;
+    match disk.len(side) {
+        Ok(length) if at <= length && count as u64 <= length - at => {
+            tell_call(disk.read(side, at, &mut buffer), told)?;
+            write!(told, "{buffer:?}")
+        }
+        Ok(_) => told.push_str("past the end"),
+        Err(error) => write!(told, "{error}"),
     }
 }
 
@@ -94,15 +157,13 @@ fn bytes_on(alloc: Global, disk: &mut MemDisk, side: Side) -> Result<Vec<u8>, Di
 // Whether a file has these bytes, or where it differs first.
 fn compare(
     alloc: Global,
-    names: &Names,
     disk: &mut MemDisk,
     side: Side,
-    text: &str,
+    wanted: &[u8],
     told: &mut String,
 ) -> Result<(), AllocError> {
-    let wanted = bytes_of(alloc, names, text)?.unwrap_or(Vec::new(alloc));
     match bytes_on(alloc, disk, side) {
-        Ok(bytes) if bytes == wanted => write!(told, "{side:?} is so"),
+        Ok(bytes) if bytes.as_slice() == wanted => write!(told, "{side:?} is so"),
         Ok(bytes) => {
             let same = bytes
                 .iter()
@@ -128,11 +189,10 @@ fn crash(
     told: &mut String,
 ) -> Result<(), AllocError> {
     let (a, b) = text.split_once('|').unwrap_or((text, ""));
-    let fill = Fill {
-        a: bytes_of(alloc, names, a)?.unwrap_or(Vec::new(alloc)),
-        b: bytes_of(alloc, names, b)?.unwrap_or(Vec::new(alloc)),
+    let (Some(a), Some(b)) = (bytes_of(alloc, names, a)?, bytes_of(alloc, names, b)?) else {
+        return no_such("crash", told);
     };
-    match disk.crash(fill) {
+    match disk.crash(Fill { a, b }) {
         Ok(()) => told.push_str("left"),
         Err(_) => told.push_str("never left"),
     }

@@ -30,7 +30,10 @@ pub(crate) fn answer(
         }
         "graph" => tell_graph(alloc, text.as_bytes(), &mut out)?,
         "beginnings" => tell_beginnings(alloc, text.as_bytes(), &mut out)?,
-        _ => tell_changes(alloc, text.as_bytes(), names.bytes(more), &mut out)?,
+        _ => match names.bytes(more) {
+            Some(bytes) => tell_changes(alloc, text.as_bytes(), bytes, &mut out)?,
+            None => out.push_str("no such name\n")?,
+        },
     }
     Ok(out)
 }
@@ -65,12 +68,14 @@ fn canonical_of(alloc: Global, text: &[u8]) -> Result<Option<Vec<u8>>, AllocErro
 }
 
 fn tell_canonical(alloc: Global, text: &[u8], out: &mut String) -> Result<(), AllocError> {
-    let Some(canonical) = canonical_of(alloc, text)? else {
-        tell_fault(alloc, text, out)?;
-        return out.push_str("\n");
-    };
-    writeln!(out, "{} bytes", canonical.len())?;
-    out.push_str(str::from_utf8(&canonical).unwrap_or("not ASCII\n"))
+    match parse(alloc, text) {
+        Ok(graph) => {
+            let canonical = canonical(alloc, &graph)?;
+            writeln!(out, "{} bytes", canonical.len())?;
+            out.push_str(str::from_utf8(&canonical).unwrap_or("not ASCII\n"))
+        }
+        Err(fault) => writeln!(out, "{fault}"),
+    }
 }
 
 // Whether a text is a graph, and its canonical text is its own.

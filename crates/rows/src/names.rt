@@ -1,3 +1,4 @@
+//! The names of a file of cases.
 use std::alloc::{AllocError, Global};
 use std::collections::BTreeMap;
 
@@ -23,11 +24,11 @@ impl Names {
         Ok(())
     }
 
-    /// What a name stands for; nothing, where it is not given.
-    pub(crate) fn bytes(&self, name: &str) -> &[u8] {
+    /// What a name stands for, if it is given.
+    pub(crate) fn bytes(&self, name: &str) -> Option<&[u8]> {
         match self.bytes.get(name) {
-            Some(bytes) => bytes.as_slice(),
-            None => &[],
+            Some(bytes) => Some(bytes.as_slice()),
+            None => None,
         }
     }
 }

@@ -23,7 +23,9 @@ pub(crate) fn answer(
         producers: Vec::new(alloc),
     };
     for line in lines.lines() {
-        let bytes = bytes_of(alloc, names, line)?.unwrap_or(Vec::new(alloc));
+        let Some(bytes) = bytes_of(alloc, names, line)? else {
+            return String::from_str(alloc, "no bytes\n");
+        };
         if kind == "producers" {
             values.take_image(alloc, &bytes)?;
         } else {
@@ -71,7 +73,8 @@ impl Values {
             "tags" => (self.tags.len(), rise(&self.tags)),
             "instances" => (self.instances.len(), rise(&self.instances)),
             "puts" => (self.puts.len(), rise(&self.puts)),
-            _ => (self.producers.len(), rise(&self.producers)),
+            "producers" => (self.producers.len(), rise(&self.producers)),
+            _ => return String::from_str(alloc, "no such kind\n"),
         };
         let told = if do_rise { "rise" } else { "do not rise" };
         format!(in alloc; "{count} {told}\n")

@@ -52,6 +52,23 @@ fn tell(
     out.push_str("\n")
 }
 
+// Makes a store of the text with this name.
+fn create(
+    alloc: Global,
+    names: &Names,
+    world: World,
+    name: &str,
+    told: &mut String,
+) -> Result<World, AllocError> {
+    match names.bytes(name) {
+        Some(text) => vaults::create_store(alloc, world, text, told),
+        None => {
+            told.push_str("no such name")?;
+            Ok(world)
+        }
+    }
+}
+
 // One call.
 fn take(
     alloc: Global,
@@ -63,13 +80,13 @@ fn take(
 ) -> Result<World, AllocError> {
     let (word, rest) = line.split_once(' ').unwrap_or((line, ""));
     match word {
-        "create" => vaults::create_store(alloc, world, names.bytes(rest), told),
+        "create" => create(alloc, names, world, rest, told),
         "open" => vaults::open_store(alloc, world, told),
         "facts" => vaults::tell_facts(alloc, world, told),
         "append" => vaults::append_event(alloc, names, world, rest, told),
         "turn" => vaults::turn_over(alloc, world, told),
-        "fail" if rest == "$" => Ok(vaults::fail(world, number)),
-        "fail" => Ok(vaults::fail(world, rest)),
+        "fail" if rest == "$" => vaults::fail(world, number, told),
+        "fail" => vaults::fail(world, rest, told),
         _ => {
             let mut disk = vaults::closed(world);
             disks::take(alloc, names, &mut disk, word, rest, told)?;

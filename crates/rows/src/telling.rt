@@ -3,8 +3,17 @@ use codec::Image;
 use std::alloc::AllocError;
 use terms::{Addr, Event, Inst, Key, Producer, Put, Tag};
 
-/// The greatest number of elements that are told one by one.
-pub(crate) const MOST_TOLD: usize = 8;
+// The greatest number of elements that are told one by one.
+const MOST_TOLD: usize = 8;
+
+/// What is told of a list: all of it, or its last element alone, if they are too many.
+pub(crate) fn told_of<T>(list: &[T]) -> &[T] {
+    if list.len() > MOST_TOLD {
+        &list[list.len() - 1..]
+    } else {
+        list
+    }
+}
 
 /// The components of a key behind what stands in front of them.
 pub(crate) fn tell_key(out: &mut String, key: &Key) -> Result<(), AllocError> {
@@ -67,10 +76,9 @@ pub(crate) fn tell_event(out: &mut String, event: &Event) -> Result<(), AllocErr
 }
 
 fn tell_puts(out: &mut String, puts: &[Put]) -> Result<(), AllocError> {
-    let mut told = puts;
-    if puts.len() > MOST_TOLD {
+    let told = told_of(puts);
+    if told.len() < puts.len() {
         write!(out, " {}, the last", puts.len())?;
-        told = &puts[puts.len() - 1..];
     }
     for put in told {
         out.push_str(" ")?;
@@ -100,11 +108,10 @@ fn part(out: &mut String) -> Result<(), AllocError> {
 }
 
 fn tell_items(out: &mut String, items: &[(Addr, i64, Producer)]) -> Result<(), AllocError> {
-    let mut told = items;
-    if items.len() > MOST_TOLD {
+    let told = told_of(items);
+    if told.len() < items.len() {
         part(out)?;
         write!(out, "{} items, the last", items.len())?;
-        told = &items[items.len() - 1..];
     }
     for item in told {
         part(out)?;
@@ -114,11 +121,10 @@ fn tell_items(out: &mut String, items: &[(Addr, i64, Producer)]) -> Result<(), A
 }
 
 fn tell_tags(out: &mut String, tags: &[(Tag, bool)]) -> Result<(), AllocError> {
-    let mut told = tags;
-    if tags.len() > MOST_TOLD {
+    let told = told_of(tags);
+    if told.len() < tags.len() {
         part(out)?;
         write!(out, "{} tags, the last", tags.len())?;
-        told = &tags[tags.len() - 1..];
     }
     for (tag, is_of_environment) in told {
         part(out)?;
@@ -129,11 +135,10 @@ fn tell_tags(out: &mut String, tags: &[(Tag, bool)]) -> Result<(), AllocError> {
 }
 
 fn tell_done(out: &mut String, done: &[Inst]) -> Result<(), AllocError> {
-    let mut told = done;
-    if done.len() > MOST_TOLD {
+    let told = told_of(done);
+    if told.len() < done.len() {
         part(out)?;
         write!(out, "{} done, the last", done.len())?;
-        told = &done[done.len() - 1..];
     }
     for instance in told {
         part(out)?;

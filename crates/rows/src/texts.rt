@@ -20,13 +20,18 @@ pub(crate) fn lines_of(alloc: Global, lines: &str) -> Result<String, AllocError>
     Ok(text)
 }
 
-// A number, and what stands there so often.
+// A number, and what stands there so often. What is no number stays as it is, between its `~`.
 fn push_repeated(text: &mut String, piece: &str) -> Result<(), AllocError> {
-    let (count, part) = piece.split_once(' ').unwrap_or(("0", ""));
-    for turn in 0..count.parse::<u32>().unwrap_or(0) {
-        push_turn(text, part, turn)?;
+    let (count, part) = piece.split_once(' ').unwrap_or((piece, ""));
+    match count.parse::<u32>() {
+        Ok(count) => {
+            for turn in 0..count {
+                push_turn(text, part, turn)?;
+            }
+            Ok(())
+        }
+        Err(_) => write!(text, "~{piece}~"),
     }
-    Ok(())
 }
 
 // The part, with the number of the turn.

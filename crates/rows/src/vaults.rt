@@ -43,10 +43,13 @@ pub(crate) fn closed(world: World) -> MemDisk {
 }
 
 /// The call of the disk with this number from now on is to fail.
-pub(crate) fn fail(world: World, number: &str) -> World {
+pub(crate) fn fail(world: World, number: &str, told: &mut String) -> Result<World, AllocError> {
     let mut disk = closed(world);
-    disk.fail_call(number.parse::<u64>().unwrap_or(0));
-    World::Closed(disk)
+    match number.parse::<u64>() {
+        Ok(number) => disk.fail_call(number),
+        Err(_) => told.push_str("no number")?,
+    }
+    Ok(World::Closed(disk))
 }
 
 // Whether a text is the canonical one of the graph that it reads as.
@@ -199,8 +202,9 @@ pub(crate) fn turn_over(
         World::Open(live) => {
             let (live, answer) = turned(alloc, live);
             match answer {
-                Ok(generation) => write!(told, "turned to generation {generation}")?,
-                Err(error) => tell_answer(&live, Some(error), "", told)?,
+                Some(Ok(generation)) => write!(told, "turned to generation {generation}")?,
+                Some(Err(error)) => tell_answer(&live, Some(error), "", told)?,
+                None => told.push_str("no image")?,
             }
             Ok(World::Open(live))
         }
@@ -211,11 +215,12 @@ pub(crate) fn turn_over(
     }
 }
 
-fn turned(alloc: Global, live: Live) -> (Live, Result<u64, VaultError>) {
+// What a turnover answers, where the bytes of the image are read again.
+fn turned(alloc: Global, live: Live) -> (Live, Option<Result<u64, VaultError>>) {
     let Live { mut vault, image } = live;
     let answer = match decode_image(alloc, &image) {
-        Ok(listed) => vault.turn(&listed),
-        Err(_) => Err(VaultError::NoMemory),
+        Ok(listed) => Some(vault.turn(&listed)),
+        Err(_) => None,
     };
     (Live { vault, image }, answer)
 }
