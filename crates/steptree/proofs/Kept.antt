@@ -12,7 +12,7 @@ use Rattle.terms.specs.declared.fault.FaultKind.TheVariants.{Budget, TooManyPuts
 use Rattle.terms.specs.Same.{is_same, same_address}
 use Rattle.steptree.specs.declared.expression.Expression.{Expression}
 use Rattle.steptree.specs.declared.block.Block.{Block}
-use Rattle.steptree.specs.declared.block.Block.TheVariants.{End, Assign', If', For', Get', PutItem', PutTag'}
+use Rattle.steptree.specs.Tree.{End, Assign, If, For, Get, PutItem, PutTag}
 use Rattle.steptree.specs.declared.body.Body.{Body}
 use Rattle.steptree.specs.declared.body.TheConstants.{BUDGET}
 use Rattle.terms.specs.declared.put.TheConstants.{MOST_PUTS}
@@ -122,37 +122,37 @@ module _ (sheet : Sheet) where
 
   blocks : (block : Block) → KeepsTo sheet block → Keeps (run block)
   blocks End is state puts = (λ all. all, puts)
-  blocks (Assign' slot value p rest) is state puts =
+  blocks (Assign slot value rest) is state puts =
       counted (λ now. given (value_of value now.variables) now (λ v. run rest (assigned slot v now)))
       (λ now still. with_result (value_of value now.variables) now (λ v. run rest (assigned slot v now)) (λ v same. blocks rest is (assigned slot v now) still))
       state puts
-  blocks (If' condition p first q second r rest) is state puts =
+  blocks (If condition first second rest) is state puts =
       counted (λ now. given (value_of condition now.variables) now (λ v. followed (if int_eq v (pos 0) then run second now else run first now) (run rest)))
       (λ now still. with_result (value_of condition now.variables) now (λ v. followed (if int_eq v (pos 0) then run second now else run first now) (run rest)) (λ v same.
       behind now.reads (if int_eq v (pos 0) then run second now else run first now) (run rest)
       (either now.reads (int_eq v (pos 0)) (run second now) (run first now) (blocks second is.1 now still) (blocks first is.0 now still)) (blocks rest is.2)))
       state puts
-  blocks (For' slot from to p block q rest) is state puts =
+  blocks (For slot from to block rest) is state puts =
       counted (λ now. given (value_of from now.variables) now (λ a. given (value_of to now.variables) now (λ b. followed (turns (run block) slot a (int_gap a b) now) (run rest))))
       (λ now still. with_result (value_of from now.variables) now (λ a. given (value_of to now.variables) now (λ b. followed (turns (run block) slot a (int_gap a b) now) (run rest))) (λ a here.
       with_result (value_of to now.variables) now (λ b. followed (turns (run block) slot a (int_gap a b) now) (run rest)) (λ b there.
       behind now.reads (turns (run block) slot a (int_gap a b) now) (run rest) (all_turns (run block) (blocks block is.0) slot (int_gap a b) a now still) (blocks rest is.1))))
       state puts
-  blocks (Get' slot collection components p rest) is state puts =
+  blocks (Get slot collection components rest) is state puts =
       counted (λ now. given (values_of components now.variables) now (λ key. answered (record { collection = collection; key = key }) now.reads (λ v reads. run rest (assigned slot v (record now { reads = reads })))))
       (λ now still. with_result (values_of components now.variables) now (λ key. answered (record { collection = collection; key = key }) now.reads (λ v reads. run rest (assigned slot v (record now { reads = reads })))) (λ key gives.
       let allowed = subst (λ (n : ℕ). MayRead sheet collection.0 n) (sym (as_many components now.variables key gives)) is.0 in
       with_answer (record { collection = collection; key = key }) now.reads (λ v reads. run rest (assigned slot v (record now { reads = reads }))) allowed
       (λ v reads. blocks rest is.1 (assigned slot v (record now { reads = reads })) still)))
       state puts
-  blocks (PutItem' collection components value p rest) is state puts =
+  blocks (PutItem collection components value rest) is state puts =
       counted (λ now. given (values_of components now.variables) now (λ key. given (value_of value now.variables) now (λ v. putting (put.Item (record { collection = collection; key = key }) v) now (run rest))))
       (λ now still. with_result (values_of components now.variables) now (λ key. given (value_of value now.variables) now (λ v. putting (put.Item (record { collection = collection; key = key }) v) now (run rest))) (λ key gives.
       with_result (value_of value now.variables) now (λ v. putting (put.Item (record { collection = collection; key = key }) v) now (run rest)) (λ v same.
       let allowed = subst (λ (n : ℕ). MayPutItem sheet collection.0 n) (sym (as_many components now.variables key gives)) is.0 in
       put_one (put.Item (record { collection = collection; key = key }) v) (run rest) allowed (blocks rest is.1) now still)))
       state puts
-  blocks (PutTag' collection components p rest) is state puts =
+  blocks (PutTag collection components rest) is state puts =
       counted (λ now. given (values_of components now.variables) now (λ key. putting (put.Tag (record { collection = collection; key = key })) now (run rest)))
       (λ now still. with_result (values_of components now.variables) now (λ key. putting (put.Tag (record { collection = collection; key = key })) now (run rest)) (λ key gives.
       let allowed = subst (λ (n : ℕ). MayPutTag sheet collection.0 n) (sym (as_many components now.variables key gives)) is.0 in

@@ -9,7 +9,7 @@ use Rattle.terms.specs.declared.put.Put.TheVariants as put
 use Rattle.terms.specs.declared.fault.FaultKind.{FaultKind}
 use Rattle.terms.specs.declared.fault.FaultKind.TheVariants.{Budget, TooManyPuts}
 use Rattle.steptree.specs.declared.block.Block.{Block}
-use Rattle.steptree.specs.declared.block.Block.TheVariants.{End, Assign', If', For', Get', PutItem', PutTag'}
+use Rattle.steptree.specs.Tree.{End, Assign, If, For, Get, PutItem, PutTag}
 use Rattle.steptree.specs.declared.body.Body.{Body}
 use Rattle.steptree.specs.declared.body.TheConstants.{BUDGET}
 use Rattle.terms.specs.declared.put.TheConstants.{MOST_PUTS}
@@ -104,17 +104,17 @@ all_turns block trees slot (suc left) value state =
 
 pub blocks : (block : Block) → AreTrees (run block)
 blocks End state = ended state
-blocks (Assign' slot value p rest) state =
+blocks (Assign slot value rest) state =
     counted state (λ now. with_result (value_of value now.variables) now (λ v. blocks rest (assigned slot v now)))
-blocks (If' condition p first q second r rest) state =
+blocks (If condition first second rest) state =
     counted state (λ now. with_result (value_of condition now.variables) now (λ v. behind (run rest) (either (int_eq v (pos 0)) (blocks second now) (blocks first now)) (blocks rest)))
-blocks (For' slot from to p block q rest) state =
+blocks (For slot from to block rest) state =
     counted state (λ now. with_result (value_of from now.variables) now (λ a. with_result (value_of to now.variables) now (λ b. behind (run rest) (all_turns (run block) (blocks block) slot (int_gap a b) a now) (blocks rest))))
-blocks (Get' slot collection components p rest) state =
+blocks (Get slot collection components rest) state =
     counted state (λ now. with_result (values_of components now.variables) now (λ key. with_answer (record { collection = collection; key = key }) (λ v. blocks rest (assigned slot v now))))
-blocks (PutItem' collection components value p rest) state =
+blocks (PutItem collection components value rest) state =
     counted state (λ now. with_result (values_of components now.variables) now (λ key. with_result (value_of value now.variables) now (λ v. put_one (put.Item (record { collection = collection; key = key }) v) (run rest) (blocks rest) now)))
-blocks (PutTag' collection components p rest) state =
+blocks (PutTag collection components rest) state =
     counted state (λ now. with_result (values_of components now.variables) now (λ key. put_one (put.Tag (record { collection = collection; key = key })) (run rest) (blocks rest) now))
 
 pub bodies : (body : Body) (key : List ℤ) → IsTree (outcome_of body key)

@@ -14,9 +14,9 @@ use Rattle.terms.specs.Same.{is_same}
 use Rattle.steptree.specs.declared.expression.Operator.{Operator}
 use Rattle.steptree.specs.declared.expression.Operator.TheVariants as operator
 use Rattle.steptree.specs.declared.expression.Expression.{Expression}
-use Rattle.steptree.specs.declared.expression.Expression.TheVariants.{Number, Variable, Negation', Operation'}
+use Rattle.steptree.specs.Tree.{Number, Variable, Negation, Operation}
 use Rattle.steptree.specs.declared.block.Block.{Block}
-use Rattle.steptree.specs.declared.block.Block.TheVariants.{End, Assign', If', For', Get', PutItem', PutTag'}
+use Rattle.steptree.specs.Tree.{End, Assign, If, For, Get, PutItem, PutTag}
 use Rattle.steptree.specs.declared.body.Body.{Body}
 use Rattle.steptree.specs.declared.body.TheConstants.{BUDGET}
 use Rattle.steptree.specs.Values.{is_held, held, operated, with_value, value_of, values_of}
@@ -57,8 +57,8 @@ operated_value operator.GreaterOrEqual left right = tt
 value : (expression : Expression) (variables : List ℤ) → Valued (value_of expression variables)
 value (Number number) variables = tt
 value (Variable slot) variables = tt
-value (Negation' p operand) variables = then_value (value_of operand variables) (λ v. held (neg_ℤ v)) (value operand variables) (λ v. held_value (neg_ℤ v))
-value (Operation' between p left right) variables =
+value (Negation operand) variables = then_value (value_of operand variables) (λ v. held (neg_ℤ v)) (value operand variables) (λ v. held_value (neg_ℤ v))
+value (Operation between left right) variables =
     then_value (value_of left variables) (λ x. with_value (value_of right variables) (λ y. operated between x y)) (value left variables) (λ x.
     then_value (value_of right variables) (λ y. operated between x y) (value right variables) (λ y. operated_value between x y))
 
@@ -125,33 +125,33 @@ all_turns block stays slot (suc left) from state few =
 
 blocks : (block : Block) → StaysWithin (run block)
 blocks End state few = few
-blocks (Assign' slot e p rest) state few =
+blocks (Assign slot e rest) state few =
     counted (λ now. given (value_of e now.variables) now (λ v. run rest (assigned slot v now)))
     (λ now still. with_result (value_of e now.variables) now (λ v. run rest (assigned slot v now)) (value e now.variables) (λ v. blocks rest (assigned slot v now) still))
     state few
-blocks (If' condition p first q second r rest) state few =
+blocks (If condition first second rest) state few =
     counted (λ now. given (value_of condition now.variables) now (λ v. followed (if int_eq v (pos 0) then run second now else run first now) (run rest)))
     (λ now still. with_result (value_of condition now.variables) now (λ v. followed (if int_eq v (pos 0) then run second now else run first now) (run rest)) (value condition now.variables) (λ v.
     behind (if int_eq v (pos 0) then run second now else run first now) (run rest) (either (int_eq v (pos 0)) (run second now) (run first now) (blocks second now still) (blocks first now still)) (blocks rest)))
     state few
-blocks (For' slot from to p block q rest) state few =
+blocks (For slot from to block rest) state few =
     counted (λ now. given (value_of from now.variables) now (λ a. given (value_of to now.variables) now (λ b. followed (turns (run block) slot a (int_gap a b) now) (run rest))))
     (λ now still. with_result (value_of from now.variables) now (λ a. given (value_of to now.variables) now (λ b. followed (turns (run block) slot a (int_gap a b) now) (run rest))) (value from now.variables) (λ a.
     with_result (value_of to now.variables) now (λ b. followed (turns (run block) slot a (int_gap a b) now) (run rest)) (value to now.variables) (λ b.
     behind (turns (run block) slot a (int_gap a b) now) (run rest) (all_turns (run block) (blocks block) slot (int_gap a b) a now still) (blocks rest))))
     state few
-blocks (Get' slot collection components p rest) state few =
+blocks (Get slot collection components rest) state few =
     counted (λ now. given (values_of components now.variables) now (λ key. answered (record { collection = collection; key = key }) now.reads (λ v reads. run rest (assigned slot v (record now { reads = reads })))))
     (λ now still. with_result (values_of components now.variables) now (λ key. answered (record { collection = collection; key = key }) now.reads (λ v reads. run rest (assigned slot v (record now { reads = reads })))) (values components now.variables) (λ key.
     with_answer (record { collection = collection; key = key }) now.reads (λ v reads. run rest (assigned slot v (record now { reads = reads }))) (λ v reads. blocks rest (assigned slot v (record now { reads = reads })) still)))
     state few
-blocks (PutItem' collection components e p rest) state few =
+blocks (PutItem collection components e rest) state few =
     counted (λ now. given (values_of components now.variables) now (λ key. given (value_of e now.variables) now (λ v. putting (put.Item (record { collection = collection; key = key }) v) now (run rest))))
     (λ now still. with_result (values_of components now.variables) now (λ key. given (value_of e now.variables) now (λ v. putting (put.Item (record { collection = collection; key = key }) v) now (run rest))) (values components now.variables) (λ key.
     with_result (value_of e now.variables) now (λ v. putting (put.Item (record { collection = collection; key = key }) v) now (run rest)) (value e now.variables) (λ v.
     put_one (put.Item (record { collection = collection; key = key }) v) (run rest) (blocks rest) now still)))
     state few
-blocks (PutTag' collection components p rest) state few =
+blocks (PutTag collection components rest) state few =
     counted (λ now. given (values_of components now.variables) now (λ key. putting (put.Tag (record { collection = collection; key = key })) now (run rest)))
     (λ now still. with_result (values_of components now.variables) now (λ key. putting (put.Tag (record { collection = collection; key = key })) now (run rest)) (values components now.variables) (λ key.
     put_one (put.Tag (record { collection = collection; key = key })) (run rest) (blocks rest) now still))

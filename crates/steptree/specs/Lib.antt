@@ -1,10 +1,15 @@
 pub mod Bodies
 pub mod CheckFaults
+pub mod CodesOfBlocks
+pub mod CodesOfExpressions
 pub mod Laws
 pub mod Limits
 pub mod Names
 pub mod Resolved
 pub mod Run
+pub mod SeenBlocks
+pub mod SeenExpressions
 pub mod Sheet
 pub mod Statements
+pub mod Tree
 pub mod Values

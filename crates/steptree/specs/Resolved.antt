@@ -1,9 +1,8 @@
 -- A body with numbers is a body with names, each name by what it stands for.
 use Rattle.std.specs.Prelude.{◌≡◌, ⊤, ℕ, List, [], ◌∷◌, map, length, Some}
 use Rattle.steptree.specs.declared.expression.Expression.{Expression}
-use Rattle.steptree.specs.declared.expression.Expression.TheVariants as plain
+use Rattle.steptree.specs.Tree as tree
 use Rattle.steptree.specs.declared.block.Block.{Block}
-use Rattle.steptree.specs.declared.block.Block.TheVariants as plain_block
 use Rattle.steptree.specs.declared.checked.Checked.{Checked}
 use Rattle.steptree.specs.declared.sheet.Declared.{Declared}
 use Rattle.steptree.specs.declared.sheet.Sheet.{Sheet}
@@ -16,10 +15,10 @@ use Rattle.steptree.specs.declared.step.Step.{Step}
 use Rattle.steptree.specs.Names.{Text, names_of, slot_of, number_of}
 
 abbrev pub IsExpression : List Text → NamedExpression → Expression → Type 0
-IsExpression names (named.Number m) (plain.Number n) = n ≡ m
-IsExpression names (named.Variable name) (plain.Variable slot) = slot_of names name ≡ Some slot
-IsExpression names (named.Negation' _ e) (plain.Negation' _ f) = IsExpression names e f
-IsExpression names (named.Operation' operator _ e1 e2) (plain.Operation' same _ f1 f2) = (same ≡ operator) × IsExpression names e1 f1 × IsExpression names e2 f2
+IsExpression names (named.Number m) (tree.Number n) = n ≡ m
+IsExpression names (named.Variable name) (tree.Variable slot) = slot_of names name ≡ Some slot
+IsExpression names (named.Negation' _ e) (tree.Negation f) = IsExpression names e f
+IsExpression names (named.Operation' operator _ e1 e2) (tree.Operation same f1 f2) = (same ≡ operator) × IsExpression names e1 f1 × IsExpression names e2 f2
 IsExpression names e f = ⊥
 
 abbrev pub AreExpressions : List Text → List NamedExpression → List Expression → Type 0
@@ -32,17 +31,17 @@ abbrev pub IsKey : List Text → List Declared → NamedKey → ℕ → List Exp
 IsKey names collections key number components = (number_of collections key.collection ≡ Some number) × AreExpressions names key.components.items components
 
 abbrev pub IsBlock : List Text → Sheet → NamedBlock → Block → Type 0
-IsBlock names sheet named_block.End plain_block.End = ⊤
-IsBlock names sheet (named_block.Assign' name e _ block) (plain_block.Assign' slot f _ rest) = (slot_of names name ≡ Some slot) × IsExpression names e f × IsBlock names sheet block rest
-IsBlock names sheet (named_block.If' e _ a _ b _ block) (plain_block.If' f _ first _ second _ rest) =
+IsBlock names sheet named_block.End tree.End = ⊤
+IsBlock names sheet (named_block.Assign' name e _ block) (tree.Assign slot f rest) = (slot_of names name ≡ Some slot) × IsExpression names e f × IsBlock names sheet block rest
+IsBlock names sheet (named_block.If' e _ a _ b _ block) (tree.If f first second rest) =
     IsExpression names e f × IsBlock names sheet a first × IsBlock names sheet b second × IsBlock names sheet block rest
-IsBlock names sheet (named_block.For' name e1 e2 _ a _ block) (plain_block.For' slot f1 f2 _ inner _ rest) =
+IsBlock names sheet (named_block.For' name e1 e2 _ a _ block) (tree.For slot f1 f2 inner rest) =
     (slot_of names name ≡ Some slot) × IsExpression names e1 f1 × IsExpression names e2 f2 × IsBlock names sheet a inner × IsBlock names sheet block rest
-IsBlock names sheet (named_block.Get' name key _ block) (plain_block.Get' slot collection components _ rest) =
+IsBlock names sheet (named_block.Get' name key _ block) (tree.Get slot collection components rest) =
     (slot_of names name ≡ Some slot) × IsKey names sheet.items.now key collection.0 components × IsBlock names sheet block rest
-IsBlock names sheet (named_block.PutItem' key e _ block) (plain_block.PutItem' collection components f _ rest) =
+IsBlock names sheet (named_block.PutItem' key e _ block) (tree.PutItem collection components f rest) =
     IsKey names sheet.items.now key collection.0 components × IsExpression names e f × IsBlock names sheet block rest
-IsBlock names sheet (named_block.PutTag' key _ block) (plain_block.PutTag' collection components _ rest) =
+IsBlock names sheet (named_block.PutTag' key _ block) (tree.PutTag collection components rest) =
     IsKey names sheet.tags.now key collection.0 components × IsBlock names sheet block rest
 IsBlock names sheet block other = ⊥
 

@@ -9,7 +9,7 @@ use Rattle.terms.specs.declared.fault.FaultKind.{FaultKind}
 use Rattle.terms.specs.declared.fault.FaultKind.TheVariants.{Budget, TooManyPuts}
 use Rattle.terms.specs.Same.{is_same}
 use Rattle.steptree.specs.declared.block.Block.{Block}
-use Rattle.steptree.specs.declared.block.Block.TheVariants.{End, Assign', If', For', Get', PutItem', PutTag'}
+use Rattle.steptree.specs.Tree.{End, Assign, If, For, Get, PutItem, PutTag}
 use Rattle.steptree.specs.declared.body.TheConstants.{BUDGET}
 use Rattle.terms.specs.declared.put.TheConstants.{MOST_PUTS}
 use Rattle.steptree.specs.Values.{value_of, values_of}
@@ -70,19 +70,19 @@ turns block slot value (suc left) state =
 
 abbrev pub run : Block → State → Outcome
 run End state = ends state
-run (Assign' slot value _ rest) state =
+run (Assign slot value rest) state =
     counting state (λ now. given (value_of value now.variables) now (λ v. run rest (assigned slot v now)))
-run (If' condition _ first _ second _ rest) state =
+run (If condition first second rest) state =
     counting state (λ now. given (value_of condition now.variables) now (λ v. followed (if int_eq v (pos 0) then run second now else run first now) (run rest)))
-run (For' slot from to _ block _ rest) state =
+run (For slot from to block rest) state =
     counting state (λ now. given (value_of from now.variables) now (λ a. given (value_of to now.variables) now (λ b.
     followed (turns (run block) slot a (int_gap a b) now) (run rest))))
-run (Get' slot collection components _ rest) state =
+run (Get slot collection components rest) state =
     counting state (λ now. given (values_of components now.variables) now (λ key.
     answered (record { collection = collection; key = key }) now.reads (λ v reads. run rest (assigned slot v (record now { reads = reads })))))
-run (PutItem' collection components value _ rest) state =
+run (PutItem collection components value rest) state =
     counting state (λ now. given (values_of components now.variables) now (λ key. given (value_of value now.variables) now (λ v.
     putting (put.Item (record { collection = collection; key = key }) v) now (run rest))))
-run (PutTag' collection components _ rest) state =
+run (PutTag collection components rest) state =
     counting state (λ now. given (values_of components now.variables) now (λ key.
     putting (put.Tag (record { collection = collection; key = key })) now (run rest)))

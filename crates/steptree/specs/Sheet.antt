@@ -7,7 +7,7 @@ use Rattle.terms.specs.declared.put.Put.TheVariants as put
 use Rattle.steptree.specs.declared.sheet.Declared.{Declared}
 use Rattle.steptree.specs.declared.sheet.Sheet.{Sheet}
 use Rattle.steptree.specs.declared.block.Block.{Block}
-use Rattle.steptree.specs.declared.block.Block.TheVariants.{End, Assign', If', For', Get', PutItem', PutTag'}
+use Rattle.steptree.specs.Tree.{End, Assign, If, For, Get, PutItem, PutTag}
 use Rattle.steptree.specs.declared.body.Body.{Body}
 use Rattle.steptree.specs.Run.{Read}
 use Rattle.steptree.specs.Bodies.{Ending, Gives, Faults, Asks, Along}
@@ -29,12 +29,12 @@ MayPutTag sheet number components = IsAllowed sheet.tags.now sheet.tag_puts.now 
 -- the block gets and puts only what the sheet allows
 abbrev pub KeepsTo : Sheet → Block → Type 0
 KeepsTo sheet End = ⊤
-KeepsTo sheet (Assign' variable value _ rest) = KeepsTo sheet rest
-KeepsTo sheet (If' condition _ first _ second _ rest) = KeepsTo sheet first × KeepsTo sheet second × KeepsTo sheet rest
-KeepsTo sheet (For' variable from to _ block _ rest) = KeepsTo sheet block × KeepsTo sheet rest
-KeepsTo sheet (Get' variable collection components _ rest) = MayRead sheet collection.0 (length components) × KeepsTo sheet rest
-KeepsTo sheet (PutItem' collection components value _ rest) = MayPutItem sheet collection.0 (length components) × KeepsTo sheet rest
-KeepsTo sheet (PutTag' collection components _ rest) = MayPutTag sheet collection.0 (length components) × KeepsTo sheet rest
+KeepsTo sheet (Assign variable value rest) = KeepsTo sheet rest
+KeepsTo sheet (If condition first second rest) = KeepsTo sheet first × KeepsTo sheet second × KeepsTo sheet rest
+KeepsTo sheet (For variable from to block rest) = KeepsTo sheet block × KeepsTo sheet rest
+KeepsTo sheet (Get variable collection components rest) = MayRead sheet collection.0 (length components) × KeepsTo sheet rest
+KeepsTo sheet (PutItem collection components value rest) = MayPutItem sheet collection.0 (length components) × KeepsTo sheet rest
+KeepsTo sheet (PutTag collection components rest) = MayPutTag sheet collection.0 (length components) × KeepsTo sheet rest
 
 abbrev pub BodyKeepsTo : Sheet → Body → Type 0
 BodyKeepsTo sheet body = KeepsTo sheet body.read × KeepsTo sheet body.write

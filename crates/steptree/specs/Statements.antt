@@ -1,7 +1,7 @@
 -- The statements of a block one by one: each as a block that ends behind it.
 use Rattle.std.specs.Prelude.{◌≡◌, ◌⊎◌, List, [], ◌∷◌, map, Some, Result, MatchResult, slice_get}
 use Rattle.steptree.specs.declared.block.Block.{Block}
-use Rattle.steptree.specs.declared.block.Block.TheVariants.{End, Assign', If', For', Get', PutItem', PutTag'}
+use Rattle.steptree.specs.Tree.{End, Assign, If, For, Get, PutItem, PutTag}
 use Rattle.steptree.specs.declared.checker.CheckFault.{CheckFault}
 use Rattle.steptree.specs.declared.sheet.Sheet.{Sheet}
 use Rattle.steptree.specs.declared.step.Name.{Name}
@@ -36,12 +36,12 @@ behind (named.PutTag' tag p rest) = rest
 -- the first statement, with these behind it
 abbrev pub with_rest : Block → Block → Block
 with_rest End rest = rest
-with_rest (Assign' variable value p other) rest = Assign' variable value p rest
-with_rest (If' condition p first q second r other) rest = If' condition p first q second r rest
-with_rest (For' variable from to p block q other) rest = For' variable from to p block q rest
-with_rest (Get' variable collection components p other) rest = Get' variable collection components p rest
-with_rest (PutItem' collection components value p other) rest = PutItem' collection components value p rest
-with_rest (PutTag' collection components p other) rest = PutTag' collection components p rest
+with_rest (Assign variable value other) rest = Assign variable value rest
+with_rest (If condition first second other) rest = If condition first second rest
+with_rest (For variable from to block other) rest = For variable from to block rest
+with_rest (Get variable collection components other) rest = Get variable collection components rest
+with_rest (PutItem collection components value other) rest = PutItem collection components value rest
+with_rest (PutTag collection components other) rest = PutTag collection components rest
 
 -- the first statements of these, one behind another, with a block behind them
 abbrev pub joined : List Block → Block → Block

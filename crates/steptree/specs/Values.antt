@@ -6,7 +6,7 @@ use Rattle.terms.specs.declared.fault.FaultKind.TheVariants.{Overflow, DivisionB
 use Rattle.steptree.specs.declared.expression.Operator.{Operator}
 use Rattle.steptree.specs.declared.expression.Operator.TheVariants as operator
 use Rattle.steptree.specs.declared.expression.Expression.{Expression}
-use Rattle.steptree.specs.declared.expression.Expression.TheVariants.{Number, Variable, Negation', Operation'}
+use Rattle.steptree.specs.Tree.{Number, Variable, Negation, Operation}
 
 -- whether 64 bits hold the number, with its sign
 abbrev pub is_held : ℤ → Bool
@@ -42,8 +42,8 @@ with_value (Err kind) next = Err kind
 abbrev pub value_of : Expression → List ℤ → Result ℤ FaultKind
 value_of (Number number) variables = Ok number
 value_of (Variable slot) variables = Ok (get_or variables slot (pos 0))
-value_of (Negation' _ operand) variables = with_value (value_of operand variables) (λ value. held (neg_ℤ value))
-value_of (Operation' between _ left right) variables =
+value_of (Negation operand) variables = with_value (value_of operand variables) (λ value. held (neg_ℤ value))
+value_of (Operation between left right) variables =
     with_value (value_of left variables) (λ x. with_value (value_of right variables) (λ y. operated between x y))
 
 -- the values of several expressions, from the left

@@ -1,8 +1,19 @@
+ghost use Rattle.std.specs.Prelude.{◌≡◌};
+ghost use Rattle.steptree.specs.Tree.{End};
+
 use crate::{Components, Expression, Slot};
+use std::marker::Model;
 use terms::{ItemCollection, TagCollection};
 
-/// The statements of a block: the first, and in its `rest` those behind it.
-pub enum Block {
+/// The statements of a block: the first, and in its `rest` those behind it. Clauses see it as its tree.
+#[cycle(block)]
+pub struct Block {
+    pub first: Statement,
+}
+
+/// A statement, with the blocks inside of it and the one behind it.
+#[cycle(block)]
+pub enum Statement {
     /// No statement.
     End,
     /// Gives a variable the value of an expression.
@@ -48,43 +59,74 @@ pub enum Block {
     },
 }
 
+impl Model for Block {
+    ghost use Rattle.steptree.specs.Tree.{BlockTree, block_size};
+    ghost use Rattle.steptree.specs.CodesOfBlocks.{block_code};
+
+    ghost Value = { BlockTree };
+
+    ghost coded = { block_code };
+
+    ghost use Rattle.steptree.specs.SeenBlocks.{block_seen};
+
+    ghost view = { λ b. block_seen b.first };
+
+    ghost size = { block_size };
+
+    ghost use Rattle.std.proofs.Common.{arith};
+
+    ghost size_decreases = { λ a h. Prim.grind (arith) };
+}
+
+impl Block {
+    /// The block without a statement.
+    pub fn end() -> Self
+        ensures { result ≡ End }
+    {
+        Block {
+            first: Statement::End,
+        }
+    }
+}
+
 impl Drop for Block {
     // A long block is let go statement by statement.
     fn drop(mut self) {
         loop {
-            match self {
-                Block::End => return,
-                Block::Assign {
+            let Block { first } = self;
+            match first {
+                Statement::End => return,
+                Statement::Assign {
                     variable: _,
                     value: _,
                     rest,
                 } => self = Box::into_inner(rest),
-                Block::If {
+                Statement::If {
                     condition: _,
                     first: _,
                     second: _,
                     rest,
                 } => self = Box::into_inner(rest),
-                Block::For {
+                Statement::For {
                     variable: _,
                     from: _,
                     to: _,
                     block: _,
                     rest,
                 } => self = Box::into_inner(rest),
-                Block::Get {
+                Statement::Get {
                     variable: _,
                     collection: _,
                     components: _,
                     rest,
                 } => self = Box::into_inner(rest),
-                Block::PutItem {
+                Statement::PutItem {
                     collection: _,
                     components: _,
                     value: _,
                     rest,
                 } => self = Box::into_inner(rest),
-                Block::PutTag {
+                Statement::PutTag {
                     collection: _,
                     components: _,
                     rest,

@@ -15,12 +15,12 @@ mod sheet;
 mod slot;
 mod step;
 
-pub use block::Block;
+pub use block::{Block, Statement};
 pub use body::{BUDGET, Body};
 pub use checked::Checked;
 pub use checker::{CheckError, CheckFault, check};
 pub use components::Components;
-pub use expression::{Expression, Operator};
+pub use expression::{Expression, Node, Operator};
 pub use laws::{
     along_one_list, ends_once, ends_within_limits, growth_keeps, keeps_to_its_sheet, limits,
 };

@@ -9,7 +9,7 @@ ghost use Rattle.steptree.specs.Statements.{texts, Reports};
 
 use super::names::{number, slot};
 use crate::{
-    CheckError, CheckFault, Components, Declared, Expression, Name, NamedExpression, NamedKey,
+    CheckError, CheckFault, Components, Declared, Expression, Name, NamedExpression, NamedKey, Node,
 };
 use std::alloc::Global;
 
@@ -24,18 +24,26 @@ pub(crate) fn resolve_expression(
     ensures faults { Reports (expression_faults (texts names.now) expression.now) result }
 {
     match expression {
-        NamedExpression::Number(number) => Ok(Expression::Number(*number)),
-        NamedExpression::Variable(name) => Ok(Expression::Variable(slot(names, name)?)),
+        NamedExpression::Number(number) => Ok(Expression {
+            node: Node::Number(*number),
+        }),
+        NamedExpression::Variable(name) => Ok(Expression {
+            node: Node::Variable(slot(names, name)?),
+        }),
         NamedExpression::Negation(operand) => {
             let operand = resolve_expression(alloc, names, operand)?;
-            Ok(Expression::Negation(Box::new(alloc, operand)?))
+            Ok(Expression {
+                node: Node::Negation(Box::new(alloc, operand)?),
+            })
         }
         NamedExpression::Operation(operator, operands) => {
             let (left, right) = &**operands;
             let left = resolve_expression(alloc, names, left)?;
             let right = resolve_expression(alloc, names, right)?;
             let operands = Box::new(alloc, (left, right))?;
-            Ok(Expression::Operation(*operator, operands))
+            Ok(Expression {
+                node: Node::Operation(*operator, operands),
+            })
         }
     }
 }

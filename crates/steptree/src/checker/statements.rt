@@ -1,5 +1,5 @@
 ghost use Rattle.std.specs.Prelude.{◌≡◌, ◌≤◌, ◌++◌, length, IfOk, MatchResult};
-ghost use Rattle.steptree.specs.declared.block.Block.TheVariants.{End};
+ghost use Rattle.steptree.specs.Tree.{End};
 ghost use Rattle.steptree.specs.declared.checker.CheckError.TheVariants.{UndeclaredRead, UndeclaredPut};
 ghost use Rattle.steptree.specs.declared.slot.TheConstants.{MOST_NAMES};
 ghost use Rattle.steptree.specs.declared.sheet.Sheet.{Sheet};
@@ -12,7 +12,9 @@ ghost use Rattle.steptree.specs.Statements.{texts, Reports, IsFirst, IsFirstOf, 
 
 use super::expressions::{resolve_expression, resolve_key};
 use super::names::slot;
-use crate::{Block, CheckError, CheckFault, Name, NamedBlock, NamedExpression, NamedKey, Sheet};
+use crate::{
+    Block, CheckError, CheckFault, Name, NamedBlock, NamedExpression, NamedKey, Sheet, Statement,
+};
 use std::alloc::Global;
 use terms::{ItemCollection, TagCollection};
 
@@ -27,10 +29,12 @@ fn assign(
     ensures statement { IfOk result (λ first. (sheet : Sheet) (p : _) → IsStatement (texts names.now) sheet (named.Assign' variable.now value.now p) first) }
     ensures faults { Reports (variable_faults (texts names.now) variable.now ++ expression_faults (texts names.now) value.now) result }
 {
-    Ok(Block::Assign {
-        variable: slot(names, variable)?,
-        value: resolve_expression(alloc, names, value)?,
-        rest: Box::new(alloc, Block::End)?,
+    Ok(Block {
+        first: Statement::Assign {
+            variable: slot(names, variable)?,
+            value: resolve_expression(alloc, names, value)?,
+            rest: Box::new(alloc, Block::end())?,
+        },
     })
 }
 
@@ -53,11 +57,13 @@ fn choose(
     let condition = resolve_expression(alloc, names, condition)?;
     let first = resolve_block(alloc, names, sheet, first)?;
     let second = resolve_block(alloc, names, sheet, second)?;
-    Ok(Block::If {
-        condition,
-        first: Box::new(alloc, first)?,
-        second: Box::new(alloc, second)?,
-        rest: Box::new(alloc, Block::End)?,
+    Ok(Block {
+        first: Statement::If {
+            condition,
+            first: Box::new(alloc, first)?,
+            second: Box::new(alloc, second)?,
+            rest: Box::new(alloc, Block::end())?,
+        },
     })
 }
 
@@ -82,12 +88,14 @@ fn repeat(
     let from = resolve_expression(alloc, names, from)?;
     let to = resolve_expression(alloc, names, to)?;
     let block = resolve_block(alloc, names, sheet, block)?;
-    Ok(Block::For {
-        variable,
-        from,
-        to,
-        block: Box::new(alloc, block)?,
-        rest: Box::new(alloc, Block::End)?,
+    Ok(Block {
+        first: Statement::For {
+            variable,
+            from,
+            to,
+            block: Box::new(alloc, block)?,
+            rest: Box::new(alloc, Block::end())?,
+        },
     })
 }
 
@@ -107,11 +115,13 @@ fn get(
     let variable = slot(names, variable)?;
     let error = CheckError::UndeclaredRead;
     let (number, components) = resolve_key(alloc, names, sheet.items, sheet.reads, error, item)?;
-    Ok(Block::Get {
-        variable,
-        collection: ItemCollection(number),
-        components,
-        rest: Box::new(alloc, Block::End)?,
+    Ok(Block {
+        first: Statement::Get {
+            variable,
+            collection: ItemCollection(number),
+            components,
+            rest: Box::new(alloc, Block::end())?,
+        },
     })
 }
 
@@ -138,11 +148,13 @@ fn put_item(
         item,
     )?;
     let value = resolve_expression(alloc, names, value)?;
-    Ok(Block::PutItem {
-        collection: ItemCollection(number),
-        components,
-        value,
-        rest: Box::new(alloc, Block::End)?,
+    Ok(Block {
+        first: Statement::PutItem {
+            collection: ItemCollection(number),
+            components,
+            value,
+            rest: Box::new(alloc, Block::end())?,
+        },
     })
 }
 
@@ -161,10 +173,12 @@ fn put_tag(
 {
     let error = CheckError::UndeclaredPut;
     let (number, components) = resolve_key(alloc, names, sheet.tags, sheet.tag_puts, error, tag)?;
-    Ok(Block::PutTag {
-        collection: TagCollection(number),
-        components,
-        rest: Box::new(alloc, Block::End)?,
+    Ok(Block {
+        first: Statement::PutTag {
+            collection: TagCollection(number),
+            components,
+            rest: Box::new(alloc, Block::end())?,
+        },
     })
 }
 
@@ -182,7 +196,7 @@ fn resolve_first(
     ensures { MatchResult result (IsFirstOf (texts names.now) sheet.now block.now) (IsFirst (block_faults (texts names.now) sheet.now block.now)) }
 {
     match block {
-        NamedBlock::End => Ok(Block::End),
+        NamedBlock::End => Ok(Block::end()),
         NamedBlock::Assign {
             variable,
             value,
@@ -247,7 +261,7 @@ pub(crate) fn resolve_block(
 fn join(mut statements: Vec<Block>) -> Block
     ensures { result ≡ joined statements.items End }
 {
-    let mut block = Block::End;
+    let mut block = Block::end();
     while let Some(mut statement) = statements.pop() {
         put_behind(&mut statement, block);
         block = statement;
@@ -259,13 +273,13 @@ fn join(mut statements: Vec<Block>) -> Block
 fn put_behind(statement: &mut Block, block: Block)
     ensures { statement.new ≡ with_rest statement.old block }
 {
-    match statement {
-        Block::End => *statement = block,
-        Block::Assign { rest, .. } => **rest = block,
-        Block::If { rest, .. } => **rest = block,
-        Block::For { rest, .. } => **rest = block,
-        Block::Get { rest, .. } => **rest = block,
-        Block::PutItem { rest, .. } => **rest = block,
-        Block::PutTag { rest, .. } => **rest = block,
+    match &mut statement.first {
+        Statement::End => *statement = block,
+        Statement::Assign { rest, .. } => **rest = block,
+        Statement::If { rest, .. } => **rest = block,
+        Statement::For { rest, .. } => **rest = block,
+        Statement::Get { rest, .. } => **rest = block,
+        Statement::PutItem { rest, .. } => **rest = block,
+        Statement::PutTag { rest, .. } => **rest = block,
     }
 }

@@ -1,7 +1,7 @@
 use Rattle.std.proofs.Common.{◌≤◌}
-use Rattle.steptree.specs.declared.block.Block.{size-Block}
+use Rattle.steptree.specs.Tree.{block_size}
 use Rattle.steptree.proofs.block.Block.+drop.Given as goal
 
 -- what is left is no deeper than the block was
-abbrev pub invariant-loop-self : goal.invariant-loop-self
-invariant-loop-self l = size-Block l.self ≤ size-Block l.initial.self
+abbrev pub invariant-loop-rest : goal.invariant-loop-rest
+invariant-loop-rest l = block_size l.self ≤ block_size l.initial.self

@@ -1,6 +1,6 @@
 use Rattle.std.proofs.Common.{rules, arith, ◌≡◌, ◌++◌, refl, sym, ap, ◌∙◌}
 use Rattle.std.proofs.lemmas.Result.{IfOk-weaker}
-use Rattle.steptree.specs.declared.block.Block.TheVariants.{End}
+use Rattle.steptree.specs.Tree.{End}
 use Rattle.steptree.specs.declared.checker.CheckError.TheVariants.{UndeclaredRead, UndeclaredPut}
 use Rattle.steptree.specs.declared.step.NamedBlock.{size-NamedBlock}
 use Rattle.steptree.specs.declared.step.NamedBlock.TheVariants as named

@@ -1,5 +1,5 @@
 use Rattle.std.proofs.Common.{◌≡◌}
-use Rattle.steptree.specs.declared.block.Block.TheVariants.{End}
+use Rattle.steptree.specs.Tree.{End}
 use Rattle.steptree.specs.Statements.{joined}
 use Rattle.steptree.proofs.checker.statements.join.Given as goal
 

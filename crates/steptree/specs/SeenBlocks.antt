@@ -1,0 +1,14 @@
+-- A block is seen as its tree.
+use Rattle.steptree.specs.declared.block.Statement.{Statement}
+use Rattle.steptree.specs.declared.block.Statement.TheVariants as statement
+use Rattle.steptree.specs.Tree.{BlockTree, End, Assign, If, For, Get, PutItem, PutTag}
+
+-- its parts are seen so already
+abbrev pub block_seen : Statement → BlockTree
+block_seen statement.End = End
+block_seen (statement.Assign variable value rest) = Assign variable value rest.value
+block_seen (statement.If condition first second rest) = If condition first.value second.value rest.value
+block_seen (statement.For variable from to block rest) = For variable from to block.value rest.value
+block_seen (statement.Get variable collection components rest) = Get variable collection components rest.value
+block_seen (statement.PutItem collection components value rest) = PutItem collection components value rest.value
+block_seen (statement.PutTag collection components rest) = PutTag collection components rest.value

@@ -1,0 +1,11 @@
+-- An expression is seen as its tree.
+use Rattle.steptree.specs.declared.expression.Node.{Node}
+use Rattle.steptree.specs.declared.expression.Node.TheVariants as node
+use Rattle.steptree.specs.Tree.{ExpressionTree, Number, Variable, Negation, Operation}
+
+-- its parts are seen so already
+abbrev pub expression_seen : Node → ExpressionTree
+expression_seen (node.Number number) = Number number
+expression_seen (node.Variable slot) = Variable slot
+expression_seen (node.Negation operand) = Negation operand.value
+expression_seen (node.Operation operator operands) = Operation operator operands.value.0 operands.value.1
