@@ -1,7 +1,7 @@
 -- A statement that was counted, or not.
 use Rattle.std.proofs.Common.{◌≡◌, ◌≢◌, Bool, true, false, suc, nat_lt, List, if◌then◌else◌, refl, ap, ◌∙◌, sym}
 use Rattle.steptree.specs.declared.block.Block.{Block}
-use Rattle.steptree.specs.declared.block.Block.TheVariants.{End, Assign', If', For', Get', PutItem', PutTag'}
+use Rattle.steptree.specs.Tree.{End, Assign, If, For, Get, PutItem, PutTag}
 use Rattle.steptree.specs.declared.body.TheConstants.{BUDGET}
 use Rattle.terms.specs.declared.fault.FaultKind.TheVariants.{Budget}
 use Rattle.steptree.specs.Run.{Read, State, Outcome, faults, counting, run}
@@ -32,12 +32,12 @@ refused state other over = ap (λ (below : Bool). if below then other else fault
 
 spent : (block : Block) → block ≢ End → (state : State) → nat_lt state.counted BUDGET ≡ false → run block state ≡ faults Budget state.reads
 spent End some state over = absurd (some refl)
-spent (Assign' variable value _ rest) some state over = refused state _ over
-spent (If' condition _ first _ second _ rest) some state over = refused state _ over
-spent (For' variable from to _ block _ rest) some state over = refused state _ over
-spent (Get' variable collection components _ rest) some state over = refused state _ over
-spent (PutItem' collection components value _ rest) some state over = refused state _ over
-spent (PutTag' collection components _ rest) some state over = refused state _ over
+spent (Assign variable value rest) some state over = refused state _ over
+spent (If condition first second rest) some state over = refused state _ over
+spent (For variable from to block rest) some state over = refused state _ over
+spent (Get variable collection components rest) some state over = refused state _ over
+spent (PutItem collection components value rest) some state over = refused state _ over
+spent (PutTag collection components rest) some state over = refused state _ over
 
 -- with no budget left every statement is a fault
 pub overspent : (old : Machine) (below : Bool) → below ≡ nat_lt old.counted BUDGET → below ≡ false → old.block.now ≢ End → (reads : List Read) → outcome_from old reads ≡ faults Budget reads

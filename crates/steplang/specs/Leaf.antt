@@ -1,9 +1,9 @@
 -- Which expressions have operands.
 use Rattle.steptree.specs.declared.expression.Expression.{Expression}
-use Rattle.steptree.specs.declared.expression.Expression.TheVariants.{Number, Variable, Negation', Operation'}
+use Rattle.steptree.specs.Tree.{Number, Variable, Negation, Operation}
 
 abbrev pub IsDeep : Expression → Type 0
 IsDeep (Number number) = ⊥
 IsDeep (Variable slot) = ⊥
-IsDeep (Negation' _ operand) = Unit {0}
-IsDeep (Operation' between _ left right) = Unit {0}
+IsDeep (Negation operand) = Unit {0}
+IsDeep (Operation between left right) = Unit {0}

@@ -12,7 +12,7 @@ ghost use Rattle.steplang.specs.Machine.{state_of, unwound, outcome_from, LeadsF
 
 use crate::value::{Variables, evaluate, evaluate_key, variables_of};
 use std::alloc::{AllocError, Global};
-use steptree::{BUDGET, Block, Body, Components, Expression, Slot};
+use steptree::{BUDGET, Block, Body, Components, Expression, Slot, Statement};
 use terms::{Addr, FaultKind, ItemCollection, Key, MOST_PUTS, Put, Tag, TagCollection};
 
 /// What is still to be done behind a block.
@@ -357,45 +357,45 @@ impl<'a> Machine<'a> {
         ensures falls { IfOk result (λ step. Falls self.old step self.new) }
     {
         let block = self.block;
-        if let Block::End = block {
+        if let Statement::End = &block.first {
             return Ok(self.leave());
         }
         if !self.count() {
             return Ok(Step::Failed(FaultKind::Budget));
         }
-        match block {
-            Block::End => Ok(self.leave()),
-            Block::Assign {
+        match &block.first {
+            Statement::End => Ok(self.leave()),
+            Statement::Assign {
                 variable,
                 value,
                 rest,
             } => Ok(self.assign(*variable, value, rest)),
-            Block::If {
+            Statement::If {
                 condition,
                 first,
                 second,
                 rest,
             } => self.choose(condition, first, second, rest),
-            Block::For {
+            Statement::For {
                 variable,
                 from,
                 to,
                 block,
                 rest,
             } => self.repeat(*variable, from, to, block, rest),
-            Block::Get {
+            Statement::Get {
                 variable,
                 collection,
                 components,
                 rest,
             } => Ok(self.get(*variable, *collection, components, rest)),
-            Block::PutItem {
+            Statement::PutItem {
                 collection,
                 components,
                 value,
                 rest,
             } => self.put_item(*collection, components, value, rest),
-            Block::PutTag {
+            Statement::PutTag {
                 collection,
                 components,
                 rest,

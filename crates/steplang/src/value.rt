@@ -4,7 +4,7 @@ ghost use Rattle.steptree.specs.Values.{held, operated, value_of, values_of};
 ghost use Rattle.steplang.specs.Leaf.{IsDeep};
 ghost use Rattle.steptree.specs.declared.slot.TheConstants.{MOST_NAMES};
 
-use steptree::{Components, Expression, MOST_NAMES, Operator};
+use steptree::{Components, Expression, MOST_NAMES, Node, Operator};
 use terms::{FaultKind, Key, MAX_COMPONENTS};
 
 /// The values of an instance's variables, by their slots.
@@ -26,9 +26,9 @@ fn leaf(expression: &Expression, variables: &Variables) -> Option<i64>
     ensures value { IfSome result (λ value. value_of expression.now variables.now ≡ Ok value) }
     ensures deep { IfNone result (IsDeep expression.now) }
 {
-    match expression {
-        Expression::Number(number) => Some(*number),
-        Expression::Variable(slot) => Some(variables[slot.place()]),
+    match &expression.node {
+        Node::Number(number) => Some(*number),
+        Node::Variable(slot) => Some(variables[slot.place()]),
         _ => None,
     }
 }
@@ -39,7 +39,7 @@ pub(crate) fn evaluate(expression: &Expression, variables: &Variables) -> Result
     ensures { result ≡ value_of expression.now variables.now }
 {
     // An operation on two leaves takes no call.
-    if let Expression::Operation(operator, operands) = expression
+    if let Node::Operation(operator, operands) = &expression.node
         && let Some(left) = leaf(&operands.0, variables)
         && let Some(right) = leaf(&operands.1, variables)
     {
@@ -52,14 +52,14 @@ pub(crate) fn evaluate(expression: &Expression, variables: &Variables) -> Result
 fn evaluate_any(expression: &Expression, variables: &Variables) -> Result<i64, FaultKind>
     ensures { result ≡ value_of expression.now variables.now }
 {
-    match expression {
-        Expression::Number(number) => Ok(*number),
-        Expression::Variable(slot) => Ok(variables[slot.place()]),
-        Expression::Negation(operand) => {
+    match &expression.node {
+        Node::Number(number) => Ok(*number),
+        Node::Variable(slot) => Ok(variables[slot.place()]),
+        Node::Negation(operand) => {
             let value = evaluate_any(operand, variables)?;
             value.checked_neg().ok_or(FaultKind::Overflow)
         }
-        Expression::Operation(operator, operands) => {
+        Node::Operation(operator, operands) => {
             let (left, right) = &**operands;
             let left = match leaf(left, variables) {
                 Some(value) => value,
