@@ -11,7 +11,6 @@ use Rattle.syntax.specs.Limits.{all_names}
 use Rattle.syntax.specs.Tree.{IsName, AreAll, IsStep, IsTree, IsGet, IsPut}
 use Rattle.graph.specs.Graph.{Step, Graph}
 use Rattle.graph.specs.Tree.{text_of, names_in, is_environment_item_put, is_environment_tag_put, is_environment_get, each_of, prescriber_of, IsStepOf, IsGraphOf}
-use Rattle.graph.specs.Textual.{SameStep, SameGraph}
 use Rattle.graph.proofs.AlikeTrees.{statements_alike, get_alike, put_alike}
 use Rattle.graph.proofs.AlikeBodies.{block_same}
 use Rattle.graph.proofs.AlikeSheets.{SharesNames, shared, sheet_same, declared_same}
@@ -33,7 +32,7 @@ names_are text step is =
 
 -- the trees of one derivation, and what they are
 module _ (t u : Tree) (g h : Graph) (same : SharesNames t u) (tags_are_same : g.tags ≡ h.tags) where
-  step_same : (text : StepText) (one two : NamedStep) (first second : Step) → IsStep text one → IsStep text two → IsStepOf t g one first → IsStepOf u h two second → SameStep first second
+  step_same : (text : StepText) (one two : NamedStep) (first second : Step) → IsStep text one → IsStep text two → IsStepOf t g one first → IsStepOf u h two second → first ≡ second
   step_same text one two first second a b c d =
       let named : text_of one.name ≡ text_of two.name = a.name.0 ∙ sym b.name.0 in
       let step_named : first.name ≡ second.name = c.name ∙ named ∙ sym d.name in
@@ -46,23 +45,31 @@ module _ (t u : Tree) (g h : Graph) (same : SharesNames t u) (tags_are_same : g.
       let sheets = sheet_same t u same one two c.sheet d.sheet named c.is_sheet d.is_sheet in
       let sheet_items = declared_same c.sheet.items.now d.sheet.items.now sheets.items in
       let sheet_tags = declared_same c.sheet.tags.now d.sheet.tags.now sheets.tags in
-      record {
-        name = step_named;
-        prescriber = cc;
-        names = c.names ∙ names ∙ sym d.names;
-        parameters = c.parameters ∙ as_many IsName (all_names text.parameters) one.parameters.items a.parameters ∙ sym (as_many IsName (all_names text.parameters) two.parameters.items b.parameters) ∙ sym d.parameters;
-        reads = c.reads ∙ sheets.reads ∙ sym d.reads;
-        item_puts = c.item_puts ∙ sheets.item_puts ∙ sym d.item_puts;
-        tag_puts = c.tag_puts ∙ sheets.tag_puts ∙ sym d.tag_puts;
-        read = block_same (names_of one) c.sheet d.sheet sheet_items sheet_tags one.read two.read first.body.read second.body.read (statements_alike IsGet get_alike text.read one.read two.read a.read b.read) c.read
-            (subst (λ (them : List Text). IsBlock them d.sheet two.read second.body.read) (sym names) d.read);
-        write = block_same (names_of one) c.sheet d.sheet sheet_items sheet_tags one.write two.write first.body.write second.body.write (statements_alike IsPut put_alike text.write one.write two.write a.write b.write) c.write
-            (subst (λ (them : List Text). IsBlock them d.sheet two.write second.body.write) (sym names) d.write);
+      let prescriber : first.prescriber ≡ second.prescriber = cc in
+      let all_named : first.names ≡ second.names = c.names ∙ names ∙ sym d.names in
+      let parameters : first.parameters ≡ second.parameters =
+      c.parameters ∙ as_many IsName (all_names text.parameters) one.parameters.items a.parameters ∙ sym (as_many IsName (all_names text.parameters) two.parameters.items b.parameters) ∙ sym d.parameters in
+      let reads : first.reads ≡ second.reads = c.reads ∙ sheets.reads ∙ sym d.reads in
+      let item_puts : first.item_puts ≡ second.item_puts = c.item_puts ∙ sheets.item_puts ∙ sym d.item_puts in
+      let tag_puts : first.tag_puts ≡ second.tag_puts = c.tag_puts ∙ sheets.tag_puts ∙ sym d.tag_puts in
+      let read = block_same (names_of one) c.sheet d.sheet sheet_items sheet_tags one.read two.read first.body.read second.body.read (statements_alike IsGet get_alike text.read one.read two.read a.read b.read) c.read
+      (subst (λ (them : List Text). IsBlock them d.sheet two.read second.body.read) (sym names) d.read) in
+      let write = block_same (names_of one) c.sheet d.sheet sheet_items sheet_tags one.write two.write first.body.write second.body.write (statements_alike IsPut put_alike text.write one.write two.write a.write b.write) c.write
+      (subst (λ (them : List Text). IsBlock them d.sheet two.write second.body.write) (sym names) d.write) in
+      λ i. record {
+        name = step_named i;
+        prescriber = prescriber i;
+        names = all_named i;
+        parameters = parameters i;
+        reads = reads i;
+        item_puts = item_puts i;
+        tag_puts = tag_puts i;
+        body = record { read = read i; write = write i };
       }
 
   steps_same : (texts : List StepText) (ones twos : List NamedStep) (firsts seconds : List Step) → AreAll IsStep texts ones → AreAll IsStep texts twos → AreAll (IsStepOf t g) ones firsts → AreAll (IsStepOf u h) twos seconds
-      → AreAll SameStep firsts seconds
-  steps_same [] [] [] [] [] a b c d = tt
+      → firsts ≡ seconds
+  steps_same [] [] [] [] [] a b c d = refl
   steps_same [] [] [] [] (second ∷ seconds) a b c d = absurd d
   steps_same [] [] [] (first ∷ firsts) seconds a b c d = absurd c
   steps_same [] [] (two ∷ twos) firsts seconds a b c d = absurd b
@@ -72,21 +79,28 @@ module _ (t u : Tree) (g h : Graph) (same : SharesNames t u) (tags_are_same : g.
   steps_same (text ∷ texts) (one ∷ ones) (two ∷ twos) [] seconds a b c d = absurd c
   steps_same (text ∷ texts) (one ∷ ones) (two ∷ twos) (first ∷ firsts) [] a b c d = absurd d
   steps_same (text ∷ texts) (one ∷ ones) (two ∷ twos) (first ∷ firsts) (second ∷ seconds) a b c d =
-      (step_same text one two first second a.0 b.0 c.0 d.0, steps_same texts ones twos firsts seconds a.1 b.1 c.1 d.1)
+      let step = step_same text one two first second a.0 b.0 c.0 d.0 in let rest = steps_same texts ones twos firsts seconds a.1 b.1 c.1 d.1 in λ i. step i ∷ rest i
 
-pub graph_same : (graph : GraphText) (t u : Tree) (g h : Graph) → IsTree graph t → IsTree graph u → IsGraphOf t g → IsGraphOf u h → SameGraph g h
+pub graph_same : (graph : GraphText) (t u : Tree) (g h : Graph) → IsTree graph t → IsTree graph u → IsGraphOf t g → IsGraphOf u h → g ≡ h
 graph_same graph t u g h a b c d =
     let same = shared graph t u a b in
     let items_same : g.items ≡ h.items = c.items ∙ same.items ∙ sym d.items in
     let tags_same : g.tags ≡ h.tags = c.tags ∙ same.tags ∙ sym d.tags in
-    record {
-      items = items_same;
-      tags = tags_same;
-      steps = steps_same t u g h same tags_same graph.steps t.steps.items u.steps.items g.steps h.steps a.steps b.steps c.steps d.steps;
-      environment_item_puts = c.environment_item_puts ∙ each_same is_environment_item_put environment_item_tie environment_item_told t.relations.items u.relations.items same.ties (names_in g.items)
-          ∙ (λ i. each_of is_environment_item_put u.relations.items (names_in (items_same i))) ∙ sym d.environment_item_puts;
-      environment_tag_puts = c.environment_tag_puts ∙ each_same is_environment_tag_put environment_tag_tie environment_tag_told t.relations.items u.relations.items same.ties (names_in g.tags)
-          ∙ (λ i. each_of is_environment_tag_put u.relations.items (names_in (tags_same i))) ∙ sym d.environment_tag_puts;
-      environment_gets = c.environment_gets ∙ each_same is_environment_get environment_get_tie environment_get_told t.relations.items u.relations.items same.ties (names_in g.items)
-          ∙ (λ i. each_of is_environment_get u.relations.items (names_in (items_same i))) ∙ sym d.environment_gets;
+    let steps = steps_same t u g h same tags_same graph.steps t.steps.items u.steps.items g.steps h.steps a.steps b.steps c.steps d.steps in
+    let item_puts : g.environment_item_puts ≡ h.environment_item_puts =
+    c.environment_item_puts ∙ each_same is_environment_item_put environment_item_tie environment_item_told t.relations.items u.relations.items same.ties (names_in g.items)
+    ∙ (λ i. each_of is_environment_item_put u.relations.items (names_in (items_same i))) ∙ sym d.environment_item_puts in
+    let tag_puts : g.environment_tag_puts ≡ h.environment_tag_puts =
+    c.environment_tag_puts ∙ each_same is_environment_tag_put environment_tag_tie environment_tag_told t.relations.items u.relations.items same.ties (names_in g.tags)
+    ∙ (λ i. each_of is_environment_tag_put u.relations.items (names_in (tags_same i))) ∙ sym d.environment_tag_puts in
+    let gets : g.environment_gets ≡ h.environment_gets =
+    c.environment_gets ∙ each_same is_environment_get environment_get_tie environment_get_told t.relations.items u.relations.items same.ties (names_in g.items)
+    ∙ (λ i. each_of is_environment_get u.relations.items (names_in (items_same i))) ∙ sym d.environment_gets in
+    λ i. record {
+      items = items_same i;
+      tags = tags_same i;
+      steps = steps i;
+      environment_item_puts = item_puts i;
+      environment_tag_puts = tag_puts i;
+      environment_gets = gets i;
     }

@@ -5,9 +5,8 @@ use Rattle.std.proofs.lemmas.Bool.{eq-eqb}
 use Rattle.steptree.specs.declared.checker.CheckError.{CheckError}
 use Rattle.steptree.specs.declared.checker.CheckError.TheVariants.{UnknownName, Arity, UndeclaredRead, UndeclaredPut}
 use Rattle.steptree.specs.declared.expression.Expression.{Expression}
-use Rattle.steptree.specs.declared.expression.Expression.TheVariants as plain
+use Rattle.steptree.specs.Tree as tree
 use Rattle.steptree.specs.declared.block.Block.{Block}
-use Rattle.steptree.specs.declared.block.Block.TheVariants as plain_block
 use Rattle.steptree.specs.declared.sheet.Declared.{Declared}
 use Rattle.steptree.specs.declared.sheet.Sheet.{Sheet}
 use Rattle.steptree.specs.declared.step.Name.{Name}
@@ -53,13 +52,13 @@ module _ (names : List Text) where
   expression_clear : (one two : NamedExpression) (e : Expression) → Alike one two → IsExpression names one e → expression_faults names two ≡ []
   expression_clear (Number m) (Number n) e alike is = refl
   expression_clear (Number m) _ e alike is = absurd alike
-  expression_clear (Variable one) (Variable two) (plain.Variable slot) alike is = variable_clear one two slot alike is
+  expression_clear (Variable one) (Variable two) (tree.Variable slot) alike is = variable_clear one two slot alike is
   expression_clear (Variable one) (Variable two) _ alike is = absurd is
   expression_clear (Variable one) _ e alike is = absurd alike
-  expression_clear (Negation' _ one) (Negation' _ two) (plain.Negation' _ e) alike is = expression_clear one two e alike is
+  expression_clear (Negation' _ one) (Negation' _ two) (tree.Negation e) alike is = expression_clear one two e alike is
   expression_clear (Negation' _ one) (Negation' _ two) _ alike is = absurd is
   expression_clear (Negation' _ one) _ e alike is = absurd alike
-  expression_clear (Operation' _ _ l1 r1) (Operation' _ _ l2 r2) (plain.Operation' _ _ e f) alike is = λ i. expression_clear l1 l2 e alike.1 is.1 i ++ expression_clear r1 r2 f alike.2 is.2 i
+  expression_clear (Operation' _ _ l1 r1) (Operation' _ _ l2 r2) (tree.Operation _ e f) alike is = λ i. expression_clear l1 l2 e alike.1 is.1 i ++ expression_clear r1 r2 f alike.2 is.2 i
   expression_clear (Operation' _ _ l1 r1) (Operation' _ _ l2 r2) _ alike is = absurd is
   expression_clear (Operation' _ _ l1 r1) _ e alike is = absurd alike
 
@@ -88,29 +87,29 @@ module _ (names : List Text) where
     pub block_clear : (one two : NamedBlock) (b : Block) → AlikeBlock one two → IsBlock names first one b → KeepsTo first b → block_faults names second two ≡ []
     block_clear End End b alike is keeps = refl
     block_clear End _ b alike is keeps = absurd alike
-    block_clear (Assign' m e1 _ one) (Assign' n e2 _ two) (plain_block.Assign' slot e _ rest) alike is keeps =
+    block_clear (Assign' m e1 _ one) (Assign' n e2 _ two) (tree.Assign slot e rest) alike is keeps =
         λ i. variable_clear m n slot alike.0 is.0 i ++ expression_clear e1 e2 e alike.1 is.1 i ++ block_clear one two rest alike.2 is.2 keeps i
     block_clear (Assign' m e1 _ one) (Assign' n e2 _ two) _ alike is keeps = absurd is
     block_clear (Assign' m e1 _ one) _ b alike is keeps = absurd alike
-    block_clear (If' e1 _ a1 _ b1 _ one) (If' e2 _ a2 _ b2 _ two) (plain_block.If' e _ a _ b _ rest) alike is keeps =
+    block_clear (If' e1 _ a1 _ b1 _ one) (If' e2 _ a2 _ b2 _ two) (tree.If e a b rest) alike is keeps =
         λ i. expression_clear e1 e2 e alike.0 is.0 i ++ block_clear a1 a2 a alike.1 is.1 keeps.0 i ++ block_clear b1 b2 b alike.2 is.2 keeps.1 i ++ block_clear one two rest alike.3 is.3 keeps.2 i
     block_clear (If' e1 _ a1 _ b1 _ one) (If' e2 _ a2 _ b2 _ two) _ alike is keeps = absurd is
     block_clear (If' e1 _ a1 _ b1 _ one) _ b alike is keeps = absurd alike
-    block_clear (For' m e1 g1 _ a1 _ one) (For' n e2 g2 _ a2 _ two) (plain_block.For' slot e g _ a _ rest) alike is keeps =
+    block_clear (For' m e1 g1 _ a1 _ one) (For' n e2 g2 _ a2 _ two) (tree.For slot e g a rest) alike is keeps =
         λ i. variable_clear m n slot alike.0 is.0 i ++ expression_clear e1 e2 e alike.1 is.1 i ++ expression_clear g1 g2 g alike.2 is.2 i ++ block_clear a1 a2 a alike.3 is.3 keeps.0 i ++ block_clear one two rest alike.4 is.4 keeps.1 i
     block_clear (For' m e1 g1 _ a1 _ one) (For' n e2 g2 _ a2 _ two) _ alike is keeps = absurd is
     block_clear (For' m e1 g1 _ a1 _ one) _ b alike is keeps = absurd alike
-    block_clear (Get' m k1 _ one) (Get' n k2 _ two) (plain_block.Get' slot item es _ rest) alike is keeps =
+    block_clear (Get' m k1 _ one) (Get' n k2 _ two) (tree.Get slot item es rest) alike is keeps =
         let key = key_clear first.items.now second.items.now same.items first.reads.now second.reads.now same.reads UndeclaredRead k1 k2 item.0 es alike.1 is.1 keeps.0 in
         λ i. variable_clear m n slot alike.0 is.0 i ++ key i ++ block_clear one two rest alike.2 is.2 keeps.1 i
     block_clear (Get' m k1 _ one) (Get' n k2 _ two) _ alike is keeps = absurd is
     block_clear (Get' m k1 _ one) _ b alike is keeps = absurd alike
-    block_clear (PutItem' k1 e1 _ one) (PutItem' k2 e2 _ two) (plain_block.PutItem' item es e _ rest) alike is keeps =
+    block_clear (PutItem' k1 e1 _ one) (PutItem' k2 e2 _ two) (tree.PutItem item es e rest) alike is keeps =
         let key = key_clear first.items.now second.items.now same.items first.item_puts.now second.item_puts.now same.item_puts UndeclaredPut k1 k2 item.0 es alike.0 is.0 keeps.0 in
         λ i. key i ++ expression_clear e1 e2 e alike.1 is.1 i ++ block_clear one two rest alike.2 is.2 keeps.1 i
     block_clear (PutItem' k1 e1 _ one) (PutItem' k2 e2 _ two) _ alike is keeps = absurd is
     block_clear (PutItem' k1 e1 _ one) _ b alike is keeps = absurd alike
-    block_clear (PutTag' k1 _ one) (PutTag' k2 _ two) (plain_block.PutTag' tag es _ rest) alike is keeps =
+    block_clear (PutTag' k1 _ one) (PutTag' k2 _ two) (tree.PutTag tag es rest) alike is keeps =
         let key = key_clear first.tags.now second.tags.now same.tags first.tag_puts.now second.tag_puts.now same.tag_puts UndeclaredPut k1 k2 tag.0 es alike.0 is.0 keeps.0 in
         λ i. key i ++ block_clear one two rest alike.1 is.1 keeps.1 i
     block_clear (PutTag' k1 _ one) (PutTag' k2 _ two) _ alike is keeps = absurd is

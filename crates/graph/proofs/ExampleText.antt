@@ -11,4 +11,4 @@ two_spelled : decimal 2 ≡ codes "2"
 two_spelled = decimal-digits_of 2 (lit< tt) (lit< tt) ∙ refl
 
 pub canonical_example : CanonicalExample
-canonical_example place = (rw (one_spelled, two_spelled) refl, refl)
+canonical_example = (rw (one_spelled, two_spelled) refl, refl)

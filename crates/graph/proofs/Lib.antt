@@ -13,7 +13,6 @@ pub mod ExampleText
 mod Faultless
 mod FirstFaults
 mod FitKept
-mod FitsAlike
 mod FitsInParts
 mod GraphsOfTrees
 mod Lists
@@ -52,8 +51,7 @@ mod ReadSteps
 mod Relating
 mod RelationKinds
 mod Resolving
-pub mod SameText
-mod SmallTrees
+pub mod SmallTrees
 mod SoundTokens
 mod WithoutFault
 mod Written

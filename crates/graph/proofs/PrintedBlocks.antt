@@ -1,12 +1,10 @@
 -- The read block and the write block of a step, as they are printed.
 use Rattle.std.proofs.Common.{ℕ, suc, ◌+◌, ◌<◌, Bool, List, [], ◌++◌, length, get_or, map, codes, refl, ap, ◌∙◌}
-use Rattle.std.specs.Prelude.{Box}
-use Rattle.std.specs.declared.alloc.Global.{Global}
 use Rattle.terms.specs.declared.name.ItemCollection.{ItemCollection}
 use Rattle.terms.specs.declared.name.TagCollection.{TagCollection}
 use Rattle.steptree.specs.declared.expression.Expression.{Expression}
 use Rattle.steptree.specs.declared.block.Block.{Block}
-use Rattle.steptree.specs.declared.block.Block.TheVariants.{End, Assign', If', For', Get', PutItem', PutTag'}
+use Rattle.steptree.specs.Tree.{End, Assign, If, For, Get, PutItem, PutTag}
 use Rattle.steptree.specs.declared.sheet.Sheet.{Sheet}
 use Rattle.steptree.specs.declared.step.NamedBlock.TheVariants as tree
 use Rattle.steptree.specs.Names.{Text, place_of, names_declared}
@@ -27,7 +25,7 @@ use Rattle.graph.proofs.PrintedKeys.{no_limits, key_printed, bracketed_key, angl
 use Rattle.graph.proofs.PrintedLines.{inside, lined, word_first, semicolon, equals}
 use Rattle.graph.proofs.PrintedStatements.{BlockPrinted, end_printed, assign_printed, if_printed, for_printed}
 use Rattle.graph.proofs.PrintedCollections.{Known}
-use Rattle.graph.proofs.PrintedValues.{name_of}
+use Rattle.graph.proofs.PrintedValues.{boxed, name_of}
 
 module _ (g : Graph) (names : List Text) (sheet : Sheet) (are : AreNames names)
     (items_known : (allowed : List Bool) (index components : ℕ) → IsAllowed sheet.items.now allowed index components → Known sheet.items.now g.items index components)
@@ -41,10 +39,10 @@ module _ (g : Graph) (names : List Text) (sheet : Sheet) (are : AreNames names)
   abbrev get_line : ℕ → ℕ → ℕ → List Expression → Text
   get_line level slot collection components = line level (codes "get " ++ get_or names slot [] ++ codes " = " ++ item_text g names collection components ++ codes ";")
 
-  get_printed : (level around place slot : ℕ) (collection : ItemCollection) (components : List Expression) (box : Box (Unit {0}) Global) (rest : Block) → slot < length names
+  get_printed : (level around place slot : ℕ) (collection : ItemCollection) (components : List Expression) (rest : Block) → slot < length names
       → AreComponents (length names) components → Known sheet.items.now g.items collection.0 (length components)
-      → ReadPrinted level around (place + length (get_line level slot collection.0 components)) rest → ReadPrinted level around place (Get' slot collection components box rest)
-  get_printed level around place slot collection components box rest within all is later =
+      → ReadPrinted level around (place + length (get_line level slot collection.0 components)) rest → ReadPrinted level around place (Get slot collection components rest)
+  get_printed level around place slot collection components rest within all is later =
       let start : ℕ = inside level place in
       let variable : Text = get_or names slot [] in
       let good : IsGraphName variable = name_at names slot are.each within in
@@ -55,7 +53,7 @@ module _ (g : Graph) (names : List Text) (sheet : Sheet) (are : AreNames names)
         statements = and_then (own (record { variable = (variable, start + 4); item = it.key })) later.statements;
         printed = and line_printed later.printed;
         limits = no_both _ _ (no_both _ _ (no_name_limit variable (start + 4) good) it.limits) later.limits;
-        value = tree.Get' (name_of (variable, start + 4)) it.value box later.value;
+        value = tree.Get' (name_of (variable, start + 4)) it.value boxed later.value;
         is = ((refl, refl), it.is, later.is);
         resolves = (found_at names slot are.distinct within, (ap (λ (t : Text). place_of (names_declared sheet.items.now) t) it.is_of ∙ is.found, it.resolve), later.resolves);
       }
@@ -63,10 +61,10 @@ module _ (g : Graph) (names : List Text) (sheet : Sheet) (are : AreNames names)
   abbrev item_line : ℕ → ℕ → List Expression → Expression → Text
   item_line level collection components value = line level (codes "put " ++ item_text g names collection components ++ codes " = " ++ expression_text g names value ++ codes ";")
 
-  item_put_printed : (level around place : ℕ) (collection : ItemCollection) (components : List Expression) (value : Expression) (box : Box (Unit {0}) Global) (rest : Block)
+  item_put_printed : (level around place : ℕ) (collection : ItemCollection) (components : List Expression) (value : Expression) (rest : Block)
       → AreComponents (length names) components → IsTextExpression (length names) value → Known sheet.items.now g.items collection.0 (length components)
-      → WritePrinted level around (place + length (item_line level collection.0 components value)) rest → WritePrinted level around place (PutItem' collection components value box rest)
-  item_put_printed level around place collection components value box rest all value_is is later =
+      → WritePrinted level around (place + length (item_line level collection.0 components value)) rest → WritePrinted level around place (PutItem collection components value rest)
+  item_put_printed level around place collection components value rest all value_is is later =
       let start : ℕ = inside level place in
       let it = key_printed g names are (get_or (names_in g.items) collection.0 []) is.name components (start + 4 + 1) is.few all in
       let there : ℕ = start + length (codes "put " ++ item_text g names collection.0 components ++ codes " = ") in
@@ -77,7 +75,7 @@ module _ (g : Graph) (names : List Text) (sheet : Sheet) (are : AreNames names)
         statements = and_then (own (put_item it.key (sum_alone (prod_alone (unary_alone it2.unary))))) later.statements;
         printed = and line_printed later.printed;
         limits = no_both _ _ (no_both _ _ it.limits (no_limits it2 value_is.1)) later.limits;
-        value = tree.PutItem' it.value it2.value box later.value;
+        value = tree.PutItem' it.value it2.value boxed later.value;
         is = (it.is, it2.is, later.is);
         resolves = ((ap (λ (t : Text). place_of (names_declared sheet.items.now) t) it.is_of ∙ is.found, it.resolve), it2.resolves, later.resolves);
       }
@@ -85,10 +83,10 @@ module _ (g : Graph) (names : List Text) (sheet : Sheet) (are : AreNames names)
   abbrev tag_line : ℕ → ℕ → List Expression → Text
   tag_line level collection components = line level (codes "put " ++ tag_text g names collection components ++ codes ";")
 
-  tag_put_printed : (level around place : ℕ) (collection : TagCollection) (components : List Expression) (box : Box (Unit {0}) Global) (rest : Block)
+  tag_put_printed : (level around place : ℕ) (collection : TagCollection) (components : List Expression) (rest : Block)
       → AreComponents (length names) components → Known sheet.tags.now g.tags collection.0 (length components)
-      → WritePrinted level around (place + length (tag_line level collection.0 components)) rest → WritePrinted level around place (PutTag' collection components box rest)
-  tag_put_printed level around place collection components box rest all is later =
+      → WritePrinted level around (place + length (tag_line level collection.0 components)) rest → WritePrinted level around place (PutTag collection components rest)
+  tag_put_printed level around place collection components rest all is later =
       let start : ℕ = inside level place in
       let tag : Text = get_or (names_in g.tags) collection.0 [] in
       let it = key_printed g names are tag is.name components (start + 4 + 1) is.few all in
@@ -98,38 +96,38 @@ module _ (g : Graph) (names : List Text) (sheet : Sheet) (are : AreNames names)
         statements = and_then (own (put_tag it.key)) later.statements;
         printed = and line_printed later.printed;
         limits = no_both _ _ it.limits later.limits;
-        value = tree.PutTag' it.value box later.value;
+        value = tree.PutTag' it.value boxed later.value;
         is = (it.is, later.is);
         resolves = ((ap (λ (t : Text). place_of (names_declared sheet.tags.now) t) it.is_of ∙ is.found, it.resolve), later.resolves);
       }
 
   pub read_printed : (block : Block) (level around place : ℕ) → IsReadBlock (length names) around block → KeepsTo sheet block → ReadPrinted level around place block
   read_printed End level around place is keeps = end_printed _ _ _ g names sheet level around place
-  read_printed (Assign' slot value box rest) level around place is keeps =
-      assign_printed _ _ _ g names sheet are level around place slot value box rest is.0 is.1 (read_printed rest level around _ is.2 keeps)
-  read_printed (If' condition box first box2 second box3 rest) level around place is keeps =
-      if_printed _ _ _ g names sheet are level around place condition box first box2 second box3 rest is.0 is.1
+  read_printed (Assign slot value rest) level around place is keeps =
+      assign_printed _ _ _ g names sheet are level around place slot value rest is.0 is.1 (read_printed rest level around _ is.2 keeps)
+  read_printed (If condition first second rest) level around place is keeps =
+      if_printed _ _ _ g names sheet are level around place condition first second rest is.0 is.1
       (read_printed first (suc level) (suc around) _ is.2 keeps.0) (read_printed second (suc level) (suc around) _ is.3 keeps.1) (read_printed rest level around _ is.4 keeps.2)
-  read_printed (For' slot from to box block box2 rest) level around place is keeps =
-      for_printed _ _ _ g names sheet are level around place slot from to box block box2 rest is.0 is.1 is.2 is.3
+  read_printed (For slot from to block rest) level around place is keeps =
+      for_printed _ _ _ g names sheet are level around place slot from to block rest is.0 is.1 is.2 is.3
       (read_printed block (suc level) (suc around) _ is.4 keeps.0) (read_printed rest level around _ is.5 keeps.1)
-  read_printed (Get' slot collection components box rest) level around place is keeps =
-      get_printed level around place slot collection components box rest is.0 is.1 (items_known sheet.reads.now collection.0 (length components) keeps.0) (read_printed rest level around _ is.2 keeps.1)
-  read_printed (PutItem' collection components value box rest) level around place is keeps = absurd is
-  read_printed (PutTag' collection components box rest) level around place is keeps = absurd is
+  read_printed (Get slot collection components rest) level around place is keeps =
+      get_printed level around place slot collection components rest is.0 is.1 (items_known sheet.reads.now collection.0 (length components) keeps.0) (read_printed rest level around _ is.2 keeps.1)
+  read_printed (PutItem collection components value rest) level around place is keeps = absurd is
+  read_printed (PutTag collection components rest) level around place is keeps = absurd is
 
   pub write_printed : (block : Block) (level around place : ℕ) → IsWriteBlock (length names) around block → KeepsTo sheet block → WritePrinted level around place block
   write_printed End level around place is keeps = end_printed _ _ _ g names sheet level around place
-  write_printed (Assign' slot value box rest) level around place is keeps =
-      assign_printed _ _ _ g names sheet are level around place slot value box rest is.0 is.1 (write_printed rest level around _ is.2 keeps)
-  write_printed (If' condition box first box2 second box3 rest) level around place is keeps =
-      if_printed _ _ _ g names sheet are level around place condition box first box2 second box3 rest is.0 is.1
+  write_printed (Assign slot value rest) level around place is keeps =
+      assign_printed _ _ _ g names sheet are level around place slot value rest is.0 is.1 (write_printed rest level around _ is.2 keeps)
+  write_printed (If condition first second rest) level around place is keeps =
+      if_printed _ _ _ g names sheet are level around place condition first second rest is.0 is.1
       (write_printed first (suc level) (suc around) _ is.2 keeps.0) (write_printed second (suc level) (suc around) _ is.3 keeps.1) (write_printed rest level around _ is.4 keeps.2)
-  write_printed (For' slot from to box block box2 rest) level around place is keeps =
-      for_printed _ _ _ g names sheet are level around place slot from to box block box2 rest is.0 is.1 is.2 is.3
+  write_printed (For slot from to block rest) level around place is keeps =
+      for_printed _ _ _ g names sheet are level around place slot from to block rest is.0 is.1 is.2 is.3
       (write_printed block (suc level) (suc around) _ is.4 keeps.0) (write_printed rest level around _ is.5 keeps.1)
-  write_printed (Get' slot collection components box rest) level around place is keeps = absurd is
-  write_printed (PutItem' collection components value box rest) level around place is keeps =
-      item_put_printed level around place collection components value box rest is.0 is.1 (items_known sheet.item_puts.now collection.0 (length components) keeps.0) (write_printed rest level around _ is.2 keeps.1)
-  write_printed (PutTag' collection components box rest) level around place is keeps =
-      tag_put_printed level around place collection components box rest is.0 (tags_known sheet.tag_puts.now collection.0 (length components) keeps.0) (write_printed rest level around _ is.1 keeps.1)
+  write_printed (Get slot collection components rest) level around place is keeps = absurd is
+  write_printed (PutItem collection components value rest) level around place is keeps =
+      item_put_printed level around place collection components value rest is.0 is.1 (items_known sheet.item_puts.now collection.0 (length components) keeps.0) (write_printed rest level around _ is.2 keeps.1)
+  write_printed (PutTag collection components rest) level around place is keeps =
+      tag_put_printed level around place collection components rest is.0 (tags_known sheet.tag_puts.now collection.0 (length components) keeps.0) (write_printed rest level around _ is.1 keeps.1)

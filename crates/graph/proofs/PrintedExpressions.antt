@@ -1,11 +1,10 @@
 -- An expression that is printed: its derivation, the tree that it is, and that it passes no limit.
 use Rattle.std.proofs.Common.{◌≡◌, ℕ, suc, ℤ, pos, ◌+◌, ◌<◌, ◌≤◌, List, [], ◌++◌, length, get_or, codes, refl, sym, ap, subst, ◌∙◌, arith}
-use Rattle.std.specs.Prelude.{max, Box}
-use Rattle.std.specs.declared.alloc.Global.{Global}
+use Rattle.std.specs.Prelude.{max}
 use Rattle.steptree.specs.declared.expression.Operator.{Operator}
 use Rattle.steptree.specs.declared.expression.Operator.TheVariants as operator
 use Rattle.steptree.specs.declared.expression.Expression.{Expression}
-use Rattle.steptree.specs.declared.expression.Expression.TheVariants.{Number, Variable, Negation', Operation'}
+use Rattle.steptree.specs.Tree.{Number, Variable, Negation, Operation}
 use Rattle.steptree.specs.declared.step.NamedExpression.{NamedExpression}
 use Rattle.steptree.specs.declared.step.NamedExpression.TheVariants as tree
 use Rattle.steptree.specs.Names.{Text}
@@ -24,7 +23,7 @@ use Rattle.graph.specs.Textual.{depth_of, IsSpelled, AreNames}
 use Rattle.graph.specs.Canonical.{in_rounds, operator_text, expression_text}
 use Rattle.graph.proofs.PrintedTokens.{after_word, after_sign, never, anything, Printed, behind, and, narrowed, and_space, sign_and_space, closed_sign, open_sign, double_sign}
 use Rattle.graph.proofs.PrintedNames.{Fronts, printed_name, name_fronts, name_at, no_name_limit, no_more_limit, printed_number, number_fronts, found_at}
-use Rattle.graph.proofs.PrintedValues.{name_of}
+use Rattle.graph.proofs.PrintedValues.{boxed, name_of}
 
 -- ---- operators
 
@@ -70,11 +69,11 @@ unfolding between
 between_within around operator.Add left right = refl
 between_within around _ left right = refl
 
-between_is : (op : Operator) (left right : Unary) (box : Box (Unit {0}) Global) (one two : NamedExpression) → IsUnary left one → IsUnary right two
-    → IsExpr (between op left right) (tree.Operation' op box one two)
+between_is : (op : Operator) (left right : Unary) (one two : NamedExpression) → IsUnary left one → IsUnary right two
+    → IsExpr (between op left right) (tree.Operation' op boxed one two)
 unfolding between
-between_is operator.Add left right box one two x y = (refl, x, y)
-between_is _ left right box one two x y = (refl, x, y)
+between_is operator.Add left right one two x y = (refl, x, y)
+between_is _ left right one two x y = (refl, x, y)
 
 closed : {place : ℕ} {text : List ℕ} {pieces : List Piece} → Printed never place text pieces → Printed after_sign place text pieces
 closed it = narrowed (λ rest may. anything rest) it
@@ -120,8 +119,8 @@ pub record IsPrinted (g : Graph) (names : List Text) (place : ℕ) (expression :
 some_depth : (expression : Expression) → 1 ≤ depth_of expression
 some_depth (Number value) = omega arith
 some_depth (Variable slot) = omega arith
-some_depth (Negation' _ operand) = omega arith
-some_depth (Operation' op _ left right) = omega arith
+some_depth (Negation operand) = omega arith
+some_depth (Operation op left right) = omega arith
 
 pub no_both : (a b : List Position) → a ≡ [] → b ≡ [] → a ++ b ≡ []
 no_both a b x y = ap (λ (l : List Position). l ++ b) x ∙ y
@@ -151,14 +150,14 @@ module _ (g : Graph) (names : List Text) (are : AreNames names) where
     resolves = found_at names slot are.distinct within;
   }
 
-  negation_printed : (place : ℕ) (within : Box (Unit {0}) Global) (operand : Expression) → IsPrinted g names (place + 1 + 1) operand → IsPrinted g names place (Negation' within operand)
-  negation_printed place box operand it = record {
+  negation_printed : (place : ℕ) (operand : Expression) → IsPrinted g names (place + 1 + 1) operand → IsPrinted g names place (Negation operand)
+  negation_printed place operand it = record {
     unary = bracketed place (sum_alone (prod_alone (unary_alone (negated (place + 1) it.unary))));
     printed = narrowed (λ rest may. anything rest) (rounded (behind (open_sign (place + 1) 45 sign.Minus (at (place + 1) _) (refl, refl) refl (λ e. omega (arith, e))) it.printed (λ rest may. it.fronts rest)));
     fronts = λ rest. refl;
     depth = ap suc it.depth;
     within = λ around h. no_both _ _ (no_more_limit MOST_BRACKETS around place (omega (arith, some_depth operand))) (it.within (suc around) (omega arith));
-    value = tree.Negation' box it.value;
+    value = tree.Negation' boxed it.value;
     is = it.is;
     resolves = it.resolves;
   }
@@ -167,22 +166,22 @@ module _ (g : Graph) (names : List Text) (are : AreNames names) where
   up_to : Operator → Expression → List ℕ
   up_to op left = expression_text g names left ++ codes " " ++ operator_text op ++ codes " "
 
-  operation_printed : (place : ℕ) (op : Operator) (box : Box (Unit {0}) Global) (left right : Expression)
-      → IsPrinted g names (place + 1) left → IsPrinted g names (place + 1 + length (up_to op left)) right → IsPrinted g names place (Operation' op box left right)
+  operation_printed : (place : ℕ) (op : Operator) (left right : Expression)
+      → IsPrinted g names (place + 1) left → IsPrinted g names (place + 1 + length (up_to op left)) right → IsPrinted g names place (Operation op left right)
   unfolding up_to
-  operation_printed place op box left right one two =
+  operation_printed place op left right one two =
       let front = sign_and_space (and (and_space one.printed) (printed_operator (place + 1 + length (expression_text g names left ++ codes " ")) op)) in
       let all = and front two.printed in record {
         unary = bracketed place (between op one.unary two.unary);
         printed = narrowed (λ rest may. anything rest)
-            (subst (λ (p : List Piece). Printed never place (expression_text g names (Operation' op box left right)) (sign_at place sign.OpenRound ++ p ++ a_sign sign.CloseRound)) (sym (between_pieces op one.unary two.unary)) (rounded all));
+            (subst (λ (p : List Piece). Printed never place (expression_text g names (Operation op left right)) (sign_at place sign.OpenRound ++ p ++ a_sign sign.CloseRound)) (sym (between_pieces op one.unary two.unary)) (rounded all));
         fronts = λ rest. refl;
         depth = between_depth op one.unary two.unary ∙ ap (λ (n : ℕ). suc (max n (unary_depth two.unary))) one.depth ∙ ap (λ (n : ℕ). suc (max (depth_of left) n)) two.depth;
         within = λ around h.
             let inner = no_both _ _ (one.within (suc around) (omega arith)) (two.within (suc around) (omega arith)) in
             no_both _ _ (no_more_limit MOST_BRACKETS around place (omega (arith, some_depth left))) (between_within (suc around) op one.unary two.unary ∙ inner);
-        value = tree.Operation' op box one.value two.value;
-        is = between_is op one.unary two.unary box one.value two.value one.is two.is;
+        value = tree.Operation' op boxed one.value two.value;
+        is = between_is op one.unary two.unary one.value two.value one.is two.is;
         resolves = (refl, one.resolves, two.resolves);
       }
 
@@ -190,6 +189,6 @@ module _ (g : Graph) (names : List Text) (are : AreNames names) where
   pub expression_printed : (expression : Expression) (place : ℕ) → IsSpelled (length names) expression → IsPrinted g names place expression
   expression_printed (Number value) place is = subst (λ (z : ℤ). IsPrinted g names place (Number z)) (sym is.1) (number_printed place is.0 is.2)
   expression_printed (Variable slot) place is = variable_printed place slot is
-  expression_printed (Negation' box operand) place is = negation_printed place box operand (expression_printed operand (place + 1 + 1) is)
-  expression_printed (Operation' op box left right) place is =
-      operation_printed place op box left right (expression_printed left (place + 1) is.0) (expression_printed right (place + 1 + length (up_to op left)) is.1)
+  expression_printed (Negation operand) place is = negation_printed place operand (expression_printed operand (place + 1 + 1) is)
+  expression_printed (Operation op left right) place is =
+      operation_printed place op left right (expression_printed left (place + 1) is.0) (expression_printed right (place + 1 + length (up_to op left)) is.1)

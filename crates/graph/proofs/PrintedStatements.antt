@@ -1,10 +1,8 @@
 -- The statements that both blocks of a step have, as they are printed.
 use Rattle.std.proofs.Common.{◌≡◌, ℕ, suc, ◌+◌, ◌<◌, List, [], ◌∷◌, ◌++◌, length, get_or, codes, refl, subst, append_assoc}
-use Rattle.std.specs.Prelude.{Box}
-use Rattle.std.specs.declared.alloc.Global.{Global}
 use Rattle.steptree.specs.declared.expression.Expression.{Expression}
 use Rattle.steptree.specs.declared.block.Block.{Block}
-use Rattle.steptree.specs.declared.block.Block.TheVariants.{End, Assign', If', For'}
+use Rattle.steptree.specs.Tree.{End, Assign, If, For}
 use Rattle.steptree.specs.declared.sheet.Sheet.{Sheet}
 use Rattle.steptree.specs.declared.step.NamedBlock.{NamedBlock}
 use Rattle.steptree.specs.declared.step.NamedBlock.TheVariants as tree
@@ -26,7 +24,7 @@ use Rattle.graph.proofs.PrintedNames.{printed_name, name_at, found_at, no_name_l
 use Rattle.graph.proofs.PrintedExpressions.{no_both, rounded_anywhere, expression_printed}
 use Rattle.graph.proofs.PrintedKeys.{no_limits}
 use Rattle.graph.proofs.PrintedLines.{inside, lined, word_first, semicolon, close_brace, open_brace, equals, dots, among, otherwise}
-use Rattle.graph.proofs.PrintedValues.{name_of}
+use Rattle.graph.proofs.PrintedValues.{boxed, name_of}
 
 -- what stands in braces, with the braces in the lines around it
 in_order : (front inner rest : List Piece) (begin end : Piece) → front ++ (begin ∷ []) ++ inner ++ (end ∷ []) ++ rest ≡ front ++ (begin ∷ (inner ++ (end ∷ []))) ++ rest
@@ -55,9 +53,9 @@ module _ {B : Type 0} (own_pieces : B → List Piece) (own_limits : B → List P
     abbrev assign_line : ℕ → ℕ → Expression → Text
     assign_line level slot value = line level (get_or names slot [] ++ codes " = " ++ expression_text g names value ++ codes ";")
 
-    pub assign_printed : (level around place slot : ℕ) (value : Expression) (box : Box (Unit {0}) Global) (rest : Block) → slot < length names → IsTextExpression (length names) value
-        → BlockPrinted level around (place + length (assign_line level slot value)) rest → BlockPrinted level around place (Assign' slot value box rest)
-    assign_printed level around place slot value box rest within is later =
+    pub assign_printed : (level around place slot : ℕ) (value : Expression) (rest : Block) → slot < length names → IsTextExpression (length names) value
+        → BlockPrinted level around (place + length (assign_line level slot value)) rest → BlockPrinted level around place (Assign slot value rest)
+    assign_printed level around place slot value rest within is later =
         let start : ℕ = inside level place in
         let variable : Text = get_or names slot [] in
         let good : IsGraphName variable = name_at names slot are.each within in
@@ -67,7 +65,7 @@ module _ {B : Type 0} (own_pieces : B → List Piece) (own_limits : B → List P
           statements = and_then (assigned (variable, start) (sum_alone (prod_alone (unary_alone it.unary)))) later.statements;
           printed = and (lined level place all) later.printed;
           limits = no_both _ _ (no_both _ _ (no_name_limit variable start good) (no_limits it is.1)) later.limits;
-          value = tree.Assign' (name_of (variable, start)) it.value box later.value;
+          value = tree.Assign' (name_of (variable, start)) it.value boxed later.value;
           is = ((refl, refl), it.is, later.is);
           resolves = (found_at names slot are.distinct within, it.resolves, later.resolves);
         }
@@ -82,13 +80,13 @@ module _ {B : Type 0} (own_pieces : B → List Piece) (own_limits : B → List P
     abbrev if_middle : ℕ → Expression → Block → Block → Text
     if_middle level condition first second = if_front level condition first ++ line level (codes "} else {") ++ block_text g names (suc level) second
 
-    pub if_printed : (level around place : ℕ) (condition : Expression) (box : Box (Unit {0}) Global) (first : Block) (box2 : Box (Unit {0}) Global) (second : Block) (box3 : Box (Unit {0}) Global) (rest : Block)
+    pub if_printed : (level around place : ℕ) (condition : Expression) (first : Block) (second : Block) (rest : Block)
         → IsTextExpression (length names) condition → around < MOST_BRACES
         → BlockPrinted (suc level) (suc around) (place + length (if_line level condition)) first
         → BlockPrinted (suc level) (suc around) (place + length (if_front level condition first ++ line level (codes "} else {"))) second
         → BlockPrinted level around (place + length (if_middle level condition first second ++ line level (codes "}"))) rest
-        → BlockPrinted level around place (If' condition box first box2 second box3 rest)
-    if_printed level around place condition box first box2 second box3 rest is few one two later =
+        → BlockPrinted level around place (If condition first second rest)
+    if_printed level around place condition first second rest is few one two later =
         let start : ℕ = inside level place in
         let it = expression_printed g names are condition (start + 3 + 1) is.0 in
         let brace : ℕ = start + length (codes "if " ++ in_rounds (expression_text g names condition)) in
@@ -100,11 +98,11 @@ module _ {B : Type 0} (own_pieces : B → List Piece) (own_limits : B → List P
         let end = lined level (place + length (if_middle level condition first second)) (close_brace (inside level (place + length (if_middle level condition first second)))) in
         let all = and (and (and front two.printed) end) later.printed in record {
           statements = and_then (if_else expr (brace + 1) one.statements other two.statements) later.statements;
-          printed = subst (λ (p : List Piece). Printed never place (block_text g names level (If' condition box first box2 second box3 rest)) p)
+          printed = subst (λ (p : List Piece). Printed never place (block_text g names level (If condition first second rest)) p)
               (both_in_order (condition_pieces expr) (statements_pieces own_pieces one.statements) (statements_pieces own_pieces two.statements) (statements_pieces own_pieces later.statements)
               (at (brace + 1) (symbol sign.OpenBrace)) (plain (symbol sign.CloseBrace)) (plain (word kept.Else)) (at other (symbol sign.OpenBrace)) (plain (symbol sign.CloseBrace))) all;
           limits = no_both _ _ (no_both _ _ (no_both _ _ (no_both _ _ (no_both _ _ (no_limits it is.1) (no_more_limit MOST_BRACES around (brace + 1) few)) one.limits) (no_more_limit MOST_BRACES around other few)) two.limits) later.limits;
-          value = tree.If' it.value box one.value box2 two.value box3 later.value;
+          value = tree.If' it.value boxed one.value boxed two.value boxed later.value;
           is = (it.is, one.is, two.is, later.is);
           resolves = (it.resolves, one.resolves, two.resolves, later.resolves);
         }
@@ -116,12 +114,12 @@ module _ {B : Type 0} (own_pieces : B → List Piece) (own_limits : B → List P
     abbrev for_line : ℕ → ℕ → Expression → Expression → Text
     for_line level slot from to = line level (for_text slot from to ++ codes " {")
 
-    pub for_printed : (level around place slot : ℕ) (from to : Expression) (box : Box (Unit {0}) Global) (block : Block) (box2 : Box (Unit {0}) Global) (rest : Block)
+    pub for_printed : (level around place slot : ℕ) (from to : Expression) (block : Block) (rest : Block)
         → slot < length names → IsTextExpression (length names) from → IsTextExpression (length names) to → around < MOST_BRACES
         → BlockPrinted (suc level) (suc around) (place + length (for_line level slot from to)) block
         → BlockPrinted level around (place + length (for_line level slot from to ++ block_text g names (suc level) block ++ line level (codes "}"))) rest
-        → BlockPrinted level around place (For' slot from to box block box2 rest)
-    for_printed level around place slot from to box block box2 rest within is is2 few one later =
+        → BlockPrinted level around place (For slot from to block rest)
+    for_printed level around place slot from to block rest within is is2 few one later =
         let start : ℕ = inside level place in
         let variable : Text = get_or names slot [] in
         let good : IsGraphName variable = name_at names slot are.each within in
@@ -138,11 +136,11 @@ module _ {B : Type 0} (own_pieces : B → List Piece) (own_limits : B → List P
         let end = lined level (place + length (for_line level slot from to ++ block_text g names (suc level) block)) (close_brace (inside level (place + length (for_line level slot from to ++ block_text g names (suc level) block)))) in
         let all = and (and (and head one.printed) end) later.printed in record {
           statements = and_then (for (variable, start + 4) low high (brace + 1) one.statements) later.statements;
-          printed = subst (λ (p : List Piece). Printed never place (block_text g names level (For' slot from to box block box2 rest)) p)
+          printed = subst (λ (p : List Piece). Printed never place (block_text g names level (For slot from to block rest)) p)
               (in_order (a_word kept.For ++ (at (start + 4) (name variable) ∷ a_word kept.In) ++ expr_pieces low ++ a_sign sign.DoubleDot ++ expr_pieces high) (statements_pieces own_pieces one.statements)
               (statements_pieces own_pieces later.statements) (at (brace + 1) (symbol sign.OpenBrace)) (plain (symbol sign.CloseBrace))) all;
           limits = no_both _ _ (no_both _ _ (no_both _ _ (no_both _ _ (no_both _ _ (no_name_limit variable (start + 4) good) (no_limits it is.1)) (no_limits it2 is2.1)) (no_more_limit MOST_BRACES around (brace + 1) few)) one.limits) later.limits;
-          value = tree.For' (name_of (variable, start + 4)) it.value it2.value box one.value box2 later.value;
+          value = tree.For' (name_of (variable, start + 4)) it.value it2.value boxed one.value boxed later.value;
           is = ((refl, refl), it.is, it2.is, one.is, later.is);
           resolves = (found_at names slot are.distinct within, it.resolves, it2.resolves, one.resolves, later.resolves);
         }

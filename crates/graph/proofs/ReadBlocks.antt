@@ -1,10 +1,8 @@
 -- What is read as a block can be written.
 use Rattle.std.proofs.Common.{◌≡◌, ◌<◌, ℕ, suc, List, [], ◌++◌, length}
-use Rattle.std.specs.Prelude.{Box}
-use Rattle.std.specs.declared.alloc.Global.{Global}
 use Rattle.steptree.specs.declared.expression.Expression.{Expression}
 use Rattle.steptree.specs.declared.block.Block.{Block}
-use Rattle.steptree.specs.declared.block.Block.TheVariants as plain_block
+use Rattle.steptree.specs.Tree as tree
 use Rattle.steptree.specs.declared.sheet.Declared.{Declared}
 use Rattle.steptree.specs.declared.sheet.Sheet.{Sheet}
 use Rattle.steptree.specs.declared.step.NamedKey.{NamedKey}
@@ -25,17 +23,14 @@ use Rattle.graph.proofs.ReadExpressions.{slot_within, expression_read, component
 use Rattle.graph.proofs.SmallTrees.{room}
 use Rattle.graph.proofs.SoundTokens.{AreSound, front, rear}
 
-abbrev Boxed : Type 0
-Boxed = Box (Unit {0}) Global
-
 -- blocks among so many names, with so many braces around them, whatever their own statements are
 record IsKind (many : ℕ) (Kind : ℕ → Block → Type 0) : Type 0 where
-  ends : (around : ℕ) → Kind around plain_block.End
-  assigns : (around slot : ℕ) (value : Expression) (box : Boxed) (rest : Block) → slot < many → IsTextExpression many value → Kind around rest → Kind around (plain_block.Assign' slot value box rest)
-  chooses : (around : ℕ) (condition : Expression) (b1 : Boxed) (first : Block) (b2 : Boxed) (second : Block) (b3 : Boxed) (rest : Block) → IsTextExpression many condition → around < MOST_BRACES → Kind (suc around) first
-      → Kind (suc around) second → Kind around rest → Kind around (plain_block.If' condition b1 first b2 second b3 rest)
-  repeats : (around slot : ℕ) (from to : Expression) (b1 : Boxed) (inner : Block) (b2 : Boxed) (rest : Block) → slot < many → IsTextExpression many from → IsTextExpression many to → around < MOST_BRACES → Kind (suc around) inner
-      → Kind around rest → Kind around (plain_block.For' slot from to b1 inner b2 rest)
+  ends : (around : ℕ) → Kind around tree.End
+  assigns : (around slot : ℕ) (value : Expression) (rest : Block) → slot < many → IsTextExpression many value → Kind around rest → Kind around (tree.Assign slot value rest)
+  chooses : (around : ℕ) (condition : Expression) (first : Block) (second : Block) (rest : Block) → IsTextExpression many condition → around < MOST_BRACES → Kind (suc around) first
+      → Kind (suc around) second → Kind around rest → Kind around (tree.If condition first second rest)
+  repeats : (around slot : ℕ) (from to : Expression) (inner : Block) (rest : Block) → slot < many → IsTextExpression many from → IsTextExpression many to → around < MOST_BRACES → Kind (suc around) inner
+      → Kind around rest → Kind around (tree.For slot from to inner rest)
 
 -- what follows a statement
 abbrev Rests : List Text → Sheet → (ℕ → Block → Type 0) → ℕ → (NamedBlock → Type 0) → Type 0
@@ -45,7 +40,7 @@ module _ (names : List Text) (sheet : Sheet) where
   module _ (Kind : ℕ → Block → Type 0) (kind : IsKind (length names) Kind) {B : Type 0} (IsOwn : B → NamedBlock → (NamedBlock → Type 0) → Type 0) (own_pieces : B → List Piece) (own_limits : B → List Position)
       (own_read : (around : ℕ) (it : B) (block : NamedBlock) (b : Block) (Rest : NamedBlock → Type 0) → Rests names sheet Kind around Rest → AreSound (own_pieces it) → own_limits it ≡ [] → IsOwn it block Rest → IsBlock names sheet block b → Kind around b) where
     ends_read : (around : ℕ) (block : NamedBlock) (b : Block) → block ≡ End → IsBlock names sheet block b → Kind around b
-    ends_read around End plain_block.End is means = kind.ends around
+    ends_read around End tree.End is means = kind.ends around
     ends_read around End _ is means = absurd means
     ends_read around _ b is means = absurd (cc)
 
@@ -53,17 +48,17 @@ module _ (names : List Text) (sheet : Sheet) where
       statement_read : (around : ℕ) (statement : Statement B) (after : Statements B) (block : NamedBlock) (b : Block) → Rests names sheet Kind around (AreStatements IsOwn after) → AreSound (statement_pieces own_pieces statement)
           → statement_limits own_limits around statement ≡ [] → IsStatement IsOwn statement block (AreStatements IsOwn after) → IsBlock names sheet block b → Kind around b
       statement_read around (own it) after block b rests sound none is means = own_read around it block b (AreStatements IsOwn after) rests sound none is means
-      statement_read around (assigned it expr) after (Assign' name value _ rest) (plain_block.Assign' slot e box more) rests sound none is means =
-          kind.assigns around slot e box more (slot_within names name slot means.0)
+      statement_read around (assigned it expr) after (Assign' name value _ rest) (tree.Assign slot e more) rests sound none is means =
+          kind.assigns around slot e more (slot_within names name slot means.0)
           (expression_read names expr value e (front (expr_pieces expr) (a_sign sign.Semicolon) sound.1.1) (second_empty (name_limits it) (expr_limits expr) none) is.1 means.1)
           (rests rest more is.2 means.2)
       statement_read around (assigned it expr) after (Assign' name value _ rest) _ rests sound none is means = absurd means
       statement_read around (assigned it expr) after _ b rests sound none is means = absurd is
-      statement_read around (if_alone condition brace first) after (If' value _ one _ two _ rest) (plain_block.If' e b1 c b2 d b3 more) rests sound none is means =
+      statement_read around (if_alone condition brace first) after (If' value _ one _ two _ rest) (tree.If e c d more) rests sound none is means =
           let test = front (condition_pieces condition) (in_braces_at brace (statements_pieces own_pieces first)) sound in
           let inner = rear (condition_pieces condition) (in_braces_at brace (statements_pieces own_pieces first)) sound in
           let head = first_empty (expr_limits condition ++ one_more MOST_BRACES around brace) (statements_limits own_limits (suc around) first) none in
-          kind.chooses around e b1 c b2 d b3 more
+          kind.chooses around e c d more
           (expression_read names condition value e (front (expr_pieces condition) (a_sign sign.CloseRound) test.1.1) (first_empty (expr_limits condition) (one_more MOST_BRACES around brace) head) is.0 means.0)
           (room MOST_BRACES around brace (second_empty (expr_limits condition) (one_more MOST_BRACES around brace) head))
           (statements_read (suc around) first one c (front (statements_pieces own_pieces first) (a_sign sign.CloseBrace) inner.1) (second_empty (expr_limits condition ++ one_more MOST_BRACES around brace) (statements_limits own_limits (suc around) first) none) is.1 means.1)
@@ -71,7 +66,7 @@ module _ (names : List Text) (sheet : Sheet) where
           (rests rest more is.3 means.3)
       statement_read around (if_alone condition brace first) after (If' value _ one _ two _ rest) _ rests sound none is means = absurd means
       statement_read around (if_alone condition brace first) after _ b rests sound none is means = absurd is
-      statement_read around (if_else condition brace first other second) after (If' value _ one _ two _ rest) (plain_block.If' e b1 c b2 d b3 more) rests sound none is means =
+      statement_read around (if_else condition brace first other second) after (If' value _ one _ two _ rest) (tree.If e c d more) rests sound none is means =
           let pieces = condition_pieces condition ++ in_braces_at brace (statements_pieces own_pieces first) in
           let both = front (pieces ++ a_word kept.Else) (in_braces_at other (statements_pieces own_pieces second)) sound in
           let last = rear (pieces ++ a_word kept.Else) (in_braces_at other (statements_pieces own_pieces second)) sound in
@@ -83,7 +78,7 @@ module _ (names : List Text) (sheet : Sheet) where
           let other_limits = first_limits ++ one_more MOST_BRACES around other in
           let upto = first_empty first_limits (one_more MOST_BRACES around other) (first_empty other_limits (statements_limits own_limits (suc around) second) none) in
           let head = first_empty brace_limits (statements_limits own_limits (suc around) first) upto in
-          kind.chooses around e b1 c b2 d b3 more
+          kind.chooses around e c d more
           (expression_read names condition value e (front (expr_pieces condition) (a_sign sign.CloseRound) test.1.1) (first_empty (expr_limits condition) (one_more MOST_BRACES around brace) head) is.0 means.0)
           (room MOST_BRACES around brace (second_empty (expr_limits condition) (one_more MOST_BRACES around brace) head))
           (statements_read (suc around) first one c (front (statements_pieces own_pieces first) (a_sign sign.CloseBrace) inner.1) (second_empty brace_limits (statements_limits own_limits (suc around) first) upto) is.1 means.1)
@@ -91,7 +86,7 @@ module _ (names : List Text) (sheet : Sheet) where
           (rests rest more is.3 means.3)
       statement_read around (if_else condition brace first other second) after (If' value _ one _ two _ rest) _ rests sound none is means = absurd means
       statement_read around (if_else condition brace first other second) after _ b rests sound none is means = absurd is
-      statement_read around (for it from to brace inner) after (For' name low high _ one _ rest) (plain_block.For' slot e f b1 c b2 more) rests sound none is means =
+      statement_read around (for it from to brace inner) after (For' name low high _ one _ rest) (tree.For slot e f c more) rests sound none is means =
           let body : List Piece = in_braces_at brace (statements_pieces own_pieces inner) in
           let parts : AreSound (expr_pieces from ++ a_sign sign.DoubleDot ++ expr_pieces to ++ body) = sound.1.1.1 in
           let ends = front (expr_pieces from ++ a_sign sign.DoubleDot ++ expr_pieces to) body parts in
@@ -103,7 +98,7 @@ module _ (names : List Text) (sheet : Sheet) where
           let brace_limits = to_limits ++ one_more MOST_BRACES around brace in
           let head = first_empty brace_limits (statements_limits own_limits (suc around) inner) none in
           let range = first_empty to_limits (one_more MOST_BRACES around brace) head in
-          kind.repeats around slot e f b1 c b2 more (slot_within names name slot means.0)
+          kind.repeats around slot e f c more (slot_within names name slot means.0)
           (expression_read names from low e low_end (second_empty (name_limits it) (expr_limits from) (first_empty from_limits (expr_limits to) range)) is.1 means.1)
           (expression_read names to high f high_end (second_empty from_limits (expr_limits to) range) is.2 means.2)
           (room MOST_BRACES around brace (second_empty to_limits (one_more MOST_BRACES around brace) head))
@@ -130,22 +125,22 @@ module _ (names : List Text) (sheet : Sheet) where
   read_kind : IsKind (length names) (IsReadBlock (length names))
   read_kind = record {
     ends = λ around. tt;
-    assigns = λ around slot value box rest a b c. (a, b, c);
-    chooses = λ around condition b1 first b2 second b3 rest a b c d e. (a, b, c, d, e);
-    repeats = λ around slot from to b1 inner b2 rest a b c d e f. (a, b, c, d, e, f);
+    assigns = λ around slot value rest a b c. (a, b, c);
+    chooses = λ around condition first second rest a b c d e. (a, b, c, d, e);
+    repeats = λ around slot from to inner rest a b c d e f. (a, b, c, d, e, f);
   }
 
   write_kind : IsKind (length names) (IsWriteBlock (length names))
   write_kind = record {
     ends = λ around. tt;
-    assigns = λ around slot value box rest a b c. (a, b, c);
-    chooses = λ around condition b1 first b2 second b3 rest a b c d e. (a, b, c, d, e);
-    repeats = λ around slot from to b1 inner b2 rest a b c d e f. (a, b, c, d, e, f);
+    assigns = λ around slot value rest a b c. (a, b, c);
+    chooses = λ around condition first second rest a b c d e. (a, b, c, d, e);
+    repeats = λ around slot from to inner rest a b c d e f. (a, b, c, d, e, f);
   }
 
   get_read : (around : ℕ) (get : Get) (block : NamedBlock) (b : Block) (Rest : NamedBlock → Type 0) → Rests names sheet (IsReadBlock (length names)) around Rest → AreSound (get_pieces get) → get_limits get ≡ [] → IsGet get block Rest
       → IsBlock names sheet block b → IsReadBlock (length names) around b
-  get_read around get (Get' name key _ rest) (plain_block.Get' slot collection es _ more) Rest rests sound none is means =
+  get_read around get (Get' name key _ rest) (tree.Get slot collection es more) Rest rests sound none is means =
       let parts : AreSound (sums_pieces get.item.components ++ a_sign sign.CloseBracket ++ a_sign sign.Semicolon) = sound.1.1.1.1.1 in
       let components = front (sums_pieces get.item.components) (a_sign sign.CloseBracket) (front (sums_pieces get.item.components ++ a_sign sign.CloseBracket) (a_sign sign.Semicolon) parts) in
       (slot_within names name slot means.0, key_read sheet.items.now get.item key collection.0 es components (second_empty (name_limits get.variable) (key_limits get.item) none) is.1 means.1, rests rest more is.2 means.2)
@@ -154,7 +149,7 @@ module _ (names : List Text) (sheet : Sheet) where
 
   put_read : (around : ℕ) (put : Put) (block : NamedBlock) (b : Block) (Rest : NamedBlock → Type 0) → Rests names sheet (IsWriteBlock (length names)) around Rest → AreSound (put_pieces put) → put_limits put ≡ [] → IsPut put block Rest
       → IsBlock names sheet block b → IsWriteBlock (length names) around b
-  put_read around (put_item item value) (PutItem' key it _ rest) (plain_block.PutItem' collection es e _ more) Rest rests sound none is means =
+  put_read around (put_item item value) (PutItem' key it _ rest) (tree.PutItem collection es e more) Rest rests sound none is means =
       let parts : AreSound (sums_pieces item.components ++ a_sign sign.CloseBracket ++ a_sign sign.Assign ++ expr_pieces value ++ a_sign sign.Semicolon) = sound.1.1.1 in
       let head = front (sums_pieces item.components ++ a_sign sign.CloseBracket ++ a_sign sign.Assign ++ expr_pieces value) (a_sign sign.Semicolon) parts in
       let key_parts = front (sums_pieces item.components ++ a_sign sign.CloseBracket) (a_sign sign.Assign) (front (sums_pieces item.components ++ a_sign sign.CloseBracket ++ a_sign sign.Assign) (expr_pieces value) head) in (
@@ -164,7 +159,7 @@ module _ (names : List Text) (sheet : Sheet) where
       )
   put_read around (put_item item value) (PutItem' key it _ rest) _ Rest rests sound none is means = absurd means
   put_read around (put_item item value) _ b Rest rests sound none is means = absurd is
-  put_read around (put_tag tag) (PutTag' key _ rest) (plain_block.PutTag' collection es _ more) Rest rests sound none is means =
+  put_read around (put_tag tag) (PutTag' key _ rest) (tree.PutTag collection es more) Rest rests sound none is means =
       let parts : AreSound (sums_pieces tag.components ++ a_sign sign.Greater ++ a_sign sign.Semicolon) = sound.1.1.1 in
       let components = front (sums_pieces tag.components) (a_sign sign.Greater) (front (sums_pieces tag.components ++ a_sign sign.Greater) (a_sign sign.Semicolon) parts) in
       (key_read sheet.tags.now tag key collection.0 es components none is.0 means.0, rests rest more is.1 means.1)

@@ -3,7 +3,7 @@ use Rattle.std.proofs.Common.{◌≡◌, ◌≤◌, ◌<◌, ℕ, suc, max, List
 use Rattle.std.specs.List.{flat_map}
 use Rattle.std.proofs.lemmas.Option.{slice_get_within}
 use Rattle.steptree.specs.declared.expression.Expression.{Expression}
-use Rattle.steptree.specs.declared.expression.Expression.TheVariants as plain
+use Rattle.steptree.specs.Tree as tree
 use Rattle.steptree.specs.declared.step.Name.{Name}
 use Rattle.steptree.specs.declared.step.NamedExpression.{NamedExpression}
 use Rattle.steptree.specs.declared.step.NamedExpression.TheVariants.{Number, Variable, Negation', Operation'}
@@ -31,7 +31,7 @@ module _ (names : List Text) where
   mutual
     expr_read : (expr : Expr) (it : NamedExpression) (e : Expression) → AreSound (expr_pieces expr) → IsExpr expr it → IsExpression names it e → IsRead e (expr_depth expr)
     expr_read (sum_alone sum) it e sound is means = sum_read sum it e sound is means
-    expr_read (compared left how right) (Operation' _ _ it other) (plain.Operation' _ _ e f) sound is means =
+    expr_read (compared left how right) (Operation' _ _ it other) (tree.Operation _ e f) sound is means =
         let head = a_sign (comparison_sign how) in
         let one = sum_read left it e (front (sum_pieces left) head (front (sum_pieces left ++ head) (sum_pieces right) sound)) is.1 means.1 in
         let two = sum_read right other f (rear (sum_pieces left ++ head) (sum_pieces right) sound) is.2 means.2 in
@@ -41,7 +41,7 @@ module _ (names : List Text) where
 
     sum_read : (sum : Sum) (it : NamedExpression) (e : Expression) → AreSound (sum_pieces sum) → IsSum sum it → IsExpression names it e → IsRead e (sum_depth sum)
     sum_read (prod_alone prod) it e sound is means = prod_read prod it e sound is means
-    sum_read (added left how right) (Operation' _ _ it other) (plain.Operation' _ _ e f) sound is means =
+    sum_read (added left how right) (Operation' _ _ it other) (tree.Operation _ e f) sound is means =
         let head = a_sign (addition_sign how) in
         let one = sum_read left it e (front (sum_pieces left) head (front (sum_pieces left ++ head) (prod_pieces right) sound)) is.1 means.1 in
         let two = prod_read right other f (rear (sum_pieces left ++ head) (prod_pieces right) sound) is.2 means.2 in
@@ -51,7 +51,7 @@ module _ (names : List Text) where
 
     prod_read : (prod : Prod) (it : NamedExpression) (e : Expression) → AreSound (prod_pieces prod) → IsProd prod it → IsExpression names it e → IsRead e (prod_depth prod)
     prod_read (unary_alone unary) it e sound is means = unary_read unary it e sound is means
-    prod_read (multiplied left how right) (Operation' _ _ it other) (plain.Operation' _ _ e f) sound is means =
+    prod_read (multiplied left how right) (Operation' _ _ it other) (tree.Operation _ e f) sound is means =
         let head = a_sign (multiplication_sign how) in
         let one = prod_read left it e (front (prod_pieces left) head (front (prod_pieces left ++ head) (unary_pieces right) sound)) is.1 means.1 in
         let two = unary_read right other f (rear (prod_pieces left ++ head) (unary_pieces right) sound) is.2 means.2 in
@@ -60,15 +60,15 @@ module _ (names : List Text) where
     prod_read (multiplied left how right) _ e sound is means = absurd is
 
     unary_read : (unary : Unary) (it : NamedExpression) (e : Expression) → AreSound (unary_pieces unary) → IsUnary unary it → IsExpression names it e → IsRead e (unary_depth unary)
-    unary_read (negated position unary) (Negation' _ it) (plain.Negation' _ e) sound is means =
+    unary_read (negated position unary) (Negation' _ it) (tree.Negation e) sound is means =
         let one = unary_read unary it e sound.1 is means in
         (one.0, ap suc one.1)
     unary_read (negated position unary) (Negation' _ it) _ sound is means = absurd means
     unary_read (negated position unary) _ e sound is means = absurd is
-    unary_read (literal position value) (Number m) (plain.Number n) sound is means = ((value, means ∙ is, sound.0), refl)
+    unary_read (literal position value) (Number m) (tree.Number n) sound is means = ((value, means ∙ is, sound.0), refl)
     unary_read (literal position value) (Number m) _ sound is means = absurd means
     unary_read (literal position value) _ e sound is means = absurd is
-    unary_read (variable it) (Variable name) (plain.Variable slot) sound is means = (slot_within name slot means, refl)
+    unary_read (variable it) (Variable name) (tree.Variable slot) sound is means = (slot_within name slot means, refl)
     unary_read (variable it) (Variable name) _ sound is means = absurd means
     unary_read (variable it) _ e sound is means = absurd is
     unary_read (bracketed position expr) it e sound is means = expr_read expr it e (front (expr_pieces expr) (a_sign sign.CloseRound) sound.1) is means

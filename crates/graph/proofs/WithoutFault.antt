@@ -21,7 +21,7 @@ use Rattle.graph.specs.Canonical.{canonical}
 use Rattle.graph.specs.Faults.{tree_faults, body_fault}
 use Rattle.graph.specs.Graph.{Step, Graph}
 use Rattle.graph.specs.Reads.{Reads, AreBodyFaults, IsTreeFault, IsFirstFault, IsCause, HasCause, no_memory}
-use Rattle.graph.specs.Textual.{OneGraph, OneCanonical}
+use Rattle.graph.specs.Textual.{OneGraph}
 use Rattle.graph.specs.Tree.{IsSheetOf, IsStepOf, IsGraphOf}
 use Rattle.graph.proofs.AlikeFaults.{faults_same}
 use Rattle.graph.proofs.AlikeGraphs.{names_are}
@@ -71,7 +71,7 @@ not_large (it ∷ text) zero byte all there large =
     omega (arith, same, small, large)
 not_large (it ∷ text) (suc position) byte all there large = not_large text position byte all.1 there large
 
-module _ (once : TokensOnce) (derived : OneDerivation) (no_syntax : ReadWithoutFault) (one_graph : OneGraph) (one_canonical : OneCanonical) (text : List ℕ) (g : Graph) (reads : Reads text g) where
+module _ (once : TokensOnce) (derived : OneDerivation) (no_syntax : ReadWithoutFault) (one_graph : OneGraph) (text : List ℕ) (g : Graph) (reads : Reads text g) where
   abbrev read : IsRead text reads.tree
   read = reads.read
 
@@ -92,7 +92,7 @@ module _ (once : TokensOnce) (derived : OneDerivation) (no_syntax : ReadWithoutF
       let long = cause.1.long in
       let short = reads.canonical in
       let same : length (canonical g) ≡ length (canonical cause.1.g) =
-      ap length (one_canonical g cause.1.g (one_graph text reads.tree cause.1.tree g cause.1.g read cause.1.read reads.graph cause.1.graph)) in
+      ap (λ (h : Graph). length (canonical h)) (one_graph text reads.tree cause.1.tree g cause.1.g read cause.1.read reads.graph cause.1.graph) in
       omega (arith, long, short, same)
   no_cause error.TooLarge position (inr cause) =
       let none : syntax_error.TooLarge ≡ syntax_error.NoMemory = no_syntax text reads.tree (record { error = syntax_error.TooLarge; place = position }) read cause.1 in

@@ -5,9 +5,8 @@ use Rattle.std.specs.Fmt.{decimal}
 use Rattle.steptree.specs.declared.expression.Operator.{Operator}
 use Rattle.steptree.specs.declared.expression.Operator.TheVariants as operator
 use Rattle.steptree.specs.declared.expression.Expression.{Expression}
-use Rattle.steptree.specs.declared.expression.Expression.TheVariants.{Number, Variable, Negation', Operation'}
 use Rattle.steptree.specs.declared.block.Block.{Block}
-use Rattle.steptree.specs.declared.block.Block.TheVariants.{End, Assign', If', For', Get', PutItem', PutTag'}
+use Rattle.steptree.specs.Tree.{Number, Variable, Negation, Operation, End, Assign, If, For, Get, PutItem, PutTag}
 use Rattle.steptree.specs.Names.{Text}
 use Rattle.graph.specs.Graph.{Collection, Step, Graph}
 use Rattle.graph.specs.Tree.{names_in}
@@ -97,8 +96,8 @@ module _ (g : Graph) (names : List Text) where
   abbrev pub expression_text : Expression → Text
   expression_text (Number number) = number_text number
   expression_text (Variable slot) = variable_text slot
-  expression_text (Negation' _ operand) = in_rounds (codes "-" ++ expression_text operand)
-  expression_text (Operation' between _ left right) = in_rounds (expression_text left ++ codes " " ++ operator_text between ++ codes " " ++ expression_text right)
+  expression_text (Negation operand) = in_rounds (codes "-" ++ expression_text operand)
+  expression_text (Operation between left right) = in_rounds (expression_text left ++ codes " " ++ operator_text between ++ codes " " ++ expression_text right)
 
   abbrev pub item_text : ℕ → List Expression → Text
   item_text number components = in_brackets (with_colon (get_or (names_in g.items) number []) (map expression_text components))
@@ -109,18 +108,18 @@ module _ (g : Graph) (names : List Text) where
   -- a block, one statement a line, so many levels in
   abbrev pub block_text : ℕ → Block → Text
   block_text level End = []
-  block_text level (Assign' slot value _ rest) = line level (variable_text slot ++ codes " = " ++ expression_text value ++ codes ";") ++ block_text level rest
-  block_text level (If' condition _ first _ second _ rest) =
+  block_text level (Assign slot value rest) = line level (variable_text slot ++ codes " = " ++ expression_text value ++ codes ";") ++ block_text level rest
+  block_text level (If condition first second rest) =
       line level (codes "if " ++ in_rounds (expression_text condition) ++ codes " {") ++ block_text (suc level) first
       ++ line level (codes "} else {") ++ block_text (suc level) second ++ line level (codes "}") ++ block_text level rest
-  block_text level (For' slot from to _ block _ rest) =
+  block_text level (For slot from to block rest) =
       line level (codes "for " ++ variable_text slot ++ codes " in " ++ expression_text from ++ codes " .. " ++ expression_text to ++ codes " {")
       ++ block_text (suc level) block ++ line level (codes "}") ++ block_text level rest
-  block_text level (Get' slot collection components _ rest) =
+  block_text level (Get slot collection components rest) =
       line level (codes "get " ++ variable_text slot ++ codes " = " ++ item_text collection.0 components ++ codes ";") ++ block_text level rest
-  block_text level (PutItem' collection components value _ rest) =
+  block_text level (PutItem collection components value rest) =
       line level (codes "put " ++ item_text collection.0 components ++ codes " = " ++ expression_text value ++ codes ";") ++ block_text level rest
-  block_text level (PutTag' collection components _ rest) = line level (codes "put " ++ tag_text collection.0 components ++ codes ";") ++ block_text level rest
+  block_text level (PutTag collection components rest) = line level (codes "put " ++ tag_text collection.0 components ++ codes ";") ++ block_text level rest
 
 -- the line of the variables, where there are some
 abbrev pub variables_line : List Text → Text

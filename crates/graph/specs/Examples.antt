@@ -1,44 +1,37 @@
 -- A worked example: a graph of Fibonacci numbers, and its canonical text.
-use Rattle.std.specs.Prelude.{◌≡◌, ℕ, pos, true, false, List, [], ◌∷◌, ◌++◌, codes, length, Box}
-use Rattle.std.specs.declared.alloc.Global.{Global}
+use Rattle.std.specs.Prelude.{◌≡◌, ℕ, pos, true, false, List, [], ◌∷◌, ◌++◌, codes, length}
 use Rattle.steptree.specs.declared.expression.Operator.TheVariants as operator
 use Rattle.steptree.specs.declared.expression.Expression.{Expression}
-use Rattle.steptree.specs.declared.expression.Expression.TheVariants.{Number, Variable, Operation'}
-use Rattle.steptree.specs.declared.block.Block.TheVariants.{End, Get', PutItem'}
+use Rattle.steptree.specs.Tree.{Number, Variable, Operation, End, Get, PutItem}
 use Rattle.graph.specs.Graph.{Graph}
 use Rattle.graph.specs.Canonical.{canonical}
 
--- where a part of a tree lies in memory; it plays no part
-abbrev pub Place : Type 0
-Place = Box (Unit {0}) Global
-
 -- [fib: i]; <n: i>; <n> :: (add); [fib] -> (add); (add) -> [fib]; env -> [fib]; env -> <n>; [fib] -> env;
 -- step add(i) { var a, b; read { get a = [fib: i - 1]; get b = [fib: i - 2]; } write { put [fib: i] = a + b; } }
-module _ (place : Place) where
-  abbrev pub behind : ℕ → Expression
-  behind number = Operation' operator.Subtract place (Variable 0) (Number (pos number))
+abbrev pub behind : ℕ → Expression
+behind number = Operation operator.Subtract (Variable 0) (Number (pos number))
 
-  abbrev pub fibonacci : Graph
-  fibonacci = record {
-    items = record { name = codes "fib"; components = 1 } ∷ [];
-    tags = record { name = codes "n"; components = 1 } ∷ [];
-    steps = record {
-      name = codes "add";
-      prescriber = 0;
-      names = codes "i" ∷ codes "a" ∷ codes "b" ∷ [];
-      parameters = 1;
-      reads = true ∷ [];
-      item_puts = true ∷ [];
-      tag_puts = false ∷ [];
-      body = record {
-        read = Get' 1 (record { 0 = 0 }) (behind 1 ∷ []) place (Get' 2 (record { 0 = 0 }) (behind 2 ∷ []) place End);
-        write = PutItem' (record { 0 = 0 }) (Variable 0 ∷ []) (Operation' operator.Add place (Variable 1) (Variable 2)) place End;
-      };
-    } ∷ [];
-    environment_item_puts = true ∷ [];
-    environment_tag_puts = true ∷ [];
-    environment_gets = true ∷ [];
-  }
+abbrev pub fibonacci : Graph
+fibonacci = record {
+  items = record { name = codes "fib"; components = 1 } ∷ [];
+  tags = record { name = codes "n"; components = 1 } ∷ [];
+  steps = record {
+    name = codes "add";
+    prescriber = 0;
+    names = codes "i" ∷ codes "a" ∷ codes "b" ∷ [];
+    parameters = 1;
+    reads = true ∷ [];
+    item_puts = true ∷ [];
+    tag_puts = false ∷ [];
+    body = record {
+      read = Get 1 (record { 0 = 0 }) (behind 1 ∷ []) (Get 2 (record { 0 = 0 }) (behind 2 ∷ []) End);
+      write = PutItem (record { 0 = 0 }) (Variable 0 ∷ []) (Operation operator.Add (Variable 1) (Variable 2)) End;
+    };
+  } ∷ [];
+  environment_item_puts = true ∷ [];
+  environment_tag_puts = true ∷ [];
+  environment_gets = true ∷ [];
+}
 
 -- its canonical text, line by line
 abbrev pub fibonacci_text : List ℕ
@@ -48,4 +41,4 @@ fibonacci_text =
     ++ codes "  write {\n    put [fib: i] = (a + b);\n  }\n}\n"
 
 abbrev pub CanonicalExample : Type 0
-CanonicalExample = (place : Place) → (canonical (fibonacci place) ≡ fibonacci_text) × (length fibonacci_text ≡ 243)
+CanonicalExample = (canonical fibonacci ≡ fibonacci_text) × (length fibonacci_text ≡ 243)

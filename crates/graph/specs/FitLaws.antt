@@ -5,7 +5,6 @@ use Rattle.terms.specs.Facts.{Fact, facts, environment, event_facts, environment
 use Rattle.terms.specs.Sets.{Facts, among}
 use Rattle.graph.specs.Graph.{Graph}
 use Rattle.graph.specs.Fits.{Fits, AllFit, FitsState}
-use Rattle.graph.specs.Textual.{SameGraph}
 
 -- two sets with the same facts
 abbrev pub SameSet : Facts → Facts → Type 0
@@ -34,13 +33,3 @@ EventAsSet = (g : Graph) (X Y : Facts) (event : Event) → SameSet X Y → Fits 
 
 abbrev pub EventsAsSet : Type 0
 EventsAsSet = (g : Graph) (before other : List Fact) (events : List Event) → SameSet (among before) (among other) → AllFit g before events → AllFit g other events
-
--- nor does where a graph's parts lie in memory
-abbrev pub StateOfAlike : Type 0
-StateOfAlike = (g h : Graph) (E X : Facts) → SameGraph g h → FitsState g E X → FitsState h E X
-
-abbrev pub EventOfAlike : Type 0
-EventOfAlike = (g h : Graph) (X : Facts) (event : Event) → SameGraph g h → Fits g X event → Fits h X event
-
-abbrev pub EventsOfAlike : Type 0
-EventsOfAlike = (g h : Graph) (before : List Fact) (events : List Event) → SameGraph g h → AllFit g before events → AllFit h before events

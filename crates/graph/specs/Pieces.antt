@@ -2,7 +2,7 @@
 use Rattle.std.specs.Prelude.{ℕ, zero, suc, Bool, true, false, List, [], ◌∷◌, ◌++◌, map, Option, Some, None, codes}
 use Rattle.steptree.specs.Names.{Text}
 use Rattle.steptree.specs.declared.block.Block.{Block}
-use Rattle.steptree.specs.declared.block.Block.TheVariants.{End, Assign', If', For', Get', PutItem', PutTag'}
+use Rattle.steptree.specs.Tree.{End, Assign, If, For, Get, PutItem, PutTag}
 use Rattle.graph.specs.declared.canonical_text.relations.Kind.{Kind}
 use Rattle.graph.specs.declared.canonical_text.relations.Kind.TheVariants as kind
 use Rattle.graph.specs.declared.canonical_text.words.Words.{Words}
@@ -45,12 +45,12 @@ names_of_words words = map (λ name. name.bytes.items) words.names.now
 -- the statements behind the first
 abbrev pub behind : Block → Block
 behind End = End
-behind (Assign' slot value p rest) = rest
-behind (If' condition p first q second r rest) = rest
-behind (For' slot from to p block q rest) = rest
-behind (Get' slot collection components p rest) = rest
-behind (PutItem' collection components value p rest) = rest
-behind (PutTag' collection components p rest) = rest
+behind (Assign slot value rest) = rest
+behind (If condition first second rest) = rest
+behind (For slot from to block rest) = rest
+behind (Get slot collection components rest) = rest
+behind (PutItem collection components value rest) = rest
+behind (PutTag collection components rest) = rest
 
 -- what there is of an element, where there is one
 abbrev pub where_there : {X : Type 0} → (X → Text) → Option X → Text

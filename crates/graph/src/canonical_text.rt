@@ -6,7 +6,6 @@ ghost use Rattle.graph.specs.Inside.{step_seen};
 ghost use Rattle.graph.specs.Graph.{Graph};
 ghost use Rattle.graph.specs.Pieces.{where_there};
 ghost use Rattle.graph.specs.Reads.{Reads};
-ghost use Rattle.graph.specs.Textual.{SameGraph};
 
 mod blocks;
 mod declarations;
@@ -107,7 +106,7 @@ fn written(alloc: Global, graph: &Graph) -> Result<Vec<u8>, AllocError>
 pub fn canonical(alloc: Global, graph: &Graph) -> Result<Vec<u8>, AllocError>
     ensures spelled { IfOk result (λ text. text.items ≡ canonical graph.now) }
     ensures reads { IfOk result (λ text. (given : List ℕ) → Reads given graph.now → Reads text.items graph.now) }
-    ensures nothing_else { IfOk result (λ text. (given : List ℕ) (other : Graph) → Reads given graph.now → Reads text.items other → SameGraph graph.now other) }
+    ensures nothing_else { IfOk result (λ text. (given : List ℕ) (other : Graph) → Reads given graph.now → Reads text.items other → graph.now ≡ other) }
 {
     canonical_reads();
     reads_textual();

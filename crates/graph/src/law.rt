@@ -1,7 +1,7 @@
 //! The laws between texts and graphs, and of what fits a graph. Each is a contract, with nothing to run.
-ghost use Rattle.graph.specs.FitLaws.{FitKeeps, AllFitKeep, AllFitInParts, StateAsSet, EventAsSet, EventsAsSet, StateOfAlike, EventOfAlike, EventsOfAlike};
+ghost use Rattle.graph.specs.FitLaws.{FitKeeps, AllFitKeep, AllFitInParts, StateAsSet, EventAsSet, EventsAsSet};
 ghost use Rattle.std.specs.Prelude.{◌≡◌};
-ghost use Rattle.graph.specs.Textual.{CanonicalReads, OneCanonical, OneGraph, OneReading, ReadsTextual, ReadsWithoutFault};
+ghost use Rattle.graph.specs.Textual.{CanonicalReads, OneGraph, OneReading, ReadsTextual, ReadsWithoutFault};
 ghost use Rattle.graph.specs.declared.limits.TheConstants.{MOST_TEXT};
 
 use syntax::{one_derivation, read_without_fault, tokens_once};
@@ -15,11 +15,6 @@ pub fn text_limit()
 /// The canonical text of a graph that a text can give reads as that graph, where it is not too long.
 pub fn canonical_reads()
     ensures { CanonicalReads }
-{}
-
-/// One graph has one canonical text, wherever its parts lie in memory.
-pub fn one_canonical_text()
-    ensures { OneCanonical }
 {}
 
 /// All that one text is as a graph is one graph.
@@ -38,7 +33,7 @@ pub fn one_reading()
 }
 
 /// What events that fit leave fits, and events fit one after another where those of each part do. How facts are listed plays no
-/// part in it, nor does where a graph's parts lie in memory.
+/// part in it.
 pub fn fitting()
     ensures keeps { FitKeeps }
     ensures all_keep { AllFitKeep }
@@ -46,9 +41,6 @@ pub fn fitting()
     ensures state_as_set { StateAsSet }
     ensures event_as_set { EventAsSet }
     ensures events_as_set { EventsAsSet }
-    ensures state_of_alike { StateOfAlike }
-    ensures event_of_alike { EventOfAlike }
-    ensures events_of_alike { EventsOfAlike }
 {
     facts_are_told_apart();
 }
@@ -66,5 +58,4 @@ pub fn reads_without_fault()
     one_derivation();
     read_without_fault();
     one_graph();
-    one_canonical_text();
 }

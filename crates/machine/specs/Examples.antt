@@ -11,9 +11,9 @@ use Rattle.terms.specs.declared.event.Event.{Event}
 use Rattle.terms.specs.declared.event.Event.TheVariants.{EnvItem, EnvTag, Done, Stopped}
 use Rattle.terms.specs.Facts.{Fact, item}
 use Rattle.terms.specs.Sets.{among, stated, put_by_environment}
-use Rattle.steptree.specs.declared.expression.Expression.TheVariants.{Number, Variable}
+use Rattle.steptree.specs.Tree.{Number, Variable}
 use Rattle.steptree.specs.declared.block.Block.{Block}
-use Rattle.steptree.specs.declared.block.Block.TheVariants.{End, PutItem'}
+use Rattle.steptree.specs.Tree.{End, PutItem}
 use Rattle.steptree.specs.Bodies.{Asks}
 use Rattle.graph.specs.Graph.{Graph, BodyMeans}
 use Rattle.graph.specs.Examples.{Place, fibonacci}
@@ -76,7 +76,7 @@ pub record Conflict (place : Place) : Type 0 where
 -- step two(k) { read { } write { put [out: k] = 1; put [out: k] = 1; } }
 module _ (place : Place) where
   abbrev pub put_out : Block → Block
-  put_out rest = PutItem' (record { 0 = 0 }) (Variable 0 ∷ []) (Number (pos 1)) place rest
+  put_out rest = PutItem (record { 0 = 0 }) (Variable 0 ∷ []) (Number (pos 1)) rest
 
   abbrev pub twice : Graph
   twice = record {

@@ -6,8 +6,8 @@ use Rattle.terms.specs.declared.name.Inst.{Inst}
 use Rattle.terms.specs.declared.producer.Producer.TheVariants.{By}
 use Rattle.terms.specs.Facts.{Fact, tag, item, done}
 use Rattle.terms.specs.Sets.{among}
-use Rattle.steptree.specs.declared.expression.Expression.TheVariants.{Number, Variable}
-use Rattle.steptree.specs.declared.block.Block.TheVariants.{End, Get', PutItem'}
+use Rattle.steptree.specs.Tree.{Number, Variable}
+use Rattle.steptree.specs.Tree.{End, Get, PutItem}
 use Rattle.graph.specs.Graph.{Graph, Step}
 use Rattle.graph.specs.Examples.{Place}
 use Rattle.machine.specs.Meaning.{Meaning}
@@ -36,7 +36,7 @@ module _ (place : Place) where
     reads = false ∷ false ∷ [];
     item_puts = true ∷ false ∷ [];
     tag_puts = false ∷ [];
-    body = record { read = End; write = PutItem' (record { 0 = 0 }) [] (Number (pos value)) place End };
+    body = record { read = End; write = PutItem (record { 0 = 0 }) [] (Number (pos value)) End };
   }
 
   abbrev pub passing : Step
@@ -48,7 +48,7 @@ module _ (place : Place) where
     reads = true ∷ false ∷ [];
     item_puts = false ∷ true ∷ [];
     tag_puts = false ∷ [];
-    body = record { read = Get' 0 (record { 0 = 0 }) [] place End; write = PutItem' (record { 0 = 1 }) [] (Variable 0) place End };
+    body = record { read = Get 0 (record { 0 = 0 }) [] End; write = PutItem (record { 0 = 1 }) [] (Variable 0) End };
   }
 
   abbrev pub two_putters : Graph

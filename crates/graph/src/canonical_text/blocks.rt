@@ -6,7 +6,7 @@ use super::expressions::{put_expression, put_item, put_tag};
 use super::pieces::{put, put_indentation};
 use super::words::Words;
 use std::alloc::AllocError;
-use steptree::{Block, Components, Expression, Slot};
+use steptree::{Block, Components, Expression, Slot, Statement};
 use terms::{ItemCollection, TagCollection};
 
 /// An assignment.
@@ -204,39 +204,39 @@ fn put_first(
 ) -> Result<(), AllocError>
     ensures { OnOk result (text.new.items ++ block_text words.now.graph.now (names_of_words words.now) level (behind block.now) ≡ text.old.items ++ block_text words.now.graph.now (names_of_words words.now) level block.now) }
 {
-    match block {
-        Block::End => Ok(()),
-        Block::Assign {
+    match &block.first {
+        Statement::End => Ok(()),
+        Statement::Assign {
             variable,
             value,
             ..
         } => put_assignment(text, words, level, *variable, value),
-        Block::If {
+        Statement::If {
             condition,
             first,
             second,
             ..
         } => put_choice(text, words, level, condition, first, second),
-        Block::For {
+        Statement::For {
             variable,
             from,
             to,
             block,
             ..
         } => put_loop(text, words, level, *variable, from, to, block),
-        Block::Get {
+        Statement::Get {
             variable,
             collection,
             components,
             ..
         } => put_get(text, words, level, *variable, *collection, components),
-        Block::PutItem {
+        Statement::PutItem {
             collection,
             components,
             value,
             ..
         } => put_item_put(text, words, level, *collection, components, value),
-        Block::PutTag {
+        Statement::PutTag {
             collection,
             components,
             ..
@@ -259,14 +259,14 @@ pub(crate) fn put_block(
     let mut left = block;
     loop {
         put_first(text, words, level, left)?;
-        match left {
-            Block::End => return Ok(()),
-            Block::Assign { rest, .. } => left = rest,
-            Block::If { rest, .. } => left = rest,
-            Block::For { rest, .. } => left = rest,
-            Block::Get { rest, .. } => left = rest,
-            Block::PutItem { rest, .. } => left = rest,
-            Block::PutTag { rest, .. } => left = rest,
+        match &left.first {
+            Statement::End => return Ok(()),
+            Statement::Assign { rest, .. } => left = rest,
+            Statement::If { rest, .. } => left = rest,
+            Statement::For { rest, .. } => left = rest,
+            Statement::Get { rest, .. } => left = rest,
+            Statement::PutItem { rest, .. } => left = rest,
+            Statement::PutTag { rest, .. } => left = rest,
         }
     }
 }

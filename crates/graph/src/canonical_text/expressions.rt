@@ -6,7 +6,7 @@ ghost use Rattle.graph.specs.Pieces.{after_colon, names_of_words};
 use super::pieces::{put, put_number};
 use super::words::Words;
 use std::alloc::AllocError;
-use steptree::{Components, Expression, Operator};
+use steptree::{Components, Expression, Node, Operator};
 use terms::{ItemCollection, TagCollection};
 
 /// What spells an operator.
@@ -37,15 +37,15 @@ pub(crate) fn put_expression(
 ) -> Result<(), AllocError>
     ensures { OnOk result (text.new.items ≡ text.old.items ++ expression_text words.now.graph.now (names_of_words words.now) expression.now) }
 {
-    match expression {
-        Expression::Number(number) => put_number(text, *number),
-        Expression::Variable(slot) => words.put_variable(text, *slot),
-        Expression::Negation(operand) => {
+    match &expression.node {
+        Node::Number(number) => put_number(text, *number),
+        Node::Variable(slot) => words.put_variable(text, *slot),
+        Node::Negation(operand) => {
             put(text, &["(-"])?;
             put_expression(text, words, operand)?;
             put(text, &[")"])
         }
-        Expression::Operation(operator, operands) => {
+        Node::Operation(operator, operands) => {
             let (left, right) = &**operands;
             put(text, &["("])?;
             put_expression(text, words, left)?;

@@ -1,5 +1,4 @@
 use Rattle.graph.proofs.FitKept.{fit_keeps, all_fit_keep}
-use Rattle.graph.proofs.FitsAlike.{state_of_alike, event_of_alike, events_of_alike}
 use Rattle.graph.proofs.FitsInParts.{in_parts, state_as_set, event_as_set, events_as_set}
 use Rattle.graph.proofs.law.fitting.Goals as goal
 
@@ -20,12 +19,3 @@ returns-clause-event_as_set c = event_as_set
 
 pub returns-clause-events_as_set : goal.returns-clause-events_as_set
 returns-clause-events_as_set c = events_as_set c.facts_are_told_apart.ensures.among
-
-pub returns-clause-state_of_alike : goal.returns-clause-state_of_alike
-returns-clause-state_of_alike c = λ g h E X same. state_of_alike g h same E X
-
-pub returns-clause-event_of_alike : goal.returns-clause-event_of_alike
-returns-clause-event_of_alike c = λ g h X event same. event_of_alike g h same X event
-
-pub returns-clause-events_of_alike : goal.returns-clause-events_of_alike
-returns-clause-events_of_alike c = λ g h before events same. events_of_alike g h same before events
