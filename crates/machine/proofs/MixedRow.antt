@@ -10,7 +10,6 @@ use Rattle.steptree.specs.Bodies.{Gives}
 use Rattle.steptree.specs.Laws.{LookUpEndsOnce}
 use Rattle.graph.specs.Graph.{Graph}
 use Rattle.graph.specs.Fits.{IsPrescribed}
-use Rattle.graph.specs.Examples.{Place}
 use Rattle.machine.specs.Meaning.{BodyGives, IsClosed}
 use Rattle.machine.specs.Mixed.{named_item, the_tag, of_step, two_putters, mixed, MixedIsRefused}
 use Rattle.machine.proofs.Grown.{one_ending}
@@ -18,9 +17,9 @@ use Rattle.machine.proofs.Kept.{Kept, Gave}
 use Rattle.machine.proofs.Rows.{all_in}
 use Rattle.machine.proofs.Within.{kept_from_nothing}
 
-module _ (place : Place) (told : OneFact) (both : AmongBoth) (once : LookUpEndsOnce) where
+module _ (told : OneFact) (both : AmongBoth) (once : LookUpEndsOnce) where
   abbrev G : Graph
-  G = two_putters place
+  G = two_putters
 
   -- what p and q give
   p_gives : (X : Facts) → BodyGives G X (of_step 0) (put.Item (named_item 0) (pos 1) ∷ [])
@@ -92,7 +91,7 @@ module _ (place : Place) (told : OneFact) (both : AmongBoth) (once : LookUpEndsO
       same_puts : (puts : List Put) → Gives puts ≡ Gives (put.Item (named_item 1) (pos 1) ∷ []) → puts ≡ put.Item (named_item 1) (pos 1) ∷ []
       same_puts puts same = cc
 
-  pub mixed_is_refused : MixedIsRefused place
+  pub mixed_is_refused : MixedIsRefused
   mixed_is_refused = record {
     within = λ fact there Y closed. each_is_in Y closed fact there;
     not_reached = λ it.

@@ -1,5 +1,4 @@
 //! Worked examples of what a graph means. Each is a contract, with nothing to run.
-ghost use Rattle.graph.specs.Examples.{Place};
 ghost use Rattle.machine.specs.Examples.{FiveNumbers, OneNumber, Conflict, PutTwice, Refused};
 ghost use Rattle.machine.specs.Mixed.{MixedIsRefused};
 
@@ -8,9 +7,9 @@ use terms::facts_are_told_apart;
 
 /// Four Fibonacci numbers in two orders; one number alone; and a number that is there before.
 pub fn fibonacci_numbers()
-    ensures five_numbers { (place : Place) → FiveNumbers place }
-    ensures one_number { (place : Place) → OneNumber place }
-    ensures conflict { (place : Place) → Conflict place }
+    ensures five_numbers { FiveNumbers }
+    ensures one_number { OneNumber }
+    ensures conflict { Conflict }
 {
     facts_are_told_apart();
     ends_once();
@@ -18,7 +17,7 @@ pub fn fibonacci_numbers()
 
 /// A step that puts one item twice is at fault, and cannot be done.
 pub fn item_put_twice()
-    ensures { (place : Place) → PutTwice place }
+    ensures { PutTwice }
 {
     facts_are_told_apart();
     ends_once();
@@ -26,7 +25,7 @@ pub fn item_put_twice()
 
 /// What the definitions refuse: sets that are not quiet, not closed or not meant, and lists that are not legal.
 pub fn refused_examples()
-    ensures { (place : Place) → Refused place }
+    ensures { Refused }
 {
     facts_are_told_apart();
     ends_once();
@@ -34,7 +33,7 @@ pub fn refused_examples()
 
 /// A state that is within the meaning, and that no legal list reaches: two steps put one item, and a third read what is not there.
 pub fn meant_and_not_reached()
-    ensures { (place : Place) → MixedIsRefused place }
+    ensures { MixedIsRefused }
 {
     facts_are_told_apart();
     ends_once();
