@@ -13,6 +13,8 @@ use Rattle.codec.specs.Spelling.{image_bytes, event_bytes, IsEvent, SpellsEvent,
 use Rattle.journal.specs.Records.{StandsFor, records}
 use Rattle.graph.specs.Graph.{Graph}
 use Rattle.graph.specs.Canonical.{canonical}
+use Rattle.graph.specs.Reads.{Reads}
+use Rattle.graph.specs.Textual.{OneReading}
 use Rattle.sides.specs.Image.{image_facts, image_environment}
 use Rattle.sides.specs.Side.{FORMAT, counted, behind_gate, HasGeneration, IsSide, SameSide, end_of}
 
@@ -56,11 +58,11 @@ events_once each (d ∷ ds) (e ∷ es) first second same =
 pub parts_of : (l t i j : List ℕ) → l ++ t ++ i ++ j ≡ l ++ (t ++ (i ++ j))
 parts_of l t i j = append_assoc (l ++ t) i j ∙ append_assoc l t (i ++ j)
 
-module _ (one_event : SpellsOne SpellsEvent) (one_image : SpellsOne SpellsImage) (one_list : (bytes : List ℕ) (one two : List (List ℕ)) → StandsFor bytes one → StandsFor bytes two → one ≡ two) where
+module _ (one_event : SpellsOne SpellsEvent) (one_image : SpellsOne SpellsImage) (one_list : (bytes : List ℕ) (one two : List (List ℕ)) → StandsFor bytes one → StandsFor bytes two → one ≡ two) (one_reading : OneReading) where
   pub one_meaning : (bytes : List ℕ) (g h : Graph) (m n : ℕ) (E F X Y : Facts) → IsSide bytes g m E X → IsSide bytes h n F Y → SameSide g h m n E F X Y
   one_meaning bytes g h m n E F X Y one two = record {
     generation = numbers.0;
-    text = texts.0;
+    graph = one_reading (canonical h) g h (subst (λ (text : List ℕ). Reads text g) texts.0 one.reads) two.reads;
     environment = λ fact. one.environment fact ∙ ap (λ (list : List Fact). among list fact) given ∙ sym (two.environment fact);
     facts = λ fact. one.facts fact ∙ ap (λ (list : List Fact). among list fact) stated ∙ sym (two.facts fact);
   }

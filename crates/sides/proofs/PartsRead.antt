@@ -11,9 +11,8 @@ use Rattle.journal.specs.Records.{StandsFor}
 use Rattle.graph.specs.Graph.{Graph}
 use Rattle.graph.specs.Canonical.{canonical}
 use Rattle.graph.specs.Reads.{Reads}
-use Rattle.graph.specs.Fits.{AllFit}
-use Rattle.graph.specs.FitLaws.{StateOfAlike, EventsOfAlike}
-use Rattle.graph.specs.Textual.{SameGraph, OneReading}
+use Rattle.graph.specs.Fits.{AllFit, FitsState}
+use Rattle.graph.specs.Textual.{OneReading}
 use Rattle.sides.specs.Image.{image_facts, image_environment, facts_in, environment_in}
 use Rattle.sides.specs.Side.{FORMAT, counted, behind_gate, HasGeneration, IsSide, end_of}
 use Rattle.sides.specs.Reading.{IsCountedAt, HasNoneAt, IsTextOf, IsImageOf, AreEvents, IsReplayed}
@@ -106,8 +105,8 @@ module _ (bytes : List ℕ) (h : Graph) (n : ℕ) (E X : Facts) (side : IsSide b
     has_image none = none (image_bytes side.image) side.journal (omega (arith, side.counted_image)) texts.1
 
     module _ (one_reading : OneReading) (g : Graph) (is_text : IsTextOf text g) where
-      alike : SameGraph h g
-      alike = one_reading text h g is_its_text.0 is_text.0
+      same : h ≡ g
+      same = one_reading text h g is_its_text.0 is_text.0
 
       module _ (part : List ℕ) (counted_part : IsCountedAt bytes (14 + length text) part) where
         images : (part ≡ image_bytes side.image) × (drop (14 + length text + 4 + length part) bytes ≡ side.journal)
@@ -115,14 +114,14 @@ module _ (bytes : List ℕ) (h : Graph) (n : ℕ) (E X : Facts) (side : IsSide b
             (sym counted_part.spelled ∙ texts.1)
 
         -- which fits
-        pub is_its_image : StateOfAlike → IsImageOf g part side.image
-        is_its_image state = ((side.is_image, images.0), state h g (among (image_environment side.image)) (among (image_facts side.image)) alike side.image_fits)
+        pub is_its_image : IsImageOf g part side.image
+        is_its_image = ((side.is_image, images.0), subst (λ (graph : Graph). FitsState graph (among (image_environment side.image)) (among (image_facts side.image))) same side.image_fits)
 
         -- and a journal of events that fit behind the image
-        pub are_its_events : EventsOfAlike → SpellsOne SpellsImage → (image : Image) → IsImageOf g part image → AreEvents g image (drop (14 + length text + 4 + length part) bytes) side.events
-        are_its_events events one_image image is_image = record {
+        pub are_its_events : SpellsOne SpellsImage → (image : Image) → IsImageOf g part image → AreEvents g image (drop (14 + length text + 4 + length part) bytes) side.events
+        are_its_events one_image image is_image = record {
           are_events = side.are_events;
           stands = subst (λ (journal : List ℕ). StandsFor journal (map event_bytes side.events)) (sym images.1) side.records;
           fit = subst (λ (read : Image). AllFit g (image_facts read) side.events) (one_image part side.image image (side.is_image, images.0) is_image.0)
-              (events h g (image_facts side.image) side.events alike side.events_fit);
+              (subst (λ (graph : Graph). AllFit graph (image_facts side.image) side.events) same side.events_fit);
         }

@@ -61,10 +61,10 @@ end_of side = start_of side + length (records (map event_bytes side.events))
 
 -- ---- laws
 
--- the bytes of a side stand for one generation, one graph's text and one set of facts at most
+-- the bytes of a side stand for one generation, one graph and one set of facts at most
 pub record SameSide (g h : Graph) (m n : ℕ) (E F X Y : Facts) : Type 0 where
   pub generation : m ≡ n
-  pub text : canonical g ≡ canonical h
+  pub graph : g ≡ h
   pub environment : (fact : Fact) → E fact ≡ F fact
   pub facts : (fact : Fact) → X fact ≡ Y fact
 

@@ -36,11 +36,6 @@ abbrev pub SideAsSet : Type 0
 SideAsSet = (bytes : List ℕ) (g : Graph) (generation : ℕ) (E F X Y : Facts) → SameSet E F → SameSet X Y → (side : IsSide bytes g generation E X)
     → (same : IsSide bytes g generation F Y) × (end_of same ≡ end_of side)
 
--- nor which graph of its text it is
-abbrev pub SideOfText : Type 0
-SideOfText = (bytes : List ℕ) (g h : Graph) (generation : ℕ) (E X : Facts) → Reads (canonical h) h → canonical g ≡ canonical h → (side : IsSide bytes g generation E X)
-    → (same : IsSide bytes h generation E X) × (end_of same ≡ end_of side)
-
 -- the facts of a side fit its graph
 abbrev pub SideFits : Type 0
 SideFits = (bytes : List ℕ) (g : Graph) (generation : ℕ) (E X : Facts) → IsSide bytes g generation E X → FitsState g E X

@@ -1,13 +1,13 @@
 //! The laws of what a side stands for. Each is a contract, with nothing to run.
 ghost use Rattle.sides.specs.Side.{OneMeaning, StandsWithGeneration, OneGeneration, AnyRest};
-ghost use Rattle.sides.specs.SideLaws.{HasJournal, StaysAlike, GrowsByEvent, SideAsSet, SideOfText, SideFits, BeginsSide, ListedOnce};
+ghost use Rattle.sides.specs.SideLaws.{HasJournal, StaysAlike, GrowsByEvent, SideAsSet, SideFits, BeginsSide, ListedOnce};
 
 use codec::{spellings_of_events, spellings_of_images};
 use graph::{fitting, one_reading};
 use journal::one_meaning;
 use terms::{facts_are_told_apart, facts_go_on, orders_are_total};
 
-/// The bytes of a side stand for one graph text, one generation and one set of facts at most, whatever lies behind the gate
+/// The bytes of a side stand for one graph, one generation and one set of facts at most, whatever lies behind the gate
 /// that ends its journal.
 pub fn one_meaning_of_a_side()
     ensures one { OneMeaning }
@@ -18,24 +18,22 @@ pub fn one_meaning_of_a_side()
     spellings_of_events();
     spellings_of_images();
     one_meaning();
+    one_reading();
 }
 
 /// What a side's bytes stand for when others follow its image: the same where they are a journal of the same events, what an
-/// event more leaves where they are a journal of one event more; and the same for each graph of its text. Its facts fit its graph,
-/// and an image that fits makes a side.
+/// event more leaves where they are a journal of one event more. Its facts fit its graph, and an image that fits makes a side.
 pub fn sides_go_on()
     ensures journal { HasJournal }
     ensures alike { StaysAlike }
     ensures grows { GrowsByEvent }
     ensures as_set { SideAsSet }
-    ensures of_text { SideOfText }
     ensures fits { SideFits }
     ensures begins { BeginsSide }
 {
     facts_are_told_apart();
     facts_go_on();
     fitting();
-    one_reading();
 }
 
 /// An image whose lists rise has one item at an address.

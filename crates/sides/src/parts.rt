@@ -9,9 +9,7 @@ ghost use Rattle.sides.specs.Reading.{IsCountedAt, HasNoneAt, IsTextOf, IsImageO
 use crate::Holdings;
 use byteorder::{ByteOrder, LittleEndian};
 use codec::{CodecError, decode_image, spellings_of_images};
-use graph::{
-    Graph, GraphError, canonical, one_canonical_text, one_reading, parse, reads_without_fault,
-};
+use graph::{Graph, GraphError, canonical, one_reading, parse, reads_without_fault};
 use std::alloc::{AllocError, Global};
 
 /// The bytes in front of a part that are its length.
@@ -39,7 +37,6 @@ pub(crate) fn read_graph(alloc: Global, text: &[u8]) -> Result<Option<Graph>, Al
 {
     reads_without_fault();
     one_reading();
-    one_canonical_text();
     match parse(alloc, text) {
         Ok(graph) => {
             let own = canonical(alloc, &graph)?;

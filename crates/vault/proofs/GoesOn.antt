@@ -12,9 +12,9 @@ use Rattle.terms.specs.Commits.{Commit, events_of, facts_behind, environment_beh
 use Rattle.terms.specs.Facts.{Fact, facts, environment, FactsGoOn, EnvironmentGoesOn}
 use Rattle.terms.specs.Sets.{Facts, among, with_facts, stated, AmongBoth}
 use Rattle.graph.specs.Graph.{Graph}
-use Rattle.graph.specs.Canonical.{canonical}
-use Rattle.sides.specs.Side.{IsSide, end_of}
-use Rattle.sides.specs.SideLaws.{HasJournal, SideAsSet, SideOfText}
+use Rattle.graph.specs.FitLaws.{SameSet}
+use Rattle.sides.specs.Side.{end_of}
+use Rattle.sides.specs.SideLaws.{HasJournal, SideAsSet}
 use Rattle.vault.specs.declared.vault.Vault.{Vault}
 use Rattle.vault.specs.Opened.{contents_of}
 use Rattle.vault.specs.Stands.{IsLive, Stands, OneStore}
@@ -191,27 +191,25 @@ module _ {D : Type 0} (files : D → Side → File) (moment : D → ℕ) (left_a
   pub gates_go_on : ((disk : D) → MayLeaveNow (files disk) (contents_of (files disk))) → GatesGoOn files moment left_at
   gates_go_on reads_left = behind_openings reads_left HasGates
 
-  -- a vault holds what its live side stands for too
-  holds_too : (vault : Vault D) (g h : Graph) (E F X Y : Facts) (it : Holds files vault g E X)
-      → (too : IsSide (it.contents vault.journal.side) h vault.generation F Y) × (end_of too ≡ end_of it.is_live.is_side)
-      → canonical g ≡ canonical h → Holds files vault h F Y
-  holds_too vault g h E F X Y it too text = record {
-    contents = it.contents;
-    rests = it.rests;
-    is_live = record { is_side = too.0; behind = it.is_live.behind };
-    ends = it.ends ∙ sym too.1;
-    text = it.text ∙ text;
-  }
+  -- a vault holds facts however they are listed
+  holds_as_set : SideAsSet → (vault : Vault D) (g : Graph) (E F X Y : Facts) → SameSet F E → SameSet Y X → Holds files vault g F Y → Holds files vault g E X
+  holds_as_set as_set vault g E F X Y given same it =
+      let too = as_set (it.contents vault.journal.side) g vault.generation F E Y X given same it.is_live.is_side in
+      record {
+        contents = it.contents;
+        rests = it.rests;
+        is_live = record { is_side = too.0; behind = it.is_live.behind };
+        ends = it.ends ∙ sym too.1;
+        text = it.text;
+      }
 
-  module _ (as_set : SideAsSet) (of_text : SideOfText) (one_store : OneStore) where
+  module _ (as_set : SideAsSet) (one_store : OneStore) where
     pub finds : OpeningFinds files moment left_at
     finds disk g E X stands vault h F Y it same =
         let read : it.contents ≡ contents_of (files disk) = λ i side. (ap (λ (f : File). f.content) (sym (it.rests side)) ∙ same side) i in
         let found = subst (λ (contents : Contents). Stands contents h F Y) read (vault.journal.side, vault.generation, it.is_live) in
         let one = one_store (contents_of (files disk)) h g F E Y X found stands in
-        let facts_too = as_set (it.contents vault.journal.side) h vault.generation F E Y X one.1 one.2 it.is_live.is_side in
-        let text_too = of_text (it.contents vault.journal.side) h g vault.generation E X stands.2.is_side.reads one.0 facts_too.0 in
-        (holds_too vault h g F E Y X it (text_too.0, text_too.1 ∙ facts_too.1) one.0, one.0, one.1, one.2)
+        (subst (λ (graph : Graph). Holds files vault graph E X) one.0 (holds_as_set as_set vault h E F X Y one.1 one.2 it), one.0, one.1, one.2)
 
     pub goes_on : ((disk : D) → MayLeaveNow (files disk) (contents_of (files disk))) → StoreGoesOn files moment left_at
     goes_on reads_left g E X acknowledged pending before after crashed last openings only left ended =

@@ -6,7 +6,6 @@ use Rattle.disk.specs.Time.{Contents}
 use Rattle.terms.specs.Facts.{Fact}
 use Rattle.terms.specs.Sets.{Facts}
 use Rattle.graph.specs.Graph.{Graph}
-use Rattle.graph.specs.Canonical.{canonical}
 use Rattle.sides.specs.Side.{IsSide, IsOpen, OneMeaning, StandsWithGeneration, OneGeneration, AnyRest}
 use Rattle.vault.specs.Stands.{IsBehind, IsLive, Stands, AnyTail}
 
@@ -24,16 +23,16 @@ module _ (one_meaning : OneMeaning) (generation : StandsWithGeneration) (one_gen
       omega (arith, smaller two h n m F Y second behind, smaller one g m n E X first front)
 
   pub one_store : (contents : Contents) (g h : Graph) (E F X Y : Facts) → Stands contents g E X → Stands contents h F Y
-      → (canonical g ≡ canonical h) × ((fact : Fact) → E fact ≡ F fact) × ((fact : Fact) → X fact ≡ Y fact)
+      → (g ≡ h) × ((fact : Fact) → E fact ≡ F fact) × ((fact : Fact) → X fact ≡ Y fact)
   one_store contents g h E F X Y one two = of_live one.0 two.0 one.1 two.1 one.2 two.2
     where
       same : (side : Side) (m n : ℕ) → IsLive contents side m g E X → IsLive contents side n h F Y
-          → (canonical g ≡ canonical h) × ((fact : Fact) → E fact ≡ F fact) × ((fact : Fact) → X fact ≡ Y fact)
+          → (g ≡ h) × ((fact : Fact) → E fact ≡ F fact) × ((fact : Fact) → X fact ≡ Y fact)
       same side m n first second =
-          let it = one_meaning (contents side) g h m n E F X Y first.is_side second.is_side in (it.text, it.environment, it.facts)
+          let it = one_meaning (contents side) g h m n E F X Y first.is_side second.is_side in (it.graph, it.environment, it.facts)
 
       of_live : (side other : Side) (m n : ℕ) → IsLive contents side m g E X → IsLive contents other n h F Y
-          → (canonical g ≡ canonical h) × ((fact : Fact) → E fact ≡ F fact) × ((fact : Fact) → X fact ≡ Y fact)
+          → (g ≡ h) × ((fact : Fact) → E fact ≡ F fact) × ((fact : Fact) → X fact ≡ Y fact)
       of_live A A m n first second = same A m n first second
       of_live B B m n first second = same B m n first second
       of_live A B m n first second = absurd (not_both (contents A) (contents B) g h m n E F X Y first.is_side first.behind second.is_side second.behind)

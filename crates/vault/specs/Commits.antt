@@ -13,7 +13,6 @@ use Rattle.terms.specs.Commits.{Commit, facts_behind, environment_behind}
 use Rattle.terms.specs.Facts.{Fact, facts, environment}
 use Rattle.terms.specs.Sets.{Facts, with_facts, stated}
 use Rattle.graph.specs.Graph.{Graph}
-use Rattle.graph.specs.Canonical.{canonical}
 use Rattle.graph.specs.FitLaws.{SameSet}
 use Rattle.vault.specs.declared.vault.Vault.{Vault}
 use Rattle.vault.specs.Opened.{contents_of}
@@ -119,20 +118,20 @@ module _ {D : Type 0} (files : D → Side → File) (moment : D → ℕ) (left_a
 
   -- ---- laws: what an opening gives
 
-  -- Where the files stand for a graph and facts, that is what an opening finds: the vault that it gives holds them, and the graph that
-  -- it gives has the same text.
+  -- Where the files stand for a graph and facts, that is what an opening finds: the vault that it gives holds them, and it gives that
+  -- graph.
   abbrev pub OpeningFinds : Type 0
   OpeningFinds = (disk : D) (g : Graph) (E X : Facts) → Stands (contents_of (files disk)) g E X
       → (vault : Vault D) (h : Graph) (F Y : Facts) → Holds files vault h F Y → ((side : Side) → (files vault.disk side).content ≡ (files disk side).content)
-      → Holds files vault g E X × (canonical h ≡ canonical g) × SameSet F E × SameSet Y X
+      → Holds files vault g E X × (h ≡ g) × SameSet F E × SameSet Y X
 
   -- From a call to the next one: at each moment of a call a crash leaves a beginning of the commit order with each acknowledged commit. A
   -- crash at one of them left a disk, behind which openings were cut off or refused. Then the files stand for such a beginning, so none
-  -- of these said that they stand for nothing; and what an opening gives is a store of it, of the same graph's text, for the next call.
+  -- of these said that they stand for nothing; and what an opening gives is a store of it, of the same graph, for the next call.
   abbrev pub StoreGoesOn : Type 0
   StoreGoesOn = (g : Graph) (E X : Facts) (acknowledged pending : List Commit) (before after crashed last : D) (openings : List (D × D))
       → LeavesOnly moment left_at before after (StandsForBeginning g E X acknowledged pending) → IsLeft before after crashed → Openings crashed openings last
       → (it : StandsForBeginning g E X acknowledged pending (contents_of (files last)))
       × ((vault : Vault D) (h : Graph) (F Y : Facts) → Holds files vault h F Y → ((side : Side) → (files vault.disk side).content ≡ (files last side).content)
-      → IsStoreOf files vault g E X (acknowledged ++ it.made) × (canonical h ≡ canonical g)
+      → IsStoreOf files vault g E X (acknowledged ++ it.made) × (h ≡ g)
       × SameSet F (environment_behind E (acknowledged ++ it.made)) × SameSet Y (facts_behind X (acknowledged ++ it.made)))

@@ -5,7 +5,6 @@ use Rattle.disk.specs.declared.side.Side.TheVariants.{A, B}
 use Rattle.disk.specs.Time.{Contents}
 use Rattle.terms.specs.Sets.{Facts}
 use Rattle.graph.specs.Graph.{Graph}
-use Rattle.graph.specs.Canonical.{canonical}
 use Rattle.terms.specs.Facts.{Fact}
 use Rattle.sides.specs.Side.{IsSide, IsOpen, HasGeneration, end_of}
 
@@ -28,10 +27,10 @@ Stands contents g E X = (live : Side) × (generation : ℕ) × IsLive contents l
 
 -- ---- laws
 
--- two files stand for one graph's text and one set of facts at most
+-- two files stand for one graph and one set of facts at most
 abbrev pub OneStore : Type 0
 OneStore = (contents : Contents) (g h : Graph) (E F X Y : Facts) → Stands contents g E X → Stands contents h F Y
-    → (canonical g ≡ canonical h) × ((fact : Fact) → E fact ≡ F fact) × ((fact : Fact) → X fact ≡ Y fact)
+    → (g ≡ h) × ((fact : Fact) → E fact ≡ F fact) × ((fact : Fact) → X fact ≡ Y fact)
 
 -- behind the closed gate that ends the live side's journal there may be any bytes, and in the other file any that are behind it
 abbrev pub AnyTail : Type 0

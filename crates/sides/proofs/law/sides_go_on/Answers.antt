@@ -1,5 +1,4 @@
 use Rattle.sides.proofs.BeginsSides.{side_as_set, side_fits, begins_side}
-use Rattle.sides.proofs.OfText.{side_of_text}
 use Rattle.sides.proofs.GoesOn.{has_journal, stays_alike, grows_by_event}
 use Rattle.sides.proofs.law.sides_go_on.Goals as goal
 
@@ -15,9 +14,6 @@ returns-clause-grows c =
 
 pub returns-clause-as_set : goal.returns-clause-as_set
 returns-clause-as_set c = side_as_set
-
-pub returns-clause-of_text : goal.returns-clause-of_text
-returns-clause-of_text c = side_of_text c.one_reading.ensures c.fitting.ensures.state_of_alike c.fitting.ensures.events_of_alike
 
 pub returns-clause-fits : goal.returns-clause-fits
 returns-clause-fits c = side_fits c.fitting.ensures.all_keep c.fitting.ensures.state_as_set

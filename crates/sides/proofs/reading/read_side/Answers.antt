@@ -29,7 +29,7 @@ returns-in_default-3-clause-nothing c place is g n E X side =
     let part = c.in-Some-counted_at.image.now in
     let is_text : IsTextOf text graph = rw c.in-Some-2.is at c.in_ok-graph.ensures in
     let none : (image : Image) → IsImageOf graph part image → ⊥ = rw c.in_default-3.is at c.in_ok-holdings.ensures.image in
-    none side.image (is_its_image c.args.bytes.now g n E X side text c.in-Some.ensures c.one_reading.ensures graph is_text part c.in-Some-counted_at.ensures c.fitting.ensures.state_of_alike)
+    none side.image (is_its_image c.args.bytes.now g n E X side text c.in-Some.ensures c.one_reading.ensures graph is_text part c.in-Some-counted_at.ensures)
 
 pub returns-in-Ended-clause-read : goal.returns-in-Ended-clause-read
 returns-in-Ended-clause-read c n has =
@@ -65,5 +65,4 @@ returns-in-Broken-clause-nothing c place is g n E X side =
     let there : (events : List Event) → AreEvents graph image (take (length bytes - start) (drop start bytes)) events → ⊥ = rw c.in-Broken.is at c.in_ok-end.ensures.events in
     let none : (events : List Event) → AreEvents graph image (drop start bytes) events → ⊥ =
     subst (λ (journal : List ℕ). (events : List Event) → AreEvents graph image journal events → ⊥) (take_rest bytes start) there in
-    none side.events (are_its_events bytes g n E X side text c.in-Some.ensures c.one_reading.ensures graph is_text part c.in-Some-counted_at.ensures
-    c.fitting.ensures.events_of_alike c.spellings_of_images.ensures.one image is_image)
+    none side.events (are_its_events bytes g n E X side text c.in-Some.ensures c.one_reading.ensures graph is_text part c.in-Some-counted_at.ensures c.spellings_of_images.ensures.one image is_image)

@@ -41,9 +41,9 @@ returns-clause-gates_go_on g c honest = store.gates_go_on g.D.Disk.files g.D.Dis
 pub returns-clause-finds : goal.returns-clause-finds
 returns-clause-finds g c =
     store.finds g.D.Disk.files g.D.Disk.moment g.D.Disk.left_at
-    c.sides_go_on.ensures.as_set c.sides_go_on.ensures.of_text c.one_store.ensures.one
+    c.sides_go_on.ensures.as_set c.one_store.ensures.one
 
 pub returns-clause-goes_on : goal.returns-clause-goes_on
 returns-clause-goes_on g c honest =
     store.goes_on g.D.Disk.files g.D.Disk.moment g.D.Disk.left_at
-    c.sides_go_on.ensures.as_set c.sides_go_on.ensures.of_text c.one_store.ensures.one (g.met.D.Disk.reads_left honest)
+    c.sides_go_on.ensures.as_set c.one_store.ensures.one (g.met.D.Disk.reads_left honest)
