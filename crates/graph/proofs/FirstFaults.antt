@@ -1,6 +1,6 @@
 -- The first of the faults of several parts.
 use Rattle.std.proofs.Common.{◌≡◌, Bool, true, false, ℕ, List, [], ◌∷◌, ◌++◌, sym, ap, subst, inl, inr}
-use Rattle.std.specs.Prelude.{Result, Ok, Err, IsErrAnd, MatchResult}
+use Rattle.std.specs.Prelude.{Result, Ok, Err, IfErr, IsErrAnd, MatchResult}
 use Rattle.graph.specs.declared.fault.GraphError.{GraphError}
 use Rattle.graph.specs.declared.fault.PlacedFault.{PlacedFault}
 use Rattle.graph.specs.Faults.{At, fault_if}
@@ -40,3 +40,8 @@ relation_passed_on P faults (Err other) fault is first = subst (IsFirst faults) 
 pub fault_passed_on : {X : Type 0} (P : X → Type 0) (Q : PlacedFault → Type 0) (result : Result X PlacedFault) (fault : PlacedFault) → IsErrAnd result (λ other. other ≡ fault) → Q fault → MatchResult result P Q
 fault_passed_on P Q (Ok value) fault is it = absurd is
 fault_passed_on P Q (Err other) fault is it = subst Q (sym is) it
+
+-- the same, where nothing is said of a value
+pub err_passed_on : {X : Type 0} (Q : PlacedFault → Type 0) (result : Result X PlacedFault) (fault : PlacedFault) → IsErrAnd result (λ other. other ≡ fault) → Q fault → IfErr result Q
+err_passed_on Q (Ok value) fault is it = absurd is
+err_passed_on Q (Err other) fault is it = subst Q (sym is) it

@@ -63,3 +63,4 @@ mod Texts
 mod Ties
 mod TreeFaultKinds
 mod Unmarked
+mod ParsedTexts

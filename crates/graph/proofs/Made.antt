@@ -1,5 +1,5 @@
 -- The graph that is made of a tree without a fault: it is kept, and it is the tree's.
-use Rattle.std.proofs.Common.{◌≡◌, ◌<◌, ◌^◌, ℕ, zero, suc, Bool, List, [], ◌∷◌, length, map, get_or, Some, refl, sym, ap, ◌∙◌, slice_get, arith}
+use Rattle.std.proofs.Common.{◌≡◌, ◌<◌, ◌≤◌, ◌^◌, ℕ, zero, suc, Bool, List, [], ◌∷◌, length, map, get_or, Some, refl, sym, ap, ◌∙◌, slice_get, arith}
 use Rattle.std.specs.Prelude.{Vec}
 use Rattle.std.specs.List.{AllByRecursion}
 use Rattle.std.specs.declared.alloc.Global.{Global}
@@ -15,11 +15,16 @@ use Rattle.graph.specs.declared.graph.Prescribed.{Prescribed}
 use Rattle.graph.specs.declared.resolved.Resolved.{Resolved}
 use Rattle.graph.specs.CheckedSteps.{IsCheckedStep, AreCheckedSteps}
 use Rattle.graph.specs.Faults.{tree_faults}
-use Rattle.graph.specs.Graph.{Collection, Graph}
-use Rattle.graph.specs.Inside.{collection_seen, step_seen, graph_seen, IsKept}
+use Rattle.graph.specs.declared.limits.TheConstants.{MOST_TEXT}
+use Rattle.graph.specs.Canonical.{canonical}
+use Rattle.graph.specs.Graph.{Collection, Graph, IsGraph}
+use Rattle.graph.specs.Inside.{graph_seen, IsKept}
+use Rattle.graph.specs.Seen.{collection_seen, step_seen}
 use Rattle.graph.specs.Prescribed.{numbers_of, ArePrescriptions}
+use Rattle.graph.specs.Reads.{Reads, IsOfText}
 use Rattle.graph.specs.Resolved.{IsResolved}
 use Rattle.graph.specs.Small.{IsSmall}
+use Rattle.graph.specs.Textual.{CanonicalReads, ReadsTextual}
 use Rattle.graph.specs.Tree.{text_of, items_of, tags_of, names_in, each_of, prescriber_of, is_environment_item_put, is_environment_tag_put, is_environment_get, IsStepOf, IsGraphOf}
 use Rattle.graph.proofs.Faultless.{items_apart, tags_apart}
 use Rattle.graph.proofs.GraphsOfTrees.{graph_is}
@@ -118,9 +123,27 @@ module _ (tree : Tree) (resolved : Resolved) (steps : List (Text × Prescribed))
       ap f same
   mapped_at f (first ∷ xs) (suc number) x default there = mapped_at f xs number x default there
 
-  pub is_kept : IsKept inside
-  is_kept = record {
-    graph = graph_is tree g small none is_its_graph;
+  pub is_graph : IsGraph g
+  is_graph = graph_is tree g small none is_its_graph
+
+  -- the graph with these rows of the environment, which are its own
+  abbrev pub rowed : List Bool → List Bool → List Bool → Graph
+  rowed item_puts tag_puts gets =
+      record { items = g.items; tags = g.tags; steps = g.steps; environment_item_puts = item_puts; environment_tag_puts = tag_puts; environment_gets = gets }
+
+  pub with_rows : (item_puts tag_puts gets : List Bool) → item_puts ≡ g.environment_item_puts → tag_puts ≡ g.environment_tag_puts → gets ≡ g.environment_gets → rowed item_puts tag_puts gets ≡ g
+  with_rows item_puts tag_puts gets one two three = λ i. rowed (one i) (two i) (three i)
+
+  -- the text that the tree was read from reads as the graph, and so does its canonical text, where that is not too long
+  pub canonical_reads_back : CanonicalReads → ReadsTextual → IsOfText tree → length (canonical g) ≤ MOST_TEXT → Reads (canonical g) g
+  canonical_reads_back back textual of_text short =
+      let reads : Reads of_text.0 g = record { short = of_text.1.0; ascii = of_text.1.1; tree = tree; read = of_text.2; no_fault = none; graph = is_its_graph; canonical = short } in
+      back g (textual of_text.0 g reads) short
+
+  pub is_kept : Reads (canonical g) g → IsKept inside
+  is_kept reads = record {
+    graph = is_graph;
+    reads = reads;
     long = sym (as_many_mapped (λ (steps : Vec StepCollection Global). map (λ step. step.0) steps.items) prescribes.items) ∙ lists.long;
     prescribes = λ number those there.
         let within = slice_get_within prescribes.items number those there in

@@ -12,7 +12,7 @@ use Rattle.terms.specs.declared.name.StepCollection.{StepCollection}
 use Rattle.steptree.specs.Names.{Text}
 use Rattle.graph.specs.declared.graph.Prescribed.{Prescribed}
 use Rattle.graph.specs.Graph.{Step}
-use Rattle.graph.specs.Inside.{step_seen}
+use Rattle.graph.specs.Seen.{step_seen}
 use Rattle.graph.specs.Prescribed.{prescribed_from, numbers_of, ArePrescriptions}
 use Rattle.graph.proofs.Lists.{with_none}
 use Rattle.graph.proofs.Marks.{long_as_before, stood}

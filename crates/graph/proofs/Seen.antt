@@ -4,9 +4,8 @@ use Rattle.std.specs.Prelude.{◌==◌, option_map}
 use Rattle.std.proofs.Common.{eqb-true}
 use Rattle.steptree.specs.Names.{Text}
 use Rattle.graph.specs.declared.graph.Prescribed.{Prescribed}
-use Rattle.graph.specs.declared.graph.Graph.TheInside.{Inside}
 use Rattle.graph.specs.Graph.{Step, Graph, IsGraph}
-use Rattle.graph.specs.Inside.{collection_seen, step_seen, graph_seen}
+use Rattle.graph.specs.Seen.{collection_seen, step_seen}
 use Rattle.graph.specs.Numbered.{names_numbered}
 use Rattle.graph.specs.Prescribed.{prescribed_by, prescribed_from, names_of_steps}
 use Rattle.graph.specs.Tree.{names_in}
@@ -65,8 +64,9 @@ its_entry (entry ∷ steps) zero it there =
 its_entry (entry ∷ steps) (suc number) it there = its_entry steps number it there
 
 -- a step of a graph has at least as many names as parameters
-pub enough_names : (g : Inside) (number : ℕ) (it : Prescribed) → IsGraph (graph_seen g) → Some it ≡ option_map (λ entry. entry.1) (slice_get g.steps number) → it.checked.parameters ≤ length it.checked.names.items
-enough_names g number it graph there =
-    let entry = its_entry g.steps number it there in
-    let of_graph = graph.steps number (step_seen (entry.0, it)) entry.1 in
+pub enough_names : (g : Graph) (steps : List (Text × Prescribed)) → g.steps ≡ map step_seen steps → (number : ℕ) (it : Prescribed) → IsGraph g → Some it ≡ option_map (λ entry. entry.1) (slice_get steps number)
+    → it.checked.parameters ≤ length it.checked.names.items
+enough_names g steps same number it graph there =
+    let entry = its_entry steps number it there in
+    let of_graph = graph.steps number (step_seen (entry.0, it)) (ap (λ (all : List Step). slice_get all number) same ∙ entry.1) in
     omega (arith, of_graph.parameters, as_many_mapped (λ name. name.bytes.items) it.checked.names.items)

@@ -6,7 +6,7 @@ use Rattle.graph.specs.declared.fault.GraphError.TheVariants.{Redeclared}
 use Rattle.graph.specs.declared.declarations.Collections.{Collections}
 use Rattle.graph.specs.Graph.{Collection, declared_collections}
 use Rattle.graph.specs.Faults.{At, fault_if, has}
-use Rattle.graph.specs.Inside.{collection_seen}
+use Rattle.graph.specs.Seen.{collection_seen}
 use Rattle.graph.specs.Tree.{text_of}
 
 -- a name that stands before

@@ -10,12 +10,14 @@ pub mod Graph
 pub mod Inside
 pub mod Marks
 pub mod Numbered
+pub mod Parts
 pub mod Pieces
 pub mod Placed
 pub mod Prescribed
 pub mod Reads
 pub mod Relations
 pub mod Resolved
+pub mod Seen
 pub mod Small
 pub mod Steps
 pub mod Textual

@@ -12,6 +12,10 @@ use Rattle.graph.specs.Faults.{At}
 abbrev pub no_memory : PlacedFault
 no_memory = record { error = error.NoMemory; position = 0 }
 
+-- the text is too large as a whole
+abbrev pub too_large : PlacedFault
+too_large = record { error = error.TooLarge; position = 0 }
+
 -- memory was refused, or it is the first of these faults
 abbrev pub IsFirst : List At → PlacedFault → Type 0
 IsFirst faults fault = (fault ≡ no_memory) ⊎ (slice_get faults 0 ≡ Some (fault.error, fault.position))

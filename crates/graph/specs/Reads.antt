@@ -71,6 +71,17 @@ pub record HasLongText (text : List ℕ) : Type 0 where
 abbrev pub IsPlain : List ℕ → Type 0
 IsPlain text = (length text ≤ MOST_TEXT) × AllByRecursion (λ byte. byte < 128) text
 
+-- some such text is read as the tree
+abbrev pub IsOfText : Tree → Type 0
+IsOfText tree = (text : List ℕ) × IsPlain text × IsRead text tree
+
+-- the tree has no fault but that its graph's canonical text is too long
+pub record IsLong (tree : Tree) : Type 0 where
+  pub no_fault : tree_faults tree ≡ []
+  pub g : Graph
+  pub graph : IsGraphOf tree g
+  pub long : MOST_TEXT < length (canonical g)
+
 -- the cause of a fault at a position
 abbrev pub IsCause : List ℕ → GraphError → ℕ → Type 0
 IsCause text error.NotAscii position = IsNotAscii text position

@@ -2,7 +2,7 @@ ghost use Rattle.std.specs.Prelude.{◌≡◌, ◌≤◌, ◌++◌, ℕ, List, [
 ghost use Rattle.std.specs.List.{flat_map};
 ghost use Rattle.std.specs.Option.{option_map};
 ghost use Rattle.graph.specs.Canonical.{canonical, declaration_lines, in_angles, in_brackets, step_relations, step_text};
-ghost use Rattle.graph.specs.Inside.{step_seen};
+ghost use Rattle.graph.specs.Seen.{step_seen};
 ghost use Rattle.graph.specs.Graph.{Graph};
 ghost use Rattle.graph.specs.Pieces.{where_there};
 ghost use Rattle.graph.specs.Reads.{Reads};
@@ -17,14 +17,15 @@ mod ties;
 mod words;
 
 use crate::graph::{Graph, Prescribed};
-use crate::{canonical_reads, one_reading, reads_textual};
+use crate::one_reading;
+use crate::parts::Parts;
 use declarations::put_declarations;
 use std::alloc::{AllocError, Global};
 use steps::put_step;
 use ties::{put_environment, put_step_relations};
 
 /// The name of the step with a number, and the step.
-fn step_at(graph: &Graph, number: usize) -> Option<(&str, &Prescribed)>
+fn step_at<'a>(graph: &'a Parts<'_>, number: usize) -> Option<(&'a str, &'a Prescribed)>
     ensures step { option_map (λ both. step_seen (both.0.now, both.1.now)) result ≡ slice_get graph.now.steps number }
     ensures parameters { IfSome result (λ both. both.1.now.checked.parameters ≤ length both.1.now.checked.names.items) }
 {
@@ -38,7 +39,7 @@ fn step_at(graph: &Graph, number: usize) -> Option<(&str, &Prescribed)>
 }
 
 /// The relations of the step with a number.
-fn put_relations_at(text: &mut Vec<u8>, graph: &Graph, number: usize) -> Result<(), AllocError>
+fn put_relations_at(text: &mut Vec<u8>, graph: &Parts<'_>, number: usize) -> Result<(), AllocError>
     ensures { OnOk result (text.new.items ≡ text.old.items ++ where_there (step_relations graph.now) (slice_get graph.now.steps number)) }
 {
     match step_at(graph, number) {
@@ -48,7 +49,7 @@ fn put_relations_at(text: &mut Vec<u8>, graph: &Graph, number: usize) -> Result<
 }
 
 /// The text of the step with a number.
-fn put_step_at(text: &mut Vec<u8>, graph: &Graph, number: usize) -> Result<(), AllocError>
+fn put_step_at(text: &mut Vec<u8>, graph: &Parts<'_>, number: usize) -> Result<(), AllocError>
     ensures { OnOk result (text.new.items ≡ text.old.items ++ where_there (step_text graph.now) (slice_get graph.now.steps number)) }
 {
     match step_at(graph, number) {
@@ -59,28 +60,28 @@ fn put_step_at(text: &mut Vec<u8>, graph: &Graph, number: usize) -> Result<(), A
 
 /// The declarations of a graph.
 #[tactic(auto, using(std::proofs::Common::append_assoc))]
-fn put_collections(text: &mut Vec<u8>, graph: &Graph) -> Result<(), AllocError>
+fn put_collections(text: &mut Vec<u8>, graph: &Parts<'_>) -> Result<(), AllocError>
     ensures { OnOk result (text.new.items ≡ text.old.items ++ (declaration_lines in_brackets graph.now.items ++ declaration_lines in_angles graph.now.tags)) }
 {
-    put_declarations(text, &graph.items, "[", "]")?;
-    put_declarations(text, &graph.tags, "<", ">")
+    put_declarations(text, graph.items, "[", "]")?;
+    put_declarations(text, graph.tags, "<", ">")
 }
 
 /// The relations of all steps.
-fn put_all_relations(text: &mut Vec<u8>, graph: &Graph) -> Result<(), AllocError>
+fn put_all_relations(text: &mut Vec<u8>, graph: &Parts<'_>) -> Result<(), AllocError>
     ensures { OnOk result (text.new.items ≡ text.old.items ++ flat_map (step_relations graph.now) graph.now.steps) }
 {
-    for number in 0..graph.step_count() {
+    for number in 0..graph.steps.len() {
         put_relations_at(text, graph, number)?;
     }
     Ok(())
 }
 
 /// The texts of all steps.
-fn put_steps(text: &mut Vec<u8>, graph: &Graph) -> Result<(), AllocError>
+fn put_steps(text: &mut Vec<u8>, graph: &Parts<'_>) -> Result<(), AllocError>
     ensures { OnOk result (text.new.items ≡ text.old.items ++ flat_map (step_text graph.now) graph.now.steps) }
 {
-    for number in 0..graph.step_count() {
+    for number in 0..graph.steps.len() {
         put_step_at(text, graph, number)?;
     }
     Ok(())
@@ -89,7 +90,7 @@ fn put_steps(text: &mut Vec<u8>, graph: &Graph) -> Result<(), AllocError>
 /// The canonical text, as it is spelled: the declarations, the relations of the steps and of the environment, and the texts of the
 /// steps, each in the order of the numbers, one to a line.
 #[tactic(auto, using(std::proofs::Common::append_assoc))]
-fn written(alloc: Global, graph: &Graph) -> Result<Vec<u8>, AllocError>
+pub(crate) fn written(alloc: Global, graph: &Parts<'_>) -> Result<Vec<u8>, AllocError>
     ensures { IfOk result (λ text. text.items ≡ canonical graph.now) }
 {
     let mut text = Vec::new(alloc);
@@ -100,17 +101,15 @@ fn written(alloc: Global, graph: &Graph) -> Result<Vec<u8>, AllocError>
     Ok(text)
 }
 
-/// The canonical text of a graph. That of a graph that `parse` answered reads as that graph, and as nothing else.
+/// The canonical text of a graph. It reads as that graph, and as nothing else.
 ///
 /// The error is that memory was refused; the graph is read alone.
 pub fn canonical(alloc: Global, graph: &Graph) -> Result<Vec<u8>, AllocError>
     ensures spelled { IfOk result (λ text. text.items ≡ canonical graph.now) }
-    ensures reads { IfOk result (λ text. (given : List ℕ) → Reads given graph.now → Reads text.items graph.now) }
-    ensures nothing_else { IfOk result (λ text. (given : List ℕ) (other : Graph) → Reads given graph.now → Reads text.items other → graph.now ≡ other) }
+    ensures reads { IfOk result (λ text. Reads text.items graph.now) }
+    ensures nothing_else { IfOk result (λ text. (other : Graph) → Reads text.items other → graph.now ≡ other) }
 {
-    canonical_reads();
-    reads_textual();
     one_reading();
-    let text = written(alloc, graph)?;
+    let text = written(alloc, &graph.parts())?;
     Ok(text)
 }

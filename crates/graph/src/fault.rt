@@ -116,6 +116,12 @@ pub(crate) struct PlacedFault {
     pub(crate) position: usize,
 }
 
+/// A text that is too large as a whole.
+pub(crate) const TOO_LARGE: PlacedFault = PlacedFault {
+    error: GraphError::TooLarge,
+    position: 0,
+};
+
 impl From<AllocError> for PlacedFault {
     ghost from_gives = { λ _ fault. fault ≡ no_memory };
 

@@ -1,11 +1,14 @@
 ghost use Rattle.std.specs.Prelude.{◌≡◌, ◌<◌, length, map, get_or, Some, IfSome, slice_get, false};
 ghost use Rattle.std.specs.Option.{option_map};
 ghost use Rattle.steptree.specs.Names.{place_of};
+ghost use Rattle.graph.specs.Canonical.{canonical};
 ghost use Rattle.graph.specs.Graph.{IsGraph};
 ghost use Rattle.graph.specs.Prescribed.{prescribed_by, names_of_steps, mark_of};
+ghost use Rattle.graph.specs.Reads.{Reads};
 ghost use Rattle.graph.specs.Tree.{names_in};
 
 use crate::numbered::Numbered;
+use crate::parts::Parts;
 use std::marker::Model;
 use steptree::Checked;
 use terms::{ItemCollection, StepCollection, TagCollection};
@@ -33,7 +36,7 @@ impl Drop for Prescribed {
 }
 
 /// A graph: its collections by their numbers, what each step may read and put, what the environment may put and get, and the
-/// bodies of the steps.
+/// bodies of the steps. `parse` alone makes one, and its canonical text reads as it.
 ///
 /// No reader takes memory.
 pub struct Graph {
@@ -79,6 +82,21 @@ impl Model for Graph {
 }
 
 impl Graph {
+    /// Its parts.
+    pub(crate) fn parts(&self) -> Parts<'_>
+        ensures parts { result ≡ self.now }
+        ensures reads { Reads (canonical self.now) self.now }
+    {
+        Parts {
+            items: &self.items,
+            tags: &self.tags,
+            steps: &self.steps,
+            environment_item_puts: &self.environment_item_puts,
+            environment_tag_puts: &self.environment_tag_puts,
+            environment_gets: &self.environment_gets,
+        }
+    }
+
     /// The number of item collections.
     pub fn item_count(&self) -> usize
         ensures count { result ≡ length self.now.items }

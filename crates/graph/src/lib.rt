@@ -17,6 +17,7 @@ mod law;
 mod limits;
 mod numbered;
 mod parser;
+mod parts;
 mod place;
 mod prescriptions;
 mod relations;
@@ -33,5 +34,5 @@ pub use law::{
     text_limit,
 };
 pub use limits::MOST_TEXT;
-pub use parser::parse;
+pub use parser::{parse, parse_spelled};
 pub use steptree::{CheckError, Checked};

@@ -1,14 +1,13 @@
 //! Texts: the graph that one is, or its first fault.
 ghost use Rattle.std.specs.Prelude.{◌≡◌, ◌≤◌, ◌<◌, ◌⊎◌, length, take, MatchResult, IfOk, IfErr};
 ghost use Rattle.std.specs.List.{AllByRecursion};
+ghost use Rattle.graph.specs.Canonical.{canonical};
 ghost use Rattle.graph.specs.Placed.{no_memory as refused};
 ghost use Rattle.graph.specs.Reads.{Reads, HasCause, IsCause, IsNotAscii, walked};
-ghost use Rattle.graph.specs.Tree.{IsGraphOf};
 
 use crate::MOST_TEXT;
 use crate::build::graph_of;
-use crate::canonical_text::canonical;
-use crate::fault::{GraphError, GraphFault, PlacedFault};
+use crate::fault::{GraphError, GraphFault, PlacedFault, TOO_LARGE};
 use crate::graph::Graph;
 use crate::place::place;
 use std::alloc::Global;
@@ -26,8 +25,18 @@ pub fn parse(alloc: Global, text: &[u8]) -> Result<Graph, GraphFault>
     ensures reads { IfOk result (λ graph. Reads text.now graph) }
     ensures cause { IfErr result (λ fault. HasCause text.now fault) }
 {
+    let (graph, _) = parse_spelled(alloc, text)?;
+    Ok(graph)
+}
+
+/// The graph that a text is, with its canonical text, by which `parse` measures it. It answers a fault where `parse` does.
+pub fn parse_spelled(alloc: Global, text: &[u8]) -> Result<(Graph, Vec<u8>), GraphFault>
+    ensures reads { IfOk result (λ both. Reads text.now both.0) }
+    ensures spelled { IfOk result (λ both. both.1.items ≡ canonical both.0) }
+    ensures cause { IfErr result (λ fault. HasCause text.now fault) }
+{
     match read(alloc, text) {
-        Ok(graph) => Ok(graph),
+        Ok(both) => Ok(both),
         Err(fault) => Err(located(text, fault)),
     }
 }
@@ -52,27 +61,19 @@ fn located(text: &[u8], fault: PlacedFault) -> GraphFault
     }
 }
 
-// The graph of a text, or its fault at a position.
-fn read(alloc: Global, text: &[u8]) -> Result<Graph, PlacedFault>
-    ensures { MatchResult result (Reads text.now) (λ fault. (fault ≡ refused) ⊎ IsCause text.now fault.error fault.position) }
+// The graph of a text and its canonical text, or the fault at a position.
+fn read(alloc: Global, text: &[u8]) -> Result<(Graph, Vec<u8>), PlacedFault>
+    ensures reads { IfOk result (λ both. Reads text.now both.0) }
+    ensures spelled { IfOk result (λ both. both.1.items ≡ canonical both.0) }
+    ensures cause { IfErr result (λ fault. (fault ≡ refused) ⊎ IsCause text.now fault.error fault.position) }
 {
     if text.len() > MOST_TEXT {
         return Err(TOO_LARGE);
     }
     let plain = ascii(text)?;
     let tree = read_tree(alloc, plain)?;
-    let graph = graph_of(alloc, &tree)?;
-    if canonical(alloc, &graph)?.len() > MOST_TEXT {
-        return Err(TOO_LARGE);
-    }
-    Ok(graph)
+    graph_of(alloc, &tree)
 }
-
-// A text that is too large as a whole.
-const TOO_LARGE: PlacedFault = PlacedFault {
-    error: GraphError::TooLarge,
-    position: 0,
-};
 
 // The text, if all its bytes are below 128.
 fn ascii(text: &[u8]) -> Result<&str, PlacedFault>

@@ -1,7 +1,7 @@
 ghost use Rattle.std.specs.Prelude.{◌≡◌, ◌<◌, ◌^◌, ◌++◌, ◌∷◌, [], length, map, get_or, IfOk, OnOk, replicate};
 ghost use Rattle.std.specs.List.{AllByRecursion};
 ghost use Rattle.std.proofs.Math.ListN.{set};
-ghost use Rattle.graph.specs.Inside.{step_seen};
+ghost use Rattle.graph.specs.Seen.{step_seen};
 ghost use Rattle.graph.specs.Prescribed.{ArePrescriptions, numbers_of};
 
 use crate::graph::Prescribed;

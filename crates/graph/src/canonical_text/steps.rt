@@ -1,13 +1,14 @@
 ghost use Rattle.std.specs.Prelude.{◌≡◌, ◌≤◌, ◌++◌, [], OnOk, codes, drop, get_or, length, map, take};
 ghost use Rattle.std.specs.List.{flat_map};
 ghost use Rattle.graph.specs.Canonical.{block_text, in_rounds, joined, line, step_text, variables_line};
-ghost use Rattle.graph.specs.Inside.{step_seen};
+ghost use Rattle.graph.specs.Seen.{step_seen};
 ghost use Rattle.graph.specs.Pieces.{names_of_words};
 
 use super::blocks::{put_block, put_line};
 use super::pieces::put;
 use super::words::Words;
-use crate::graph::{Graph, Prescribed};
+use crate::graph::Prescribed;
+use crate::parts::Parts;
 use std::alloc::AllocError;
 use steptree::Block;
 
@@ -95,7 +96,7 @@ fn put_heading(
 #[tactic(auto, using(std::proofs::Common::append_assoc))]
 pub(crate) fn put_step(
     text: &mut Vec<u8>,
-    graph: &Graph,
+    graph: &Parts<'_>,
     name: &str,
     step: &Prescribed,
 ) -> Result<(), AllocError>

@@ -1,40 +1,41 @@
 ghost use Rattle.std.specs.Prelude.{◌≡◌, ◌++◌, [], OnOk, codes, get_or};
 ghost use Rattle.std.specs.List.{flat_map};
 ghost use Rattle.graph.specs.Canonical.{environment_relations, in_angles, in_rounds, line, step_relations, those};
-ghost use Rattle.graph.specs.Inside.{step_seen};
+ghost use Rattle.graph.specs.Seen.{step_seen};
 ghost use Rattle.graph.specs.Pieces.{relation_line};
 ghost use Rattle.graph.specs.Tree.{names_in};
 
 use super::pieces::put;
 use super::relations::{Kind, put_relations};
 use super::words::Words;
-use crate::graph::{Graph, Prescribed};
+use crate::graph::Prescribed;
+use crate::parts::Parts;
 use std::alloc::AllocError;
 use terms::TagCollection;
 
 /// The lines of the relations with those collections of items that are marked.
 fn put_item_relations(
     text: &mut Vec<u8>,
-    graph: &Graph,
+    graph: &Parts<'_>,
     kind: Kind<'_>,
     marks: &[bool],
 ) -> Result<(), AllocError>
     ensures { OnOk result (text.new.items ≡ text.old.items ++ flat_map (relation_line kind.entry) (those graph.now.items marks.now)) }
 {
-    put_relations(text, kind, &graph.items, marks)?;
+    put_relations(text, kind, graph.items, marks)?;
     Ok(())
 }
 
 /// The lines of the relations with those collections of tags that are marked.
 fn put_tag_relations(
     text: &mut Vec<u8>,
-    graph: &Graph,
+    graph: &Parts<'_>,
     kind: Kind<'_>,
     marks: &[bool],
 ) -> Result<(), AllocError>
     ensures { OnOk result (text.new.items ≡ text.old.items ++ flat_map (relation_line kind.entry) (those graph.now.tags marks.now)) }
 {
-    put_relations(text, kind, &graph.tags, marks)?;
+    put_relations(text, kind, graph.tags, marks)?;
     Ok(())
 }
 
@@ -57,7 +58,7 @@ fn put_prescription(
 #[tactic(auto, using(std::proofs::Common::append_assoc))]
 pub(crate) fn put_step_relations(
     text: &mut Vec<u8>,
-    graph: &Graph,
+    graph: &Parts<'_>,
     name: &str,
     step: &Prescribed,
 ) -> Result<(), AllocError>
@@ -73,20 +74,20 @@ pub(crate) fn put_step_relations(
 
 /// The relations of the environment.
 #[tactic(auto, using(std::proofs::Common::append_assoc))]
-pub(crate) fn put_environment(text: &mut Vec<u8>, graph: &Graph) -> Result<(), AllocError>
+pub(crate) fn put_environment(text: &mut Vec<u8>, graph: &Parts<'_>) -> Result<(), AllocError>
     ensures { OnOk result (text.new.items ≡ text.old.items ++ environment_relations graph.now) }
 {
     put_item_relations(
         text,
         graph,
         Kind::EnvironmentPutsItem,
-        &graph.environment_item_puts,
+        graph.environment_item_puts,
     )?;
     put_tag_relations(
         text,
         graph,
         Kind::EnvironmentPutsTag,
-        &graph.environment_tag_puts,
+        graph.environment_tag_puts,
     )?;
-    put_item_relations(text, graph, Kind::EnvironmentGets, &graph.environment_gets)
+    put_item_relations(text, graph, Kind::EnvironmentGets, graph.environment_gets)
 }

@@ -4,7 +4,7 @@ ghost use Rattle.graph.specs.Pieces.{names_of_words};
 ghost use Rattle.graph.specs.Tree.{names_in};
 
 use super::pieces::put;
-use crate::graph::Graph;
+use crate::parts::Parts;
 use std::alloc::AllocError;
 use steptree::Slot;
 use terms::{ItemCollection, TagCollection};
@@ -12,7 +12,7 @@ use terms::{ItemCollection, TagCollection};
 /// What the numbers in a body stand for: the collections of its graph, and the names of its step.
 #[derive(Clone, Copy)]
 pub(crate) struct Words<'a> {
-    pub(crate) graph: &'a Graph,
+    pub(crate) graph: &'a Parts<'a>,
     pub(crate) names: &'a [String],
 }
 

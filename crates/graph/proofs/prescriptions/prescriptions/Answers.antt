@@ -4,7 +4,7 @@ use Rattle.std.specs.Prelude.{option_map, Vec}
 use Rattle.std.specs.declared.alloc.Global.{Global}
 use Rattle.terms.specs.declared.name.StepCollection.{StepCollection}
 use Rattle.graph.specs.declared.graph.Prescribed.{Prescribed}
-use Rattle.graph.specs.Inside.{step_seen}
+use Rattle.graph.specs.Seen.{step_seen}
 use Rattle.graph.specs.Prescribed.{ArePrescriptions, numbers_of}
 use Rattle.graph.proofs.Rising.{value_prescribed, no_value}
 use Rattle.graph.proofs.prescriptions.prescriptions.Goals.{in-Some+in_ok-add_step, in_default}

@@ -1,5 +1,5 @@
 use Rattle.std.proofs.Common.{map, take}
-use Rattle.graph.specs.Inside.{step_seen}
+use Rattle.graph.specs.Seen.{step_seen}
 use Rattle.graph.specs.Prescribed.{ArePrescriptions, numbers_of}
 use Rattle.graph.proofs.prescriptions.prescriptions.Given as goal
 

@@ -12,4 +12,4 @@ pub returns : goal.returns
 returns c =
     c.in_ok-put_relations.ensures
     ∙ ap (λ (l : List Text). c.args.text.now.items ++ flat_map (relation_line c.args.kind) (marked (zip l c.args.marks.now)))
-    (items_named c.graph.inside.items ∙ ap (λ (g : Graph). names_in g.items) c.graph.view_is)
+    (items_named c.graph.inside.items.now ∙ ap (λ (g : Graph). names_in g.items) c.graph.view_is)

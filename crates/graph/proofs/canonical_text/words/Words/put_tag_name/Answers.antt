@@ -3,4 +3,4 @@ use Rattle.graph.proofs.Written.{no_name}
 use Rattle.graph.proofs.canonical_text.words.Words.put_tag_name.Goals as goal
 
 pub returns-in-None : goal.returns-in-None
-returns-in-None c = no_name c.args.text.now.items (names_in c.args.self.now.graph.now.tags) c.args.tag.0 c.in-None.ensures.name
+returns-in-None c = no_name c.args.text.now.items (names_in c.args.self.now.graph.now.tags) c.args.tag.0 c.in-None.ensures

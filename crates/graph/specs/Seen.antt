@@ -1,0 +1,19 @@
+-- What the collections and the steps of a graph are seen as.
+use Rattle.std.specs.Prelude.{ℕ, List, map}
+use Rattle.graph.specs.declared.graph.Prescribed.{Prescribed}
+use Rattle.graph.specs.Graph.{Collection, Step}
+
+abbrev pub collection_seen : List ℕ × ℕ → Collection
+collection_seen entry = record { name = entry.0; components = entry.1 }
+
+abbrev pub step_seen : List ℕ × Prescribed → Step
+step_seen entry = record {
+  name = entry.0;
+  prescriber = entry.1.prescriber.0;
+  names = map (λ name. name.bytes.items) entry.1.checked.names.items;
+  parameters = entry.1.checked.parameters;
+  reads = entry.1.reads.items;
+  item_puts = entry.1.item_puts.items;
+  tag_puts = entry.1.tag_puts.items;
+  body = entry.1.checked.body;
+}
