@@ -55,8 +55,9 @@ pub record IsReplayed (g : Graph) (old new : Image) (bytes : List ℕ) (end : �
   pub facts : (fact : Fact) → facts_in new fact ≡ among (image_facts old ++ facts events) fact
   pub environment : (fact : Fact) → environment_in new fact ≡ among (image_environment old ++ environment events) fact
 
--- the bytes of the side stand for what was read of them, and the journal ends where it says
+-- the bytes of the side stand for what was read of them, the text is its graph's, and the journal ends where it says
 pub record IsRead (bytes : List ℕ) (generation : ℕ) (standing : Standing) : Type 0 where
   pub is_side : IsSide bytes standing.graph generation (environment_in standing.holdings) (facts_in standing.holdings)
   pub ends : standing.end ≡ end_of is_side
+  pub text : standing.text.items ≡ canonical standing.graph
   pub numbered : AllByRecursion HasPutNumber standing.holdings.items

@@ -1,15 +1,16 @@
 //! The parts of a side in front of its journal. That a part is not there is no error: it is answered by `None`.
-ghost use Rattle.std.specs.Prelude.{◌≤◌, length, IfOk, IfSome, MatchOption};
+ghost use Rattle.std.specs.Prelude.{◌≡◌, ◌≤◌, length, IfOk, IfSome, MatchOption};
 ghost use Rattle.std.specs.List.{AllByRecursion};
 ghost use Rattle.codec.specs.declared.image.Image.{Image as Listed};
 ghost use Rattle.codec.specs.Spelling.{HasPutNumber};
+ghost use Rattle.graph.specs.Canonical.{canonical};
 ghost use Rattle.graph.specs.Graph.{Graph as Meant};
 ghost use Rattle.sides.specs.Reading.{IsCountedAt, HasNoneAt, IsTextOf, IsImageOf};
 
 use crate::Holdings;
 use byteorder::{ByteOrder, LittleEndian};
 use codec::{CodecError, decode_image, spellings_of_images};
-use graph::{Graph, GraphError, canonical, one_reading, parse, reads_without_fault};
+use graph::{Graph, GraphError, one_reading, parse_spelled, reads_without_fault};
 use std::alloc::{AllocError, Global};
 
 /// The bytes in front of a part that are its length.
@@ -31,17 +32,16 @@ pub(crate) fn counted_at(bytes: &[u8], at: usize) -> Option<&[u8]>
     Some(&rest[COUNT..COUNT + count])
 }
 
-/// The graph that has this canonical text.
-pub(crate) fn read_graph(alloc: Global, text: &[u8]) -> Result<Option<Graph>, AllocError>
-    ensures { IfOk result (λ found. MatchOption found ((g : Meant) → IsTextOf text.now g → ⊥) (IsTextOf text.now)) }
+/// The graph that has this canonical text, and the text anew.
+pub(crate) fn read_graph(alloc: Global, text: &[u8]) -> Result<Option<(Graph, Vec<u8>)>, AllocError>
+    ensures { IfOk result (λ found. MatchOption found ((g : Meant) → IsTextOf text.now g → ⊥) (λ both. IsTextOf text.now both.0 × (both.1.items ≡ canonical both.0))) }
 {
     reads_without_fault();
     one_reading();
-    match parse(alloc, text) {
-        Ok(graph) => {
-            let own = canonical(alloc, &graph)?;
+    match parse_spelled(alloc, text) {
+        Ok((graph, own)) => {
             if own.as_slice() == text {
-                Ok(Some(graph))
+                Ok(Some((graph, own)))
             } else {
                 Ok(None)
             }

@@ -17,6 +17,8 @@ use std::alloc::Global;
 #[derive(Drop)]
 pub struct Standing {
     pub graph: Graph,
+    /// The canonical text of the graph.
+    pub text: Vec<u8>,
     pub holdings: Holdings,
     /// The position of the closed gate that ends the journal.
     pub end: u64,
@@ -41,7 +43,7 @@ pub fn read_side(alloc: Global, bytes: &[u8]) -> Result<Standing, SideError>
     let Some(text) = counted_at(bytes, HEAD) else {
         return Err(SideError::Damaged(HEAD as u64));
     };
-    let Some(graph) = read_graph(alloc, text)? else {
+    let Some((graph, own)) = read_graph(alloc, text)? else {
         return Err(SideError::Damaged((HEAD + COUNT) as u64));
     };
     let at = HEAD + COUNT + text.len();
@@ -55,6 +57,7 @@ pub fn read_side(alloc: Global, bytes: &[u8]) -> Result<Standing, SideError>
     match take_events(alloc, &graph, &mut holdings, &bytes[start..])? {
         Replay::Ended(end) => Ok(Standing {
             graph,
+            text: own,
             holdings,
             end: (start + end) as u64,
         }),

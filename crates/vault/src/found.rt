@@ -12,7 +12,7 @@ ghost use Rattle.vault.specs.declared.error.VaultError.TheVariants.{Device, NotA
 use crate::VaultError;
 use codec::Image;
 use disk::Side;
-use graph::{Graph, canonical};
+use graph::Graph;
 use journal::Journal;
 use sides::{Gate, SideError, Standing, gate_of, one_item_each, read_side, sides_go_on};
 use std::alloc::{AllocError, Global};
@@ -50,7 +50,7 @@ pub(crate) fn found_in(alloc: Global, side: Side, bytes: &[u8]) -> Result<Found,
     }
 }
 
-// What a side of this generation gave, with its image and its graph's text.
+// What a side of this generation gave, with its image.
 fn found_of(
     alloc: Global,
     side: Side,
@@ -62,11 +62,11 @@ fn found_of(
 {
     let Standing {
         graph,
+        text,
         holdings,
         end,
     } = standing;
     let image = holdings.into_image(alloc)?;
-    let text = canonical(alloc, &graph)?;
     Ok(Found {
         journal: Journal::ending(alloc, side, end),
         generation,

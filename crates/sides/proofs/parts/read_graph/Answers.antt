@@ -9,7 +9,7 @@ use Rattle.sides.proofs.parts.read_graph.Goals as goal
 pub returns-else-eq : goal.returns-else-eq
 returns-else-eq c g is =
     let text = c.args.text.now in
-    let own : c.as_slice.result.now ≡ text = c.as_slice.ensures.value ∙ c.in_ok-own-in-Ok.ensures.spelled ∙ ap canonical (c.one_reading.ensures text c.in-Ok.graph g c.in-Ok.ensures.reads is.0) ∙ is.1 in
+    let own : c.as_slice.result.now ≡ text = c.as_slice.ensures.value ∙ c.in-Ok.ensures.spelled ∙ ap canonical (c.one_reading.ensures text c.in-Ok.graph g c.in-Ok.ensures.reads is.0) ∙ is.1 in
     false≢true ((slice_eq-Decides Decides-eqb c.as_slice.result.now text false c.if-eq.ensures).1 own)
 
 pub returns-in_default : goal.returns-in_default

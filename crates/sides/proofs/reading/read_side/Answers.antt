@@ -1,9 +1,10 @@
-use Rattle.std.proofs.Common.{◌+◌, ◌-◌, ℕ, List, length, take, drop, subst}
+use Rattle.std.proofs.Common.{◌≡◌, ◌+◌, ◌-◌, ℕ, List, length, take, drop, subst}
 use Rattle.std.proofs.lemmas.List.{take_rest}
 use Rattle.std.specs.List.{AllByRecursion}
 use Rattle.terms.specs.declared.event.Event.{Event}
 use Rattle.codec.specs.declared.image.Image.{Image}
 use Rattle.codec.specs.Spelling.{HasPutNumber}
+use Rattle.graph.specs.Canonical.{canonical}
 use Rattle.graph.specs.Graph.{Graph}
 use Rattle.sides.specs.Reading.{IsTextOf, IsImageOf, IsReplayed, AreEvents}
 use Rattle.sides.proofs.PartsRead.{side_read, ends_there, has_text, is_its_text, has_image, is_its_image, are_its_events}
@@ -27,7 +28,8 @@ returns-in_default-3-clause-nothing c place is g n E X side =
     let text = c.in-Some.text.now in
     let graph = c.in-Some-2.graph in
     let part = c.in-Some-counted_at.image.now in
-    let is_text : IsTextOf text graph = rw c.in-Some-2.is at c.in_ok-graph.ensures in
+    let both : IsTextOf text graph × (c.in-Some-2.own.items ≡ canonical graph) = rw c.in-Some-2.is at c.in_ok-graph.ensures in
+    let is_text = both.0 in
     let none : (image : Image) → IsImageOf graph part image → ⊥ = rw c.in_default-3.is at c.in_ok-holdings.ensures.image in
     none side.image (is_its_image c.args.bytes.now g n E X side text c.in-Some.ensures c.one_reading.ensures graph is_text part c.in-Some-counted_at.ensures)
 
@@ -41,7 +43,8 @@ returns-in-Ended-clause-read c n has =
     let new = c.take_events.new.holdings in
     let start = 14 + length text + 4 + length part in
     let end = c.in-Ended.end in
-    let is_text : IsTextOf text graph = rw c.in-Some-2.is at c.in_ok-graph.ensures in
+    let both : IsTextOf text graph × (c.in-Some-2.own.items ≡ canonical graph) = rw c.in-Some-2.is at c.in_ok-graph.ensures in
+    let is_text = both.0 in
     let is_image : IsImageOf graph part image = rw c.in-Some-3.is at c.in_ok-holdings.ensures.image in
     let there : IsReplayed graph image new (take (length bytes - start) (drop start bytes)) end = rw c.in-Ended.is at c.in_ok-end.ensures.events in
     let replayed : IsReplayed graph image new (drop start bytes) end = subst (λ (journal : List ℕ). IsReplayed graph image new journal end) (take_rest bytes start) there in
@@ -49,6 +52,7 @@ returns-in-Ended-clause-read c n has =
     record {
       is_side = side_read bytes n has c.if-bytes-ne-FORMAT.false text part c.in-Some.ensures c.in-Some-counted_at.ensures graph image new end is_text is_image replayed;
       ends = ends_there bytes n has c.if-bytes-ne-FORMAT.false text part c.in-Some.ensures c.in-Some-counted_at.ensures graph image new end is_text is_image replayed;
+      text = both.1;
       numbered = numbered;
     }
 
@@ -60,7 +64,8 @@ returns-in-Broken-clause-nothing c place is g n E X side =
     let part = c.in-Some-counted_at.image.now in
     let image = c.in-Some-3.holdings in
     let start = 14 + length text + 4 + length part in
-    let is_text : IsTextOf text graph = rw c.in-Some-2.is at c.in_ok-graph.ensures in
+    let both : IsTextOf text graph × (c.in-Some-2.own.items ≡ canonical graph) = rw c.in-Some-2.is at c.in_ok-graph.ensures in
+    let is_text = both.0 in
     let is_image : IsImageOf graph part image = rw c.in-Some-3.is at c.in_ok-holdings.ensures.image in
     let there : (events : List Event) → AreEvents graph image (take (length bytes - start) (drop start bytes)) events → ⊥ = rw c.in-Broken.is at c.in_ok-end.ensures.events in
     let none : (events : List Event) → AreEvents graph image (drop start bytes) events → ⊥ =
