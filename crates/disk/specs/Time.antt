@@ -1,8 +1,8 @@
 -- The two files of a disk over time: what a crash now, or at an earlier moment, may leave of both.
-use Rattle.std.specs.Prelude.{◌≡◌, ◌≢◌, ◌⊎◌, ◌↔◌, ◌+◌, ◌≤◌, ◌<◌, ℕ, List, Result, IsErrOf}
+use Rattle.std.specs.Prelude.{◌≡◌, ◌≢◌, ◌⊎◌, ◌↔◌, ◌+◌, ◌≤◌, ◌<◌, ℕ, List, Result, Ok, Err, IsErrOf}
 use Rattle.disk.specs.declared.side.Side.{Side}
 use Rattle.disk.specs.declared.error.DiskError.{DiskError}
-use Rattle.disk.specs.declared.error.DiskError.TheVariants.{Device}
+use Rattle.disk.specs.declared.error.DiskError.TheVariants.{Device, NoMemory}
 use Rattle.disk.specs.File.{File, MayLeave}
 
 -- the bytes of both files
@@ -49,3 +49,14 @@ pub record HasCause {T : Type 0} (before now : ℕ) (result : Result T DiskError
   pub later : before ≤ now
   pub device : IsErrOf result Device → before < now
   pub told : before < now → IsErrOf result Device
+
+-- The number of refusals changes exactly where `NoMemory` is answered. A disk may count on a machine, where a count comes round again
+-- at its end; so no more is said of the number than that it changes.
+abbrev pub CountsRefusal : {T : Type 0} → ℕ → ℕ → Result T DiskError → Type 0
+CountsRefusal before now (Err NoMemory) = now ≢ before
+CountsRefusal before now (Err Device) = now ≡ before
+CountsRefusal before now (Ok _) = now ≡ before
+
+-- A call of the disk answered an error between these two moments: the count of failures grew, or the number of refusals changed.
+abbrev pub HasErred : {D : Type 0} → (D → ℕ) → (D → ℕ) → D → D → Type 0
+HasErred failures refusals old new = (failures old < failures new) ⊎ (refusals new ≢ refusals old)

@@ -1,8 +1,9 @@
 ghost use Rattle.std.specs.Prelude.{◌≡◌, ◌+◌, ◌^◌, ◌<◌, ◌↔◌, [], false, vec_len, IsTrue, IfOk, IfErr, IsErr};
 ghost use Rattle.std.proofs.lemmas.Bool.{false≢true};
 ghost use Rattle.disk.specs.File.{settled};
-ghost use Rattle.disk.specs.Time.{HasCause};
+ghost use Rattle.disk.specs.Time.{HasCause, CountsRefusal};
 
+use crate::refusals::one_more;
 use crate::{Disk, DiskError, Side};
 use std::alloc::Global;
 use std::fs::{File, OpenOptions};
@@ -25,6 +26,8 @@ pub struct FileDisk {
     b: File,
     // One unit for each failure of the device.
     failures: Vec<()>,
+    // Another number behind each call that was refused for want of memory.
+    refusals: u64,
 }
 
 impl Drop for FileDisk {
@@ -34,6 +37,7 @@ impl Drop for FileDisk {
             a: _,
             b: _,
             failures: _,
+            refusals: _,
         } = self;
     }
 }
@@ -57,7 +61,12 @@ impl FileDisk {
         let a = Path::new(directory).join(alloc, "A")?;
         let b = Path::new(directory).join(alloc, "B")?;
         match open_both(rt, Path::new(directory), a.as_path(), b.as_path()) {
-            Ok((a, b)) => Ok(FileDisk { a, b, failures }),
+            Ok((a, b)) => Ok(FileDisk {
+                a,
+                b,
+                failures,
+                refusals: 0,
+            }),
             Err(_) => Err(DiskError::Device),
         }
     }
@@ -69,18 +78,26 @@ impl FileDisk {
         }
     }
 
-    /// Counts a failure of the device and answers `Device`, or `NoMemory` where the count cannot grow.
+    /// Counts a failure of the device and answers `Device`. Where that count cannot grow, it counts a refusal and answers
+    /// `NoMemory`.
     fn fail<T>(&mut self) -> Result<T, DiskError>
         ensures cause { HasCause (vec_len self.old.failures) (vec_len self.new.failures) result }
+        ensures refused { CountsRefusal self.old.refusals self.new.refusals result }
         ensures fails { IsErr result }
     {
-        self.failures.push(())?;
-        Err(DiskError::Device)
+        match self.failures.push(()) {
+            Ok(()) => Err(DiskError::Device),
+            Err(_) => {
+                self.refusals = one_more(self.refusals);
+                Err(DiskError::NoMemory)
+            }
+        }
     }
 
     /// Answers as the system did, and counts where it failed.
     fn outcome<T: Drop>(&mut self, answer: io::Result<T>) -> Result<T, DiskError>
         ensures cause { HasCause (vec_len self.old.failures) (vec_len self.new.failures) result }
+        ensures refused { CountsRefusal self.old.refusals self.new.refusals result }
         ensures value { IfOk answer (λ value. result ≡ Ok value) }
         ensures failure { IfErr answer (λ _. IsErr result) }
     {
@@ -143,6 +160,8 @@ impl Disk for FileDisk {
     ghost left_at = { λ _ _ _. ⊥ };
 
     ghost failures = { λ disk. vec_len disk.failures };
+
+    ghost refusals = { λ disk. disk.refusals };
 
     ghost at_now = { λ honest. absurd (false≢true honest) };
 

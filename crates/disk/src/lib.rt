@@ -11,6 +11,7 @@ mod file_disk;
 pub mod laws;
 mod mem_disk;
 mod record;
+mod refusals;
 mod side;
 mod storage;
 mod synced;

@@ -20,7 +20,7 @@ pub struct Fill {
 /// An honest disk in memory, whose crashes are chosen by the caller.
 ///
 /// It keeps a record of all its calls, from which it tells what a crash may leave: a call answers `NoMemory`
-/// where the record cannot grow, and then nothing has changed.
+/// where the record cannot grow, and then nothing has changed but its number of refusals.
 pub struct MemDisk {
     alloc: Global,
     a: Vec<u8>,
@@ -116,6 +116,8 @@ impl Disk for MemDisk {
 
     ghost failures = { λ disk. failures_of disk.history.calls.items };
 
+    ghost refusals = { λ disk. disk.history.refusals };
+
     ghost at_now = { λ _ disk. at_now disk.history.calls.items };
 
     ghost reads_left = { λ _. reads_left };
@@ -137,7 +139,9 @@ impl Disk for MemDisk {
     fn write_at(&mut self, side: Side, at: u64, bytes: &[u8]) -> Result<(), DiskError> {
         let count = bytes.len() as u64;
         let change = self.history.begin(side, Change::Write { at, count })?;
-        write_side(&mut self.a, &mut self.b, side, at as usize, bytes)?;
+        let Ok(()) = write_side(&mut self.a, &mut self.b, side, at as usize, bytes) else {
+            return self.history.refuse();
+        };
         self.history.end(side, change);
         Ok(())
     }
@@ -150,7 +154,9 @@ impl Disk for MemDisk {
     }
 
     fn sync(&mut self, side: Side) -> Result<(), DiskError> {
-        let content = self.content(side).to_vec(self.alloc)?;
+        let Ok(content) = self.content(side).to_vec(self.alloc) else {
+            return self.history.refuse();
+        };
         let _nothing = self.history.begin(side, Change::Nothing)?;
         self.history.end(side, Change::Sync { content });
         Ok(())

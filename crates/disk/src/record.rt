@@ -1,6 +1,8 @@
-ghost use Rattle.std.specs.Prelude.{◌≡◌, ◌⊎◌, ◌<◌, ◌-◌, ◌++◌, ◌∷◌, [], true, false, vec_len, vec_capacity, IfOk, IfErr, IsErrOf};
+ghost use Rattle.std.specs.Prelude.{◌≡◌, ◌≢◌, ◌⊎◌, ◌<◌, ◌-◌, ◌++◌, ◌∷◌, [], true, false, vec_len, vec_capacity, IfOk, IfErr, IsErrOf, Err};
 ghost use Rattle.disk.specs.declared.error.DiskError.TheVariants.{Device, NoMemory};
+ghost use Rattle.disk.specs.Time.{CountsRefusal};
 
+use crate::refusals::one_more;
 use crate::{DiskError, Side};
 use std::alloc::Global;
 
@@ -27,6 +29,8 @@ pub(crate) struct Record {
     pub(crate) calls: Vec<Call>,
     // Counts down to 1, the call that is to fail; 0 where none is.
     pub(crate) until_failure: u64,
+    // Another number behind each call that was refused for want of memory.
+    pub(crate) refusals: u64,
 }
 
 impl Record {
@@ -39,6 +43,7 @@ impl Record {
         Record {
             calls: Vec::new(alloc),
             until_failure: 0,
+            refusals: 0,
         }
     }
 
@@ -50,17 +55,30 @@ impl Record {
         self.until_failure = number;
     }
 
+    /// Counts a call that is refused for want of memory, and answers so.
+    pub(crate) fn refuse<T>(&mut self) -> Result<T, DiskError>
+        ensures refused { result ≡ Err NoMemory }
+        ensures counted { self.new.refusals ≢ self.old.refusals }
+        ensures calls { self.new.calls.items ≡ self.old.calls.items }
+    {
+        self.refusals = one_more(self.refusals);
+        Err(DiskError::NoMemory)
+    }
+
     /// Begins a call: makes room for it, and keeps it as one that failed if it is the one that is to fail.
     pub(crate) fn begin(&mut self, side: Side, change: Change) -> Result<Change, DiskError>
         ensures fails { self.old.until_failure ≡ 1 → IfOk result (λ _. ⊥) }
         ensures device { IsErrOf result Device → self.old.until_failure ≡ 1 }
+        ensures refused { CountsRefusal self.old.refusals self.new.refusals result }
         ensures counts { IsErrOf result NoMemory ⊎ (self.new.until_failure ≡ self.old.until_failure - 1) }
         ensures change { IfOk result (λ kept. kept ≡ change) }
         ensures room { IfOk result (λ _. vec_len self.new.calls < vec_capacity self.new.calls) }
         ensures ok { IfOk result (λ _. self.new.calls.items ≡ self.old.calls.items) }
         ensures err { IfErr result (λ error. Kept error (record { side = side; change = change; failed = true }) self.old.calls.items self.new.calls.items) }
     {
-        self.calls.reserve(1)?;
+        let Ok(()) = self.calls.reserve(1) else {
+            return self.refuse();
+        };
         let fails = self.until_failure == 1;
         self.until_failure = self.until_failure.saturating_sub(1);
         if fails {
@@ -77,7 +95,8 @@ impl Record {
     /// Ends a call that did what it was to do.
     pub(crate) fn end(&mut self, side: Side, change: Change)
         requires { vec_len self.old.calls < vec_capacity self.old.calls }
-        ensures { self.new.calls.items ≡ self.old.calls.items ++ record { side = side; change = change; failed = false } ∷ [] }
+        ensures calls { self.new.calls.items ≡ self.old.calls.items ++ record { side = side; change = change; failed = false } ∷ [] }
+        ensures refusals { self.new.refusals ≡ self.old.refusals }
     {
         self.calls.push_reserved(Call {
             side,

@@ -1,7 +1,7 @@
 ghost use Rattle.std.specs.Prelude.{◌≡◌, ◌≤◌, ◌↔◌, ◌+◌, ℕ, Bool, IsTrue, List, length, take, drop, IfOk, OnOk};
 ghost use Rattle.disk.specs.declared.side.Side.{Side};
 ghost use Rattle.disk.specs.File.{File, MayLeave, Changes, Syncs, written, cut, write_touches, cut_touches};
-ghost use Rattle.disk.specs.Time.{Contents, MayLeaveNow, OtherStays, Elapses, HasCause};
+ghost use Rattle.disk.specs.Time.{Contents, MayLeaveNow, OtherStays, Elapses, HasCause, CountsRefusal};
 
 use crate::{DiskError, Side};
 
@@ -24,12 +24,16 @@ pub trait Disk {
     /// How often the device has failed.
     ghost failures: { Self → ℕ };
 
+    /// A number that changes with each call that is refused for want of memory, and with no other.
+    ghost refusals: { Self → ℕ };
+
     /// The number of bytes that reads give of a file.
     fn len(&mut self, side: Side) -> Result<u64, DiskError>
         ensures value { IsTrue is_honest → IfOk result (λ count. count ≡ length (files self.old side).content) }
         ensures same { IsTrue is_honest → (each : Side) → files self.new each ≡ files self.old each }
         ensures time { IsTrue is_honest → Elapses (moment self.old) (moment self.new) (left_at self.old) (left_at self.new) }
-        ensures cause { HasCause (failures self.old) (failures self.new) result };
+        ensures cause { HasCause (failures self.old) (failures self.new) result }
+        ensures refused { CountsRefusal (refusals self.old) (refusals self.new) result };
 
     /// Fills the buffer with the bytes from a position on. After an error the buffer holds any bytes.
     fn read(&mut self, side: Side, at: u64, buffer: &mut [u8]) -> Result<(), DiskError>
@@ -37,7 +41,8 @@ pub trait Disk {
         ensures value { IsTrue is_honest → OnOk result (buffer.new ≡ take (length buffer.old) (drop at (files self.old side).content)) }
         ensures same { IsTrue is_honest → (each : Side) → files self.new each ≡ files self.old each }
         ensures time { IsTrue is_honest → Elapses (moment self.old) (moment self.new) (left_at self.old) (left_at self.new) }
-        ensures cause { HasCause (failures self.old) (failures self.new) result };
+        ensures cause { HasCause (failures self.old) (failures self.new) result }
+        ensures refused { CountsRefusal (refusals self.old) (refusals self.new) result };
 
     /// Writes over what is there from a position on, and past the end.
     fn write_at(&mut self, side: Side, at: u64, bytes: &[u8]) -> Result<(), DiskError>
@@ -45,7 +50,8 @@ pub trait Disk {
         ensures file { IsTrue is_honest → Changes (written at bytes.now) (write_touches (files self.old side).durable at (length bytes.now)) result (files self.old side) (files self.new side) }
         ensures other { IsTrue is_honest → OtherStays side (files self.old) (files self.new) }
         ensures time { IsTrue is_honest → Elapses (moment self.old) (moment self.new) (left_at self.old) (left_at self.new) }
-        ensures cause { HasCause (failures self.old) (failures self.new) result };
+        ensures cause { HasCause (failures self.old) (failures self.new) result }
+        ensures refused { CountsRefusal (refusals self.old) (refusals self.new) result };
 
     /// Cuts a file to its first bytes.
     fn cut(&mut self, side: Side, count: u64) -> Result<(), DiskError>
@@ -53,14 +59,16 @@ pub trait Disk {
         ensures file { IsTrue is_honest → Changes (cut count) (cut_touches count) result (files self.old side) (files self.new side) }
         ensures other { IsTrue is_honest → OtherStays side (files self.old) (files self.new) }
         ensures time { IsTrue is_honest → Elapses (moment self.old) (moment self.new) (left_at self.old) (left_at self.new) }
-        ensures cause { HasCause (failures self.old) (failures self.new) result };
+        ensures cause { HasCause (failures self.old) (failures self.new) result }
+        ensures refused { CountsRefusal (refusals self.old) (refusals self.new) result };
 
     /// From `Ok` on, a crash leaves of this file what a read gives, until it is written or cut.
     fn sync(&mut self, side: Side) -> Result<(), DiskError>
         ensures file { IsTrue is_honest → Syncs result (files self.old side) (files self.new side) }
         ensures other { IsTrue is_honest → OtherStays side (files self.old) (files self.new) }
         ensures time { IsTrue is_honest → Elapses (moment self.old) (moment self.new) (left_at self.old) (left_at self.new) }
-        ensures cause { HasCause (failures self.old) (failures self.new) result };
+        ensures cause { HasCause (failures self.old) (failures self.new) result }
+        ensures refused { CountsRefusal (refusals self.old) (refusals self.new) result };
 
     /// At this moment that is what a crash now may leave.
     ghost at_now: { IsTrue is_honest → (disk : Self) (contents : Contents) → left_at disk (moment disk) contents ↔ MayLeaveNow (files disk) contents };

@@ -1,6 +1,6 @@
 ghost use Rattle.std.specs.Prelude.{◌≡◌, ◌≤◌, IsTrue, List, ℕ, length, OnOk, OnErr};
 ghost use Rattle.disk.specs.File.{MayLeave, WriteLeaves, at_rest, overwritten, touching, write_touches};
-ghost use Rattle.disk.specs.Time.{Contents, MayLeaveNow, OtherStays, OtherMayBe, LeavesOnly, KeepsAll, AtOnce, HasCause};
+ghost use Rattle.disk.specs.Time.{Contents, MayLeaveNow, OtherStays, OtherMayBe, LeavesOnly, KeepsAll, AtOnce, HasCause, CountsRefusal};
 
 use crate::{Disk, DiskError, Side};
 
@@ -29,6 +29,7 @@ pub fn write_synced<D: Disk>(
     ensures err { IsTrue D.is_honest → OnErr result ((contents : Contents) → MayLeaveNow (D.files disk.old) contents → MayLeaveNow (D.files disk.new) contents) }
     ensures err_moments { IsTrue D.is_honest → OnErr result (KeepsAll D.files D.moment D.left_at disk.old disk.new) }
     ensures cause { HasCause (D.failures disk.old) (D.failures disk.new) result }
+    ensures refused { CountsRefusal (D.refusals disk.old) (D.refusals disk.new) result }
 {
     disk.write_at(side, at, bytes)?;
     disk.sync(side)

@@ -34,7 +34,7 @@ returns-in_err-change-clause-time c honest =
 pub invariant_of-self-2 : goal.invariant_of-self-2
 invariant_of-self-2 c =
     let call : Call = record { side = c.args.side; change = Cut c.args.count; failed = false } in
-    let grown = ended c.args.self.now.history.calls.items _ _ c.args.side _ (Cut c.args.count) c.end.ensures c.in_ok-change.ensures.ok c.in_ok-change.ensures.change in
+    let grown = ended c.args.self.now.history.calls.items _ _ c.args.side _ (Cut c.args.count) c.end.ensures.calls c.in_ok-change.ensures.ok c.in_ok-change.ensures.change in
     let here = c.cut_side.ensures c.args.side ∙ chosen_same c.args.self.now.a.items c.args.self.now.b.items c.args.side _ in
     record {
       reads_left = done_left call _ _ (pick c.args.self.now.a.items c.args.self.now.b.items) (pick c.cut_side.new.a.items c.cut_side.new.b.items) grown c.args.self.now.reads_left
@@ -45,18 +45,18 @@ invariant_of-self-2 c =
 pub returns-clause-file : goal.returns-clause-file
 returns-clause-file c honest =
     let call : Call = record { side = c.args.side; change = Cut c.args.count; failed = false } in
-    let grown = ended c.args.self.now.history.calls.items _ _ c.args.side _ (Cut c.args.count) c.end.ensures c.in_ok-change.ensures.ok c.in_ok-change.ensures.change in
+    let grown = ended c.args.self.now.history.calls.items _ _ c.args.side _ (Cut c.args.count) c.end.ensures.calls c.in_ok-change.ensures.ok c.in_ok-change.ensures.change in
     done_file call _ _ c.args.self.now.a.items c.args.self.now.b.items c.cut_side.new.a.items c.cut_side.new.b.items (cut c.args.count) grown
     (c.cut_side.ensures c.args.side ∙ chosen_same c.args.self.now.a.items c.args.self.now.b.items c.args.side _) refl
 
 pub returns-clause-other : goal.returns-clause-other
 returns-clause-other c honest =
     let call : Call = record { side = c.args.side; change = Cut c.args.count; failed = false } in
-    let grown = ended c.args.self.now.history.calls.items _ _ c.args.side _ (Cut c.args.count) c.end.ensures c.in_ok-change.ensures.ok c.in_ok-change.ensures.change in
+    let grown = ended c.args.self.now.history.calls.items _ _ c.args.side _ (Cut c.args.count) c.end.ensures.calls c.in_ok-change.ensures.ok c.in_ok-change.ensures.change in
     done_other call _ _ c.args.self.now.a.items c.args.self.now.b.items c.cut_side.new.a.items c.cut_side.new.b.items grown (λ other differs. c.cut_side.ensures other ∙ chosen_other c.args.side other _ _ differs)
 
 pub returns-clause-time : goal.returns-clause-time
 returns-clause-time c honest =
     let call : Call = record { side = c.args.side; change = Cut c.args.count; failed = false } in
-    let grown = ended c.args.self.now.history.calls.items _ _ c.args.side _ (Cut c.args.count) c.end.ensures c.in_ok-change.ensures.ok c.in_ok-change.ensures.change in
+    let grown = ended c.args.self.now.history.calls.items _ _ c.args.side _ (Cut c.args.count) c.end.ensures.calls c.in_ok-change.ensures.ok c.in_ok-change.ensures.change in
     elapses_kept Device call _ _ grown

@@ -24,17 +24,17 @@ returns-in_err-change-clause-time c honest =
 pub invariant_of-self-2 : goal.invariant_of-self-2
 invariant_of-self-2 c =
     let call : Call = record { side = c.args.side; change = Nothing; failed = false } in
-    let grown = ended c.args.self.now.history.calls.items _ _ c.args.side _ Nothing c.end.ensures c.in_ok-change.ensures.ok c.in_ok-change.ensures.change in
+    let grown = ended c.args.self.now.history.calls.items _ _ c.args.side _ Nothing c.end.ensures.calls c.in_ok-change.ensures.ok c.in_ok-change.ensures.change in
     record { reads_left = kept_left call _ _ (pick c.args.self.now.a.items c.args.self.now.b.items) nothing_touches c.args.self.now.reads_left Device grown }
 
 pub returns-clause-same : goal.returns-clause-same
 returns-clause-same c honest =
     let call : Call = record { side = c.args.side; change = Nothing; failed = false } in
-    let grown = ended c.args.self.now.history.calls.items _ _ c.args.side _ Nothing c.end.ensures c.in_ok-change.ensures.ok c.in_ok-change.ensures.change in
+    let grown = ended c.args.self.now.history.calls.items _ _ c.args.side _ Nothing c.end.ensures.calls c.in_ok-change.ensures.ok c.in_ok-change.ensures.change in
     quiet_file call _ _ _ _ refl Device grown
 
 pub returns-clause-time : goal.returns-clause-time
 returns-clause-time c honest =
     let call : Call = record { side = c.args.side; change = Nothing; failed = false } in
-    let grown = ended c.args.self.now.history.calls.items _ _ c.args.side _ Nothing c.end.ensures c.in_ok-change.ensures.ok c.in_ok-change.ensures.change in
+    let grown = ended c.args.self.now.history.calls.items _ _ c.args.side _ Nothing c.end.ensures.calls c.in_ok-change.ensures.ok c.in_ok-change.ensures.change in
     elapses_kept Device call _ _ grown

@@ -34,39 +34,38 @@ returns-in_err-change-clause-time c honest =
 pub invariant_of-self-2 : goal.invariant_of-self-2
 invariant_of-self-2 c =
     let call : Call = record { side = c.args.side; change = Write c.args.at (length c.args.bytes.now); failed = false } in
-    let grown = ended c.args.self.now.history.calls.items _ _ c.args.side _ (Write c.args.at (length c.args.bytes.now)) c.end.ensures c.in_ok-change.ensures.ok c.in_ok-change.ensures.change in
-    let here = c.in_ok-write_side.ensures.ok c.args.side ∙ chosen_same c.args.self.now.a.items c.args.self.now.b.items c.args.side _ in
+    let grown = ended c.args.self.now.history.calls.items _ _ c.args.side _ (Write c.args.at (length c.args.bytes.now)) c.end.ensures.calls c.in_ok-change.ensures.ok c.in_ok-change.ensures.change in
+    let here = c.in-Ok.ensures.ok c.args.side ∙ chosen_same c.args.self.now.a.items c.args.self.now.b.items c.args.side _ in
     record {
       reads_left = done_left call _ _ (pick c.args.self.now.a.items c.args.self.now.b.items) (pick c.write_side.new.a.items c.write_side.new.b.items) grown c.args.self.now.reads_left
           (subst (MayLeave _) (sym here) (written_left (durable_of c.args.self.now.history.calls.items c.args.side) (pick c.args.self.now.a.items c.args.self.now.b.items c.args.side) (c.args.self.now.reads_left c.args.side) c.args.at c.args.bytes.now (c.requires refl) (bytes_from_fits c.args.bytes.now c.type_inv.bytes)))
-          (λ other differs. c.in_ok-write_side.ensures.ok other ∙ chosen_other c.args.side other _ _ differs);
+          (λ other differs. c.in-Ok.ensures.ok other ∙ chosen_other c.args.side other _ _ differs);
     }
 
 pub returns-clause-file : goal.returns-clause-file
 returns-clause-file c honest =
     let call : Call = record { side = c.args.side; change = Write c.args.at (length c.args.bytes.now); failed = false } in
-    let grown = ended c.args.self.now.history.calls.items _ _ c.args.side _ (Write c.args.at (length c.args.bytes.now)) c.end.ensures c.in_ok-change.ensures.ok c.in_ok-change.ensures.change in
+    let grown = ended c.args.self.now.history.calls.items _ _ c.args.side _ (Write c.args.at (length c.args.bytes.now)) c.end.ensures.calls c.in_ok-change.ensures.ok c.in_ok-change.ensures.change in
     done_file call _ _ c.args.self.now.a.items c.args.self.now.b.items c.write_side.new.a.items c.write_side.new.b.items (written c.args.at c.args.bytes.now) grown
-    (c.in_ok-write_side.ensures.ok c.args.side ∙ chosen_same c.args.self.now.a.items c.args.self.now.b.items c.args.side _) refl
+    (c.in-Ok.ensures.ok c.args.side ∙ chosen_same c.args.self.now.a.items c.args.self.now.b.items c.args.side _) refl
 
 pub returns-clause-other : goal.returns-clause-other
 returns-clause-other c honest =
     let call : Call = record { side = c.args.side; change = Write c.args.at (length c.args.bytes.now); failed = false } in
-    let grown = ended c.args.self.now.history.calls.items _ _ c.args.side _ (Write c.args.at (length c.args.bytes.now)) c.end.ensures c.in_ok-change.ensures.ok c.in_ok-change.ensures.change in
-    done_other call _ _ c.args.self.now.a.items c.args.self.now.b.items c.write_side.new.a.items c.write_side.new.b.items grown (λ other differs. c.in_ok-write_side.ensures.ok other ∙ chosen_other c.args.side other _ _ differs)
+    let grown = ended c.args.self.now.history.calls.items _ _ c.args.side _ (Write c.args.at (length c.args.bytes.now)) c.end.ensures.calls c.in_ok-change.ensures.ok c.in_ok-change.ensures.change in
+    done_other call _ _ c.args.self.now.a.items c.args.self.now.b.items c.write_side.new.a.items c.write_side.new.b.items grown (λ other differs. c.in-Ok.ensures.ok other ∙ chosen_other c.args.side other _ _ differs)
 
 pub returns-clause-time : goal.returns-clause-time
 returns-clause-time c honest =
     let call : Call = record { side = c.args.side; change = Write c.args.at (length c.args.bytes.now); failed = false } in
-    let grown = ended c.args.self.now.history.calls.items _ _ c.args.side _ (Write c.args.at (length c.args.bytes.now)) c.end.ensures c.in_ok-change.ensures.ok c.in_ok-change.ensures.change in
+    let grown = ended c.args.self.now.history.calls.items _ _ c.args.side _ (Write c.args.at (length c.args.bytes.now)) c.end.ensures.calls c.in_ok-change.ensures.ok c.in_ok-change.ensures.change in
     elapses_kept Device call _ _ grown
 
-pub returns-in_err-write_side-clause-file : goal.returns-in_err-write_side-clause-file
-returns-in_err-write_side-clause-file c honest =
-    let p = err_from_is_err_and c.from_residual-in_err-write_side.result c.from_residual-in_err-write_side.ensures.1 in
-    rw (p.1, p.2) (refused_file (Unit {0}) c.args.self.now.a.items c.args.self.now.b.items c.write_side.new.a.items c.write_side.new.b.items c.args.self.now.history.calls.items _ c.args.side (written c.args.at c.args.bytes.now) (write_touches (durable_of c.args.self.now.history.calls.items c.args.side) c.args.at (length c.args.bytes.now)) c.in_ok-change.ensures.ok (c.in_err-write_side.ensures.err c.args.side))
+pub returns-in_default-clause-file : goal.returns-in_default-clause-file
+returns-in_default-clause-file c honest =
+    rw c.refuse.ensures.refused (refused_file (Unit {0}) c.args.self.now.a.items c.args.self.now.b.items c.write_side.new.a.items c.write_side.new.b.items c.args.self.now.history.calls.items _ c.args.side (written c.args.at c.args.bytes.now) (write_touches (durable_of c.args.self.now.history.calls.items c.args.side) c.args.at (length c.args.bytes.now)) (c.refuse.ensures.calls ∙ c.in_ok-change.ensures.ok) (c.in_default.ensures.err c.args.side))
 
-pub returns-in_err-write_side-clause-time : goal.returns-in_err-write_side-clause-time
-returns-in_err-write_side-clause-time c honest =
+pub returns-in_default-clause-time : goal.returns-in_default-clause-time
+returns-in_default-clause-time c honest =
     let call : Call = record { side = c.args.side; change = Nothing; failed = true } in
-    elapses_kept NoMemory call _ _ c.in_ok-change.ensures.ok
+    elapses_kept NoMemory call _ _ (c.refuse.ensures.calls ∙ c.in_ok-change.ensures.ok)
