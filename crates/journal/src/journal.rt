@@ -1,4 +1,4 @@
-ghost use Rattle.std.specs.Prelude.{◌≡◌, ◌≤◌, ◌<◌, ◌+◌, ◌^◌, ◌↔◌, ◌⊎◌, [], ◌∷◌, ◌++◌, List, ℕ, length, take, drop, IsTrue, IfOk, OnOk, OnErr, IsErrOf, Err};
+ghost use Rattle.std.specs.Prelude.{◌≡◌, ◌≢◌, ◌≤◌, ◌<◌, ◌+◌, ◌^◌, ◌↔◌, ◌⊎◌, [], ◌∷◌, ◌++◌, List, ℕ, length, take, drop, IsTrue, IfOk, OnOk, OnErr, IsErrOf, Err};
 ghost use Rattle.disk.specs.File.{WriteLeaves, at_rest, overwritten};
 ghost use Rattle.disk.specs.Time.{Contents, MayLeaveNow, OtherStays, OtherMayBe, LeavesOnly, KeepsAll, AtOnce};
 ghost use Rattle.byteorder.specs.Endian.{little_bytes};
@@ -74,6 +74,7 @@ impl Journal {
         ensures before_the_disk { IsErrOf result Full → disk.new ≡ disk.old }
         ensures damaged { (place : ℕ) → IsErrOf result (Damaged place) → ⊥ }
         ensures device { IsErrOf result Device ↔ (D.failures disk.old < D.failures disk.new) }
+        ensures refusals { D.refusals disk.new ≢ D.refusals disk.old → IsErrOf result NoMemory }
         ensures failures { D.failures disk.old ≤ D.failures disk.new }
     {
         if at >= LIMIT {
@@ -107,6 +108,7 @@ impl Journal {
         ensures before_the_disk { IsErrOf result Full → disk.new ≡ disk.old }
         ensures damaged { (place : ℕ) → IsErrOf result (Damaged place) → ⊥ }
         ensures device { IsErrOf result Device ↔ (D.failures disk.old < D.failures disk.new) }
+        ensures refusals { D.refusals disk.new ≢ D.refusals disk.old → IsErrOf result NoMemory }
         ensures failures { D.failures disk.old ≤ D.failures disk.new }
     {
         self.try_append(disk, payload)?;
@@ -136,6 +138,7 @@ impl Journal {
         ensures full { IsErrOf result (Before Full) ↔ (LIMIT ≤ self.old.end + 5 + length payload.now) }
         ensures refused { (cause : JournalError) → IsErrOf result (Before cause) → (cause ≡ Full) ⊎ (cause ≡ NoMemory) }
         ensures device { IsErrOf result (Within DiskError.Device) ↔ (D.failures disk.old < D.failures disk.new) }
+        ensures refusals { IsErrOf result (Within DiskError.NoMemory) ↔ (D.refusals disk.new ≢ D.refusals disk.old) }
         ensures failures { D.failures disk.old ≤ D.failures disk.new }
     {
         if !fits(self.end, payload.len()) {

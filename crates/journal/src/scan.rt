@@ -1,8 +1,9 @@
-ghost use Rattle.std.specs.Prelude.{◌≡◌, ◌≤◌, ◌<◌, ◌+◌, ◌^◌, ◌↔◌, ℕ, List, drop, vec_len, IsTrue, IfOk, IsErrOf};
+ghost use Rattle.std.specs.Prelude.{◌≡◌, ◌≢◌, ◌≤◌, ◌<◌, ◌+◌, ◌^◌, ◌↔◌, ℕ, List, drop, vec_len, IsTrue, IfOk, IsErrOf};
 ghost use Rattle.disk.specs.declared.side.Side.{Side};
 ghost use Rattle.disk.specs.Time.{LeavesOnly, MayLeaveNow, HasCause};
 ghost use Rattle.journal.specs.Records.{StandsFor};
-ghost use Rattle.journal.specs.declared.error.JournalError.TheVariants.{Device, Damaged, Full};
+ghost use Rattle.journal.specs.declared.error.JournalError.TheVariants.{Device, NoMemory, Damaged, Full};
+ghost use Rattle.disk.specs.declared.error.DiskError.TheVariants as DiskError;
 
 use crate::records::find_records;
 use crate::{Journal, JournalError, Payloads, begins_closed};
@@ -32,6 +33,7 @@ impl Journal {
         ensures nothing { IsTrue D.is_honest → (place : ℕ) → IsErrOf result (Damaged place) → (payloads : List (List ℕ)) → StandsFor (drop at (D.files disk.old side).content) payloads → ⊥ }
         ensures full { IsErrOf result Full → ⊥ }
         ensures device { IsErrOf result Device ↔ (D.failures disk.old < D.failures disk.new) }
+        ensures refusals { D.refusals disk.new ≢ D.refusals disk.old → IsErrOf result NoMemory }
         ensures failures { D.failures disk.old ≤ D.failures disk.new }
 
         ensures same { IsTrue D.is_honest → (each : Side) → D.files disk.new each ≡ D.files disk.old each }
@@ -60,6 +62,7 @@ fn read_from<D: Disk>(
     ensures value { IsTrue D.is_honest → IfOk result (λ bytes. bytes.items ≡ drop at (D.files disk.old side).content) }
     ensures fits { IfOk result (λ bytes. at + vec_len bytes < 2 ^ 64) }
     ensures cause { HasCause (D.failures disk.old) (D.failures disk.new) result }
+    ensures refusals { D.refusals disk.new ≢ D.refusals disk.old → IsErrOf result DiskError.NoMemory }
     ensures same { IsTrue D.is_honest → (each : Side) → D.files disk.new each ≡ D.files disk.old each }
     ensures any_moment { IsTrue D.is_honest → LeavesOnly D.moment D.left_at disk.old disk.new (MayLeaveNow (D.files disk.old)) }
 {
