@@ -5,6 +5,7 @@ mod FirstBytes
 mod GatesBytes
 mod GatesMoments
 mod GoesOn
+mod HeadsFaults
 mod Live
 mod OpenedCalls
 mod OpenedErrors

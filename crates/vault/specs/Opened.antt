@@ -1,6 +1,7 @@
 -- What opening finds of a store's files, and what it leaves of them.
-use Rattle.std.specs.Prelude.{◌≡◌, ◌≢◌, ℕ, List, Option, Some, None}
+use Rattle.std.specs.Prelude.{◌≡◌, ◌≢◌, ◌⊎◌, ℕ, List, length, Option, Some, None}
 use Rattle.disk.specs.declared.side.Side.{Side}
+use Rattle.disk.specs.declared.side.Side.TheVariants.{A, B}
 use Rattle.disk.specs.File.{File}
 use Rattle.disk.specs.Time.{Contents, MayLeaveNow, LeavesOnly}
 use Rattle.terms.specs.Sets.{Facts}
@@ -8,11 +9,13 @@ use Rattle.graph.specs.Graph.{Graph}
 use Rattle.graph.specs.Canonical.{canonical}
 use Rattle.codec.specs.declared.image.Image.{Image}
 use Rattle.graph.specs.Fits.{FitsState, HasOneItemEach}
+use Rattle.sides.specs.declared.gate.Gate.TheVariants.{Short}
+use Rattle.sides.specs.Reading.{Tells}
 use Rattle.sides.specs.Image.{facts_in, environment_in, IsListed}
 use Rattle.sides.specs.Side.{IsSide, IsOpen, HasGeneration, end_of}
 use Rattle.vault.specs.declared.found.Found.{Found}
 use Rattle.vault.specs.declared.error.VaultError.{VaultError}
-use Rattle.vault.specs.declared.error.VaultError.TheVariants.{Full, Halted, Exists}
+use Rattle.vault.specs.declared.error.VaultError.TheVariants.{Device, NoMemory, Damaged, Full, Halted, Exists}
 use Rattle.vault.specs.Stands.{Stands, IsLive, IsBehind, other_side}
 
 -- what reads give of both files
@@ -39,6 +42,26 @@ pub record IsAhead (contents : Contents) (side : Side) : Type 0 where
   pub generation : ℕ
   pub has : HasGeneration (contents side) generation
   pub behind : IsBehind (contents (other_side side)) generation
+
+-- the side is open, and has fewer bytes than the ten in which its generation ends
+abbrev pub IsCutShort : List ℕ → Type 0
+IsCutShort bytes = Tells Short bytes
+
+-- both sides are open, with one generation
+abbrev pub AreOfOneGeneration : Contents → Type 0
+AreOfOneGeneration contents = (generation : ℕ) × HasGeneration (contents A) generation × HasGeneration (contents B) generation
+
+-- The first fault of the heads, and where it is told. A is short: of A, at its length. A is not, and B is: of B, at its length. Neither
+-- is, and both have one generation: of A, at 2, where its generation begins.
+abbrev pub HeadsFault : Contents → Side → ℕ → Type 0
+HeadsFault contents side place =
+    (IsCutShort (contents A) × (side ≡ A) × (place ≡ length (contents A)))
+    ⊎ ((IsCutShort (contents A) → ⊥) × IsCutShort (contents B) × (side ≡ B) × (place ≡ length (contents B)))
+    ⊎ ((IsCutShort (contents A) → ⊥) × (IsCutShort (contents B) → ⊥) × AreOfOneGeneration contents × (side ≡ A) × (place ≡ 2))
+
+-- an error of opening files whose heads have this fault: that fault, or a call of the disk that failed, or a growth that was refused
+abbrev pub TellsFault : Side → ℕ → VaultError → Type 0
+TellsFault side place error = (error ≡ Damaged side place) ⊎ (error ≡ Device) ⊎ (error ≡ NoMemory)
 
 -- the files stand for no graph and no facts
 abbrev pub StandsForNothing : Contents → Type 0

@@ -1,6 +1,6 @@
 ghost use Rattle.std.specs.Prelude.{◌≡◌, ◌≢◌, ◌≤◌, ◌<◌, ◌+◌, ◌^◌, ◌⊎◌, ◌↔◌, ℕ, true, false, List, [], ◌∷◌, length, IsTrue, IfOk, OnOk, IfErr, IsErrAnd, IsErrOf};
 ghost use Rattle.disk.specs.File.{at_rest};
-ghost use Rattle.disk.specs.Time.{HasCause, LeavesOnly, MayLeaveNow};
+ghost use Rattle.disk.specs.Time.{HasCause, CountsRefusal, LeavesOnly, MayLeaveNow};
 ghost use Rattle.disk.specs.declared.side.Side.{Side};
 ghost use Rattle.disk.specs.declared.side.Side.TheVariants.{A, B};
 ghost use Rattle.graph.specs.Graph.{Graph};
@@ -23,7 +23,8 @@ use std::alloc::{AllocError, Global};
 ///
 /// `Exists` says that a file is not empty. Where one is not, both are left as they are, whatever is answered, and a crash at any
 /// moment of the call leaves what one might have left before it. Where both were empty, nothing is said of
-/// what they hold after `Device` or `NoMemory`, but that A is empty or B has its closed gate.
+/// what they hold after an error of the disk, but that A is empty or B has its closed gate. All memory is asked for before the first
+/// call of the disk: after `NoMemory` that is no refusal of the disk's, the disk is as it was.
 pub fn create<D: Disk>(alloc: Global, disk: D, text: &[u8]) -> Result<Vault<D>, Refused<D>>
     requires { IsCanonical text.now }
     ensures created { IsTrue D.is_honest → (g : Graph) → Reads text.now g → text.now ≡ canonical g → IfOk result (λ vault. Holds D.files vault g nothing nothing) }
@@ -43,6 +44,10 @@ pub fn create<D: Disk>(alloc: Global, disk: D, text: &[u8]) -> Result<Vault<D>, 
 
     ensures causes { IfErr result (λ refused. (refused.error ≡ Exists) ⊎ (refused.error ≡ NoMemory) ⊎ (refused.error ≡ Device)) }
     ensures device { IsErrAnd result (λ refused. refused.error ≡ Device) ↔ (D.failures disk < D.failures (disk_of result)) }
+    ensures refusals { D.refusals (disk_of result) ≢ D.refusals disk → IsErrAnd result (λ refused. refused.error ≡ NoMemory) }
+
+    // All growth comes before the first call of the disk.
+    ensures grown_first { IfErr result (λ refused. refused.error ≡ NoMemory → D.refusals refused.disk ≡ D.refusals disk → refused.disk ≡ disk) }
     ensures failures { D.failures disk ≤ D.failures (disk_of result) }
 {
     sides_go_on();
@@ -90,6 +95,8 @@ fn write_store<D: Disk>(alloc: Global, disk: &mut D, text: &[u8]) -> Result<Made
     ensures kept_moments { IsTrue D.is_honest → (some : Side) → (D.files disk.old some).content ≢ [] → LeavesOnly D.moment D.left_at disk.old disk.new (MayLeaveNow (D.files disk.old)) }
     ensures causes { IfErr result (λ error. (error ≡ Exists) ⊎ (error ≡ NoMemory) ⊎ (error ≡ Device)) }
     ensures device { IsErrOf result Device ↔ (D.failures disk.old < D.failures disk.new) }
+    ensures refusals { D.refusals disk.new ≢ D.refusals disk.old → IsErrOf result NoMemory }
+    ensures grown_first { IsErrOf result NoMemory → D.refusals disk.new ≡ D.refusals disk.old → disk.new ≡ disk.old }
     ensures failures { D.failures disk.old ≤ D.failures disk.new }
 {
     let kept = Vec::from_slice(alloc, text)?;
@@ -138,6 +145,7 @@ fn is_there<D: Disk>(disk: &mut D) -> Result<bool, DiskError>
     ensures same { IsTrue D.is_honest → (side : Side) → D.files disk.new side ≡ D.files disk.old side }
     ensures only_reads { IsTrue D.is_honest → OnlyReads D.files D.moment D.left_at disk.old disk.new }
     ensures cause { HasCause (D.failures disk.old) (D.failures disk.new) result }
+    ensures refused { CountsRefusal (D.refusals disk.old) (D.refusals disk.new) result }
 {
     let a = disk.len(Side::A)?;
     let b = disk.len(Side::B)?;
@@ -150,6 +158,7 @@ fn write_sides<D: Disk>(disk: &mut D, bytes: &[u8]) -> Result<(), DiskError>
     ensures b { IsTrue D.is_honest → (D.files disk.old B).content ≡ [] → OnOk result (D.files disk.new B ≡ at_rest (0 ∷ [])) }
     ensures begins { IsTrue D.is_honest → D.files disk.old A ≡ at_rest [] → (D.files disk.old B).content ≡ [] → LeavesOnly D.moment D.left_at disk.old disk.new BComesFirst }
     ensures cause { HasCause (D.failures disk.old) (D.failures disk.new) result }
+    ensures refused { CountsRefusal (D.refusals disk.old) (D.refusals disk.new) result }
 {
     write_synced(disk, Side::B, 0, &[0])?;
     write_synced(disk, Side::A, 0, bytes)?;

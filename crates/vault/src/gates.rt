@@ -1,6 +1,6 @@
 ghost use Rattle.std.specs.Prelude.{◌≡◌, ◌≢◌, ◌∷◌, [], IsTrue, IfOk, OnOk, MatchBool};
 ghost use Rattle.disk.specs.File.{at_rest};
-ghost use Rattle.disk.specs.Time.{OtherStays, OtherMayBe, LeavesOnly, MayLeaveNow, HasCause};
+ghost use Rattle.disk.specs.Time.{OtherStays, OtherMayBe, LeavesOnly, MayLeaveNow, HasCause, CountsRefusal};
 ghost use Rattle.vault.specs.Stands.{other_side};
 ghost use Rattle.vault.specs.Turned.{IsShut, IsUnshut, Rests, RestsShut, HasBehindGate, MayShut, MayTurn};
 
@@ -25,6 +25,7 @@ pub(crate) fn write_side<D: Disk>(disk: &mut D, side: Side, behind: &[u8]) -> Re
     ensures any_moment { IsTrue D.is_honest → (D.files disk.old side).content ≢ [] → LeavesOnly D.moment D.left_at disk.old disk.new
         (λ contents. MayTurn (D.files disk.old side).content (1 ∷ behind.now) (contents side) × OtherMayBe side (D.files disk.old) contents) }
     ensures cause { HasCause (D.failures disk.old) (D.failures disk.new) result }
+    ensures refused { CountsRefusal (D.refusals disk.old) (D.refusals disk.new) result }
 {
     close_gate(disk, side)?;
     write_behind(disk, side, behind)?;
@@ -38,6 +39,7 @@ fn write_behind<D: Disk>(disk: &mut D, side: Side, behind: &[u8]) -> Result<(), 
     ensures other { IsTrue D.is_honest → OtherStays side (D.files disk.old) (D.files disk.new) }
     ensures any_moment { IsTrue D.is_honest → LeavesOnly D.moment D.left_at disk.old disk.new (λ contents. IsShut (contents side) × OtherMayBe side (D.files disk.old) contents) }
     ensures cause { HasCause (D.failures disk.old) (D.failures disk.new) result }
+    ensures refused { CountsRefusal (D.refusals disk.old) (D.refusals disk.new) result }
 {
     disk.cut(side, 1)?;
     write_synced(disk, side, 1, behind)
@@ -51,6 +53,7 @@ fn close_gate<D: Disk>(disk: &mut D, side: Side) -> Result<(), DiskError>
     ensures any_moment { IsTrue D.is_honest → (D.files disk.old side).content ≢ [] → LeavesOnly D.moment D.left_at disk.old disk.new
         (λ contents. MayShut (D.files disk.old side).content (contents side) × OtherMayBe side (D.files disk.old) contents) }
     ensures cause { HasCause (D.failures disk.old) (D.failures disk.new) result }
+    ensures refused { CountsRefusal (D.refusals disk.old) (D.refusals disk.new) result }
 {
     if is_shut(disk, side)? {
         return Ok(());
@@ -64,6 +67,7 @@ fn is_shut<D: Disk>(disk: &mut D, side: Side) -> Result<bool, DiskError>
     ensures same { IsTrue D.is_honest → (each : Side) → D.files disk.new each ≡ D.files disk.old each }
     ensures any_moment { IsTrue D.is_honest → LeavesOnly D.moment D.left_at disk.old disk.new (MayLeaveNow (D.files disk.old)) }
     ensures cause { HasCause (D.failures disk.old) (D.failures disk.new) result }
+    ensures refused { CountsRefusal (D.refusals disk.old) (D.refusals disk.new) result }
 {
     if disk.len(side)? == 0 {
         return Ok(false);

@@ -1,12 +1,13 @@
-ghost use Rattle.std.specs.Prelude.{◌≡◌, ◌≤◌, ◌<◌, ◌↔◌, ℕ, false, IsTrue, IfOk, IfErr, IsErrAnd, IsErrOf, OnOk};
+ghost use Rattle.std.specs.Prelude.{◌≡◌, ◌≢◌, ◌⊎◌, ◌≤◌, ◌<◌, ◌↔◌, ℕ, false, IsTrue, IfOk, IfErr, IsErrAnd, IsErrOf, OnOk};
 ghost use Rattle.disk.specs.declared.side.Side.{Side};
 ghost use Rattle.disk.specs.File.{at_rest};
-ghost use Rattle.disk.specs.Time.{Contents, LeavesOnly, MayLeaveNow, HasCause};
+ghost use Rattle.disk.specs.Time.{Contents, LeavesOnly, MayLeaveNow, HasCause, CountsRefusal};
 ghost use Rattle.sides.specs.Image.{facts_in, environment_in};
 ghost use Rattle.sides.specs.Side.{IsOpen};
 ghost use Rattle.vault.specs.Store.{Holds, IsReady, SaysNothing, disk_of_opening};
-ghost use Rattle.vault.specs.Opened.{OnlyReads, IsFound, IsSound, StandsForNothing, NoneIsOpen, IsOfOpening, contents_of};
-ghost use Rattle.vault.specs.declared.error.VaultError.TheVariants.{Device, NotAStore, Damaged};
+ghost use Rattle.vault.specs.Opened.{OnlyReads, IsFound, IsSound, HeadsFault, TellsFault, StandsForNothing, NoneIsOpen, IsOfOpening, contents_of};
+ghost use Rattle.vault.specs.declared.error.VaultError.TheVariants.{Device, NoMemory, NotAStore, Damaged};
+ghost use Rattle.disk.specs.declared.error.DiskError.TheVariants as DiskError;
 
 use crate::found::{Found, found_in};
 use crate::heads::live_side;
@@ -28,8 +29,9 @@ pub struct Recovered<D: Disk> {
 /// Opens the store on two files, and reads what it holds.
 ///
 /// Both files are synced first, so that what was read is what every later crash leaves. Nothing is written, whatever it answers.
-/// `NotAStore` says that no side is open; `Damaged` names an open side, and the place of its first check that failed: a side of
-/// fewer than ten bytes (A before B, at its length), both sides of one generation (A, at 2), and of the live side its format (at
+/// `NotAStore` says that no side is open; `Damaged` names an open side, and the place of its first check that failed. The heads come
+/// first: an open side of fewer than ten bytes (A before B, at its length), then both sides of one generation (A, at 2). Where they
+/// have such a fault, nothing else is answered but `Device` and `NoMemory`. Then comes the format of the live side (at
 /// 1), its graph's text, its length first (at 10 and 14), its image (at its length's place), and its journal (at the gate of the first
 /// record that is not whole with a gate behind it, is no event, or does not fit, or where the journal's first byte is missing).
 pub fn open<D: Disk>(alloc: Global, disk: D) -> Result<Recovered<D>, Refused<D>>
@@ -43,6 +45,10 @@ pub fn open<D: Disk>(alloc: Global, disk: D) -> Result<Recovered<D>, Refused<D>>
     ensures not_a_store { IsTrue D.is_honest → IfErr result (λ refused. refused.error ≡ NotAStore → NoneIsOpen (contents_of (D.files disk))) }
     ensures damaged { IsTrue D.is_honest → (side : Side) (place : ℕ) → IfErr result (λ refused. refused.error ≡ Damaged side place → IsOpen (D.files disk side).content) }
 
+    // Of several faults of the heads it tells the first one: A's short head, then B's, then two of one generation.
+    ensures heads { IsTrue D.is_honest → (side : Side) (place : ℕ) → HeadsFault (contents_of (D.files disk)) side place
+        → IsErrAnd result (λ refused. (refused.error ≡ Damaged side place) ⊎ (refused.error ≡ Device) ⊎ (refused.error ≡ NoMemory)) }
+
     // What reads give stays, and a crash at any moment of the call leaves what one might have left before it.
     ensures reads { IsTrue D.is_honest → (side : Side) → (D.files (disk_of_opening result) side).content ≡ (D.files disk side).content }
     ensures any_moment { IsTrue D.is_honest → LeavesOnly D.moment D.left_at disk (disk_of_opening result) (MayLeaveNow (D.files disk)) }
@@ -50,6 +56,7 @@ pub fn open<D: Disk>(alloc: Global, disk: D) -> Result<Recovered<D>, Refused<D>>
 
     ensures others { IfErr result (λ refused. IsOfOpening refused.error) }
     ensures device { IsErrAnd result (λ refused. refused.error ≡ Device) ↔ (D.failures disk < D.failures (disk_of_opening result)) }
+    ensures refusals { D.refusals (disk_of_opening result) ≢ D.refusals disk → IsErrAnd result (λ refused. refused.error ≡ NoMemory) }
     ensures failures { D.failures disk ≤ D.failures (disk_of_opening result) }
 {
     sides_go_on();
@@ -89,9 +96,11 @@ fn recover<D: Disk>(alloc: Global, disk: &mut D) -> Result<Found, VaultError>
     ensures nothing { IsTrue D.is_honest → IfErr result (λ error. SaysNothing error → StandsForNothing (contents_of (D.files disk.old))) }
     ensures not_a_store { IsTrue D.is_honest → IfErr result (λ error. error ≡ NotAStore → NoneIsOpen (contents_of (D.files disk.old))) }
     ensures damaged { IsTrue D.is_honest → (here : Side) (place : ℕ) → IfErr result (λ error. error ≡ Damaged here place → IsOpen (D.files disk.old here).content) }
+    ensures heads { IsTrue D.is_honest → (here : Side) (place : ℕ) → HeadsFault (contents_of (D.files disk.old)) here place → IsErrAnd result (TellsFault here place) }
     ensures only_reads { IsTrue D.is_honest → OnlyReads D.files D.moment D.left_at disk.old disk.new }
     ensures others { IfErr result IsOfOpening }
     ensures device { IsErrOf result Device ↔ (D.failures disk.old < D.failures disk.new) }
+    ensures refusals { D.refusals disk.new ≢ D.refusals disk.old → IsErrOf result NoMemory }
     ensures failures { D.failures disk.old ≤ D.failures disk.new }
 {
     settle(disk)?;
@@ -103,6 +112,7 @@ fn settle<D: Disk>(disk: &mut D) -> Result<(), DiskError>
     ensures rests { IsTrue D.is_honest → OnOk result ((side : Side) → D.files disk.new side ≡ at_rest (D.files disk.old side).content) }
     ensures only_reads { IsTrue D.is_honest → OnlyReads D.files D.moment D.left_at disk.old disk.new }
     ensures cause { HasCause (D.failures disk.old) (D.failures disk.new) result }
+    ensures refused { CountsRefusal (D.refusals disk.old) (D.refusals disk.new) result }
 {
     disk.sync(Side::A)?;
     disk.sync(Side::B)
@@ -115,10 +125,12 @@ fn look<D: Disk>(alloc: Global, disk: &mut D) -> Result<Found, VaultError>
     ensures nothing { IsTrue D.is_honest → IfErr result (λ error. SaysNothing error → StandsForNothing (contents_of (D.files disk.old))) }
     ensures not_a_store { IsTrue D.is_honest → IfErr result (λ error. error ≡ NotAStore → NoneIsOpen (contents_of (D.files disk.old))) }
     ensures damaged { IsTrue D.is_honest → (here : Side) (place : ℕ) → IfErr result (λ error. error ≡ Damaged here place → IsOpen (D.files disk.old here).content) }
+    ensures heads { IsTrue D.is_honest → (here : Side) (place : ℕ) → HeadsFault (contents_of (D.files disk.old)) here place → IsErrAnd result (TellsFault here place) }
     ensures same { IsTrue D.is_honest → (each : Side) → D.files disk.new each ≡ D.files disk.old each }
     ensures only_reads { IsTrue D.is_honest → OnlyReads D.files D.moment D.left_at disk.old disk.new }
     ensures others { IfErr result IsOfOpening }
     ensures device { IsErrOf result Device ↔ (D.failures disk.old < D.failures disk.new) }
+    ensures refusals { D.refusals disk.new ≢ D.refusals disk.old → IsErrOf result NoMemory }
     ensures failures { D.failures disk.old ≤ D.failures disk.new }
 {
     one_meaning_of_a_side();
@@ -133,6 +145,7 @@ fn read_whole<D: Disk>(alloc: Global, disk: &mut D, side: Side) -> Result<Vec<u8
     ensures same { IsTrue D.is_honest → (each : Side) → D.files disk.new each ≡ D.files disk.old each }
     ensures only_reads { IsTrue D.is_honest → OnlyReads D.files D.moment D.left_at disk.old disk.new }
     ensures cause { HasCause (D.failures disk.old) (D.failures disk.new) result }
+    ensures refusals { D.refusals disk.new ≢ D.refusals disk.old → IsErrOf result DiskError.NoMemory }
 {
     let count = disk.len(side)?;
     let mut bytes = vec![in alloc; 0; count as usize]?;

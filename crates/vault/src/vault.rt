@@ -5,8 +5,8 @@ use journal::Journal;
 
 /// A store on two files, open.
 ///
-/// What it holds is told by its files alone: the fields say where the next record goes. After an error that a call of the disk
-/// answered in `append` or `turn` the vault is halted, until its disk is opened again.
+/// What it holds is told by its files alone: the fields say where the next record goes. A vault halts exactly where a call of the
+/// disk answers an error in `append` or `turn`, and stays halted until its disk is opened again.
 pub struct Vault<D: Disk> {
     pub(crate) disk: D,
     // The journal of the live side.
@@ -15,7 +15,7 @@ pub struct Vault<D: Disk> {
     pub(crate) generation: u64,
     // The canonical text of the graph.
     pub(crate) text: Vec<u8>,
-    // Whether an error of the disk came before.
+    // Whether a call of the disk answered an error before.
     pub(crate) halted: bool,
     // Holds an event while it is appended, and a side while it is written.
     pub(crate) buffer: Vec<u8>,
@@ -44,7 +44,7 @@ impl<D: Disk> Vault<D> {
         self.generation
     }
 
-    /// Whether an error of the disk came before, so that its disk must be opened again.
+    /// Whether a call of the disk answered an error before, so that its disk must be opened again.
     pub fn is_halted(&self) -> bool
         ensures { result ≡ self.now.halted }
     {

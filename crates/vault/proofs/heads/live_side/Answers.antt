@@ -1,11 +1,12 @@
 use Rattle.std.proofs.Common.{subst}
 use Rattle.std.proofs.lemmas.Result.{IfErr-weaker}
-use Rattle.disk.specs.declared.side.Side.TheVariants.{B}
+use Rattle.disk.specs.declared.side.Side.TheVariants.{A, B}
 use Rattle.disk.specs.File.{File}
 use Rattle.sides.specs.Side.{IsOpen}
 use Rattle.vault.specs.Opened.{IsGenerationOf, StandsForNothing, contents_of}
 use Rattle.vault.proofs.OpenedCalls.{then_reads, same_contents}
 use Rattle.vault.proofs.OpenedErrors.{handed_on}
+use Rattle.vault.proofs.HeadsFaults.{TellsOne, not_short, a_is_told, b_is_told, one_is_told, told_on}
 use Rattle.vault.proofs.heads.live_side.Goals as goal
 
 pub returns-in_err-a-clause-nothing : goal.returns-in_err-a-clause-nothing
@@ -58,3 +59,22 @@ returns-clause-damaged g c honest here place =
     let files = g.D.Disk.files in
     let b = subst (λ (f : File). IsGenerationOf c.in_ok-b.b f.content) (c.generation_of.ensures.same honest B) (c.in_ok-b.ensures.generation honest) in
     c.ahead.ensures.damaged (contents_of (files c.args.disk.now)) (c.in_ok-a.ensures.generation honest) b here place
+
+pub returns-in_err-a-clause-heads : goal.returns-in_err-a-clause-heads
+returns-in_err-a-clause-heads g c honest here place fault =
+    told_on _ c.in_err-a.field-0.0 c.from_residual.result c.from_residual.ensures.1
+    (a_is_told (contents_of (g.D.Disk.files c.args.disk.now)) here place _ fault (c.in_err-a.ensures.short honest))
+
+pub returns-in_err-b-clause-heads : goal.returns-in_err-b-clause-heads
+returns-in_err-b-clause-heads g c honest here place fault =
+    let contents = contents_of (g.D.Disk.files c.args.disk.now) in
+    let asked = subst (λ (f : File). TellsOne B f.content c.in_err-b.field-0.0) (c.generation_of.ensures.same honest B) (c.in_err-b.ensures.short honest) in
+    told_on _ c.in_err-b.field-0.0 c.from_residual-in_err-b.result c.from_residual-in_err-b.ensures.1
+    (b_is_told contents here place _ (not_short c.in_ok-a.a (contents A) (c.in_ok-a.ensures.generation honest)) fault asked)
+
+pub returns-clause-heads : goal.returns-clause-heads
+returns-clause-heads g c honest here place fault =
+    let contents = contents_of (g.D.Disk.files c.args.disk.now) in
+    let a = c.in_ok-a.ensures.generation honest in
+    let b = subst (λ (f : File). IsGenerationOf c.in_ok-b.b f.content) (c.generation_of.ensures.same honest B) (c.in_ok-b.ensures.generation honest) in
+    one_is_told c.ahead.result contents here place (not_short c.in_ok-a.a (contents A) a) (not_short c.in_ok-b.b (contents B) b) (c.ahead.ensures.alike contents a b) fault

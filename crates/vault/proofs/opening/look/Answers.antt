@@ -5,6 +5,7 @@ use Rattle.disk.specs.declared.side.Side.{Side}
 use Rattle.sides.specs.Side.{IsOpen, HasGeneration}
 use Rattle.vault.specs.Opened.{IsNoSide, contents_of}
 use Rattle.vault.proofs.OpenedCalls.{then_reads}
+use Rattle.vault.proofs.HeadsFaults.{told_on}
 use Rattle.vault.proofs.OpenedErrors.{handed_on}
 use Rattle.vault.proofs.OpenedHeads.{opens}
 use Rattle.vault.proofs.OpenedSides.{ahead_is_none, ahead_is_found}
@@ -61,3 +62,14 @@ returns-clause-damaged g c honest here place =
     IfErr-weaker c.found_in.result _ _
     (λ error is_here is. subst (λ (s : Side). IsOpen (files c.args.disk.now s).content) (is_here is) (opens (files c.args.disk.now c.in_ok-side.side).content ahead.generation ahead.has).0)
     (c.found_in.ensures.damaged here place)
+
+pub returns-in_err-side-clause-heads : goal.returns-in_err-side-clause-heads
+returns-in_err-side-clause-heads g c honest here place fault =
+    told_on _ c.in_err-side.field-0.0 c.from_residual.result c.from_residual.ensures.1 (c.in_err-side.ensures.heads honest here place fault)
+
+-- a side was found, so the heads have no fault
+pub returns-in_err-bytes-clause-heads : goal.returns-in_err-bytes-clause-heads
+returns-in_err-bytes-clause-heads g c honest here place fault = absurd (c.in_ok-side.ensures.heads honest here place fault)
+
+pub returns-clause-heads : goal.returns-clause-heads
+returns-clause-heads g c honest here place fault = absurd (c.in_ok-side.ensures.heads honest here place fault)

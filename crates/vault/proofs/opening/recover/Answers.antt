@@ -1,9 +1,9 @@
-use Rattle.std.proofs.Common.{◌≡◌, subst}
+use Rattle.std.proofs.Common.{◌≡◌, sym, subst}
 use Rattle.std.specs.Prelude.{IfOk, IfErr}
 use Rattle.disk.specs.Time.{Contents}
 use Rattle.vault.specs.Store.{SaysNothing}
 use Rattle.sides.specs.Side.{IsOpen}
-use Rattle.vault.specs.Opened.{IsFound, StandsForNothing, NoneIsOpen}
+use Rattle.vault.specs.Opened.{IsFound, HeadsFault, StandsForNothing, NoneIsOpen}
 use Rattle.vault.specs.declared.error.VaultError.TheVariants.{NotAStore, Damaged}
 use Rattle.vault.proofs.OpenedCalls.{then_reads, same_contents}
 use Rattle.vault.proofs.opening.recover.Goals as goal
@@ -34,3 +34,9 @@ returns-clause-damaged g c honest here place =
     let files = g.D.Disk.files in
     subst (λ (contents : Contents). IfErr c.look.result (λ error. error ≡ Damaged here place → IsOpen (contents here)))
     (same_contents (files c.args.disk.now) (files c.settle.new.disk) (c.settle.ensures.only_reads honest).reads) (c.look.ensures.damaged honest here place)
+
+pub returns-clause-heads : goal.returns-clause-heads
+returns-clause-heads g c honest here place fault =
+    let files = g.D.Disk.files in
+    let same = same_contents (files c.args.disk.now) (files c.settle.new.disk) (c.settle.ensures.only_reads honest).reads in
+    c.look.ensures.heads honest here place (subst (λ (contents : Contents). HeadsFault contents here place) (sym same) fault)

@@ -22,10 +22,6 @@ returns-in_err-encode_event-clause-any_moment g c honest gr E X holds fits =
 pub try_append-requires : goal.try_append-requires
 try_append-requires g c honest = (c.requires.store honest c.if-self.false).within
 
-pub returns-in-Ok-clause-ready : goal.returns-in-Ok-clause-ready
-returns-in-Ok-clause-ready g c honest =
-    appended_is_ready g.D.Disk.files c.args.self.now _ c.deref.result.now (c.requires.store honest c.if-self.false) c.try_append.ensures.side c.in-Ok.ensures.moved (c.in-Ok.ensures.file honest) (c.try_append.ensures.other honest)
-
 pub returns-in-Err-Before-clause-any_moment : goal.returns-in-Err-Before-clause-any_moment
 returns-in-Err-Before-clause-any_moment g c honest gr E X holds fits =
     let journal = c.sides_go_on.ensures.journal in
@@ -96,5 +92,11 @@ pub returns-in-Ok-clause-written : goal.returns-in-Ok-clause-written
 returns-in-Ok-clause-written g c honest =
     let vault = c.args.self.now in
     let spelled = alone c.deref.result.now _ _ (event_bytes c.args.event.now) c.deref.ensures.value c.in_ok-encode_event.ensures.spelled c.clear.ensures.items in
-    c.in-Ok.ensures.file honest
-    ∙ ap (λ (p : List ℕ). at_rest (overwritten (g.D.Disk.files vault.disk vault.journal.side).content vault.journal.end (record_of p ++ 0 ∷ []))) spelled
+    let other = c.try_append.ensures.other honest in
+    record {
+      written =
+          c.in-Ok.ensures.file honest
+          ∙ ap (λ (p : List ℕ). at_rest (overwritten (g.D.Disk.files vault.disk vault.journal.side).content vault.journal.end (record_of p ++ 0 ∷ []))) spelled;
+      other = other;
+      ready = appended_is_ready g.D.Disk.files vault _ c.deref.result.now (c.requires.store honest c.if-self.false) c.try_append.ensures.side c.in-Ok.ensures.moved (c.in-Ok.ensures.file honest) other;
+    }
