@@ -3,7 +3,9 @@ use anyhow::Error;
 use std::alloc::{AllocError, Global};
 use std::io::Print;
 use std::time::{Clock, Instant};
-use steplang::{Block, Body, Checked, Components, Expression, Operator, Run, Slot, Turn};
+use steplang::{
+    Block, Body, Checked, Components, Expression, Node, Operator, Run, Slot, Statement, Turn,
+};
 use terms::{Inst, ItemCollection, Key, StepCollection};
 
 /// The turns of an instance: its loop, its turns, an assignment at each and its put are all that one instance may take.
@@ -48,31 +50,47 @@ fn made(alloc: Global, checked: &Checked) -> Result<usize, AllocError> {
 fn sum(alloc: Global) -> Result<Checked, AllocError> {
     let total = Slot::new(1);
     let turn = Slot::new(2);
-    let put = Block::PutItem {
-        collection: ItemCollection(0),
-        components: Components::new(Vec::new(alloc)),
-        value: Expression::Variable(total),
-        rest: Box::new(alloc, Block::End)?,
+    let put = Block {
+        first: Statement::PutItem {
+            collection: ItemCollection(0),
+            components: Components::new(Vec::new(alloc)),
+            value: variable(total),
+            rest: Box::new(alloc, Block::end())?,
+        },
     };
-    let operands = (Expression::Variable(total), Expression::Variable(turn));
-    let add = Block::Assign {
-        variable: total,
-        value: Expression::Operation(Operator::Add, Box::new(alloc, operands)?),
-        rest: Box::new(alloc, Block::End)?,
+    let operands = Box::new(alloc, (variable(total), variable(turn)))?;
+    let add = Block {
+        first: Statement::Assign {
+            variable: total,
+            value: Expression {
+                node: Node::Operation(Operator::Add, operands),
+            },
+            rest: Box::new(alloc, Block::end())?,
+        },
     };
-    let write = Block::For {
-        variable: turn,
-        from: Expression::Number(0),
-        to: Expression::Variable(Slot::new(0)),
-        block: Box::new(alloc, add)?,
-        rest: Box::new(alloc, put)?,
+    let write = Block {
+        first: Statement::For {
+            variable: turn,
+            from: Expression {
+                node: Node::Number(0),
+            },
+            to: variable(Slot::new(0)),
+            block: Box::new(alloc, add)?,
+            rest: Box::new(alloc, put)?,
+        },
     };
     Ok(Checked {
         names: Vec::new(alloc),
         parameters: 1,
         body: Body {
-            read: Block::End,
+            read: Block::end(),
             write,
         },
     })
+}
+
+fn variable(slot: Slot) -> Expression {
+    Expression {
+        node: Node::Variable(slot),
+    }
 }

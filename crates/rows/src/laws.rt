@@ -44,7 +44,6 @@ fn texts_hold() {
 fn graphs_hold() {
     graph::text_limit();
     graph::canonical_reads();
-    graph::one_canonical_text();
     graph::one_graph();
     graph::one_reading();
     graph::fitting();

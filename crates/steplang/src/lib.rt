@@ -11,5 +11,5 @@ pub use outcome::{Bad, Given, Parked, Reads, Turn};
 pub use run::Run;
 pub use steptree::{
     Block, Body, CheckError, CheckFault, Checked, Components, Declared, Expression, Name,
-    NamedBlock, NamedExpression, NamedKey, Operator, Sheet, Slot, Step, check,
+    NamedBlock, NamedExpression, NamedKey, Node, Operator, Sheet, Slot, Statement, Step, check,
 };
