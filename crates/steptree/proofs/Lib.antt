@@ -4,6 +4,7 @@ mod Kept
 mod Lists
 mod Places
 mod Resolving
+mod Spent
 mod Statements
 mod TreeLaws
 mod Trees

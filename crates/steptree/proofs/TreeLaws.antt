@@ -1,4 +1,4 @@
--- The laws of trees: a tree asks for its reads in order, and over a look-up it ends in exactly one way.
+-- The laws of trees: a tree asks for its reads in order, over a look-up it ends in some way, and over pairs in one at most.
 use Rattle.std.proofs.Common.{◌≡◌, ℤ, Bool, true, false, List, [], ◌∷◌, ◌++◌, if◌then◌else◌, Option, Some, None, refl, sym, ap, subst, ◌∙◌}
 use Rattle.std.specs.List.{AllByRecursion}
 use Rattle.terms.specs.declared.name.Addr.{Addr}
@@ -67,20 +67,30 @@ module _ (look : Addr → Option ℤ) where
         (more.0, (address, value) ∷ more.1, (some, more.2), goes_on address next (address, value) more.1 more.0 (same_itself address) more.3, more.4)
   ] refl
 
+-- ---- over pairs with one value at most for an address
+
+module _ (pairs : Addr → ℤ → Type 0) (one_value : (address : Addr) (v w : ℤ) → pairs address v → pairs address w → v ≡ w) where
+  abbrev AllAmong : List Read → Type 0
+  AllAmong reads = AllByRecursion (λ read. pairs read.0 read.1) reads
+
+  -- what it asks for is not among them
+  abbrev AsksOutside : Ending → Type 0
+  AsksOutside ending = (address : Addr) → ending ≡ Asks address → (value : ℤ) → pairs address value → ⊥
+
   same_end : (reads reads' : List Read) (end one two : Ending) → used_up reads end ≡ Some one → used_up reads' end ≡ Some two → one ≡ two
   same_end [] [] end one two is is' = cc
   same_end [] (read ∷ reads') end one two is is' = absurd (cc)
   same_end (read ∷ reads) reads' end one two is is' = absurd (cc)
 
   -- a tree does not end in asking for what another list of found reads answers
-  asks_no_more : (address : Addr) (next : ℤ → Tree) (read : Read) (reads : List Read) (one two : Ending) → Some (Asks address) ≡ Some one → IsLacking one
-      → Found look read.0 read.1 → EndsAlong (Needs address next) (read ∷ reads) two → ⊥
+  asks_no_more : (address : Addr) (next : ℤ → Tree) (read : Read) (reads : List Read) (one two : Ending) → Some (Asks address) ≡ Some one → AsksOutside one
+      → pairs read.0 read.1 → EndsAlong (Needs address next) (read ∷ reads) two → ⊥
   asks_no_more address next read reads one two is lacking found goes =
       let same = of_its_item address next read reads two goes in
       lacking read.0 (cc) read.1 found
 
-  pub ends_once : (tree : Tree) (reads reads' : List Read) (one two : Ending) → AllFound reads → AllFound reads' → EndsAlong tree reads one → EndsAlong tree reads' two
-      → IsLacking one → IsLacking two → one ≡ two
+  pub ends_once : (tree : Tree) (reads reads' : List Read) (one two : Ending) → AllAmong reads → AllAmong reads' → EndsAlong tree reads one → EndsAlong tree reads' two
+      → AsksOutside one → AsksOutside two → one ≡ two
   ends_once (Ends state) reads reads' one two found found' is is' lacking lacking' = same_end reads reads' (Gives state.puts) one two is is'
   ends_once (Fails kind) reads reads' one two found found' is is' lacking lacking' = same_end reads reads' (Faults kind) one two is is'
   ends_once (Needs address next) [] [] one two found found' is is' lacking lacking' = cc
@@ -91,9 +101,6 @@ module _ (look : Addr → Option ℤ) where
   ends_once (Needs address next) (read ∷ reads) (read' ∷ reads') one two found found' is is' lacking lacking' =
       let here = of_its_item address next read reads one is in
       let here' = of_its_item address next read' reads' two is' in
-      let values : read'.1 ≡ read.1 = value_same (ap look here) (ap look here') found.0 found'.0 in
+      let values = one_value address read'.1 read.1 (subst (λ (a : Addr). pairs a read'.1) here' found'.0) (subst (λ (a : Addr). pairs a read.1) here found.0) in
       let there = subst (λ (v : ℤ). EndsAlong (next v) reads' two) values (went_on address next read' reads' two is').1 in
       ends_once (next read.1) reads reads' one two found.1 found'.1 (went_on address next read reads one is).1 there lacking lacking'
-    where
-      value_same : {a b c : Option ℤ} {x y : ℤ} → a ≡ c → b ≡ c → a ≡ Some x → b ≡ Some y → y ≡ x
-      value_same p q r s = cc

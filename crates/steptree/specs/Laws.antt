@@ -7,6 +7,7 @@ use Rattle.terms.specs.declared.fault.FaultKind.TheVariants.{DoublePut}
 use Rattle.terms.specs.declared.put.Put.{Put}
 use Rattle.terms.specs.declared.put.TheConstants.{MOST_PUTS}
 use Rattle.steptree.specs.declared.body.Body.{Body}
+use Rattle.steptree.specs.declared.body.TheConstants.{BUDGET}
 use Rattle.steptree.specs.Run.{Read}
 use Rattle.steptree.specs.Bodies.{Ending, Gives, Faults, Asks, Along, Means}
 
@@ -25,6 +26,10 @@ FewPuts = (body : Body) (key : List ℤ) (reads : List Read) (puts : List Put) �
 -- a body's fault is no double put: that one is for the store to find, behind the body
 abbrev pub NoDoublePut : Type 0
 NoDoublePut = (body : Body) (key : List ℤ) (reads : List Read) (kind : FaultKind) → Along body key reads (Faults kind) → kind ≢ DoublePut
+
+-- a body reads no more than its budget along any list: whoever answers its reads has a number that falls
+abbrev pub ReadsWithinBudget : Type 0
+ReadsWithinBudget = (body : Body) (key : List ℤ) (reads : List Read) (ending : Ending) → Along body key reads ending → length reads ≤ BUDGET
 
 -- what a body gives over some pairs, it gives over more of them; and so with its faults
 abbrev pub GrowthKeeps : Type 0
@@ -47,6 +52,11 @@ LookUpEnds = (body : Body) (key : List ℤ) (look : Addr → Option ℤ) → (en
 -- and in no other
 abbrev pub LookUpEndsOnce : Type 0
 LookUpEndsOnce = (body : Body) (key : List ℤ) (look : Addr → Option ℤ) (one two : Ending) → Means body key (Found look) one → Means body key (Found look) two → one ≡ two
+
+-- over pairs with one value at most for an address a body ends in one way at most
+abbrev pub PairsEndOnce : Type 0
+PairsEndOnce = (body : Body) (key : List ℤ) (pairs : Addr → ℤ → Bool) → ((address : Addr) (v w : ℤ) → pairs address v ≡ true → pairs address w ≡ true → v ≡ w)
+    → (one two : Ending) → Means body key (λ a v. pairs a v ≡ true) one → Means body key (λ a v. pairs a v ≡ true) two → one ≡ two
 
 -- over any pairs, however they are told: what a body gives over some, and its faults, stay over more
 pub means_grows : (body : Body) (key : List ℤ) (some more : Addr → ℤ → Type 0) (ending : Ending) → ((address : Addr) (value : ℤ) → some address value → more address value)

@@ -6,7 +6,7 @@ ghost use Rattle.steptree.specs.declared.body.TheConstants.{BUDGET};
 ghost use Rattle.steptree.specs.declared.sheet.TheConstants.{MOST_COLLECTIONS};
 ghost use Rattle.steptree.specs.declared.slot.TheConstants.{MOST_NAMES};
 ghost use Rattle.steptree.specs.Sheet.{KeepsAtAnyReads};
-ghost use Rattle.steptree.specs.Laws.{OneEnding, AsksInOrder, GrowthKeeps, LookUpGrowthKeeps, LookUpEnds, LookUpEndsOnce, FewPuts, NoDoublePut};
+ghost use Rattle.steptree.specs.Laws.{OneEnding, AsksInOrder, GrowthKeeps, LookUpGrowthKeeps, LookUpEnds, LookUpEndsOnce, PairsEndOnce, FewPuts, NoDoublePut, ReadsWithinBudget};
 
 /// The limits of steps, as numbers.
 pub fn limits()
@@ -23,8 +23,9 @@ pub fn along_one_list()
     ensures in_order { AsksInOrder }
 {}
 
-/// A body gives 4,096 puts at most, and its fault is never a double put.
+/// A body reads 1,000,000 items at most, it gives 4,096 puts at most, and its fault is never a double put.
 pub fn ends_within_limits()
+    ensures reads { ReadsWithinBudget }
     ensures puts { FewPuts }
     ensures fault { NoDoublePut }
 {}
@@ -44,4 +45,5 @@ pub fn growth_keeps()
 pub fn ends_once()
     ensures some { LookUpEnds }
     ensures one { LookUpEndsOnce }
+    ensures pairs { PairsEndOnce }
 {}
