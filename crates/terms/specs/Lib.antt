@@ -4,5 +4,6 @@ pub mod Fault
 pub mod Key
 pub mod Name
 pub mod Put
+pub mod PutLists
 pub mod Same
 pub mod Sets

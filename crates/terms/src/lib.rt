@@ -17,6 +17,7 @@ mod name;
 mod order;
 mod producer;
 mod put;
+mod puts_stated;
 
 pub use event::Event;
 pub use facts::{environment_is_stated, examples_of_facts, facts_are_told_apart, facts_go_on};
@@ -28,3 +29,4 @@ pub use order::{
 };
 pub use producer::Producer;
 pub use put::{MOST_PUTS, Put, Puts};
+pub use puts_stated::puts_are_stated;
