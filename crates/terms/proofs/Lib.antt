@@ -1,4 +1,5 @@
 pub mod Components
+pub mod Equals
 pub mod ListedPuts
 pub mod Numbered
 pub mod Places

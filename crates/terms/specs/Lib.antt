@@ -1,4 +1,5 @@
 pub mod Commits
+pub mod Equal
 pub mod Facts
 pub mod Fault
 pub mod Key

@@ -5,7 +5,7 @@ use crate::{Addr, FaultKind, Inst, Puts, Tag};
 use std::alloc::{AllocError, Global};
 
 /// What is committed as one: a put of the environment, or the end of an instance.
-#[derive(Drop)]
+#[derive(PartialEq, Eq, Drop)]
 pub enum Event {
     /// The environment put an item.
     EnvItem(Addr, i64),

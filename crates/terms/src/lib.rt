@@ -6,9 +6,11 @@
 //!
 //! The layer above stands on `cmp`: of keys it is `key_cmp`, and of the others `addr_cmp`, `tag_cmp` and `inst_cmp`,
 //! where the collection's number comes first, `put_cmp` and `producer_cmp`. The functions of `order` carry the laws of
-//! the six. What events state is `facts` of `specs/Facts.antt`, and the functions of `facts` carry its laws.
+//! the six, and `equals_are_one` that `==` holds of one value alone. What events state is `facts` of `specs/Facts.antt`,
+//! and the functions of `facts` and `puts_stated` carry its laws.
 #![tactic(auto)]
 
+mod equal;
 mod event;
 mod facts;
 mod fault;
@@ -19,6 +21,7 @@ mod producer;
 mod put;
 mod puts_stated;
 
+pub use equal::{equals_are_one, same_event};
 pub use event::Event;
 pub use facts::{environment_is_stated, examples_of_facts, facts_are_told_apart, facts_go_on};
 pub use fault::FaultKind;

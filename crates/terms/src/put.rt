@@ -50,3 +50,24 @@ impl Puts {
         &self.puts
     }
 }
+
+impl PartialEq for Puts {
+    ghost use Rattle.std.specs.Cmp.Lexicographic.{pointwise, lists_per};
+    ghost use Rattle.terms.specs.contracts.put.PutPartialEq.TheImpl as put_eq;
+    ghost use Rattle.terms.specs.contracts.put.PutPartialEq.TheImpl.Laws as put_laws;
+
+    ghost eq = { pointwise (put_eq.ghosts).eq };
+
+    ghost laws = { lists_per put_laws.laws-law };
+
+    fn eq(&self, other: &Self) -> bool {
+        self.as_slice() == other.as_slice()
+    }
+}
+
+impl Eq for Puts {
+    ghost use Rattle.std.specs.Cmp.Lexicographic.{lists_equiv};
+    ghost use Rattle.terms.specs.contracts.put.PutEq.TheImpl.Laws as put_laws;
+
+    ghost laws = { lists_equiv put_laws.laws-law };
+}
