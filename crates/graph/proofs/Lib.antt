@@ -21,6 +21,7 @@ mod Marks
 mod Naming
 mod Places
 mod Prescribers
+mod PrescribedSteps
 pub mod PrintedApart
 pub mod PrintedBlocks
 pub mod PrintedClashes

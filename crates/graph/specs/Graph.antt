@@ -61,12 +61,15 @@ pub record BodyMeans (g : Graph) (instance : Inst) (pairs : Addr → ℤ → Typ
   pub is_step : IsStep g instance.collection.0 step
   pub means : Means step.body instance.key pairs ending
 
--- the environment may put the item, or the tag
+-- the environment may put the item, put the tag, or get the item
 abbrev pub EnvironmentMayPutItem : Graph → Addr → Type 0
 EnvironmentMayPutItem g address = IsOf g.items address.collection.0 (length address.key) × (get_or g.environment_item_puts address.collection.0 false ≡ true)
 
 abbrev pub EnvironmentMayPutTag : Graph → Tag → Type 0
 EnvironmentMayPutTag g tag = IsOf g.tags tag.collection.0 (length tag.key) × (get_or g.environment_tag_puts tag.collection.0 false ≡ true)
+
+abbrev pub EnvironmentMayGet : Graph → Addr → Type 0
+EnvironmentMayGet g address = IsOf g.items address.collection.0 (length address.key) × (get_or g.environment_gets address.collection.0 false ≡ true)
 
 -- ---- what is kept of a graph
 

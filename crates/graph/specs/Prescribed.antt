@@ -1,9 +1,12 @@
 -- Which steps a collection of tags prescribes.
-use Rattle.std.specs.Prelude.{◌≡◌, ◌<◌, ℕ, suc, Bool, false, List, [], ◌∷◌, map, length, Option, Some, None, get_or, slice_get, ◌==◌, if◌then◌else◌, Vec}
+use Rattle.std.specs.Prelude.{◌≡◌, ◌↔◌, ◌<◌, ℕ, suc, Bool, false, List, [], ◌∷◌, map, length, Option, Some, None, get_or, slice_get, ◌==◌, if◌then◌else◌, Vec}
+use Rattle.std.specs.List.{Contains}
 use Rattle.std.specs.declared.alloc.Global.{Global}
+use Rattle.terms.specs.declared.name.Inst.{Inst}
 use Rattle.terms.specs.declared.name.StepCollection.{StepCollection}
+use Rattle.terms.specs.declared.name.Tag.{Tag}
 use Rattle.steptree.specs.Names.{Text}
-use Rattle.graph.specs.Graph.{Step, Graph}
+use Rattle.graph.specs.Graph.{Step, Graph, Prescribes}
 
 -- of these steps, the first of which has this number, the numbers of those that the tags with another number prescribe, rising
 abbrev pub prescribed_from : ℕ → List Step → ℕ → List ℕ
@@ -13,6 +16,10 @@ prescribed_from number (step ∷ steps) tag = if step.prescriber == tag then num
 -- the numbers of the steps that these tags prescribe, rising
 abbrev pub prescribed_by : Graph → ℕ → List ℕ
 prescribed_by g tag = prescribed_from 0 g.steps tag
+
+-- a tag prescribes an instance exactly where the step is one of those and the keys are one
+abbrev pub PrescribesListed : Type 0
+PrescribesListed = (g : Graph) (tag : Tag) (instance : Inst) → Prescribes g tag instance ↔ (Contains (prescribed_by g tag.collection.0) instance.collection.0 × (tag.key ≡ instance.key))
 
 abbrev pub names_of_steps : List Step → List Text
 names_of_steps steps = map (λ step. step.name) steps

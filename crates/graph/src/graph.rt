@@ -1,8 +1,9 @@
-ghost use Rattle.std.specs.Prelude.{◌≡◌, ◌<◌, length, map, get_or, Some, IfSome, slice_get, false};
+ghost use Rattle.std.specs.Prelude.{◌≡◌, ◌↔◌, ◌<◌, length, map, get_or, Some, IfSome, slice_get, true, false};
 ghost use Rattle.std.specs.Option.{option_map};
 ghost use Rattle.steptree.specs.Names.{place_of};
 ghost use Rattle.graph.specs.Canonical.{canonical};
-ghost use Rattle.graph.specs.Graph.{IsGraph};
+ghost use Rattle.graph.specs.Fits.{AddressIsOf, TagIsOf, InstanceIsOf};
+ghost use Rattle.graph.specs.Graph.{IsGraph, EnvironmentMayPutItem, EnvironmentMayPutTag, EnvironmentMayGet};
 ghost use Rattle.graph.specs.Prescribed.{prescribed_by, names_of_steps, mark_of};
 ghost use Rattle.graph.specs.Reads.{Reads};
 ghost use Rattle.graph.specs.Tree.{names_in};
@@ -11,7 +12,7 @@ use crate::numbered::Numbered;
 use crate::parts::Parts;
 use std::marker::Model;
 use steptree::Checked;
-use terms::{ItemCollection, StepCollection, TagCollection};
+use terms::{Addr, Inst, ItemCollection, Key, StepCollection, Tag, TagCollection};
 
 /// A step: what prescribes it, what it may read and put by the numbers of the collections, and its body.
 pub(crate) struct Prescribed {
@@ -272,6 +273,48 @@ impl Graph {
         is_marked(&self.environment_gets, item.0)
     }
 
+    /// Whether an address is of the graph: its collection is, and its key has as many components.
+    pub fn is_address(&self, address: &Addr) -> bool
+        ensures { (result ≡ true) ↔ AddressIsOf self.now address.now }
+    {
+        has_components(self.item_components(address.collection), &address.key)
+    }
+
+    /// Whether a tag is of the graph: its collection is, and its key has as many components.
+    pub fn is_tag(&self, tag: &Tag) -> bool
+        ensures { (result ≡ true) ↔ TagIsOf self.now tag.now }
+    {
+        has_components(self.tag_components(tag.collection), &tag.key)
+    }
+
+    /// Whether an instance is of the graph: its step is, and its key has as many components as the step has parameters.
+    pub fn is_instance(&self, instance: &Inst) -> bool
+        ensures { (result ≡ true) ↔ InstanceIsOf self.now instance.now }
+    {
+        has_components(self.step_parameters(instance.collection), &instance.key)
+    }
+
+    /// Whether the environment may put an item: its address is of the graph, and its collection one of those.
+    pub fn environment_puts_item(&self, address: &Addr) -> bool
+        ensures { (result ≡ true) ↔ EnvironmentMayPutItem self.now address.now }
+    {
+        self.is_address(address) && self.environment_may_put_item(address.collection)
+    }
+
+    /// Whether the environment may put a tag: it is of the graph, and its collection one of those.
+    pub fn environment_puts_tag(&self, tag: &Tag) -> bool
+        ensures { (result ≡ true) ↔ EnvironmentMayPutTag self.now tag.now }
+    {
+        self.is_tag(tag) && self.environment_may_put_tag(tag.collection)
+    }
+
+    /// Whether the environment may get an item: its address is of the graph, and its collection one of those.
+    pub fn environment_gets(&self, address: &Addr) -> bool
+        ensures { (result ≡ true) ↔ EnvironmentMayGet self.now address.now }
+    {
+        self.is_address(address) && self.environment_may_get(address.collection)
+    }
+
     /// The names and the body of a step, if it is of the graph.
     pub fn body(&self, step: StepCollection) -> Option<&Checked>
         ensures body { option_map (λ checked. checked.now.body) result ≡ option_map (λ step. step.body) (slice_get self.now.steps step.0) }
@@ -292,4 +335,11 @@ fn is_marked(marks: &[bool], number: u16) -> bool
 {
     let number = number as usize;
     number < marks.len() && marks[number]
+}
+
+/// There are as many as the key has.
+fn has_components(components: Option<usize>, key: &Key) -> bool
+    ensures { (result ≡ true) ↔ (components ≡ Some (length key.now)) }
+{
+    components == Some(key.components().len())
 }

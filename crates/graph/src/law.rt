@@ -1,6 +1,7 @@
 //! The laws between texts and graphs, and of what fits a graph. Each is a contract, with nothing to run.
 ghost use Rattle.graph.specs.FitLaws.{FitKeeps, AllFitKeep, AllFitInParts, StateAsSet, EventAsSet, EventsAsSet};
 ghost use Rattle.std.specs.Prelude.{◌≡◌};
+ghost use Rattle.graph.specs.Prescribed.{PrescribesListed};
 ghost use Rattle.graph.specs.Textual.{CanonicalReads, OneGraph, OneReading, ReadsTextual, ReadsWithoutFault};
 ghost use Rattle.graph.specs.declared.limits.TheConstants.{MOST_TEXT};
 
@@ -59,3 +60,8 @@ pub fn reads_without_fault()
     read_without_fault();
     one_graph();
 }
+
+/// The list that `Graph::prescribed_by` reads and what prescribes an instance are one.
+pub fn prescribing()
+    ensures { PrescribesListed }
+{}

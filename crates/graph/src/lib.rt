@@ -30,8 +30,8 @@ pub use examples::canonical_example;
 pub use fault::{GraphError, GraphFault};
 pub use graph::Graph;
 pub use law::{
-    canonical_reads, fitting, one_graph, one_reading, reads_textual, reads_without_fault,
-    text_limit,
+    canonical_reads, fitting, one_graph, one_reading, prescribing, reads_textual,
+    reads_without_fault, text_limit,
 };
 pub use limits::MOST_TEXT;
 pub use parser::{parse, parse_spelled};
