@@ -19,6 +19,8 @@ fn names_hold() {
     terms::environment_is_stated();
     terms::facts_are_told_apart();
     terms::examples_of_facts();
+    terms::puts_are_stated();
+    terms::equals_are_one();
     codec::spellings_of_events();
     codec::spellings_of_images();
 }
@@ -50,6 +52,7 @@ fn graphs_hold() {
     graph::reads_textual();
     graph::reads_without_fault();
     graph::canonical_example();
+    graph::prescribing();
 }
 
 fn meanings_hold() {
