@@ -95,9 +95,9 @@ fn go_on(
     if run.pending().is_some() {
         let parked = run.park();
         out.push_str(", parked at ")?;
-        tell_address(graph, &parked.address(), out)?;
-        let instance = parked.instance();
-        write!(out, " behind {} reads of", parked.reads().as_slice().len())?;
+        tell_address(graph, &parked.address, out)?;
+        let instance = parked.instance;
+        write!(out, " behind {} reads of", parked.reads.as_slice().len())?;
         tell_key(out, &instance.key)?;
     }
     Ok(())
@@ -110,11 +110,11 @@ fn tell_turn(graph: &Graph, turn: &Turn<'_>, out: &mut String) -> Result<(), All
             tell_address(graph, address, out)
         }
         Turn::Gave(given) => {
-            tell_reads(graph, given.reads().as_slice(), out)?;
+            tell_reads(graph, given.reads.as_slice(), out)?;
             tell_puts(graph, given.puts().as_slice(), out)
         }
         Turn::Fault(bad) => {
-            tell_reads(graph, bad.reads().as_slice(), out)?;
+            tell_reads(graph, bad.reads.as_slice(), out)?;
             write!(out, "fault {}", bad.kind().number())
         }
     }

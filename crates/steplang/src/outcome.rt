@@ -38,38 +38,17 @@ impl Reads {
     }
 }
 
-/// An instance whose body gave puts. Along its reads that is what its body means.
+/// An instance whose body gave puts. Along its reads, in order, that is what its body means.
 #[derive(Drop)]
 pub struct Given<'a> {
-    pub(crate) checked: &'a Checked,
-    pub(crate) instance: Inst,
-    pub(crate) reads: Reads,
-    pub(crate) puts: Puts,
-    ghost along: { Along checked.now.body instance.key reads (Gives puts) },
+    pub checked: &'a Checked,
+    pub instance: Inst,
+    pub reads: Reads,
+    pub puts: Puts,
+    pub ghost along: { Along checked.now.body instance.key reads (Gives puts) },
 }
 
 impl<'a> Given<'a> {
-    /// The step.
-    pub fn checked(&self) -> &'a Checked
-        ensures { result ≡ self.now.checked }
-    {
-        self.checked
-    }
-
-    /// The instance.
-    pub fn instance(&self) -> Inst
-        ensures { result ≡ self.now.instance }
-    {
-        self.instance
-    }
-
-    /// What it read, in order.
-    pub fn reads(&self) -> &Reads
-        ensures { result.now ≡ self.now.reads }
-    {
-        &self.reads
-    }
-
     /// What it put, in order.
     pub fn puts(&self) -> &Puts
         ensures puts { result.now ≡ self.now.puts }
@@ -89,38 +68,17 @@ impl<'a> Given<'a> {
     }
 }
 
-/// An instance whose body is at fault. Along its reads that is what its body means.
+/// An instance whose body is at fault. Along its reads, in order, that is what its body means.
 #[derive(Drop)]
 pub struct Bad<'a> {
-    pub(crate) checked: &'a Checked,
-    pub(crate) instance: Inst,
-    pub(crate) reads: Reads,
-    pub(crate) kind: FaultKind,
-    ghost along: { Along checked.now.body instance.key reads (Faults kind) },
+    pub checked: &'a Checked,
+    pub instance: Inst,
+    pub reads: Reads,
+    pub kind: FaultKind,
+    pub ghost along: { Along checked.now.body instance.key reads (Faults kind) },
 }
 
 impl<'a> Bad<'a> {
-    /// The step.
-    pub fn checked(&self) -> &'a Checked
-        ensures { result ≡ self.now.checked }
-    {
-        self.checked
-    }
-
-    /// The instance.
-    pub fn instance(&self) -> Inst
-        ensures { result ≡ self.now.instance }
-    {
-        self.instance
-    }
-
-    /// What it read, in order.
-    pub fn reads(&self) -> &Reads
-        ensures { result.now ≡ self.now.reads }
-    {
-        &self.reads
-    }
-
     /// The fault.
     pub fn kind(&self) -> FaultKind
         ensures kind { result ≡ self.now.kind }
@@ -131,44 +89,14 @@ impl<'a> Bad<'a> {
     }
 }
 
-/// An instance whose body asks for an item. Along its reads that is what its body means.
+/// An instance whose body asks for an item. Along its reads, in order, that is what its body means.
 #[derive(Drop)]
 pub struct Parked<'a> {
-    pub(crate) checked: &'a Checked,
-    pub(crate) instance: Inst,
-    pub(crate) reads: Reads,
-    pub(crate) address: Addr,
-    ghost along: { Along checked.now.body instance.key reads (Asks address) },
-}
-
-impl<'a> Parked<'a> {
-    /// The step.
-    pub fn checked(&self) -> &'a Checked
-        ensures { result ≡ self.now.checked }
-    {
-        self.checked
-    }
-
-    /// The instance.
-    pub fn instance(&self) -> Inst
-        ensures { result ≡ self.now.instance }
-    {
-        self.instance
-    }
-
-    /// What it read, in order.
-    pub fn reads(&self) -> &Reads
-        ensures { result.now ≡ self.now.reads }
-    {
-        &self.reads
-    }
-
-    /// The item that it asks for.
-    pub fn address(&self) -> Addr
-        ensures { result ≡ self.now.address }
-    {
-        self.address
-    }
+    pub checked: &'a Checked,
+    pub instance: Inst,
+    pub reads: Reads,
+    pub address: Addr,
+    pub ghost along: { Along checked.now.body instance.key reads (Asks address) },
 }
 
 /// What a run came to.
