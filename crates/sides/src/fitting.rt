@@ -1,14 +1,13 @@
-ghost use Rattle.std.specs.Prelude.{◌≡◌, ◌↔◌, length, Some, IsTrue};
+ghost use Rattle.std.specs.Prelude.{◌≡◌, ◌↔◌, IsTrue};
 ghost use Rattle.std.specs.List.{AllByRecursion};
 ghost use Rattle.terms.specs.Facts.{tag, done};
-ghost use Rattle.graph.specs.Graph.{EnvironmentMayPutItem, EnvironmentMayPutTag};
-ghost use Rattle.graph.specs.Fits.{AddressIsOf, TagIsOf, InstanceIsOf, IsPrescribed, FitsState};
+ghost use Rattle.graph.specs.Fits.{IsPrescribed, FitsState};
 ghost use Rattle.sides.specs.Image.{facts_in, environment_in};
 ghost use Rattle.sides.specs.Looks.{ItemFits, TagFits, InstanceFits, FaultFits, InstancesFit, PutsFit};
 
 use crate::Holdings;
 use graph::Graph;
-use terms::{Addr, Inst, Key, Producer, Tag, facts_are_told_apart, orders_are_total};
+use terms::{Addr, Inst, Producer, Tag, facts_are_told_apart, orders_are_total};
 
 impl Holdings {
     /// Whether what is held fits a graph.
@@ -84,8 +83,8 @@ impl Holdings {
         ensures { IsTrue result ↔ ItemFits graph.now (facts_in self.now) address.now producer.now }
     {
         match producer {
-            Producer::Env => environment_may_put_item(graph, address),
-            Producer::By(instance, _) => is_address_of(graph, address) && self.is_done(instance),
+            Producer::Env => graph.environment_puts_item(address),
+            Producer::By(instance, _) => graph.is_address(address) && self.is_done(instance),
         }
     }
 
@@ -93,7 +92,7 @@ impl Holdings {
     fn instance_fits(&self, graph: &Graph, instance: &Inst) -> bool
         ensures { IsTrue result ↔ InstanceFits graph.now (facts_in self.now) instance.now }
     {
-        is_instance_of(graph, instance) && self.is_prescribed(graph, instance)
+        graph.is_instance(instance) && self.is_prescribed(graph, instance)
     }
 
     // A tag that is held prescribes the instance.
@@ -133,50 +132,8 @@ fn tag_fits(graph: &Graph, name: &Tag, mark: bool) -> bool
     ensures { IsTrue result ↔ TagFits graph.now name.now mark }
 {
     if mark {
-        environment_may_put_tag(graph, name)
+        graph.environment_puts_tag(name)
     } else {
-        is_tag_of(graph, name)
+        graph.is_tag(name)
     }
-}
-
-// Its collection is one that the environment may put, with as many components.
-pub(crate) fn environment_may_put_item(graph: &Graph, address: &Addr) -> bool
-    ensures { IsTrue result ↔ EnvironmentMayPutItem graph.now address.now }
-{
-    is_address_of(graph, address) && graph.environment_may_put_item(address.collection)
-}
-
-// Its collection is one that the environment may put, with as many components.
-pub(crate) fn environment_may_put_tag(graph: &Graph, name: &Tag) -> bool
-    ensures { IsTrue result ↔ EnvironmentMayPutTag graph.now name.now }
-{
-    is_tag_of(graph, name) && graph.environment_may_put_tag(name.collection)
-}
-
-// Its collection is of the graph, with as many components.
-pub(crate) fn is_address_of(graph: &Graph, address: &Addr) -> bool
-    ensures { IsTrue result ↔ AddressIsOf graph.now address.now }
-{
-    has_components(graph.item_components(address.collection), &address.key)
-}
-
-// Its collection is of the graph, with as many components.
-pub(crate) fn is_tag_of(graph: &Graph, name: &Tag) -> bool
-    ensures { IsTrue result ↔ TagIsOf graph.now name.now }
-{
-    has_components(graph.tag_components(name.collection), &name.key)
-}
-
-// Its step is of the graph, with as many parameters.
-pub(crate) fn is_instance_of(graph: &Graph, instance: &Inst) -> bool
-    ensures { IsTrue result ↔ InstanceIsOf graph.now instance.now }
-{
-    has_components(graph.step_parameters(instance.collection), &instance.key)
-}
-
-// There are as many as the key has.
-fn has_components(components: Option<usize>, key: &Key) -> bool
-    ensures { IsTrue result ↔ (components ≡ Some (length key.now)) }
-{
-    components == Some(key.components().len())
 }

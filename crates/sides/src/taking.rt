@@ -8,9 +8,6 @@ ghost use Rattle.sides.specs.Image.{facts_in, environment_item, environment_tag}
 ghost use Rattle.sides.specs.Growth.{Grows, IsGrownBy, PutFits};
 
 use crate::Holdings;
-use crate::fitting::{
-    environment_may_put_item, environment_may_put_tag, is_address_of, is_instance_of, is_tag_of,
-};
 use graph::Graph;
 use std::alloc::AllocError;
 use terms::{Addr, Event, FaultKind, Inst, Producer, Put, Tag, facts_are_told_apart};
@@ -42,7 +39,7 @@ impl Holdings {
         ensures grown { IfOk result (λ taken. IsTrue taken → IsGrownBy (Event.EnvItem address.now value) self.old self.new) }
         ensures numbered { AllByRecursion HasPutNumber self.old.items → IfOk result (λ taken. IsTrue taken → AllByRecursion HasPutNumber self.new.items) }
     {
-        if !environment_may_put_item(graph, address) {
+        if !graph.environment_puts_item(address) {
             return Ok(false);
         }
         Ok(self.hold_item(address, value, Producer::Env)?)
@@ -54,7 +51,7 @@ impl Holdings {
         ensures grown { IfOk result (λ taken. IsTrue taken → IsGrownBy (Event.EnvTag name.now) self.old self.new) }
         ensures items { IfOk result (λ _. self.new.items ≡ self.old.items) }
     {
-        if !environment_may_put_tag(graph, name) {
+        if !graph.environment_puts_tag(name) {
             return Ok(false);
         }
         Ok(self.hold_tag(name, true)?)
@@ -97,7 +94,7 @@ impl Holdings {
     fn may_end(&self, graph: &Graph, instance: &Inst) -> bool
         ensures { IsTrue result ↔ MayEnd graph.now (facts_in self.now) instance.now }
     {
-        is_instance_of(graph, instance)
+        graph.is_instance(instance)
             && self.is_prescribed(graph, instance)
             && !self.is_done(instance)
     }
@@ -137,13 +134,13 @@ impl Holdings {
     {
         match put {
             Put::Item(address, value) => {
-                if !is_address_of(graph, address) {
+                if !graph.is_address(address) {
                     return Ok(false);
                 }
                 Ok(self.hold_item(address, *value, Producer::By(*instance, number))?)
             }
             Put::Tag(name) => {
-                if !is_tag_of(graph, name) {
+                if !graph.is_tag(name) {
                     return Ok(false);
                 }
                 self.hold_tag(name, false)?;
