@@ -2,6 +2,7 @@
 use crate::telling::{tell_event, tell_image};
 use codec::{CodecError, decode_event, decode_image, encode_event, encode_image};
 use std::alloc::{AllocError, Global};
+use terms::same_event;
 
 /// The event that the bytes spell, or their fault. A clone of it is spelled again.
 pub(crate) fn event(alloc: Global, bytes: &[u8]) -> Result<String, AllocError> {
@@ -10,7 +11,11 @@ pub(crate) fn event(alloc: Global, bytes: &[u8]) -> Result<String, AllocError> {
     match decode_event(alloc, bytes) {
         Ok(event) => {
             tell_event(&mut out, &event)?;
-            encode_event(&mut again, &event.try_clone(alloc)?)?;
+            let clone = event.try_clone(alloc)?;
+            if !same_event(&event, &clone) {
+                out.push_str(", cloned as another")?;
+            }
+            encode_event(&mut again, &clone)?;
             compare(&mut out, bytes, &again)?;
         }
         Err(fault) => writeln!(out, "{fault}")?,

@@ -10,7 +10,7 @@ use crate::names::Names;
 use graph::{Graph, canonical, parse};
 use std::alloc::{AllocError, Global};
 use syntax::tokens;
-use terms::{ItemCollection, StepCollection, TagCollection};
+use terms::{Addr, Inst, ItemCollection, Key, MAX_COMPONENTS, StepCollection, Tag, TagCollection};
 
 /// What a command answers to this text.
 pub(crate) fn answer(
@@ -133,10 +133,14 @@ fn tell_items(graph: &Graph, out: &mut String) -> Result<(), AllocError> {
     for number in 0..count.saturating_add(1) {
         let item = ItemCollection(number);
         let name = graph.item_name(item).unwrap_or("none");
-        let components = graph.item_components(item);
+        let address = Addr {
+            collection: item,
+            key: key_of(graph.item_components(item)),
+        };
+        let components = components_of(graph, &address);
         let found = graph.item_number(name);
-        let puts = graph.environment_may_put_item(item);
-        let gets = graph.environment_may_get(item);
+        let puts = graph.environment_puts_item(&address);
+        let gets = graph.environment_gets(&address);
         writeln!(
             out,
             "[{name}] {components:?} {found:?} put {puts} get {gets}"
@@ -153,7 +157,10 @@ fn tell_tags(graph: &Graph, out: &mut String) -> Result<(), AllocError> {
         let name = graph.tag_name(tag).unwrap_or("none");
         let components = graph.tag_components(tag);
         let found = graph.tag_number(name);
-        let puts = graph.environment_may_put_tag(tag);
+        let puts = graph.environment_puts_tag(&Tag {
+            collection: tag,
+            key: key_of(components),
+        });
         let steps = graph.prescribed_by(tag);
         writeln!(
             out,
@@ -174,7 +181,7 @@ fn tell_steps(graph: &Graph, out: &mut String) -> Result<(), AllocError> {
 
 fn tell_step(graph: &Graph, step: StepCollection, out: &mut String) -> Result<(), AllocError> {
     let name = graph.step_name(step).unwrap_or("none");
-    let parameters = graph.step_parameters(step);
+    let parameters = parameters_of(graph, step);
     let found = graph.step_number(name);
     let prescriber = graph.prescriber(step);
     let names = graph.body(step).map(|checked| checked.names.len());
@@ -200,4 +207,33 @@ fn tell_step(graph: &Graph, step: StepCollection, out: &mut String) -> Result<()
 fn push_mark(out: &mut String, is_marked: bool) -> Result<(), AllocError> {
     out.push(if is_marked { '1' } else { '0' })?;
     Ok(())
+}
+
+// How many components the keys of an address's collection have, if the address is of the graph.
+fn components_of(graph: &Graph, address: &Addr) -> Option<usize> {
+    if graph.is_address(address) {
+        graph.item_components(address.collection)
+    } else {
+        None
+    }
+}
+
+// How many parameters a step has, if an instance with so many components is of the graph.
+fn parameters_of(graph: &Graph, step: StepCollection) -> Option<usize> {
+    let parameters = graph.step_parameters(step);
+    let instance = Inst {
+        collection: step,
+        key: key_of(parameters),
+    };
+    if graph.is_instance(&instance) {
+        parameters
+    } else {
+        None
+    }
+}
+
+// A key with so many components, all of them 0.
+fn key_of(components: Option<usize>) -> Key {
+    let zeros = [0; MAX_COMPONENTS];
+    Key::new(&zeros[..components.unwrap_or(0).min(MAX_COMPONENTS)])
 }

@@ -18,9 +18,9 @@ fn names_hold() {
     terms::facts_go_on();
     terms::environment_is_stated();
     terms::facts_are_told_apart();
-    terms::examples_of_facts();
     terms::puts_are_stated();
     terms::equals_are_one();
+    terms::examples_of_facts();
     codec::spellings_of_events();
     codec::spellings_of_images();
 }
@@ -49,10 +49,10 @@ fn graphs_hold() {
     graph::one_graph();
     graph::one_reading();
     graph::fitting();
+    graph::prescribing();
     graph::reads_textual();
     graph::reads_without_fault();
     graph::canonical_example();
-    graph::prescribing();
 }
 
 fn meanings_hold() {
