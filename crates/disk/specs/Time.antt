@@ -57,6 +57,7 @@ CountsRefusal before now (Err NoMemory) = now ≢ before
 CountsRefusal before now (Err Device) = now ≡ before
 CountsRefusal before now (Ok _) = now ≡ before
 
--- A call of the disk answered an error between these two moments: the count of failures grew, or the number of refusals changed.
+-- A call of the disk answered an error between these two moments: the count of failures grew, or the number of refusals changed. Two refusals
+-- may bring that number back; of calls of which the first error is the last this is exact.
 abbrev pub HasErred : {D : Type 0} → (D → ℕ) → (D → ℕ) → D → D → Type 0
 HasErred failures refusals old new = (failures old < failures new) ⊎ (refusals new ≢ refusals old)

@@ -26,7 +26,7 @@ pub struct FileDisk {
     b: File,
     // One unit for each failure of the device.
     failures: Vec<()>,
-    // Another number behind each call that was refused for want of memory.
+    // Changes with each call that is refused for want of memory.
     refusals: u64,
 }
 

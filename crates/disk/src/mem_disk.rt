@@ -20,7 +20,7 @@ pub struct Fill {
 /// An honest disk in memory, whose crashes are chosen by the caller.
 ///
 /// It keeps a record of all its calls, from which it tells what a crash may leave: a call answers `NoMemory`
-/// where the record cannot grow, and then nothing has changed but its number of refusals.
+/// where its memory cannot grow, and then its files and its record of calls are as they were.
 pub struct MemDisk {
     alloc: Global,
     a: Vec<u8>,

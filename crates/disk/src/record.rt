@@ -29,7 +29,7 @@ pub(crate) struct Record {
     pub(crate) calls: Vec<Call>,
     // Counts down to 1, the call that is to fail; 0 where none is.
     pub(crate) until_failure: u64,
-    // Another number behind each call that was refused for want of memory.
+    // Changes with each call that is refused for want of memory.
     pub(crate) refusals: u64,
 }
 

@@ -37,7 +37,7 @@ impl Drop for Prescribed {
 }
 
 /// A graph: its collections by their numbers, what each step may read and put, what the environment may put and get, and the
-/// bodies of the steps. `parse` alone makes one, and its canonical text reads as it.
+/// bodies of the steps. It is made by parsing a text, and its canonical text reads as it.
 ///
 /// No reader takes memory.
 pub struct Graph {

@@ -61,7 +61,7 @@ pub fn reads_without_fault()
     one_graph();
 }
 
-/// The list that `Graph::prescribed_by` reads and what prescribes an instance are one.
+/// A tag prescribes an instance exactly where `Graph::prescribed_by` lists its step and the keys are equal.
 pub fn prescribing()
     ensures { PrescribesListed }
 {}

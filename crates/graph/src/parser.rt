@@ -29,7 +29,7 @@ pub fn parse(alloc: Global, text: &[u8]) -> Result<Graph, GraphFault>
     Ok(graph)
 }
 
-/// The graph that a text is, with its canonical text, by which `parse` measures it. It answers a fault where `parse` does.
+/// The graph that a text is, with its canonical text, by which it is measured. `parse` is this without the text.
 pub fn parse_spelled(alloc: Global, text: &[u8]) -> Result<(Graph, Vec<u8>), GraphFault>
     ensures reads { IfOk result (λ both. Reads text.now both.0) }
     ensures spelled { IfOk result (λ both. both.1.items ≡ canonical both.0) }

@@ -27,7 +27,7 @@ FewPuts = (body : Body) (key : List ℤ) (reads : List Read) (puts : List Put) �
 abbrev pub NoDoublePut : Type 0
 NoDoublePut = (body : Body) (key : List ℤ) (reads : List Read) (kind : FaultKind) → Along body key reads (Faults kind) → kind ≢ DoublePut
 
--- a body reads no more than its budget along any list: whoever answers its reads has a number that falls
+-- a body reads no more than its budget along any list, so answering its reads comes to an end
 abbrev pub ReadsWithinBudget : Type 0
 ReadsWithinBudget = (body : Body) (key : List ℤ) (reads : List Read) (ending : Ending) → Along body key reads ending → length reads ≤ BUDGET
 

@@ -3,7 +3,7 @@ use Rattle.steptree.specs.declared.block.Statement.{Statement}
 use Rattle.steptree.specs.declared.block.Statement.TheVariants as statement
 use Rattle.steptree.specs.Tree.{BlockTree, End, Assign, If, For, Get, PutItem, PutTag}
 
--- its parts are seen so already
+-- the boxes inside it hold trees already
 abbrev pub block_seen : Statement → BlockTree
 block_seen statement.End = End
 block_seen (statement.Assign variable value rest) = Assign variable value rest.value

@@ -32,7 +32,7 @@ expression_size (Variable slot) = 1
 expression_size (Negation operand) = suc (expression_size operand)
 expression_size (Operation operator left right) = suc (expression_size left + expression_size right)
 
--- how many statements a block has, and one
+-- how many statements and ends of blocks it has
 abbrev pub block_size : BlockTree → ℕ
 block_size End = 1
 block_size (Assign variable value rest) = suc (block_size rest)

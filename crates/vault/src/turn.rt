@@ -24,9 +24,9 @@ impl<D: Disk> Vault<D> {
     /// Turns over: writes the other side anew, one generation greater, with the image of what the store holds and no record, and
     /// makes it live. It answers the new generation.
     ///
-    /// It halts exactly where a call of the disk answered an error; then either side may be live, for the same facts. Every other
-    /// error leaves the vault and its disk as they were: `Full`, `Halted`, and `NoMemory` where the side cannot be spelled. Of the
-    /// greatest generation `Full` comes before memory is asked for.
+    /// It halts exactly where a call of the disk answered an error; then either side may be live, for the same facts where the other
+    /// file had a first byte. Every other error leaves the vault and its disk as they were: `Full`, `Halted`, and `NoMemory` where
+    /// the side cannot be spelled. At the greatest generation `Full` comes before memory is asked for.
     pub fn turn(&mut self, image: &Image) -> Result<u64, VaultError>
         requires image { IsListed image.now }
         requires store { IsTrue D.is_honest → self.old.halted ≡ false → IsReady D.files self.old }
