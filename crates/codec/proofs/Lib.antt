@@ -1,6 +1,7 @@
 pub mod Agreeing
 pub mod Appended
 pub mod ChoiceLaws
+pub mod CommitLaws
 pub mod Encodable
 pub mod EventLaws
 pub mod FieldLaws

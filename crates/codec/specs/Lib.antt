@@ -1,4 +1,5 @@
 pub mod Answers
+pub mod Commits
 pub mod Entries
 pub mod Laws
 pub mod Reading

@@ -1,3 +1,4 @@
+ghost use Rattle.codec.specs.Commits.{SpellsCommit};
 ghost use Rattle.codec.specs.Laws.{ReadsBack, SpellsOne, BeginsNoOther};
 ghost use Rattle.codec.specs.Reading.{decoded_event, decoded_image};
 ghost use Rattle.codec.specs.Spelling.{IsEvent, event_bytes, SpellsEvent, IsImage, image_bytes, SpellsImage};
@@ -15,3 +16,10 @@ pub fn spellings_of_images()
     ensures one { SpellsOne SpellsImage }
     ensures begins { BeginsNoOther IsImage image_bytes }
 {}
+
+/// A commit has one spelling. Today no commit is spelled but one of a single event, by the bytes of that event.
+pub fn spellings_of_commits()
+    ensures { SpellsOne SpellsCommit }
+{
+    spellings_of_events();
+}

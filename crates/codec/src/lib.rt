@@ -20,4 +20,4 @@ pub use decode::{decode_event, decode_image};
 pub use encode::{encode_event, encode_image};
 pub use error::CodecError;
 pub use image::{Image, Instances, Items, Tags};
-pub use law::{spellings_of_events, spellings_of_images};
+pub use law::{spellings_of_commits, spellings_of_events, spellings_of_images};

@@ -2,6 +2,7 @@
 use Rattle.std.proofs.Common.{◌≡◌, ◌<◌, ◌^◌, ◌+◌, ℕ, List, [], ◌∷◌, ◌++◌, length, refl, sym, ap, ◌∙◌, arith}
 use Rattle.std.proofs.lemmas.List.{append-nil}
 use Rattle.std.proofs.lemmas.List.Elements.{All-nil}
+use Rattle.terms.specs.Commits.{events_of}
 use Rattle.terms.specs.Facts.{Fact, facts, environment}
 use Rattle.terms.specs.Sets.{Facts, among}
 use Rattle.codec.specs.declared.image.Image.{Image}
@@ -22,8 +23,8 @@ relisted bytes g n E F X Y given there side = record {
   image = side.image;
   is_image = side.is_image;
   counted_image = side.counted_image;
-  events = side.events;
-  are_events = side.are_events;
+  commits = side.commits;
+  are_commits = side.are_commits;
   journal = side.journal;
   records = side.records;
   spelled = side.spelled;
@@ -38,9 +39,9 @@ side_as_set bytes g n E F X Y given there side = (relisted bytes g n E F X Y giv
 
 pub side_fits : AllFitKeep → StateAsSet → (bytes : List ℕ) (g : Graph) (n : ℕ) (E X : Facts) → IsSide bytes g n E X → FitsState g E X
 side_fits all_keep as_set bytes g n E X side =
-    as_set g (among (image_environment side.image ++ environment side.events)) E (among (image_facts side.image ++ facts side.events)) X
+    as_set g (among (image_environment side.image ++ environment (events_of side.commits))) E (among (image_facts side.image ++ facts (events_of side.commits))) X
     (λ fact. sym (side.environment fact)) (λ fact. sym (side.facts fact))
-    (all_keep g (image_environment side.image) (image_facts side.image) side.events side.image_fits side.events_fit)
+    (all_keep g (image_environment side.image) (image_facts side.image) (events_of side.commits) side.image_fits side.events_fit)
 
 -- ---- a side without records
 
@@ -58,8 +59,8 @@ beginning g n image small reads is_image counted_image fits = record {
   image = image;
   is_image = is_image;
   counted_image = counted_image;
-  events = [];
-  are_events = tt;
+  commits = [];
+  are_commits = tt;
   journal = 0 ∷ [];
   records = no_records;
   spelled = refl;

@@ -5,11 +5,12 @@ use Rattle.std.proofs.lemmas.List.{append_assoc}
 use Rattle.std.proofs.Math.Seq.{drop-append_seam, take-append_seam}
 use Rattle.byteorder.specs.Endian.{little_bytes, little_from}
 use Rattle.byteorder.specs.Numbers.{little_number-reads_back, length-bytes_low_first}
-use Rattle.terms.specs.declared.event.Event.{Event}
+use Rattle.terms.specs.Commits.{Commit, events_of}
 use Rattle.terms.specs.Facts.{Fact, facts, environment}
 use Rattle.terms.specs.Sets.{Facts, among}
+use Rattle.codec.specs.Commits.{commit_bytes, IsCommit, SpellsCommit}
 use Rattle.codec.specs.Laws.{SpellsOne}
-use Rattle.codec.specs.Spelling.{image_bytes, event_bytes, IsEvent, SpellsEvent, SpellsImage}
+use Rattle.codec.specs.Spelling.{image_bytes, SpellsImage}
 use Rattle.journal.specs.Records.{StandsFor, records}
 use Rattle.graph.specs.Graph.{Graph}
 use Rattle.graph.specs.Canonical.{canonical}
@@ -41,16 +42,16 @@ counted_once s t x y small also whole =
     let parts = numbered_once 4 (length s) (length t) (s ++ x) (t ++ y) small also (sym (append_assoc (little_bytes 4 (length s)) s x) ∙ whole ∙ append_assoc (little_bytes 4 (length t)) t y) in
     split s t x y parts.0 parts.1
 
--- of events each by its spelling
-events_once : SpellsOne SpellsEvent → (one two : List Event) → AllByRecursion IsEvent one → AllByRecursion IsEvent two → map event_bytes one ≡ map event_bytes two → one ≡ two
-events_once each [] [] first second same = refl
-events_once each [] (e ∷ es) first second same = absurd (cc)
-events_once each (e ∷ es) [] first second same = absurd (cc)
-events_once each (d ∷ ds) (e ∷ es) first second same =
-    let head : event_bytes d ≡ event_bytes e = cc in
-    let tail : map event_bytes ds ≡ map event_bytes es = cc in
-    let one = each (event_bytes d) d e (first.0, refl) (second.0, head) in
-    let more = events_once each ds es first.1 second.1 tail in
+-- of commits each by its spelling
+commits_once : SpellsOne SpellsCommit → (one two : List Commit) → AllByRecursion IsCommit one → AllByRecursion IsCommit two → map commit_bytes one ≡ map commit_bytes two → one ≡ two
+commits_once each [] [] first second same = refl
+commits_once each [] (e ∷ es) first second same = absurd (cc)
+commits_once each (e ∷ es) [] first second same = absurd (cc)
+commits_once each (d ∷ ds) (e ∷ es) first second same =
+    let head : commit_bytes d ≡ commit_bytes e = cc in
+    let tail : map commit_bytes ds ≡ map commit_bytes es = cc in
+    let one = each (commit_bytes d) d e (first.0, refl) (second.0, head) in
+    let more = commits_once each ds es first.1 second.1 tail in
     λ i. one i ∷ more i
 
 -- ---- sides
@@ -58,7 +59,7 @@ events_once each (d ∷ ds) (e ∷ es) first second same =
 pub parts_of : (l t i j : List ℕ) → l ++ t ++ i ++ j ≡ l ++ (t ++ (i ++ j))
 parts_of l t i j = append_assoc (l ++ t) i j ∙ append_assoc l t (i ++ j)
 
-module _ (one_event : SpellsOne SpellsEvent) (one_image : SpellsOne SpellsImage) (one_list : (bytes : List ℕ) (one two : List (List ℕ)) → StandsFor bytes one → StandsFor bytes two → one ≡ two) (one_reading : OneReading) where
+module _ (one_commit : SpellsOne SpellsCommit) (one_image : SpellsOne SpellsImage) (one_list : (bytes : List ℕ) (one two : List (List ℕ)) → StandsFor bytes one → StandsFor bytes two → one ≡ two) (one_reading : OneReading) where
   pub one_meaning : (bytes : List ℕ) (g h : Graph) (m n : ℕ) (E F X Y : Facts) → IsSide bytes g m E X → IsSide bytes h n F Y → SameSide g h m n E F X Y
   one_meaning bytes g h m n E F X Y one two = record {
     generation = numbers.0;
@@ -84,16 +85,16 @@ module _ (one_event : SpellsOne SpellsEvent) (one_image : SpellsOne SpellsImage)
       image : one.image ≡ two.image
       image = one_image (image_bytes one.image) one.image two.image (one.is_image, refl) (two.is_image, images.0)
 
-      events : one.events ≡ two.events
-      events = events_once one_event one.events two.events one.are_events two.are_events
-          (one_list one.journal (map event_bytes one.events) (map event_bytes two.events) one.records
-          (subst (λ (journal : List ℕ). StandsFor journal (map event_bytes two.events)) (sym images.1) two.records))
+      commits : one.commits ≡ two.commits
+      commits = commits_once one_commit one.commits two.commits one.are_commits two.are_commits
+          (one_list one.journal (map commit_bytes one.commits) (map commit_bytes two.commits) one.records
+          (subst (λ (journal : List ℕ). StandsFor journal (map commit_bytes two.commits)) (sym images.1) two.records))
 
-      given : image_environment one.image ++ environment one.events ≡ image_environment two.image ++ environment two.events
-      given = λ i. image_environment (image i) ++ environment (events i)
+      given : image_environment one.image ++ environment (events_of one.commits) ≡ image_environment two.image ++ environment (events_of two.commits)
+      given = λ i. image_environment (image i) ++ environment (events_of (commits i))
 
-      stated : image_facts one.image ++ facts one.events ≡ image_facts two.image ++ facts two.events
-      stated = λ i. image_facts (image i) ++ facts (events i)
+      stated : image_facts one.image ++ facts (events_of one.commits) ≡ image_facts two.image ++ facts (events_of two.commits)
+      stated = λ i. image_facts (image i) ++ facts (events_of (commits i))
 
 pub any_rest : (bytes : List ℕ) (g : Graph) (n : ℕ) (E X : Facts) (side : IsSide bytes g n E X)
     → (front : List ℕ) × (rest : List ℕ) × (bytes ≡ front ++ rest) × (length front ≡ end_of side + 1) × ((other : List ℕ) → IsSide (front ++ other) g n E X)
@@ -101,7 +102,7 @@ any_rest bytes g n E X side =
     (front, side.records.rest, side.spelled ∙ ap (λ (journal : List ℕ). 1 ∷ behind_gate n (canonical g) (image_bytes side.image) journal) side.records.spelled ∙ sym (ends side.records.rest), count, with_rest)
   where
     list : List (List ℕ)
-    list = map event_bytes side.events
+    list = map commit_bytes side.commits
 
     front : List ℕ
     front = 1 ∷ behind_gate n (canonical g) (image_bytes side.image) (records list ++ side.records.gate ∷ [])
@@ -122,8 +123,8 @@ any_rest bytes g n E X side =
       image = side.image;
       is_image = side.is_image;
       counted_image = side.counted_image;
-      events = side.events;
-      are_events = side.are_events;
+      commits = side.commits;
+      are_commits = side.are_commits;
       journal = records list ++ side.records.gate ∷ other;
       records = record { short = side.records.short; gate = side.records.gate; closed = side.records.closed; rest = other; spelled = refl };
       spelled = ends other;

@@ -3,10 +3,12 @@ use Rattle.std.proofs.Common.{◌≡◌, ◌<◌, ◌+◌, ◌^◌, ℕ, List, [
 use Rattle.std.proofs.lemmas.List.{append-nil, length-append, drop_at}
 use Rattle.byteorder.specs.Endian.{little_bytes}
 use Rattle.byteorder.specs.Numbers.{length-bytes_low_first}
+use Rattle.terms.specs.Commits.{events_of}
 use Rattle.terms.specs.Sets.{Facts, among}
 use Rattle.codec.specs.declared.image.Image.{Image}
+use Rattle.codec.specs.Commits.{commit_bytes}
 use Rattle.codec.specs.Laws.{SpellsOne}
-use Rattle.codec.specs.Spelling.{image_bytes, event_bytes, SpellsImage}
+use Rattle.codec.specs.Spelling.{image_bytes, SpellsImage}
 use Rattle.journal.specs.Records.{StandsFor}
 use Rattle.graph.specs.Graph.{Graph}
 use Rattle.graph.specs.Canonical.{canonical}
@@ -15,7 +17,7 @@ use Rattle.graph.specs.Fits.{AllFit, FitsState}
 use Rattle.graph.specs.Textual.{OneReading}
 use Rattle.sides.specs.Image.{image_facts, image_environment, facts_in, environment_in}
 use Rattle.sides.specs.Side.{FORMAT, counted, behind_gate, HasGeneration, IsSide, end_of}
-use Rattle.sides.specs.Reading.{IsCountedAt, HasNoneAt, IsTextOf, IsImageOf, AreEvents, IsReplayed}
+use Rattle.sides.specs.Reading.{IsCountedAt, HasNoneAt, IsTextOf, IsImageOf, AreCommits, IsReplayed}
 use Rattle.sides.proofs.Once.{parts_of, counted_once}
 
 -- ---- what the parts make
@@ -59,8 +61,8 @@ module _ (bytes : List ℕ) (n : ℕ) (has : HasGeneration bytes n) (format : ge
         image = image;
         is_image = is_image.0.0;
         counted_image = subst (λ (list : List ℕ). length list < 2 ^ 32) is_image.0.1 has_part.short;
-        events = replayed.events;
-        are_events = replayed.are.are_events;
+        commits = replayed.commits;
+        are_commits = replayed.are.are_commits;
         journal = drop (14 + length text + 4 + length part) bytes;
         records = replayed.are.stands;
         spelled = in_parts ∙ (λ i. 1 ∷ behind_gate n (sym is_text.1 i) (is_image.0.1 i) (drop (14 + length text + 4 + length part) bytes));
@@ -117,11 +119,11 @@ module _ (bytes : List ℕ) (h : Graph) (n : ℕ) (E X : Facts) (side : IsSide b
         pub is_its_image : IsImageOf g part side.image
         is_its_image = ((side.is_image, images.0), subst (λ (graph : Graph). FitsState graph (among (image_environment side.image)) (among (image_facts side.image))) same side.image_fits)
 
-        -- and a journal of events that fit behind the image
-        pub are_its_events : SpellsOne SpellsImage → (image : Image) → IsImageOf g part image → AreEvents g image (drop (14 + length text + 4 + length part) bytes) side.events
-        are_its_events one_image image is_image = record {
-          are_events = side.are_events;
-          stands = subst (λ (journal : List ℕ). StandsFor journal (map event_bytes side.events)) (sym images.1) side.records;
-          fit = subst (λ (read : Image). AllFit g (image_facts read) side.events) (one_image part side.image image (side.is_image, images.0) is_image.0)
-              (subst (λ (graph : Graph). AllFit graph (image_facts side.image) side.events) same side.events_fit);
+        -- and a journal of commits that fit behind the image
+        pub are_its_commits : SpellsOne SpellsImage → (image : Image) → IsImageOf g part image → AreCommits g image (drop (14 + length text + 4 + length part) bytes) side.commits
+        are_its_commits one_image image is_image = record {
+          are_commits = side.are_commits;
+          stands = subst (λ (journal : List ℕ). StandsFor journal (map commit_bytes side.commits)) (sym images.1) side.records;
+          fit = subst (λ (read : Image). AllFit g (image_facts read) (events_of side.commits)) (one_image part side.image image (side.is_image, images.0) is_image.0)
+              (subst (λ (graph : Graph). AllFit graph (image_facts side.image) (events_of side.commits)) same side.events_fit);
         }

@@ -1,11 +1,12 @@
 -- What reading the bytes of a side finds there, part by part.
 use Rattle.std.specs.Prelude.{◌≡◌, ◌≤◌, ◌<◌, ◌+◌, ◌^◌, ℕ, List, ◌++◌, length, drop, map}
 use Rattle.std.specs.List.{AllByRecursion}
-use Rattle.terms.specs.declared.event.Event.{Event}
+use Rattle.terms.specs.Commits.{Commit, events_of}
 use Rattle.terms.specs.Facts.{Fact, facts, environment}
 use Rattle.terms.specs.Sets.{among}
 use Rattle.codec.specs.declared.image.Image.{Image}
-use Rattle.codec.specs.Spelling.{event_bytes, IsEvent, SpellsImage, HasPutNumber}
+use Rattle.codec.specs.Commits.{commit_bytes, IsCommit}
+use Rattle.codec.specs.Spelling.{SpellsImage, HasPutNumber}
 use Rattle.journal.specs.Records.{StandsFor, records}
 use Rattle.graph.specs.Graph.{Graph}
 use Rattle.graph.specs.Canonical.{canonical}
@@ -41,19 +42,19 @@ IsTextOf text g = Reads text g × (canonical g ≡ text)
 abbrev pub IsImageOf : Graph → List ℕ → Image → Type 0
 IsImageOf g bytes image = SpellsImage bytes image × FitsState g (environment_in image) (facts_in image)
 
--- bytes stand for these events, one a record, each of which fits behind what the image has
-pub record AreEvents (g : Graph) (image : Image) (bytes : List ℕ) (events : List Event) : Type 0 where
-  pub are_events : AllByRecursion IsEvent events
-  pub stands : StandsFor bytes (map event_bytes events)
-  pub fit : AllFit g (image_facts image) events
+-- bytes stand for these commits, one a record, each event of which fits behind what the image has and the events before
+pub record AreCommits (g : Graph) (image : Image) (bytes : List ℕ) (commits : List Commit) : Type 0 where
+  pub are_commits : AllByRecursion IsCommit commits
+  pub stands : StandsFor bytes (map commit_bytes commits)
+  pub fit : AllFit g (image_facts image) (events_of commits)
 
--- such events stand there, up to this position, and the new image has what the old one has and what they state
+-- such commits stand there, up to this position, and the new image has what the old one has and what they state
 pub record IsReplayed (g : Graph) (old new : Image) (bytes : List ℕ) (end : ℕ) : Type 0 where
-  pub events : List Event
-  pub are : AreEvents g old bytes events
-  pub ends : end ≡ length (records (map event_bytes events))
-  pub facts : (fact : Fact) → facts_in new fact ≡ among (image_facts old ++ facts events) fact
-  pub environment : (fact : Fact) → environment_in new fact ≡ among (image_environment old ++ environment events) fact
+  pub commits : List Commit
+  pub are : AreCommits g old bytes commits
+  pub ends : end ≡ length (records (map commit_bytes commits))
+  pub facts : (fact : Fact) → facts_in new fact ≡ among (image_facts old ++ facts (events_of commits)) fact
+  pub environment : (fact : Fact) → environment_in new fact ≡ among (image_environment old ++ environment (events_of commits)) fact
 
 -- the bytes of the side stand for what was read of them, the text is its graph's, and the journal ends where it says
 pub record IsRead (bytes : List ℕ) (generation : ℕ) (standing : Standing) : Type 0 where

@@ -2,11 +2,12 @@
 use Rattle.std.specs.Prelude.{◌≡◌, ◌<◌, ◌^◌, ◌+◌, ℕ, List, [], ◌∷◌, ◌++◌, length, map}
 use Rattle.std.specs.List.{AllByRecursion}
 use Rattle.byteorder.specs.Endian.{little_bytes}
-use Rattle.terms.specs.declared.event.Event.{Event}
+use Rattle.terms.specs.Commits.{Commit, events_of}
 use Rattle.terms.specs.Facts.{Fact, facts, environment}
 use Rattle.terms.specs.Sets.{Facts, among}
 use Rattle.codec.specs.declared.image.Image.{Image}
-use Rattle.codec.specs.Spelling.{image_bytes, event_bytes, IsImage, IsEvent}
+use Rattle.codec.specs.Commits.{commit_bytes, IsCommit}
+use Rattle.codec.specs.Spelling.{image_bytes, IsImage}
 use Rattle.journal.specs.Records.{StandsFor, records}
 use Rattle.graph.specs.Graph.{Graph}
 use Rattle.graph.specs.Canonical.{canonical}
@@ -35,29 +36,33 @@ abbrev pub HasGeneration : List ℕ → ℕ → Type 0
 HasGeneration bytes generation = (generation < 2 ^ 64) × ((format : ℕ) × (rest : List ℕ) × (bytes ≡ 1 ∷ format ∷ little_bytes 8 generation ++ rest))
 
 -- The open side of this generation stands for a graph and the facts X, of which the environment put E: those of its image,
--- and of the events in its journal, one a record, each of which fits. The bodies of steps play no part.
+-- and of the events in its journal, one commit a record, each event of which fits. The bodies of steps play no part.
 pub record IsSide (bytes : List ℕ) (g : Graph) (generation : ℕ) (E X : Facts) : Type 0 where
   pub small : generation < 2 ^ 64
   pub reads : Reads (canonical g) g
   pub image : Image
   pub is_image : IsImage image
   pub counted_image : length (image_bytes image) < 2 ^ 32
-  pub events : List Event
-  pub are_events : AllByRecursion IsEvent events
+  pub commits : List Commit
+  pub are_commits : AllByRecursion IsCommit commits
   pub journal : List ℕ
-  pub records : StandsFor journal (map event_bytes events)
+  pub records : StandsFor journal (map commit_bytes commits)
   pub spelled : bytes ≡ 1 ∷ behind_gate generation (canonical g) (image_bytes image) journal
   pub image_fits : FitsState g (among (image_environment image)) (among (image_facts image))
-  pub events_fit : AllFit g (image_facts image) events
-  pub environment : (fact : Fact) → E fact ≡ among (image_environment image ++ environment events) fact
-  pub facts : (fact : Fact) → X fact ≡ among (image_facts image ++ facts events) fact
+  pub events_fit : AllFit g (image_facts image) (events_of commits)
+  pub environment : (fact : Fact) → E fact ≡ among (image_environment image ++ environment (events_of commits)) fact
+  pub facts : (fact : Fact) → X fact ≡ among (image_facts image ++ facts (events_of commits)) fact
 
 -- where its journal begins, and where the closed gate stands that ends it
 abbrev pub start_of : {bytes : List ℕ} {g : Graph} {generation : ℕ} {E X : Facts} → IsSide bytes g generation E X → ℕ
 start_of {g} {generation} side = length (1 ∷ behind_gate generation (canonical g) (image_bytes side.image) [])
 
 abbrev pub end_of : {bytes : List ℕ} {g : Graph} {generation : ℕ} {E X : Facts} → IsSide bytes g generation E X → ℕ
-end_of side = start_of side + length (records (map event_bytes side.events))
+end_of side = start_of side + length (records (map commit_bytes side.commits))
+
+-- its facts as they are listed: those of its image, and of the events in its journal
+abbrev pub facts_of : {bytes : List ℕ} {g : Graph} {generation : ℕ} {E X : Facts} → IsSide bytes g generation E X → List Fact
+facts_of side = image_facts side.image ++ facts (events_of side.commits)
 
 -- ---- laws
 

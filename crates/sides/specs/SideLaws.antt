@@ -1,35 +1,36 @@
 -- The laws of a side that a store stands on: what other bytes stand for that begin as a side does, and what a side is made of.
 use Rattle.std.specs.Prelude.{◌≡◌, ◌<◌, ◌+◌, ◌^◌, ℕ, List, [], ◌∷◌, ◌++◌, length, map, take, drop}
-use Rattle.terms.specs.declared.event.Event.{Event}
-use Rattle.terms.specs.Facts.{event_facts, environment_facts}
+use Rattle.terms.specs.Commits.{Commit}
+use Rattle.terms.specs.Facts.{facts, environment}
 use Rattle.terms.specs.Sets.{Facts, with_facts}
 use Rattle.codec.specs.declared.image.Image.{Image}
-use Rattle.codec.specs.Spelling.{image_bytes, event_bytes, IsImage, IsEvent}
+use Rattle.codec.specs.Commits.{commit_bytes, IsCommit}
+use Rattle.codec.specs.Spelling.{image_bytes, IsImage}
 use Rattle.journal.specs.Records.{StandsFor, record_of}
 use Rattle.graph.specs.Graph.{Graph}
 use Rattle.graph.specs.Canonical.{canonical}
 use Rattle.graph.specs.Reads.{Reads}
-use Rattle.graph.specs.Fits.{Fits, FitsState, HasOneItemEach}
+use Rattle.graph.specs.Fits.{AllFit, FitsState, HasOneItemEach}
 use Rattle.graph.specs.FitLaws.{SameSet}
 use Rattle.sides.specs.Image.{facts_in, environment_in, IsListed}
-use Rattle.sides.specs.Side.{behind_gate, IsSide, start_of, end_of}
+use Rattle.sides.specs.Side.{behind_gate, IsSide, start_of, end_of, facts_of}
 
--- from where its journal begins on, a side's bytes are a journal of its events
+-- from where its journal begins on, a side's bytes are a journal of its commits
 abbrev pub HasJournal : Type 0
-HasJournal = (bytes : List ℕ) (g : Graph) (generation : ℕ) (E X : Facts) (side : IsSide bytes g generation E X) → StandsFor (drop (start_of side) bytes) (map event_bytes side.events)
+HasJournal = (bytes : List ℕ) (g : Graph) (generation : ℕ) (E X : Facts) (side : IsSide bytes g generation E X) → StandsFor (drop (start_of side) bytes) (map commit_bytes side.commits)
 
--- bytes that begin as a side does, up to its journal, and go on with a journal of the same events, stand for the same
+-- bytes that begin as a side does, up to its journal, and go on with a journal of the same commits, stand for the same
 abbrev pub StaysAlike : Type 0
 StaysAlike = (bytes other : List ℕ) (g : Graph) (generation : ℕ) (E X : Facts) (side : IsSide bytes g generation E X)
-    → take (start_of side) other ≡ take (start_of side) bytes → StandsFor (drop (start_of side) other) (map event_bytes side.events)
+    → take (start_of side) other ≡ take (start_of side) bytes → StandsFor (drop (start_of side) other) (map commit_bytes side.commits)
     → (same : IsSide other g generation E X) × (end_of same ≡ end_of side)
 
--- those that go on with a journal of one event more, which fits, stand for what it leaves
-abbrev pub GrowsByEvent : Type 0
-GrowsByEvent = (bytes other : List ℕ) (g : Graph) (generation : ℕ) (E X : Facts) (side : IsSide bytes g generation E X) (event : Event)
-    → IsEvent event → Fits g X event
-    → take (start_of side) other ≡ take (start_of side) bytes → StandsFor (drop (start_of side) other) (map event_bytes side.events ++ event_bytes event ∷ [])
-    → (grown : IsSide other g generation (with_facts E (environment_facts event)) (with_facts X (event_facts event))) × (end_of grown ≡ end_of side + length (record_of (event_bytes event)))
+-- those that go on with a journal of one commit more, whose events fit, stand for what it leaves
+abbrev pub GrowsByCommit : Type 0
+GrowsByCommit = (bytes other : List ℕ) (g : Graph) (generation : ℕ) (E X : Facts) (side : IsSide bytes g generation E X) (commit : Commit)
+    → IsCommit commit → AllFit g (facts_of side) commit
+    → take (start_of side) other ≡ take (start_of side) bytes → StandsFor (drop (start_of side) other) (map commit_bytes side.commits ++ commit_bytes commit ∷ [])
+    → (grown : IsSide other g generation (with_facts E (environment commit)) (with_facts X (facts commit))) × (end_of grown ≡ end_of side + length (record_of (commit_bytes commit)))
 
 -- how the facts are listed plays no part
 abbrev pub SideAsSet : Type 0

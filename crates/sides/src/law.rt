@@ -1,8 +1,8 @@
 //! The laws of what a side stands for. Each is a contract, with nothing to run.
 ghost use Rattle.sides.specs.Side.{OneMeaning, StandsWithGeneration, OneGeneration, AnyRest};
-ghost use Rattle.sides.specs.SideLaws.{HasJournal, StaysAlike, GrowsByEvent, SideAsSet, SideFits, BeginsSide, ListedOnce};
+ghost use Rattle.sides.specs.SideLaws.{HasJournal, StaysAlike, GrowsByCommit, SideAsSet, SideFits, BeginsSide, ListedOnce};
 
-use codec::{spellings_of_events, spellings_of_images};
+use codec::{spellings_of_commits, spellings_of_images};
 use graph::{fitting, one_reading};
 use journal::one_meaning;
 use terms::{facts_are_told_apart, facts_go_on, orders_are_total};
@@ -15,18 +15,18 @@ pub fn one_meaning_of_a_side()
     ensures one_generation { OneGeneration }
     ensures rest { AnyRest }
 {
-    spellings_of_events();
+    spellings_of_commits();
     spellings_of_images();
     one_meaning();
     one_reading();
 }
 
-/// What a side's bytes stand for when others follow its image: the same where they are a journal of the same events, what an
-/// event more leaves where they are a journal of one event more. Its facts fit its graph, and an image that fits makes a side.
+/// What a side's bytes stand for when others follow its image: the same where they are a journal of the same commits, what a
+/// commit more leaves where they are a journal of one commit more. Its facts fit its graph, and an image that fits makes a side.
 pub fn sides_go_on()
     ensures journal { HasJournal }
     ensures alike { StaysAlike }
-    ensures grows { GrowsByEvent }
+    ensures grows { GrowsByCommit }
     ensures as_set { SideAsSet }
     ensures fits { SideFits }
     ensures begins { BeginsSide }

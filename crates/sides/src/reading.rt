@@ -7,7 +7,7 @@ ghost use Rattle.sides.specs.declared.error.SideError.TheVariants.{Damaged};
 
 use crate::gate::{FORMAT, HEAD};
 use crate::parts::{COUNT, counted_at, read_graph, read_image};
-use crate::replay::{Replay, take_events};
+use crate::replay::{Replay, take_commits};
 use crate::{Holdings, SideError};
 use codec::spellings_of_images;
 use graph::{Graph, fitting, one_reading};
@@ -28,7 +28,7 @@ pub struct Standing {
 ///
 /// `Damaged` tells the place of the first check that failed: the format, at 1; the length of the graph's text, at 10, and the text
 /// itself, at 14; the image, at its length's place; and of the journal the gate of the first record that is not whole with a gate
-/// behind it, is no event or does not fit, or where its first byte is missing.
+/// behind it, is no commit or does not fit, or where its first byte is missing.
 pub fn read_side(alloc: Global, bytes: &[u8]) -> Result<Standing, SideError>
     requires { IsOpen bytes.now × (10 ≤ length bytes.now) }
     ensures read { IfOk result (λ standing. (generation : ℕ) → HasGeneration bytes.now generation → IsRead bytes.now generation standing) }
@@ -54,7 +54,7 @@ pub fn read_side(alloc: Global, bytes: &[u8]) -> Result<Standing, SideError>
         return Err(SideError::Damaged(at as u64));
     };
     let start = at + COUNT + image.len();
-    match take_events(alloc, &graph, &mut holdings, &bytes[start..])? {
+    match take_commits(alloc, &graph, &mut holdings, &bytes[start..])? {
         Replay::Ended(end) => Ok(Standing {
             graph,
             text: own,

@@ -1,13 +1,13 @@
 use Rattle.std.proofs.Common.{◌≡◌, ◌+◌, ◌-◌, ℕ, List, length, take, drop, subst}
 use Rattle.std.proofs.lemmas.List.{take_rest}
 use Rattle.std.specs.List.{AllByRecursion}
-use Rattle.terms.specs.declared.event.Event.{Event}
+use Rattle.terms.specs.Commits.{Commit}
 use Rattle.codec.specs.declared.image.Image.{Image}
 use Rattle.codec.specs.Spelling.{HasPutNumber}
 use Rattle.graph.specs.Canonical.{canonical}
 use Rattle.graph.specs.Graph.{Graph}
-use Rattle.sides.specs.Reading.{IsTextOf, IsImageOf, IsReplayed, AreEvents}
-use Rattle.sides.proofs.PartsRead.{side_read, ends_there, has_text, is_its_text, has_image, is_its_image, are_its_events}
+use Rattle.sides.specs.Reading.{IsTextOf, IsImageOf, IsReplayed, AreCommits}
+use Rattle.sides.proofs.PartsRead.{side_read, ends_there, has_text, is_its_text, has_image, is_its_image, are_its_commits}
 use Rattle.sides.proofs.reading.read_side.Goals as goal
 
 pub returns-in_default-clause-nothing : goal.returns-in_default-clause-nothing
@@ -40,13 +40,13 @@ returns-in-Ended-clause-read c n has =
     let graph = c.in-Some-2.graph in
     let part = c.in-Some-counted_at.image.now in
     let image = c.in-Some-3.holdings in
-    let new = c.take_events.new.holdings in
+    let new = c.take_commits.new.holdings in
     let start = 14 + length text + 4 + length part in
     let end = c.in-Ended.end in
     let both : IsTextOf text graph × (c.in-Some-2.own.items ≡ canonical graph) = rw c.in-Some-2.is at c.in_ok-graph.ensures in
     let is_text = both.0 in
     let is_image : IsImageOf graph part image = rw c.in-Some-3.is at c.in_ok-holdings.ensures.image in
-    let there : IsReplayed graph image new (take (length bytes - start) (drop start bytes)) end = rw c.in-Ended.is at c.in_ok-end.ensures.events in
+    let there : IsReplayed graph image new (take (length bytes - start) (drop start bytes)) end = rw c.in-Ended.is at c.in_ok-end.ensures.commits in
     let replayed : IsReplayed graph image new (drop start bytes) end = subst (λ (journal : List ℕ). IsReplayed graph image new journal end) (take_rest bytes start) there in
     let numbered : AllByRecursion HasPutNumber new.items = rw c.in-Ended.is at c.in_ok-end.ensures.numbered in
     record {
@@ -67,7 +67,7 @@ returns-in-Broken-clause-nothing c place is g n E X side =
     let both : IsTextOf text graph × (c.in-Some-2.own.items ≡ canonical graph) = rw c.in-Some-2.is at c.in_ok-graph.ensures in
     let is_text = both.0 in
     let is_image : IsImageOf graph part image = rw c.in-Some-3.is at c.in_ok-holdings.ensures.image in
-    let there : (events : List Event) → AreEvents graph image (take (length bytes - start) (drop start bytes)) events → ⊥ = rw c.in-Broken.is at c.in_ok-end.ensures.events in
-    let none : (events : List Event) → AreEvents graph image (drop start bytes) events → ⊥ =
-    subst (λ (journal : List ℕ). (events : List Event) → AreEvents graph image journal events → ⊥) (take_rest bytes start) there in
-    none side.events (are_its_events bytes g n E X side text c.in-Some.ensures c.one_reading.ensures graph is_text part c.in-Some-counted_at.ensures c.spellings_of_images.ensures.one image is_image)
+    let there : (commits : List Commit) → AreCommits graph image (take (length bytes - start) (drop start bytes)) commits → ⊥ = rw c.in-Broken.is at c.in_ok-end.ensures.commits in
+    let none : (commits : List Commit) → AreCommits graph image (drop start bytes) commits → ⊥ =
+    subst (λ (journal : List ℕ). (commits : List Commit) → AreCommits graph image journal commits → ⊥) (take_rest bytes start) there in
+    none side.commits (are_its_commits bytes g n E X side text c.in-Some.ensures c.one_reading.ensures graph is_text part c.in-Some-counted_at.ensures c.spellings_of_images.ensures.one image is_image)

@@ -2,7 +2,7 @@ use Rattle.std.proofs.Common.{length, ◌-◌}
 use Rattle.std.specs.List.{AllByRecursion}
 use Rattle.codec.specs.Spelling.{HasPutNumber}
 use Rattle.sides.specs.Replaying.{IsTakenTo}
-use Rattle.sides.proofs.replay.take_events.Given as goal
+use Rattle.sides.proofs.replay.take_commits.Given as goal
 
 abbrev pub invariant-loop-payload : goal.invariant-loop-payload
 invariant-loop-payload l = record {
