@@ -1,6 +1,6 @@
--- What a store stands for while an event is appended, and then.
+-- What a store stands for while a commit is appended, and then.
 use Rattle.std.proofs.Common.{◌≡◌, ◌≢◌, ◌+◌, ◌≤◌, ◌<◌, ℕ, List, [], ◌∷◌, ◌++◌, length, take, drop, map, inl, inr, sym, ap, subst, ◌∙◌, arith, length-append, length-take, length-drop, take-append-drop}
-use Rattle.std.proofs.lemmas.List.{append-nil, take-append-le}
+use Rattle.std.proofs.lemmas.List.{take-append-le}
 use Rattle.disk.specs.declared.side.Side.{Side}
 use Rattle.disk.specs.declared.side.Side.TheVariants.{A, B}
 use Rattle.disk.specs.Side.{which}
@@ -10,16 +10,17 @@ use Rattle.disk.specs.Time.{Contents, MayLeaveNow, OtherStays, OtherMayBe, Leave
 use Rattle.disk.specs.Moments.{weakened}
 use Rattle.terms.specs.declared.event.Event.{Event}
 use Rattle.terms.specs.Commits.{Commit}
-use Rattle.terms.specs.Facts.{Fact, facts, environment, event_facts, environment_facts}
-use Rattle.terms.specs.Sets.{Facts, with_facts}
-use Rattle.codec.specs.Spelling.{event_bytes, IsEvent}
+use Rattle.terms.specs.Facts.{facts, environment}
+use Rattle.terms.specs.Sets.{Facts, among, with_facts}
+use Rattle.codec.specs.Commits.{commit_bytes, IsCommit}
 use Rattle.journal.specs.Records.{records, record_of}
 use Rattle.journal.specs.declared.journal.Journal.{Journal}
 use Rattle.journal.specs.Journal.{IsAt, BeforeOrAfter}
 use Rattle.graph.specs.Graph.{Graph}
-use Rattle.graph.specs.Fits.{Fits}
-use Rattle.sides.specs.Side.{IsSide, start_of, end_of}
-use Rattle.sides.specs.SideLaws.{HasJournal, StaysAlike, GrowsByEvent}
+use Rattle.graph.specs.Fits.{Fits, AllFit}
+use Rattle.graph.specs.FitLaws.{EventAsSet}
+use Rattle.sides.specs.Side.{IsSide, start_of, end_of, facts_of}
+use Rattle.sides.specs.SideLaws.{HasJournal, StaysAlike, GrowsByCommit}
 use Rattle.vault.specs.declared.vault.Vault.{Vault}
 use Rattle.vault.specs.Stands.{Stands, IsLive, IsBehind, other_side}
 use Rattle.vault.specs.Store.{Holds, StandsBeforeOrAfter}
@@ -46,13 +47,6 @@ gate_within : (journal : Journal) (start : ℕ) (content : List ℕ) (payloads :
 gate_within journal start content payloads at =
     omega (arith, at.end, ap length at.stands.spelled, length-drop start content, length-append (records payloads) (at.stands.gate ∷ at.stands.rest))
 
--- what a commit of one event leaves is what the event leaves
-pub as_commit : (P : Facts → Facts → Type 0) (E X : Facts) (event : Event) → P (with_facts E (environment_facts event)) (with_facts X (event_facts event))
-    → P (with_facts E (environment (event ∷ []))) (with_facts X (facts (event ∷ [])))
-as_commit P E X event it =
-    subst (λ (list : List Fact). P (with_facts E list) (with_facts X (facts (event ∷ [])))) (sym (append-nil (environment_facts event)))
-    (subst (λ (list : List Fact). P (with_facts E (environment_facts event)) (with_facts X list)) (sym (append-nil (event_facts event))) it)
-
 module _ (has_journal : HasJournal) {D : Type 0} (files : D → Side → File) (vault : Vault D) (g : Graph) (E X : Facts) (holds : Holds files vault g E X) where
   abbrev live : Side
   live = vault.journal.side
@@ -64,7 +58,7 @@ module _ (has_journal : HasJournal) {D : Type 0} (files : D → Side → File) (
   start = start_of is_side
 
   abbrev pub payloads : List (List ℕ)
-  payloads = map event_bytes is_side.events
+  payloads = map commit_bytes is_side.commits
 
   pub is_at : IsAt vault.journal start (holds.contents live) payloads
   is_at = record { stands = has_journal (holds.contents live) g vault.generation E X is_side; end = holds.ends }
@@ -89,24 +83,27 @@ module _ (has_journal : HasJournal) {D : Type 0} (files : D → Side → File) (
       let same : left there ≡ holds.contents there = settled_only (holds.contents there) (left there) (subst (λ (f : File). MayLeave f.durable (left there)) (holds.rests there) (others there (other_differs live))) in
       subst (λ (bytes : List ℕ). IsBehind bytes vault.generation) (sym same) holds.is_live.behind
 
-  module _ (alike : StaysAlike) (grows : GrowsByEvent) (event : Event) (is_event : IsEvent event) (fits : Fits g X event) where
+  -- an event that fits the facts fits behind those of the side, as they are listed
+  pub event_fits : EventAsSet → (event : Event) → Fits g X event → AllFit g (facts_of is_side) (event ∷ [])
+  event_fits as_set event fits = (as_set g X (among (facts_of is_side)) event is_side.facts fits, tt)
+
+  module _ (alike : StaysAlike) (grows : GrowsByCommit) (commit : Commit) (is_commit : IsCommit commit) (fit : AllFit g (facts_of is_side) commit) where
     abbrev E_after : Facts
-    E_after = with_facts E (environment_facts event)
+    E_after = with_facts E (environment commit)
 
     abbrev X_after : Facts
-    X_after = with_facts X (event_facts event)
+    X_after = with_facts X (facts commit)
 
-    -- a crash while the event is appended
-    stands_either : (left : Contents) → BeforeOrAfter start (holds.contents live) payloads (event_bytes event) (left live) × OtherMayBe live (files vault.disk) left → StandsBeforeOrAfter g E X (event ∷ []) left
+    -- a crash while the commit is appended
+    stands_either : (left : Contents) → BeforeOrAfter start (holds.contents live) payloads (commit_bytes commit) (left live) × OtherMayBe live (files vault.disk) left → StandsBeforeOrAfter g E X commit left
     stands_either left either = elim either.0.stands [
       | inl before ↦ inl (live, vault.generation, record { is_side = (alike (holds.contents live) (left live) g vault.generation E X is_side either.0.front before).0; behind = still_behind left either.1 })
-      | inr after ↦ inr (as_commit (Stands left g) E X event
-          (live, vault.generation, record { is_side = (grows (holds.contents live) (left live) g vault.generation E X is_side event is_event fits either.0.front after).0; behind = still_behind left either.1 }))
+      | inr after ↦ inr (live, vault.generation, record { is_side = (grows (holds.contents live) (left live) g vault.generation E X is_side commit is_commit fit either.0.front after).0; behind = still_behind left either.1 })
     ]
 
-    pub moments : (moment : D → ℕ) (left_at : D → ℕ → Contents → Type 0) (new : D) (payload : List ℕ) → payload ≡ event_bytes event
+    pub moments : (moment : D → ℕ) (left_at : D → ℕ → Contents → Type 0) (new : D) (payload : List ℕ) → payload ≡ commit_bytes commit
         → LeavesOnly moment left_at vault.disk new (λ contents. BeforeOrAfter start (holds.contents live) payloads payload (contents live) × OtherMayBe live (files vault.disk) contents)
-        → LeavesOnly moment left_at vault.disk new (StandsBeforeOrAfter g E X (event ∷ []))
+        → LeavesOnly moment left_at vault.disk new (StandsBeforeOrAfter g E X commit)
     moments moment left_at new payload spelled only =
         weakened moment left_at vault.disk new _ _ only
         (λ left either. stands_either left (subst (λ (p : List ℕ). BeforeOrAfter start (holds.contents live) payloads p (left live)) spelled either.0, either.1))
@@ -114,8 +111,8 @@ module _ (has_journal : HasJournal) {D : Type 0} (files : D → Side → File) (
     -- and when it was
     module _ (new : Vault D) (side : new.journal.side ≡ live) (generation : new.generation ≡ vault.generation) (text : new.text.items ≡ vault.text.items) (bytes : List ℕ)
         (others : OtherStays live (files vault.disk) (files new.disk)) (file : files new.disk live ≡ at_rest (overwritten (files vault.disk live).content vault.journal.end bytes))
-        (at : IsAt new.journal start (files new.disk live).content (payloads ++ event_bytes event ∷ []))
-        (moved : new.journal.end ≡ vault.journal.end + length (record_of (event_bytes event))) where
+        (at : IsAt new.journal start (files new.disk live).content (payloads ++ commit_bytes commit ∷ []))
+        (moved : new.journal.end ≡ vault.journal.end + length (record_of (commit_bytes commit))) where
       abbrev now : Contents
       now each = (files new.disk each).content
 
@@ -131,8 +128,8 @@ module _ (has_journal : HasJournal) {D : Type 0} (files : D → Side → File) (
         | inr differs ↦ let was = others each differs ∙ holds.rests each in was ∙ ap (λ (f : File). at_rest f.content) (sym was)
       ]
 
-      grown : (is_grown : IsSide (now live) g vault.generation E_after X_after) × (end_of is_grown ≡ end_of is_side + length (record_of (event_bytes event)))
-      grown = grows (holds.contents live) (now live) g vault.generation E X is_side event is_event fits front at.stands
+      grown : (is_grown : IsSide (now live) g vault.generation E_after X_after) × (end_of is_grown ≡ end_of is_side + length (record_of (commit_bytes commit)))
+      grown = grows (holds.contents live) (now live) g vault.generation E X is_side commit is_commit fit front at.stands
 
       behind : IsBehind (now (other_side live)) vault.generation
       behind = subst (λ (f : File). IsBehind f.content vault.generation) (sym (others (other_side live) (other_differs live) ∙ holds.rests (other_side live))) holds.is_live.behind
@@ -145,7 +142,7 @@ module _ (has_journal : HasJournal) {D : Type 0} (files : D → Side → File) (
       found =
           subst (λ (number : ℕ). IsFound new.journal.side number) (sym generation)
           (subst (λ (here : Side). IsFound here vault.generation) (sym side)
-          (record { is_side = grown.0; behind = behind }, moved ∙ ap (λ (n : ℕ). n + length (record_of (event_bytes event))) holds.ends ∙ sym grown.1))
+          (record { is_side = grown.0; behind = behind }, moved ∙ ap (λ (n : ℕ). n + length (record_of (commit_bytes commit))) holds.ends ∙ sym grown.1))
 
-      pub holds_more : Holds files new g (with_facts E (environment (event ∷ []))) (with_facts X (facts (event ∷ [])))
-      holds_more = as_commit (Holds files new g) E X event (record { contents = now; rests = rests; is_live = found.0; ends = found.1; text = text ∙ holds.text })
+      pub holds_more : Holds files new g E_after X_after
+      holds_more = record { contents = now; rests = rests; is_live = found.0; ends = found.1; text = text ∙ holds.text }

@@ -1,6 +1,7 @@
 mod Appended
 pub mod BegunMoments
 mod Created
+mod ErredCalls
 mod FirstBytes
 mod GatesBytes
 mod GatesMoments

@@ -1,16 +1,29 @@
--- What `append` and `turn` promise on every disk: why a vault halts, what a refusal leaves, and the errors that they answer.
+-- What the calls of a vault promise: why they answer an error and why a vault halts, what a refusal leaves, and what is written.
 use Rattle.std.specs.Prelude.{◌≡◌, ◌≢◌, ◌⊎◌, ◌↔◌, ◌+◌, ◌++◌, ◌∷◌, [], ◌≤◌, ◌<◌, ℕ, Bool, List, length, true, false, Result, IfOk, OnOk, OnErr, IfErr, IsErrOf}
 use Rattle.disk.specs.declared.side.Side.{Side}
+use Rattle.disk.specs.declared.side.Side.TheVariants.{A, B}
 use Rattle.disk.specs.File.{File, at_rest, overwritten}
-use Rattle.disk.specs.Time.{HasErred, OtherStays}
+use Rattle.disk.specs.Time.{Contents, MayLeaveNow, LeavesOnly, HasErred, OtherStays}
 use Rattle.codec.specs.declared.image.Image.{Image}
+use Rattle.graph.specs.Graph.{Graph}
+use Rattle.graph.specs.Canonical.{canonical}
+use Rattle.graph.specs.Reads.{Reads}
 use Rattle.vault.specs.declared.vault.Vault.{Vault}
 use Rattle.vault.specs.declared.error.VaultError.{VaultError}
-use Rattle.vault.specs.declared.error.VaultError.TheVariants.{Device, NoMemory, Full, Halted}
+use Rattle.vault.specs.declared.error.VaultError.TheVariants.{Device, NoMemory, Full, Halted, Exists}
 use Rattle.vault.specs.Stands.{other_side}
-use Rattle.vault.specs.Store.{IsSame, IsReady, new_side}
+use Rattle.vault.specs.Store.{Holds, IsSame, IsReady, new_side, empty, nothing}
 
--- an error that these calls may answer
+-- Why an error is answered that a call of the disk answered, on every disk: `Device` exactly where the device failed, and want of memory
+-- wherever a call of the disk was refused for it.
+pub record HasCauses {D T : Type 0} (failures refusals : D → ℕ) (old new : D) (result : Result T VaultError) : Type 0 where
+  pub device : IsErrOf result Device ↔ (failures old < failures new)
+  pub refused : refusals new ≢ refusals old → IsErrOf result NoMemory
+  pub later : failures old ≤ failures new
+
+-- ---- calls of a vault
+
+-- an error that `append` and `turn` may answer
 abbrev pub IsOfCall : VaultError → Type 0
 IsOfCall error = (error ≡ Device) ⊎ (error ≡ NoMemory) ⊎ (error ≡ Full) ⊎ (error ≡ Halted)
 
@@ -20,10 +33,7 @@ pub record Halts {D T : Type 0} (failures refusals : D → ℕ) (old new : Vault
   pub halts : (new.halted ≡ true) ↔ ((old.halted ≡ true) ⊎ HasErred failures refusals old.disk new.disk)
   -- a halted vault answers `Halted`, and makes no call of the disk
   pub halted : IsErrOf result Halted ↔ (old.halted ≡ true)
-  -- `Device` is answered exactly where the device failed, and `NoMemory` where a call of the disk was refused for want of it
-  pub device : IsErrOf result Device ↔ (failures old.disk < failures new.disk)
-  pub refused : refusals new.disk ≢ refusals old.disk → IsErrOf result NoMemory
-  pub later : failures old.disk ≤ failures new.disk
+  pub disk : HasCauses failures refusals old.disk new.disk result
   -- where an error does not halt it, nothing changed
   pub same : OnErr result (new.halted ≡ old.halted → IsSame old new)
   pub causes : IfErr result IsOfCall
@@ -43,11 +53,29 @@ pub record Appended {D T : Type 0} (old new : Vault D) (bytes : List ℕ) (resul
   pub generation : new.generation ≡ old.generation
 
 -- What an append writes, on an honest disk: its record and a closed gate, over the gate that ended the journal of the live side. The other
--- file stays as it was, whatever is answered.
+-- file stays as it was, whatever is answered; and where the vault is not halted, it is ready for the next call.
 pub record WritesRecord {D T : Type 0} (files : D → Side → File) (old new : Vault D) (bytes : List ℕ) (result : Result T VaultError) : Type 0 where
   pub written : OnOk result (files new.disk old.journal.side ≡ at_rest (overwritten (files old.disk old.journal.side).content old.journal.end (bytes ++ 0 ∷ [])))
   pub other : OtherStays old.journal.side (files old.disk) (files new.disk)
-  pub ready : OnOk result (IsReady files new)
+  pub ready : new.halted ≡ false → IsReady files new
+
+-- ---- making a store
+
+-- What a new store is, on an honest disk: its first side in A, without facts, and the closed gate of B; its vault holds nothing, and is
+-- ready for its first call.
+pub record IsCreated {D : Type 0} (files : D → Side → File) (text : List ℕ) (vault : Vault D) : Type 0 where
+  pub holds : (g : Graph) → Reads text g → text ≡ canonical g → Holds files vault g nothing nothing
+  pub a : files vault.disk A ≡ at_rest (new_side 1 text empty)
+  pub b : files vault.disk B ≡ at_rest (0 ∷ [])
+  pub ready : IsReady files vault
+
+-- Files that are not both empty, on an honest disk: no store is made of them, both stay as they are, and a crash at any moment leaves what
+-- one might have left before. `Exists` says that one is not empty.
+pub record LeavesNonEmpty {D T : Type 0} (files : D → Side → File) (moment : D → ℕ) (left_at : D → ℕ → Contents → Type 0) (old new : D) (result : Result T VaultError) : Type 0 where
+  pub were_empty : OnOk result ((side : Side) → (files old side).content ≡ [])
+  pub exists : IsErrOf result Exists → ((files old A).content ≢ []) ⊎ ((files old B).content ≢ [])
+  pub kept : (some : Side) → (files old some).content ≢ [] → (side : Side) → files new side ≡ files old side
+  pub moments : (some : Side) → (files old some).content ≢ [] → LeavesOnly moment left_at old new (MayLeaveNow (files old))
 
 -- ---- turnovers
 
@@ -57,8 +85,9 @@ pub record TurnsOver {D : Type 0} (old new : Vault D) (result : Result ℕ Vault
   pub side : IfOk result (λ generation. (generation ≡ old.generation + 1) × (new.generation ≡ generation) × (new.journal.side ≡ other_side old.journal.side))
   pub stays : OnErr result ((new.generation ≡ old.generation) × (new.journal.side ≡ old.journal.side))
 
--- What a turnover writes, on an honest disk: the other side anew. The file that was live stays as it was, whatever is answered.
+-- What a turnover writes, on an honest disk: the other side anew. The file that was live stays as it was, whatever is answered; and where
+-- the vault is not halted, it is ready for the next call.
 pub record WritesSide {D : Type 0} (files : D → Side → File) (old new : Vault D) (image : Image) (result : Result ℕ VaultError) : Type 0 where
   pub written : IfOk result (λ generation. files new.disk (other_side old.journal.side) ≡ at_rest (new_side generation old.text.items image))
   pub live : files new.disk old.journal.side ≡ files old.disk old.journal.side
-  pub ready : OnOk result (IsReady files new)
+  pub ready : new.halted ≡ false → IsReady files new

@@ -1,5 +1,5 @@
 -- What opening finds of a store's files, and what it leaves of them.
-use Rattle.std.specs.Prelude.{◌≡◌, ◌≢◌, ◌⊎◌, ℕ, List, length, Option, Some, None}
+use Rattle.std.specs.Prelude.{◌≡◌, ◌≢◌, ◌⊎◌, ℕ, List, length, Option, Some, None, Result, IfErr, IsErrOf}
 use Rattle.disk.specs.declared.side.Side.{Side}
 use Rattle.disk.specs.declared.side.Side.TheVariants.{A, B}
 use Rattle.disk.specs.File.{File}
@@ -15,8 +15,9 @@ use Rattle.sides.specs.Image.{facts_in, environment_in, IsListed}
 use Rattle.sides.specs.Side.{IsSide, IsOpen, HasGeneration, end_of}
 use Rattle.vault.specs.declared.found.Found.{Found}
 use Rattle.vault.specs.declared.error.VaultError.{VaultError}
-use Rattle.vault.specs.declared.error.VaultError.TheVariants.{Device, NoMemory, Damaged, Full, Halted, Exists}
+use Rattle.vault.specs.declared.error.VaultError.TheVariants.{NotAStore, Damaged, Full, Halted, Exists}
 use Rattle.vault.specs.Stands.{Stands, IsLive, IsBehind, other_side}
+use Rattle.vault.specs.Store.{SaysNothing}
 
 -- what reads give of both files
 abbrev pub contents_of : (Side → File) → Contents
@@ -51,17 +52,13 @@ IsCutShort bytes = Tells Short bytes
 abbrev pub AreOfOneGeneration : Contents → Type 0
 AreOfOneGeneration contents = (generation : ℕ) × HasGeneration (contents A) generation × HasGeneration (contents B) generation
 
--- The first fault of the heads, and where it is told. A is short: of A, at its length. A is not, and B is: of B, at its length. Neither
--- is, and both have one generation: of A, at 2, where its generation begins.
+-- The first fault of the heads, and where it is told. A is short: of A, at its length. A is not, and B is: of B, at its length. Both
+-- have one generation: of A, at 2, where its generation begins.
 abbrev pub HeadsFault : Contents → Side → ℕ → Type 0
 HeadsFault contents side place =
     (IsCutShort (contents A) × (side ≡ A) × (place ≡ length (contents A)))
     ⊎ ((IsCutShort (contents A) → ⊥) × IsCutShort (contents B) × (side ≡ B) × (place ≡ length (contents B)))
-    ⊎ ((IsCutShort (contents A) → ⊥) × (IsCutShort (contents B) → ⊥) × AreOfOneGeneration contents × (side ≡ A) × (place ≡ 2))
-
--- an error of opening files whose heads have this fault: that fault, or a call of the disk that failed, or a growth that was refused
-abbrev pub TellsFault : Side → ℕ → VaultError → Type 0
-TellsFault side place error = (error ≡ Damaged side place) ⊎ (error ≡ Device) ⊎ (error ≡ NoMemory)
+    ⊎ (AreOfOneGeneration contents × (side ≡ A) × (place ≡ 2))
 
 -- the files stand for no graph and no facts
 abbrev pub StandsForNothing : Contents → Type 0
@@ -103,6 +100,14 @@ pub record IsFound (contents : Contents) (found : Found) : Type 0 where
   pub text : found.text.items ≡ canonical found.graph
 
 -- ---- why it is refused
+
+-- What a refusal says of the files. `erred` says that a call of the disk answered an error; where none did, the first fault of the
+-- heads is told.
+pub record TellsWhy {T : Type 0} (contents : Contents) (erred : Type 0) (result : Result T VaultError) : Type 0 where
+  pub nothing : IfErr result (λ error. SaysNothing error → StandsForNothing contents)
+  pub not_a_store : IfErr result (λ error. error ≡ NotAStore → NoneIsOpen contents)
+  pub damaged : (side : Side) (place : ℕ) → IfErr result (λ error. error ≡ Damaged side place → IsOpen (contents side))
+  pub heads : (side : Side) (place : ℕ) → HeadsFault contents side place → IsErrOf result (Damaged side place) ⊎ erred
 
 -- an error that opening may answer
 abbrev pub IsOfOpening : VaultError → Type 0

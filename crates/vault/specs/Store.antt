@@ -101,6 +101,11 @@ abbrev pub disk_of_opening : {D : Type 0} → Result (Recovered D) (Refused D) �
 disk_of_opening (Ok recovered) = recovered.vault.disk
 disk_of_opening (Err refused) = refused.disk
 
+-- the answer, of a refusal its error alone
+abbrev pub answer_of : {D T : Type 0} → Result T (Refused D) → Result T VaultError
+answer_of (Ok value) = Ok value
+answer_of (Err refused) = Err refused.error
+
 -- the error says that the files stand for nothing
 abbrev pub SaysNothing : VaultError → Type 0
 SaysNothing error = (error ≡ NotAStore) ⊎ ((side : Side) × (place : ℕ) × (error ≡ Damaged side place))

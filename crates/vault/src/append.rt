@@ -2,7 +2,8 @@ ghost use Rattle.std.specs.Prelude.{◌≡◌, ◌≤◌, ◌+◌, ◌⊎◌, �
 ghost use Rattle.disk.specs.Time.{LeavesOnly};
 ghost use Rattle.terms.specs.Facts.{facts, environment};
 ghost use Rattle.terms.specs.Sets.{Facts, with_facts};
-ghost use Rattle.codec.specs.Spelling.{HasFewPuts, event_bytes};
+ghost use Rattle.codec.specs.Commits.{commit_bytes};
+ghost use Rattle.codec.specs.Spelling.{HasFewPuts};
 ghost use Rattle.journal.specs.Records.{record_of};
 ghost use Rattle.journal.specs.declared.error.JournalError.TheVariants as JournalError;
 ghost use Rattle.journal.specs.declared.journal.TheConstants.{LIMIT};
@@ -16,6 +17,7 @@ ghost use Rattle.vault.specs.declared.error.VaultError.TheVariants.{NoMemory, Fu
 use crate::{Vault, VaultError};
 use codec::encode_event;
 use disk::Disk;
+use graph::fitting;
 use journal::{AppendError, JournalError};
 use sides::sides_go_on;
 use terms::Event;
@@ -41,11 +43,12 @@ impl<D: Disk> Vault<D> {
             → LeavesOnly D.moment D.left_at self.old.disk self.new.disk HasGates }
 
         // What it writes, where it leaves the vault, and why it is refused.
-        ensures written { IsTrue D.is_honest → WritesRecord D.files self.old self.new (record_of (event_bytes event.now)) result }
-        ensures appended { Appended self.old self.new (record_of (event_bytes event.now)) result }
-        ensures full { IsFullWhere self.old.halted (LIMIT ≤ self.old.journal.end + length (record_of (event_bytes event.now))) result }
+        ensures written { IsTrue D.is_honest → WritesRecord D.files self.old self.new (record_of (commit_bytes (event.now ∷ []))) result }
+        ensures appended { Appended self.old self.new (record_of (commit_bytes (event.now ∷ []))) result }
+        ensures full { IsFullWhere self.old.halted (LIMIT ≤ self.old.journal.end + length (record_of (commit_bytes (event.now ∷ [])))) result }
         ensures halting { Halts D.failures D.refusals self.old self.new result }
     {
+        fitting();
         sides_go_on();
         if self.halted {
             return Err(VaultError::Halted);

@@ -8,7 +8,8 @@ ghost use Rattle.graph.specs.Canonical.{canonical};
 ghost use Rattle.graph.specs.Reads.{Reads};
 ghost use Rattle.codec.specs.Spelling.{image_bytes};
 ghost use Rattle.sides.specs.Side.{behind_gate};
-ghost use Rattle.vault.specs.Store.{Holds, IsReady, IsCanonical, BComesFirst, disk_of, empty, new_side, nothing};
+ghost use Rattle.vault.specs.Calls.{HasCauses, IsCreated, LeavesNonEmpty};
+ghost use Rattle.vault.specs.Store.{IsCanonical, BComesFirst, disk_of, answer_of, empty, new_side};
 ghost use Rattle.vault.specs.Opened.{OnlyReads};
 ghost use Rattle.vault.specs.declared.error.VaultError.TheVariants.{Device, NoMemory, Exists};
 
@@ -27,28 +28,19 @@ use std::alloc::{AllocError, Global};
 /// call of the disk: where the call's own memory was refused, and not the disk's, the disk is as it was.
 pub fn create<D: Disk>(alloc: Global, disk: D, text: &[u8]) -> Result<Vault<D>, Refused<D>>
     requires { IsCanonical text.now }
-    ensures created { IsTrue D.is_honest → (g : Graph) → Reads text.now g → text.now ≡ canonical g → IfOk result (λ vault. Holds D.files vault g nothing nothing) }
-    ensures a { IsTrue D.is_honest → IfOk result (λ vault. D.files vault.disk A ≡ at_rest (new_side 1 text.now empty)) }
-    ensures b { IsTrue D.is_honest → IfOk result (λ vault. D.files vault.disk B ≡ at_rest (0 ∷ [])) }
-    ensures ready { IsTrue D.is_honest → IfOk result (IsReady D.files) }
+    ensures created { IsTrue D.is_honest → IfOk result (IsCreated D.files text.now) }
     ensures working { IfOk result (λ vault. vault.halted ≡ false) }
 
     // Where A is empty, and nothing of it is on its way to the disk, a crash at any moment leaves A empty, or B with its closed gate.
     ensures begins { IsTrue D.is_honest → D.files disk A ≡ at_rest [] → LeavesOnly D.moment D.left_at disk (disk_of result) BComesFirst }
 
-    ensures were_empty { IsTrue D.is_honest → (side : Side) → OnOk result ((D.files disk side).content ≡ []) }
-    ensures exists { IsTrue D.is_honest → IfErr result (λ refused. refused.error ≡ Exists → ((D.files disk A).content ≢ []) ⊎ ((D.files disk B).content ≢ [])) }
-    ensures untouched { IsTrue D.is_honest → IfErr result (λ refused. refused.error ≡ Exists → (side : Side) → D.files refused.disk side ≡ D.files disk side) }
-    ensures kept { IsTrue D.is_honest → (some : Side) → (D.files disk some).content ≢ [] → (side : Side) → D.files (disk_of result) side ≡ D.files disk side }
-    ensures kept_moments { IsTrue D.is_honest → (some : Side) → (D.files disk some).content ≢ [] → LeavesOnly D.moment D.left_at disk (disk_of result) (MayLeaveNow (D.files disk)) }
+    // Files that are not empty are left as they are.
+    ensures non_empty { IsTrue D.is_honest → LeavesNonEmpty D.files D.moment D.left_at disk (disk_of result) (answer_of result) }
 
-    ensures causes { IfErr result (λ refused. (refused.error ≡ Exists) ⊎ (refused.error ≡ NoMemory) ⊎ (refused.error ≡ Device)) }
-    ensures device { IsErrAnd result (λ refused. refused.error ≡ Device) ↔ (D.failures disk < D.failures (disk_of result)) }
-    ensures refusals { D.refusals (disk_of result) ≢ D.refusals disk → IsErrAnd result (λ refused. refused.error ≡ NoMemory) }
-
-    // All growth comes before the first call of the disk.
+    // Why it is refused. All growth comes before the first call of the disk.
+    ensures errors { IfErr result (λ refused. (refused.error ≡ Exists) ⊎ (refused.error ≡ NoMemory) ⊎ (refused.error ≡ Device)) }
+    ensures causes { HasCauses D.failures D.refusals disk (disk_of result) (answer_of result) }
     ensures grown_first { IfErr result (λ refused. refused.error ≡ NoMemory → D.refusals refused.disk ≡ D.refusals disk → refused.disk ≡ disk) }
-    ensures failures { D.failures disk ≤ D.failures (disk_of result) }
 {
     sides_go_on();
     let mut disk = disk;
@@ -89,15 +81,12 @@ fn write_store<D: Disk>(alloc: Global, disk: &mut D, text: &[u8]) -> Result<Made
     ensures text { IfOk result (λ made. made.kept.items ≡ text.now) }
     ensures begins { IsTrue D.is_honest → D.files disk.old A ≡ at_rest [] → LeavesOnly D.moment D.left_at disk.old disk.new BComesFirst }
     ensures were_empty { IsTrue D.is_honest → (side : Side) → OnOk result ((D.files disk.old side).content ≡ []) }
-    ensures exists { IsTrue D.is_honest → IfErr result (λ error. error ≡ Exists → ((D.files disk.old A).content ≢ []) ⊎ ((D.files disk.old B).content ≢ [])) }
-    ensures untouched { IsTrue D.is_honest → IsErrOf result Exists → (side : Side) → D.files disk.new side ≡ D.files disk.old side }
+    ensures exists { IsTrue D.is_honest → IsErrOf result Exists → ((D.files disk.old A).content ≢ []) ⊎ ((D.files disk.old B).content ≢ []) }
     ensures kept { IsTrue D.is_honest → (some : Side) → (D.files disk.old some).content ≢ [] → (each : Side) → D.files disk.new each ≡ D.files disk.old each }
     ensures kept_moments { IsTrue D.is_honest → (some : Side) → (D.files disk.old some).content ≢ [] → LeavesOnly D.moment D.left_at disk.old disk.new (MayLeaveNow (D.files disk.old)) }
-    ensures causes { IfErr result (λ error. (error ≡ Exists) ⊎ (error ≡ NoMemory) ⊎ (error ≡ Device)) }
-    ensures device { IsErrOf result Device ↔ (D.failures disk.old < D.failures disk.new) }
-    ensures refusals { D.refusals disk.new ≢ D.refusals disk.old → IsErrOf result NoMemory }
+    ensures errors { IfErr result (λ error. (error ≡ Exists) ⊎ (error ≡ NoMemory) ⊎ (error ≡ Device)) }
+    ensures causes { HasCauses D.failures D.refusals disk.old disk.new result }
     ensures grown_first { IsErrOf result NoMemory → D.refusals disk.new ≡ D.refusals disk.old → disk.new ≡ disk.old }
-    ensures failures { D.failures disk.old ≤ D.failures disk.new }
 {
     let kept = Vec::from_slice(alloc, text)?;
     let buffer = without_facts(alloc, text)?;

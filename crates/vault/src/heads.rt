@@ -1,11 +1,12 @@
 ghost use Rattle.std.specs.Prelude.{◌≡◌, ◌⊎◌, ◌≤◌, ◌<◌, ◌≢◌, ◌↔◌, ℕ, length, IsTrue, IfOk, IfErr, IsErrAnd, IsErrOf};
 ghost use Rattle.disk.specs.declared.side.Side.{Side};
 ghost use Rattle.disk.specs.declared.side.Side.TheVariants.{A, B};
-ghost use Rattle.disk.specs.Time.{Contents, HasCause, CountsRefusal};
+ghost use Rattle.disk.specs.Time.{Contents, HasCause, CountsRefusal, HasErred};
 ghost use Rattle.sides.specs.Reading.{Tells};
 ghost use Rattle.sides.specs.Side.{IsOpen, HasGeneration};
+ghost use Rattle.vault.specs.Calls.{HasCauses};
 ghost use Rattle.vault.specs.Store.{SaysNothing};
-ghost use Rattle.vault.specs.Opened.{OnlyReads, IsGenerationOf, IsAhead, IsCutShort, HeadsFault, TellsFault, StandsForNothing, NoneIsOpen, IsOfOpening, contents_of};
+ghost use Rattle.vault.specs.Opened.{OnlyReads, IsGenerationOf, IsAhead, IsCutShort, HeadsFault, StandsForNothing, NoneIsOpen, IsOfOpening, contents_of};
 ghost use Rattle.vault.specs.declared.error.VaultError.TheVariants.{Device, NoMemory, NotAStore, Damaged};
 
 use crate::VaultError;
@@ -21,13 +22,12 @@ pub(crate) fn live_side<D: Disk>(disk: &mut D) -> Result<Side, VaultError>
     ensures nothing { IsTrue D.is_honest → IfErr result (λ error. SaysNothing error → StandsForNothing (contents_of (D.files disk.old))) }
     ensures not_a_store { IsTrue D.is_honest → IfErr result (λ error. error ≡ NotAStore → NoneIsOpen (contents_of (D.files disk.old))) }
     ensures damaged { IsTrue D.is_honest → (here : Side) (place : ℕ) → IfErr result (λ error. error ≡ Damaged here place → IsOpen (D.files disk.old here).content) }
-    ensures heads { IsTrue D.is_honest → (here : Side) (place : ℕ) → HeadsFault (contents_of (D.files disk.old)) here place → IsErrAnd result (TellsFault here place) }
+    ensures heads { IsTrue D.is_honest → (here : Side) (place : ℕ) → HeadsFault (contents_of (D.files disk.old)) here place
+        → IsErrOf result (Damaged here place) ⊎ HasErred D.failures D.refusals disk.old disk.new }
     ensures same { IsTrue D.is_honest → (each : Side) → D.files disk.new each ≡ D.files disk.old each }
     ensures only_reads { IsTrue D.is_honest → OnlyReads D.files D.moment D.left_at disk.old disk.new }
     ensures others { IfErr result IsOfOpening }
-    ensures device { IsErrOf result Device ↔ (D.failures disk.old < D.failures disk.new) }
-    ensures refusals { D.refusals disk.new ≢ D.refusals disk.old → IsErrOf result NoMemory }
-    ensures failures { D.failures disk.old ≤ D.failures disk.new }
+    ensures causes { HasCauses D.failures D.refusals disk.old disk.new result }
 {
     let a = generation_of(disk, Side::A)?;
     let b = generation_of(disk, Side::B)?;
@@ -40,13 +40,11 @@ fn generation_of<D: Disk>(disk: &mut D, side: Side) -> Result<Option<u64>, Vault
     ensures nothing { IsTrue D.is_honest → IfErr result (λ error. SaysNothing error → StandsForNothing (contents_of (D.files disk.old))) }
     ensures not_a_store { IfErr result (λ error. error ≢ NotAStore) }
     ensures damaged { IsTrue D.is_honest → (here : Side) (place : ℕ) → IfErr result (λ error. error ≡ Damaged here place → IsOpen (D.files disk.old here).content) }
-    ensures short { IsTrue D.is_honest → IfErr result (λ error. (error ≡ Device) ⊎ (error ≡ NoMemory) ⊎ (IsCutShort (D.files disk.old side).content × (error ≡ Damaged side (length (D.files disk.old side).content)))) }
+    ensures short { IsTrue D.is_honest → IfErr result (λ error. HasErred D.failures D.refusals disk.old disk.new ⊎ (IsCutShort (D.files disk.old side).content × (error ≡ Damaged side (length (D.files disk.old side).content)))) }
     ensures same { IsTrue D.is_honest → (each : Side) → D.files disk.new each ≡ D.files disk.old each }
     ensures only_reads { IsTrue D.is_honest → OnlyReads D.files D.moment D.left_at disk.old disk.new }
     ensures others { IfErr result IsOfOpening }
-    ensures device { IsErrOf result Device ↔ (D.failures disk.old < D.failures disk.new) }
-    ensures refusals { D.refusals disk.new ≢ D.refusals disk.old → IsErrOf result NoMemory }
-    ensures failures { D.failures disk.old ≤ D.failures disk.new }
+    ensures causes { HasCauses D.failures D.refusals disk.old disk.new result }
 {
     one_meaning_of_a_side();
     let (gate, count) = head_of(disk, side)?;

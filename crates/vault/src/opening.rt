@@ -1,11 +1,12 @@
 ghost use Rattle.std.specs.Prelude.{◌≡◌, ◌≢◌, ◌⊎◌, ◌≤◌, ◌<◌, ◌↔◌, ℕ, false, IsTrue, IfOk, IfErr, IsErrAnd, IsErrOf, OnOk};
 ghost use Rattle.disk.specs.declared.side.Side.{Side};
 ghost use Rattle.disk.specs.File.{at_rest};
-ghost use Rattle.disk.specs.Time.{Contents, LeavesOnly, MayLeaveNow, HasCause, CountsRefusal};
+ghost use Rattle.disk.specs.Time.{Contents, LeavesOnly, MayLeaveNow, HasCause, CountsRefusal, HasErred};
 ghost use Rattle.sides.specs.Image.{facts_in, environment_in};
 ghost use Rattle.sides.specs.Side.{IsOpen};
-ghost use Rattle.vault.specs.Store.{Holds, IsReady, SaysNothing, disk_of_opening};
-ghost use Rattle.vault.specs.Opened.{OnlyReads, IsFound, IsSound, HeadsFault, TellsFault, StandsForNothing, NoneIsOpen, IsOfOpening, contents_of};
+ghost use Rattle.vault.specs.Calls.{HasCauses};
+ghost use Rattle.vault.specs.Store.{Holds, IsReady, SaysNothing, disk_of_opening, answer_of};
+ghost use Rattle.vault.specs.Opened.{OnlyReads, IsFound, IsSound, HeadsFault, TellsWhy, StandsForNothing, NoneIsOpen, IsOfOpening, contents_of};
 ghost use Rattle.vault.specs.declared.error.VaultError.TheVariants.{Device, NoMemory, NotAStore, Damaged};
 ghost use Rattle.disk.specs.declared.error.DiskError.TheVariants as DiskError;
 
@@ -31,33 +32,25 @@ pub struct Recovered<D: Disk> {
 /// Both files are synced first, so that what was read is what every later crash leaves. Nothing is written, whatever it answers.
 /// `NotAStore` says that no side is open; `Damaged` names an open side, and the place of its first check that failed. The heads come
 /// first: an open side of fewer than ten bytes (A before B, at its length), then both sides of one generation (A, at 2). Where they
-/// have such a fault, nothing else is answered but `Device` and `NoMemory`. Then comes the format of the live side (at
+/// have such a fault, it is told, unless a call of the disk answers an error. Then comes the format of the live side (at
 /// 1), its graph's text, its length first (at 10 and 14), its image (at its length's place), and its journal (at the gate of the first
 /// record that is not whole with a gate behind it, is no event, or does not fit, or where the journal's first byte is missing).
 pub fn open<D: Disk>(alloc: Global, disk: D) -> Result<Recovered<D>, Refused<D>>
     ensures found { IsTrue D.is_honest → IfOk result (λ r. Holds D.files r.vault r.graph (environment_in r.image) (facts_in r.image)) }
     ensures ready { IsTrue D.is_honest → IfOk result (λ r. IsReady D.files r.vault) }
+    ensures working { IfOk result (λ r. r.vault.halted ≡ false) }
 
     // What it gives fits together on every disk.
     ensures sound { IfOk result (λ r. IsSound r.graph r.image r.vault.generation r.vault.journal.end r.vault.text.items) }
-    ensures working { IfOk result (λ r. r.vault.halted ≡ false) }
-    ensures nothing { IsTrue D.is_honest → IfErr result (λ refused. SaysNothing refused.error → StandsForNothing (contents_of (D.files disk))) }
-    ensures not_a_store { IsTrue D.is_honest → IfErr result (λ refused. refused.error ≡ NotAStore → NoneIsOpen (contents_of (D.files disk))) }
-    ensures damaged { IsTrue D.is_honest → (side : Side) (place : ℕ) → IfErr result (λ refused. refused.error ≡ Damaged side place → IsOpen (D.files disk side).content) }
 
-    // Of several faults of the heads it tells the first one: A's short head, then B's, then two of one generation.
-    ensures heads { IsTrue D.is_honest → (side : Side) (place : ℕ) → HeadsFault (contents_of (D.files disk)) side place
-        → IsErrAnd result (λ refused. (refused.error ≡ Damaged side place) ⊎ (refused.error ≡ Device) ⊎ (refused.error ≡ NoMemory)) }
+    // What a refusal says of the files.
+    ensures tells { IsTrue D.is_honest → TellsWhy (contents_of (D.files disk)) (HasErred D.failures D.refusals disk (disk_of_opening result)) (answer_of result) }
 
-    // What reads give stays, and a crash at any moment of the call leaves what one might have left before it.
-    ensures reads { IsTrue D.is_honest → (side : Side) → (D.files (disk_of_opening result) side).content ≡ (D.files disk side).content }
-    ensures any_moment { IsTrue D.is_honest → LeavesOnly D.moment D.left_at disk (disk_of_opening result) (MayLeaveNow (D.files disk)) }
-    ensures left { IsTrue D.is_honest → (contents : Contents) → MayLeaveNow (D.files (disk_of_opening result)) contents → MayLeaveNow (D.files disk) contents }
+    // What reads give stays, and a crash at any moment of the call, or behind it, leaves what one might have left before it.
+    ensures only_reads { IsTrue D.is_honest → OnlyReads D.files D.moment D.left_at disk (disk_of_opening result) }
 
-    ensures others { IfErr result (λ refused. IsOfOpening refused.error) }
-    ensures device { IsErrAnd result (λ refused. refused.error ≡ Device) ↔ (D.failures disk < D.failures (disk_of_opening result)) }
-    ensures refusals { D.refusals (disk_of_opening result) ≢ D.refusals disk → IsErrAnd result (λ refused. refused.error ≡ NoMemory) }
-    ensures failures { D.failures disk ≤ D.failures (disk_of_opening result) }
+    ensures errors { IfErr result (λ refused. IsOfOpening refused.error) }
+    ensures causes { HasCauses D.failures D.refusals disk (disk_of_opening result) (answer_of result) }
 {
     sides_go_on();
     let mut disk = disk;
@@ -96,12 +89,11 @@ fn recover<D: Disk>(alloc: Global, disk: &mut D) -> Result<Found, VaultError>
     ensures nothing { IsTrue D.is_honest → IfErr result (λ error. SaysNothing error → StandsForNothing (contents_of (D.files disk.old))) }
     ensures not_a_store { IsTrue D.is_honest → IfErr result (λ error. error ≡ NotAStore → NoneIsOpen (contents_of (D.files disk.old))) }
     ensures damaged { IsTrue D.is_honest → (here : Side) (place : ℕ) → IfErr result (λ error. error ≡ Damaged here place → IsOpen (D.files disk.old here).content) }
-    ensures heads { IsTrue D.is_honest → (here : Side) (place : ℕ) → HeadsFault (contents_of (D.files disk.old)) here place → IsErrAnd result (TellsFault here place) }
+    ensures heads { IsTrue D.is_honest → (here : Side) (place : ℕ) → HeadsFault (contents_of (D.files disk.old)) here place
+        → IsErrOf result (Damaged here place) ⊎ HasErred D.failures D.refusals disk.old disk.new }
     ensures only_reads { IsTrue D.is_honest → OnlyReads D.files D.moment D.left_at disk.old disk.new }
     ensures others { IfErr result IsOfOpening }
-    ensures device { IsErrOf result Device ↔ (D.failures disk.old < D.failures disk.new) }
-    ensures refusals { D.refusals disk.new ≢ D.refusals disk.old → IsErrOf result NoMemory }
-    ensures failures { D.failures disk.old ≤ D.failures disk.new }
+    ensures causes { HasCauses D.failures D.refusals disk.old disk.new result }
 {
     settle(disk)?;
     look(alloc, disk)
@@ -125,13 +117,12 @@ fn look<D: Disk>(alloc: Global, disk: &mut D) -> Result<Found, VaultError>
     ensures nothing { IsTrue D.is_honest → IfErr result (λ error. SaysNothing error → StandsForNothing (contents_of (D.files disk.old))) }
     ensures not_a_store { IsTrue D.is_honest → IfErr result (λ error. error ≡ NotAStore → NoneIsOpen (contents_of (D.files disk.old))) }
     ensures damaged { IsTrue D.is_honest → (here : Side) (place : ℕ) → IfErr result (λ error. error ≡ Damaged here place → IsOpen (D.files disk.old here).content) }
-    ensures heads { IsTrue D.is_honest → (here : Side) (place : ℕ) → HeadsFault (contents_of (D.files disk.old)) here place → IsErrAnd result (TellsFault here place) }
+    ensures heads { IsTrue D.is_honest → (here : Side) (place : ℕ) → HeadsFault (contents_of (D.files disk.old)) here place
+        → IsErrOf result (Damaged here place) ⊎ HasErred D.failures D.refusals disk.old disk.new }
     ensures same { IsTrue D.is_honest → (each : Side) → D.files disk.new each ≡ D.files disk.old each }
     ensures only_reads { IsTrue D.is_honest → OnlyReads D.files D.moment D.left_at disk.old disk.new }
     ensures others { IfErr result IsOfOpening }
-    ensures device { IsErrOf result Device ↔ (D.failures disk.old < D.failures disk.new) }
-    ensures refusals { D.refusals disk.new ≢ D.refusals disk.old → IsErrOf result NoMemory }
-    ensures failures { D.failures disk.old ≤ D.failures disk.new }
+    ensures causes { HasCauses D.failures D.refusals disk.old disk.new result }
 {
     one_meaning_of_a_side();
     let side = live_side(disk)?;

@@ -1,13 +1,31 @@
-use Rattle.std.proofs.Common.{refl}
+use Rattle.std.proofs.Common.{◌≡◌, refl}
+use Rattle.graph.specs.Graph.{Graph}
+use Rattle.graph.specs.Canonical.{canonical}
+use Rattle.graph.specs.Reads.{Reads}
+use Rattle.vault.specs.Store.{Holds, nothing}
+use Rattle.vault.specs.declared.creation.Made.{Made}
 use Rattle.vault.proofs.Created.{holds_nothing}
+use Rattle.vault.proofs.ErredCalls.{other_error}
 use Rattle.vault.proofs.Ready.{held_is_ready}
 use Rattle.vault.proofs.creation.create.Goals as goal
 
 pub returns-in-Ok-clause-created : goal.returns-in-Ok-clause-created
-returns-in-Ok-clause-created g c honest gr reads text =
-    holds_nothing c.sides_go_on.ensures.begins gr c.args.text.now text reads g.D.Disk.files _ (c.in-Ok.ensures.a honest) (c.in-Ok.ensures.b honest) refl c.in-Ok.ensures.side c.in-Ok.ensures.end c.in-Ok.ensures.text
-
-pub returns-in-Ok-clause-ready : goal.returns-in-Ok-clause-ready
-returns-in-Ok-clause-ready g c honest =
+returns-in-Ok-clause-created g c honest =
     let it = c.requires in
-    held_is_ready g.D.Disk.files c.sides_go_on.ensures.journal _ it.0 _ _ (returns-in-Ok-clause-created g c honest it.0 it.1 it.2)
+    let files = g.D.Disk.files in
+    let holds : (gr : Graph) → Reads c.args.text.now gr → c.args.text.now ≡ canonical gr → Holds files _ gr nothing nothing =
+    λ gr reads text. holds_nothing c.sides_go_on.ensures.begins gr c.args.text.now text reads files _ (c.in-Ok.ensures.a honest) (c.in-Ok.ensures.b honest) refl c.in-Ok.ensures.side c.in-Ok.ensures.end c.in-Ok.ensures.text in
+    record {
+      holds = holds;
+      a = c.in-Ok.ensures.a honest;
+      b = c.in-Ok.ensures.b honest;
+      ready = held_is_ready files c.sides_go_on.ensures.journal _ it.0 _ _ (holds it.0 it.1 it.2);
+    }
+
+pub returns-in-Err-clause-non_empty : goal.returns-in-Err-clause-non_empty
+returns-in-Err-clause-non_empty g c honest = record {
+  were_empty = tt;
+  exists = λ is. c.in-Err.ensures.exists honest (other_error {T = Made} c.in-Err.error _ is);
+  kept = c.in-Err.ensures.kept honest;
+  moments = c.in-Err.ensures.kept_moments honest;
+}

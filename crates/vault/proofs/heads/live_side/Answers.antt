@@ -1,10 +1,11 @@
-use Rattle.std.proofs.Common.{subst}
+use Rattle.std.proofs.Common.{inl, inr, subst}
 use Rattle.std.proofs.lemmas.Result.{IfErr-weaker}
 use Rattle.disk.specs.declared.side.Side.TheVariants.{A, B}
 use Rattle.disk.specs.File.{File}
 use Rattle.sides.specs.Side.{IsOpen}
 use Rattle.vault.specs.Opened.{IsGenerationOf, StandsForNothing, contents_of}
 use Rattle.vault.proofs.OpenedCalls.{then_reads, same_contents}
+use Rattle.vault.proofs.ErredCalls.{erred_behind, none_refused}
 use Rattle.vault.proofs.OpenedErrors.{handed_on}
 use Rattle.vault.proofs.HeadsFaults.{TellsOne, not_short, a_is_told, b_is_told, one_is_told, told_on}
 use Rattle.vault.proofs.heads.live_side.Goals as goal
@@ -62,19 +63,26 @@ returns-clause-damaged g c honest here place =
 
 pub returns-in_err-a-clause-heads : goal.returns-in_err-a-clause-heads
 returns-in_err-a-clause-heads g c honest here place fault =
-    told_on _ c.in_err-a.field-0.0 c.from_residual.result c.from_residual.ensures.1
-    (a_is_told (contents_of (g.D.Disk.files c.args.disk.now)) here place _ fault (c.in_err-a.ensures.short honest))
+    let contents = contents_of (g.D.Disk.files c.args.disk.now) in
+    elim (c.in_err-a.ensures.short honest) [
+      | inl erred ↦ inr erred
+      | inr it ↦ inl (told_on c.in_err-a.field-0.0 _ c.from_residual.result c.from_residual.ensures.1 (a_is_told contents here place _ fault it))
+    ]
 
 pub returns-in_err-b-clause-heads : goal.returns-in_err-b-clause-heads
 returns-in_err-b-clause-heads g c honest here place fault =
     let contents = contents_of (g.D.Disk.files c.args.disk.now) in
-    let asked = subst (λ (f : File). TellsOne B f.content c.in_err-b.field-0.0) (c.generation_of.ensures.same honest B) (c.in_err-b.ensures.short honest) in
-    told_on _ c.in_err-b.field-0.0 c.from_residual-in_err-b.result c.from_residual-in_err-b.ensures.1
-    (b_is_told contents here place _ (not_short c.in_ok-a.a (contents A) (c.in_ok-a.ensures.generation honest)) fault asked)
+    let same = c.generation_of.ensures.same honest B in
+    elim (c.in_err-b.ensures.short honest) [
+      | inl erred ↦ inr (erred_behind g.D.Disk.failures g.D.Disk.refusals c.args.disk.now c.generation_of.new.disk c.generation_of-2.new.disk c.in_ok-a.ensures.causes.later
+          (none_refused g.D.Disk.failures g.D.Disk.refusals c.args.disk.now c.generation_of.new.disk c.in_ok-a.a c.in_ok-a.ensures.causes) erred)
+      | inr it ↦ inl (told_on c.in_err-b.field-0.0 _ c.from_residual-in_err-b.result c.from_residual-in_err-b.ensures.1
+          (b_is_told contents here place _ (not_short c.in_ok-a.a (contents A) (c.in_ok-a.ensures.generation honest)) fault (subst (λ (f : File). TellsOne B f.content c.in_err-b.field-0.0) same it)))
+    ]
 
 pub returns-clause-heads : goal.returns-clause-heads
 returns-clause-heads g c honest here place fault =
     let contents = contents_of (g.D.Disk.files c.args.disk.now) in
     let a = c.in_ok-a.ensures.generation honest in
     let b = subst (λ (f : File). IsGenerationOf c.in_ok-b.b f.content) (c.generation_of.ensures.same honest B) (c.in_ok-b.ensures.generation honest) in
-    one_is_told c.ahead.result contents here place (not_short c.in_ok-a.a (contents A) a) (not_short c.in_ok-b.b (contents B) b) (c.ahead.ensures.alike contents a b) fault
+    inl (one_is_told c.ahead.result contents here place (not_short c.in_ok-a.a (contents A) a) (not_short c.in_ok-b.b (contents B) b) (c.ahead.ensures.alike contents a b) fault)

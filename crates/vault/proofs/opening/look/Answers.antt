@@ -1,11 +1,12 @@
-use Rattle.std.proofs.Common.{ℕ, List, ap, subst, sym, ◌∙◌}
+use Rattle.std.proofs.Common.{ℕ, List, inl, inr, ap, subst, sym, ◌∙◌}
 use Rattle.std.proofs.lemmas.Result.{IfOk-weaker, IfErr-weaker}
 use Rattle.disk.specs.File.{File}
 use Rattle.disk.specs.declared.side.Side.{Side}
 use Rattle.sides.specs.Side.{IsOpen, HasGeneration}
 use Rattle.vault.specs.Opened.{IsNoSide, contents_of}
 use Rattle.vault.proofs.OpenedCalls.{then_reads}
-use Rattle.vault.proofs.HeadsFaults.{told_on}
+use Rattle.vault.proofs.HeadsFaults.{told_on, same_error}
+use Rattle.vault.proofs.ErredCalls.{ok_is_no_error, none_erred}
 use Rattle.vault.proofs.OpenedErrors.{handed_on}
 use Rattle.vault.proofs.OpenedHeads.{opens}
 use Rattle.vault.proofs.OpenedSides.{ahead_is_none, ahead_is_found}
@@ -65,11 +66,22 @@ returns-clause-damaged g c honest here place =
 
 pub returns-in_err-side-clause-heads : goal.returns-in_err-side-clause-heads
 returns-in_err-side-clause-heads g c honest here place fault =
-    told_on _ c.in_err-side.field-0.0 c.from_residual.result c.from_residual.ensures.1 (c.in_err-side.ensures.heads honest here place fault)
+    elim (c.in_err-side.ensures.heads honest here place fault) [
+      | inl is ↦ inl (told_on c.in_err-side.field-0.0 _ c.from_residual.result c.from_residual.ensures.1 (same_error {T = Side} c.in_err-side.field-0.0 _ is))
+      | inr erred ↦ inr erred
+    ]
 
 -- a side was found, so the heads have no fault
 pub returns-in_err-bytes-clause-heads : goal.returns-in_err-bytes-clause-heads
-returns-in_err-bytes-clause-heads g c honest here place fault = absurd (c.in_ok-side.ensures.heads honest here place fault)
+returns-in_err-bytes-clause-heads g c honest here place fault =
+    elim (c.in_ok-side.ensures.heads honest here place fault) [
+      | inl is ↦ absurd (ok_is_no_error c.in_ok-side.side _ is)
+      | inr erred ↦ absurd (none_erred g.D.Disk.failures g.D.Disk.refusals c.args.disk.now c.live_side.new.disk c.in_ok-side.side c.in_ok-side.ensures.causes erred)
+    ]
 
 pub returns-clause-heads : goal.returns-clause-heads
-returns-clause-heads g c honest here place fault = absurd (c.in_ok-side.ensures.heads honest here place fault)
+returns-clause-heads g c honest here place fault =
+    elim (c.in_ok-side.ensures.heads honest here place fault) [
+      | inl is ↦ absurd (ok_is_no_error c.in_ok-side.side _ is)
+      | inr erred ↦ absurd (none_erred g.D.Disk.failures g.D.Disk.refusals c.args.disk.now c.live_side.new.disk c.in_ok-side.side c.in_ok-side.ensures.causes erred)
+    ]

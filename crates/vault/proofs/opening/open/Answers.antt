@@ -1,4 +1,7 @@
+use Rattle.disk.specs.Time.{HasErred}
 use Rattle.vault.specs.Opened.{contents_of}
+use Rattle.vault.specs.declared.found.Found.{Found}
+use Rattle.vault.proofs.ErredCalls.{tells_ok, tells_err}
 use Rattle.vault.proofs.Ready.{held_is_ready}
 use Rattle.vault.proofs.opening.open.Goals as goal
 
@@ -15,3 +18,11 @@ returns-in-Ok-clause-found g c honest =
 
 pub returns-in-Ok-clause-ready : goal.returns-in-Ok-clause-ready
 returns-in-Ok-clause-ready g c honest = held_is_ready g.D.Disk.files c.sides_go_on.ensures.journal _ _ _ _ (returns-in-Ok-clause-found g c honest)
+
+pub returns-in-Ok-clause-tells : goal.returns-in-Ok-clause-tells
+returns-in-Ok-clause-tells g c honest = tells_ok (contents_of (g.D.Disk.files c.args.disk)) (HasErred g.D.Disk.failures g.D.Disk.refusals c.args.disk c.recover.new.disk) c.in-Ok.found _ (c.in-Ok.ensures.heads honest)
+
+pub returns-in-Err-clause-tells : goal.returns-in-Err-clause-tells
+returns-in-Err-clause-tells g c honest =
+    tells_err {S = Found} (contents_of (g.D.Disk.files c.args.disk)) (HasErred g.D.Disk.failures g.D.Disk.refusals c.args.disk c.recover.new.disk) c.in-Err.error
+    (c.in-Err.ensures.nothing honest) (c.in-Err.ensures.not_a_store honest) (c.in-Err.ensures.damaged honest) (c.in-Err.ensures.heads honest)

@@ -1,10 +1,11 @@
-use Rattle.std.proofs.Common.{◌≡◌, sym, subst}
+use Rattle.std.proofs.Common.{◌≡◌, inl, inr, sym, subst}
 use Rattle.std.specs.Prelude.{IfOk, IfErr}
 use Rattle.disk.specs.Time.{Contents}
 use Rattle.vault.specs.Store.{SaysNothing}
 use Rattle.sides.specs.Side.{IsOpen}
 use Rattle.vault.specs.Opened.{IsFound, HeadsFault, StandsForNothing, NoneIsOpen}
 use Rattle.vault.specs.declared.error.VaultError.TheVariants.{NotAStore, Damaged}
+use Rattle.vault.proofs.ErredCalls.{erred_behind}
 use Rattle.vault.proofs.OpenedCalls.{then_reads, same_contents}
 use Rattle.vault.proofs.opening.recover.Goals as goal
 
@@ -39,4 +40,7 @@ pub returns-clause-heads : goal.returns-clause-heads
 returns-clause-heads g c honest here place fault =
     let files = g.D.Disk.files in
     let same = same_contents (files c.args.disk.now) (files c.settle.new.disk) (c.settle.ensures.only_reads honest).reads in
-    c.look.ensures.heads honest here place (subst (λ (contents : Contents). HeadsFault contents here place) (sym same) fault)
+    elim (c.look.ensures.heads honest here place (subst (λ (contents : Contents). HeadsFault contents here place) (sym same) fault)) [
+      | inl is ↦ inl is
+      | inr erred ↦ inr (erred_behind g.D.Disk.failures g.D.Disk.refusals c.args.disk.now c.settle.new.disk c.look.new.disk c.settle.ensures.cause.later c.in_ok-settle.ensures.refused erred)
+    ]
