@@ -21,6 +21,7 @@ fn names_hold() {
     terms::puts_are_stated();
     terms::equals_are_one();
     terms::examples_of_facts();
+    codec::spellings_of_commits();
     codec::spellings_of_events();
     codec::spellings_of_images();
 }
