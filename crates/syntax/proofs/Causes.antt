@@ -5,10 +5,12 @@ use Rattle.syntax.specs.Grammar.{Position, GraphText}
 use Rattle.syntax.specs.Spelled.{Derives}
 use Rattle.syntax.specs.Limits.{graph_limits, IsWithin}
 use Rattle.syntax.specs.Reading.{position_behind, IsSyntaxFault, IsLimitFault}
-use Rattle.syntax.specs.Expected.{Expected, Next, on, nothing_left, at_fault, limit_passed, next, ended, followed, accepted, syntax, too_large, run, graph_expected}
-use Rattle.syntax.proofs.Judged.{In, Judged, goes, breaks, judged_none}
-use Rattle.syntax.proofs.JudgedGraphs.{graph_judged}
-use Rattle.syntax.proofs.Lost.{Never}
+use Rattle.syntax.specs.Expected.{Expected, Next, on, nothing_left, at_fault, limit_passed, next, ended, followed, Verdict, accepted, syntax, too_large, run, graph_expected}
+use Rattle.syntax.proofs.Tellings.{Telling, as_told, of_whole, run_so, same_run, run_on}
+use Rattle.syntax.proofs.Judged.{In, Judged, goes, breaks, judged_behind}
+use Rattle.syntax.proofs.JudgedGraphs.{graph_judged, graph_told}
+use Rattle.syntax.proofs.Lost.{TellsOnly, lost_tells}
+use Rattle.syntax.proofs.InFront.{BegunInFront, front_stays, LostAmong, LostFirst, lost_first}
 use Rattle.syntax.proofs.Filled.{AllBegins, AllSound, all_sound}
 use Rattle.syntax.proofs.Completed.{Before, before_none, before_all, before_one, begins_graph}
 
@@ -114,7 +116,7 @@ syntax_cause text spots rest tokens is =
         counted = fault.counted;
         there = refl;
         before = begins_graph fault.count spots fault.before;
-        none = λ graph goes_on. never graph goes_on.0 goes_on.1 (fault.too goes_on.0 goes_on.2);
+        none = λ goes_on. never goes_on.0 goes_on.1 goes_on.2 (fault.too goes_on.1 goes_on.3);
         told = is ∙ ap syntax fault.there;
       },
     )
@@ -124,99 +126,101 @@ syntax_cause text spots rest tokens is =
     refuted graph others later told (breaks place there same) = cc
 
     never : (graph : GraphText) (others : List Spot) → Derives graph others → (later : List Spot) × (run graph_expected others ≡ syntax later) → ⊥
-    never graph others derives told = refuted graph others told.0 told.1 (graph_judged graph others derives)
+    never graph others derives told = refuted graph others told.0 told.1 (graph_told graph others derives)
 
 -- ---- limits
 
--- so many tokens stand before the one at which a limit is told; and so many begin what may come, of which none is accepted
+-- whatever the machine is to tell of these tokens, where each time it tells one of some limits, this place is one of those
+abbrev pub Passes : List Expected → Position → List Spot → Type 0
+Passes stack place spots = (limits : List Position) → ((telling : Telling) → Judged limits (run_so telling stack spots) accepted) → In place limits
+
+-- so many tokens begin what may come, and all that begins with them passes the limit
 pub record Limited (stack : List Expected) (spots : List Spot) (place : Position) : Type 0 where
   pub count : ℕ
   pub counted : count ≤ length spots
-  pub too : (others : List Spot) → Alike count others spots → run stack others ≡ too_large place
-  pub passing : ℕ
-  pub is_passing : (passing ≡ count) ⊎ (passing ≡ suc count)
-  pub begins : Before stack passing spots
-  pub past : (others : List Spot) → take passing others ≡ take passing spots → run stack others ≡ accepted → ⊥
+  pub begins : Before stack count spots
+  pub pass : (others : List Spot) → take count others ≡ take count spots → Passes stack place others
 
--- no token, and none is accepted
-limited_here : (stack : List Expected) (spots : List Spot) (place : Position) → ((others : List Spot) → Alike 0 others spots → run stack others ≡ too_large place) → Never stack → Limited stack spots place
-limited_here stack spots place too none = record {
+told_only : (place : Position) (limits : List Position) (verdict : Verdict) → TellsOnly place verdict → Judged limits verdict accepted → In place limits
+told_only place limits verdict only (goes none same) = absurd (subst (TellsOnly place) same only)
+told_only place limits verdict only (breaks other there same) =
+    let is : other ≡ place = subst (TellsOnly place) same only in
+    subst (λ (it : Position). In it limits) is there
+
+-- no token, behind those of an expression that is lost
+limited_here : (stack : List Expected) (spots : List Spot) (place : Position) → LostFirst place stack → Limited stack spots place
+limited_here stack spots place lost = record {
   count = 0;
   counted = search arith;
-  too = too;
-  passing = 0;
-  is_passing = inl refl;
   begins = before_none stack spots;
-  past = λ others same. none others;
+  pass = λ others same limits judged.
+      told_only place limits (run_so (of_whole lost.lost.0) stack others)
+      (subst (λ (it : List Expected). TellsOnly place (run_so (of_whole lost.lost.0) it others)) (sym lost.whole) (lost_tells others lost.lost.0 place lost.first lost.rest lost.lost.1))
+      (judged (of_whole lost.lost.0));
 }
 
 -- the token begins what may come
 limited_at : (stack : List Expected) (spot : Spot) (spots : List Spot) (place : Position) → ((others : List Spot) → Alike 0 others (spot ∷ spots) → run stack others ≡ too_large place) → AllBegins stack spot
     → Limited stack (spot ∷ spots) place
 limited_at stack spot spots place too it = record {
-  count = 0;
+  count = 1;
   counted = search arith;
-  too = too;
-  passing = 1;
-  is_passing = inr refl;
   begins = before_all stack it.after spot spots 0 it.begun (before_none it.after spots);
-  past = λ others same ok. not_both place (sym (too others same) ∙ ok);
+  pass = λ others same limits judged. told_only place limits (run_so as_told stack others) (only others (same_run others stack ∙ too others same)) (judged as_told);
 }
   where
-    not_both : (place : Position) → too_large place ≡ accepted → ⊥
-    not_both place e = cc
+    only : (others : List Spot) → run_so as_told stack others ≡ too_large place → TellsOnly place (run_so as_told stack others)
+    only others is = subst (TellsOnly place) (sym is) refl
 
 behind_taken : (spot : Spot) (spots : List Spot) (stack : List Expected) (place : Position) (after : List Expected) → next stack spot ≡ on after → Limited after spots place → Limited stack (spot ∷ spots) place
 behind_taken spot spots stack place after e inner = record {
   count = suc inner.count;
   counted = omega (arith, inner.counted);
-  too = λ others same. let more = first_alike inner.count spot spots others same in run_on more.0 more.1 ∙ inner.too more.0 more.2;
-  passing = suc inner.passing;
-  is_passing = one_more inner.is_passing;
-  begins = before_one stack after spot spots inner.passing e inner.begins;
-  past = λ others same ok. let more = next_alike inner.passing spot spots others same in inner.past more.0 more.2 (sym (run_on more.0 more.1) ∙ ok);
+  begins = before_one stack after spot spots inner.count e inner.begins;
+  pass = λ others same limits judged.
+      let more = next_alike inner.count spot spots others same in
+      inner.pass more.0 more.2 limits (λ telling. judged_behind (sym (ap (run_so telling stack) more.1 ∙ run_on telling stack after spot more.0 e)) (judged telling));
 }
-  where
-    run_on : {others : List Spot} (more : List Spot) → others ≡ spot ∷ more → run stack others ≡ run after more
-    run_on {others} more is = ap (run stack) is ∙ ap (λ (it : Next). followed it (spot ∷ more) (λ after. run after more)) e
 
-    one_more : (inner.passing ≡ inner.count) ⊎ (inner.passing ≡ suc inner.count) → (suc inner.passing ≡ suc inner.count) ⊎ (suc inner.passing ≡ suc (suc inner.count))
-    one_more (inl same) = inl (ap suc same)
-    one_more (inr same) = inr (ap suc same)
+same_place : (other place : Position) → too_large other ≡ too_large place → other ≡ place
+same_place other place e = cc
 
-limit_behind : (spot : Spot) (spots : List Spot) (stack : List Expected) (place : Position) (it : Next) → next stack spot ≡ it → AllSound stack spot it → run stack (spot ∷ spots) ≡ too_large place
-    → ((after : List Expected) → run after spots ≡ too_large place → Limited after spots place) → Limited stack (spot ∷ spots) place
-limit_behind spot spots stack place (on after) e sound is further =
-    behind_taken spot spots stack place after e (further after (sym (ap (λ (it : Next). followed it (spot ∷ spots) (λ after. run after spots)) e) ∙ is))
-limit_behind spot spots stack place nothing_left e sound is further =
+limit_behind : (spot : Spot) (spots : List Spot) (stack : List Expected) (place : Position) (it : Next) → next stack spot ≡ it → BegunInFront stack → AllSound stack spot it → run stack (spot ∷ spots) ≡ too_large place
+    → ((after : List Expected) → next stack spot ≡ on after → run after spots ≡ too_large place → Limited after spots place) → Limited stack (spot ∷ spots) place
+limit_behind spot spots stack place (on after) e front sound is further =
+    behind_taken spot spots stack place after e (further after e (sym (ap (λ (it : Next). followed it (spot ∷ spots) (λ after. run after spots)) e) ∙ is))
+limit_behind spot spots stack place nothing_left e front sound is further =
     let told : syntax (spot ∷ spots) ≡ too_large place = sym (ap (λ (it : Next). followed it (spot ∷ spots) (λ after. run after spots)) e) ∙ is in
     absurd (cc)
-limit_behind spot spots stack place at_fault e sound is further =
+limit_behind spot spots stack place at_fault e front sound is further =
     let told : syntax (spot ∷ spots) ≡ too_large place = sym (ap (λ (it : Next). followed it (spot ∷ spots) (λ after. run after spots)) e) ∙ is in
     absurd (cc)
-limit_behind spot spots stack place (limit_passed other) e sound is further = by sound
+limit_behind spot spots stack place (limit_passed other) e front sound is further = by sound
   where
+    told : too_large other ≡ too_large place
+    told = sym (ap (λ (it : Next). followed it (spot ∷ spots) (λ after. run after spots)) e) ∙ is
+
     too : (others : List Spot) → Alike 0 others (spot ∷ spots) → run stack others ≡ too_large place
     too others same =
-        let told : too_large other ≡ too_large place = sym (ap (λ (it : Next). followed it (spot ∷ spots) (λ after. run after spots)) e) ∙ is in
         let more = one_alike spot spots others same in
         ap (run stack) more.1 ∙ ap (λ (it : Next). followed it (spot ∷ more.0) (λ after. run after more.0)) e ∙ told
 
     by : AllSound stack spot (limit_passed other) → Limited stack (spot ∷ spots) place
     by (inl it) = limited_at stack spot spots place too it
-    by (inr none) = limited_here stack (spot ∷ spots) place too none
+    by (inr lost) = limited_here stack (spot ∷ spots) place (lost_first place stack front (subst (λ (at : Position). LostAmong at stack) (same_place other place told) lost))
 
-limit_at_end : (stack : List Expected) (place : Position) (it : Next) → AllSound stack (unknown, 0) it → ended it ≡ too_large place → Never stack
+limit_at_end : (stack : List Expected) (place : Position) (it : Next) → AllSound stack (unknown, 0) it → ended it ≡ too_large place → LostAmong place stack
 limit_at_end stack place (on after) sound told = absurd (cc)
 limit_at_end stack place nothing_left sound told = absurd (cc)
 limit_at_end stack place at_fault sound told = absurd (cc)
 limit_at_end stack place (limit_passed other) (inl it) told = absurd (it.known refl)
-limit_at_end stack place (limit_passed other) (inr none) told = none
+limit_at_end stack place (limit_passed other) (inr lost) told = subst (λ (at : Position). LostAmong at stack) (same_place other place told) lost
 
-pub limited : (spots : List Spot) (stack : List Expected) (place : Position) → run stack spots ≡ too_large place → Limited stack spots place
-limited [] stack place is =
-    limited_here stack [] place (λ others same. ap (run stack) (none_alike others same) ∙ is) (limit_at_end stack place (next stack (unknown, 0)) (all_sound stack (unknown, 0)) is)
-limited (spot ∷ spots) stack place is = limit_behind spot spots stack place (next stack spot) refl (all_sound stack spot) is (λ after. limited spots after place)
+pub limited : (spots : List Spot) (stack : List Expected) (place : Position) → BegunInFront stack → run stack spots ≡ too_large place → Limited stack spots place
+limited [] stack place front is =
+    limited_here stack [] place (lost_first place stack front (limit_at_end stack place (next stack (unknown, 0)) (all_sound stack (unknown, 0)) is))
+limited (spot ∷ spots) stack place front is =
+    limit_behind spot spots stack place (next stack spot) refl front (all_sound stack spot) is (λ after e told. limited spots after place (front_stays stack after spot front e) told)
 
 pub found : (place : Position) (places : List Position) → In place places → (i : ℕ) × (slice_get places i ≡ Some place)
 found place [] there = absurd there
@@ -225,23 +229,16 @@ found place (first ∷ more) (inr there) = let later = found place more there in
 
 pub limit_cause : (text : List ℕ) (spots : List Spot) (place : ℕ) → AreTokens 0 text spots → run graph_expected spots ≡ too_large place → IsLimitFault text place
 limit_cause text spots place tokens is =
-    let fault = limited spots graph_expected place is in
+    let fault = limited spots graph_expected place refl is in
     record {
       spots = spots;
       tokens = tokens;
       count = fault.count;
       counted = fault.counted;
-      passing = fault.passing;
-      is_passing = fault.is_passing;
-      begins = begins_graph fault.passing spots fault.begins;
-      past = λ graph others derives same within. fault.past others same (judged_none within (graph_judged graph others derives));
-      passed = λ graph goes_on. there graph goes_on.0 (fault.too goes_on.0 goes_on.2) (graph_judged graph goes_on.0 goes_on.1);
+      begins = begins_graph fault.count spots fault.begins;
+      pass = λ graph others derives same. found place (graph_limits graph) (fault.pass others same (graph_limits graph) (graph_judged graph others derives));
       told = is;
     }
-  where
-    there : (graph : GraphText) (others : List Spot) → run graph_expected others ≡ too_large place → Judged (graph_limits graph) (run graph_expected others) accepted → (i : ℕ) × (slice_get (graph_limits graph) i ≡ Some place)
-    there graph others told (goes none same) = absurd (cc)
-    there graph others told (breaks other among same) = let is : other ≡ place = cc in subst (λ (it : Position). (i : ℕ) × (slice_get (graph_limits graph) i ≡ Some it)) is (found other (graph_limits graph) among)
 
 pub told : (graph : GraphText) (spots : List Spot) → Judged (graph_limits graph) (run graph_expected spots) accepted
     → (IsWithin graph × (run graph_expected spots ≡ accepted)) ⊎ ((place : Position) × (i : ℕ) × (slice_get (graph_limits graph) i ≡ Some place) × (run graph_expected spots ≡ too_large place))

@@ -5,7 +5,8 @@ use Rattle.syntax.specs.declared.token.Symbol.TheVariants as sign
 use Rattle.syntax.specs.declared.token.Word.TheVariants as kept
 use Rattle.syntax.specs.Tokens.{name, number, word, symbol, Spot}
 use Rattle.syntax.specs.Grammar.{Position, Named, Names, sum_alone, compared, Sum, prod_alone, Prod, unary_alone, literal, bracketed, no_sums, no_more, Key, put_tag, environment_gets, GraphText}
-use Rattle.syntax.specs.Spelled.{Piece, plain, at, ArePieces, Derives, tag_pieces, graph_pieces}
+use Rattle.syntax.specs.Reading.{CanGoOn}
+use Rattle.syntax.specs.Spelled.{Piece, plain, at, ArePieces, tag_pieces, graph_pieces}
 use Rattle.syntax.specs.Expected.{Comparing, never, possible, behind_left, Level, Expression, level_expr, without_product, product_behind, closed, Kind, item, tag, Expected, Next, on, next, graph_expected}
 use Rattle.syntax.specs.Expected.{exactly, keyword, a_name, whole, operand, behind_operand, components, more_components, statements, nested_brace, or_else, put_target, declarations, front, front_named, front_closed}
 use Rattle.syntax.specs.Expected.{component_name, behind_component, relations, reader, related, steps, step_name, parameters, parameter, behind_parameter, variables, step_variable, behind_variable}
@@ -144,7 +145,7 @@ before_all stack after spot spots count all later =
 pub before_one : (stack after : List Expected) (spot : Spot) (spots : List Spot) (count : ℕ) → next stack spot ≡ on after → Before after count spots → Before stack (suc count) (spot ∷ spots)
 before_one stack after spot spots count is later = before_all stack after spot spots count (subst (λ (it : Next). AllSound stack spot it) is (all_sound stack spot)) later
 
-pub begins_graph : (count : ℕ) (spots : List Spot) → Before graph_expected count spots → (graph : GraphText) × (others : List Spot) × Derives graph others × (take count others ≡ take count spots)
+pub begins_graph : (count : ℕ) (spots : List Spot) → Before graph_expected count spots → CanGoOn spots count
 begins_graph count spots before =
     let graph = before.fillings.first in
     (graph, before.others, subst (λ (pieces : List Piece). ArePieces pieces before.others) (append-nil (graph_pieces graph)) before.are, before.same)

@@ -65,4 +65,4 @@ covers_middle a b c d =
 
 pub comes_covered : {Follow : Lexeme → Type 0} {expected more : List Expected} {pieces : List Piece} {limits others : List Position} → Covers limits others → Comes Follow expected more pieces limits
     → Comes Follow expected more pieces others
-comes_covered {Follow} {expected} {more} {pieces} {limits} {others} covers first = record { comes = λ tokens later behind follow are. judged_among covers.none covers.some (first.comes tokens later behind follow are) }
+comes_covered {Follow} {expected} {more} {pieces} {limits} {others} covers first = record { comes = λ telling tokens later behind follow are. judged_among covers.none covers.some (first.comes telling tokens later behind follow are) }

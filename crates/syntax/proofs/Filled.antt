@@ -7,7 +7,7 @@ use Rattle.syntax.specs.Spelled.{Piece, IsPiece}
 use Rattle.syntax.specs.Expected.{Expected, Move, taken, left_out, wrong, passed, look, Next, on, nothing_left, at_fault, limit_passed, met, next}
 use Rattle.syntax.specs.Expected.{exactly, keyword, a_name, whole, operand, behind_operand, components, more_components, statements, nested_brace, or_else, put_target, declarations, front, front_named, front_closed}
 use Rattle.syntax.specs.Expected.{component_name, behind_component, relations, reader, related, steps, step_name, parameters, parameter, behind_parameter, variables, step_variable, behind_variable}
-use Rattle.syntax.proofs.Lost.{Never, never_lost, never_behind}
+use Rattle.syntax.proofs.InFront.{LostAmong}
 use Rattle.syntax.proofs.Fillings.{filling_pieces, Fillings, fillings_pieces, Made, Begun, Sound}
 use Rattle.syntax.proofs.FilledExpressions.{sound_operand, sound_whole, sound_behind}
 use Rattle.syntax.proofs.FilledKeys.{sound_exactly, sound_keyword, sound_a_name, sound_components, sound_more_components}
@@ -82,7 +82,7 @@ abbrev pub AllSound : List Expected → Spot → Next → Type 0
 AllSound stack spot (on after) = (later : Fillings after) → AllBegun stack spot (fillings_pieces after later)
 AllSound stack spot nothing_left = ⊤
 AllSound stack spot at_fault = ⊤
-AllSound stack spot (limit_passed place) = AllBegins stack spot ⊎ Never stack
+AllSound stack spot (limit_passed place) = AllBegins stack spot ⊎ LostAmong place stack
 
 all_taken : (first : Expected) (rest : List Expected) (spot : Spot) (more : List Expected) → ((later : Fillings more) → Begun first spot (fillings_pieces more later))
     → (later : Fillings (more ++ rest)) → AllBegun (first ∷ rest) spot (fillings_pieces (more ++ rest) later)
@@ -111,10 +111,10 @@ met_sound first rest spot left_out nothing_left here behind = tt
 met_sound first rest spot left_out at_fault here behind = tt
 met_sound first rest spot left_out (limit_passed place) here (inl it) =
     inl (record { known = it.known; after = it.after; begun = λ later. all_left_out first rest spot (fillings_pieces it.after later) here (it.begun later) })
-met_sound first rest spot left_out (limit_passed place) here (inr none) = inr (never_behind first rest none)
+met_sound first rest spot left_out (limit_passed place) here (inr lost) = inr (inr lost)
 met_sound first rest spot wrong without here behind = tt
 met_sound first rest spot (passed place) without (inl it) behind = inl (record { known = it.known; after = it.more ++ rest; begun = all_taken first rest spot it.more it.begun })
-met_sound first rest spot (passed place) without (inr lost) behind = inr (λ spots. never_lost spots rest first lost)
+met_sound first rest spot (passed place) without (inr lost) behind = inr (inl lost)
 
 pub all_sound : (stack : List Expected) (spot : Spot) → AllSound stack spot (next stack spot)
 all_sound [] spot = tt

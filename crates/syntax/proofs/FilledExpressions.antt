@@ -12,6 +12,7 @@ use Rattle.syntax.specs.Expected.{Comparing, never, possible, behind_left, Level
 use Rattle.syntax.specs.Expected.{negating, bracketing, passing, without_product, awaiting_product, awaiting_sum, awaiting_comparison, closed, look_end, look_close, look_comparison, awaits, read_operand}
 use Rattle.syntax.specs.Partial.{outermost, state_pieces}
 use Rattle.syntax.proofs.Onward.{same_outermost, negating_pieces, bracketing_pieces, operand_pieces, awaiting_product_pieces, awaiting_sum_pieces, awaiting_comparison_pieces, closing_pieces, added_pieces, compared_pieces}
+use Rattle.syntax.proofs.Tellings.{its_depth, within_it}
 use Rattle.syntax.proofs.Lost.{EndsDeep}
 use Rattle.syntax.proofs.Fillings.{Fits, Ends, EndsOperand, EndsBehind, Fillings, fillings_pieces, Begun, Sound}
 
@@ -21,7 +22,7 @@ sound_within first spot (place ∷ limits) more known sound = inl (record { know
 
 sound_broken : (state : Expression) (prod : Prod) (spot : Spot) (place : Option Position) → state.passed ≡ place → Sound (behind_operand state prod) spot (broken_off place)
 sound_broken state prod spot None same = tt
-sound_broken state prod spot (Some place) same = inr (inl (place, same))
+sound_broken state prod spot (Some place) same = inr (within_it, same)
 
 one_behind : (pieces : List Piece) (piece : Piece) (rest : List Piece) → (pieces ++ piece ∷ []) ++ rest ≡ pieces ++ (piece ∷ (rest ++ []))
 one_behind pieces piece rest = append_assoc pieces (piece ∷ []) rest ∙ ap (λ (list : List Piece). pieces ++ (piece ∷ list)) (sym (append-nil rest))
@@ -78,7 +79,7 @@ operand_goes state spot (taken more) on = λ later.
     record { piece = it.0; is = it.1; made = record { filling = record { rest = it.0 ∷ fillings_pieces more later; makes = it.2 }; spelled = refl } }
 operand_goes state spot left_out on = absurd on
 operand_goes state spot wrong on = tt
-operand_goes state spot (passed place) on = inr (inl (place, on))
+operand_goes state spot (passed place) on = inr (within_it, on)
 
 pub sound_operand : (state : Expression) (lexeme : Lexeme) (place : Position) → Sound (operand state) (lexeme, place) (look (operand state) lexeme place)
 sound_operand state lexeme place = operand_goes state (lexeme, place) (look_operand state place (head lexeme)) (goes state lexeme place)
@@ -126,9 +127,9 @@ sound_finished state prod spot none = by (nat_lt MOST_DEPTH (expr_depth (level_e
         → Sound (behind_operand state prod) spot (within (if deep then state.first ∷ [] else []) (elim place [ None ↦ left_out | Some other ↦ passed other ]))
     by true place more same =
         let deep : MOST_DEPTH < expr_depth (level_expr state.level prod) = search (rules, more) in
-        inr (inr (subst (λ (outer : List (Level × Position)). EndsDeep state.level outer prod) (sym none) deep))
+        inr (its_depth, (subst (λ (outer : List (Level × Position)). EndsDeep state.level outer prod) (sym none) deep, refl))
     by false None more same = record { filling = record { rest = []; makes = ends_here state prod none }; spelled = refl }
-    by false (Some other) more same = inr (inl (other, same))
+    by false (Some other) more same = inr (within_it, same)
 
 sound_end : (state : Expression) (outer : List (Level × Position)) (prod : Prod) (spot : Spot) → state.outer ≡ outer → Sound (behind_operand state prod) spot (look_end state outer prod)
 sound_end state [] prod spot same = sound_finished state prod spot same

@@ -24,7 +24,7 @@ ends_declarations items tags spot (taken more) sound = λ later. begun_without i
 ends_declarations items tags spot left_out sound = record { filling = without_declarations sound.filling; spelled = sound.spelled }
 ends_declarations items tags spot wrong sound = tt
 ends_declarations items tags spot (passed place) (inl it) = inl (record { known = it.known; more = it.more; begun = λ later. begun_without items tags spot (fillings_pieces it.more later) (it.begun later) })
-ends_declarations items tags spot (passed place) (inr lost) = absurd lost
+ends_declarations items tags spot (passed place) (inr lost) = absurd lost.1
 
 sound_front_begun : (kind : Kind) (items tags : ℕ) (place : Position) → Sound (declarations items tags) (symbol (opening kind), place) (taken (front kind items tags ∷ []))
 sound_front_begun kind items tags place later =

@@ -11,7 +11,7 @@ use Rattle.syntax.specs.Expected.{Comparing, never, possible, behind_left, Expre
 use Rattle.syntax.specs.Expected.{exactly, keyword, a_name, whole, operand, behind_operand, components, more_components, statements, nested_brace, or_else, put_target, declarations, front, front_named, front_closed}
 use Rattle.syntax.specs.Expected.{component_name, behind_component, relations, reader, related, steps, step_name, parameters, parameter, behind_parameter, variables, step_variable, behind_variable}
 use Rattle.syntax.specs.Partial.{outermost, state_pieces, comparison_waiting, IsBehind}
-use Rattle.syntax.proofs.Lost.{Lost}
+use Rattle.syntax.proofs.Lost.{IsLost}
 
 -- ---- expressions
 
@@ -224,9 +224,9 @@ pub record Begins (first : Expected) (spot : Spot) : Type 0 where
   pub begun : (later : Fillings more) → Begun first spot (fillings_pieces more later)
 
 -- A token that is taken begins what stands here, and where none is taken that may be nothing. Where a limit is told the token
--- begins what stands here all the same, or no tokens are accepted.
+-- begins what stands here all the same, or nothing else is told of the expression here.
 abbrev pub Sound : Expected → Spot → Move → Type 0
 Sound first spot (taken more) = (later : Fillings more) → Begun first spot (fillings_pieces more later)
 Sound first spot left_out = Made first []
 Sound first spot wrong = ⊤
-Sound first spot (passed place) = Begins first spot ⊎ Lost first
+Sound first spot (passed place) = Begins first spot ⊎ IsLost place first

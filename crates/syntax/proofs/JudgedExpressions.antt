@@ -11,8 +11,9 @@ use Rattle.syntax.specs.Limits.{one_more, depth_limits, expr_depth, expr_first, 
 use Rattle.syntax.specs.declared.limits.TheConstants.{MOST_BRACKETS}
 use Rattle.syntax.specs.MayCome.{EndsExpression}
 use Rattle.syntax.specs.Front.{front_of}
-use Rattle.syntax.specs.Expected.{Comparing, never, possible, behind_left, Level, Expression, Expected, operand, behind_operand, earlier, negated_by, product_of, opened, sum_of, level_expr, whole, within, left_out, passed, finished, met, Next, on, next, followed, run}
-use Rattle.syntax.proofs.Judged.{Judged, goes, breaks, judged_behind, split, Comes}
+use Rattle.syntax.specs.Expected.{Comparing, never, possible, behind_left, Level, Expression, Expected, operand, behind_operand, earlier, negated_by, product_of, opened, sum_of, level_expr, whole, within, left_out, passed, finished, met, Move, on, next, followed, Verdict, look}
+use Rattle.syntax.proofs.Tellings.{Telling, as_told, of_whole, its_depth, within_it, whole_or_broken, changed, next_so, run_so, run_on}
+use Rattle.syntax.proofs.Judged.{in_back, Judged, goes, breaks, judged_behind, split, Comes}
 
 -- the first of some tokens
 pub record First (lexeme : Lexeme) (rest : List Piece) (tokens : List Spot) : Type 0 where
@@ -245,20 +246,26 @@ expr_begins (compared left how right) =
     begins_more (sum_first left) (sum_pieces left ++ a_sign (comparison_sign how)) (sum_pieces right) (begins_more (sum_first left) (sum_pieces left) (a_sign (comparison_sign how)) (sum_begins left))
 
 -- where one is expected it begins at its first token
-begins : (comparing : Comparing) (position : Position) (pieces : List Piece) (tokens behind : List Spot) (stack : List Expected) → BeginsAt position pieces → ArePieces pieces tokens
-    → run (whole comparing ∷ stack) (tokens ++ behind) ≡ run (operand (so_far None position (opened comparing) []) ∷ stack) (tokens ++ behind)
-begins comparing position [] tokens behind stack there are = absurd there
-begins comparing position (plain lexeme ∷ pieces) tokens behind stack there are = absurd there
-begins comparing position (at first lexeme ∷ pieces) [] behind stack there are = absurd are
-begins comparing position (at first lexeme ∷ pieces) (spot ∷ tokens) behind stack there are =
-    ap (λ (it : Position). run (operand (so_far None it (opened comparing) []) ∷ stack) (spot ∷ tokens ++ behind)) (are.0.1 ∙ there)
+begins : (telling : Telling) (comparing : Comparing) (position : Position) (pieces : List Piece) (tokens behind : List Spot) (stack : List Expected) → BeginsAt position pieces → ArePieces pieces tokens
+    → run_so telling (whole comparing ∷ stack) (tokens ++ behind) ≡ run_so telling (operand (so_far None position (opened comparing) []) ∷ stack) (tokens ++ behind)
+begins telling comparing position [] tokens behind stack there are = absurd there
+begins telling comparing position (plain lexeme ∷ pieces) tokens behind stack there are = absurd there
+begins telling comparing position (at first lexeme ∷ pieces) [] behind stack there are = absurd are
+begins telling comparing position (at first lexeme ∷ pieces) (spot ∷ tokens) behind stack there are =
+    ap (λ (it : Position). run_so telling (operand (so_far None it (opened comparing) []) ∷ stack) (spot ∷ tokens ++ behind)) (are.0.1 ∙ there)
 
 -- a whole expression, whose depth and whose limits are told
-told : (deep limits : List Position) (stack : List Expected) (spot : Spot) (rest : List Spot)
-    → Judged (deep ++ limits) (followed (met (within deep (elim (earlier None limits) [ None ↦ left_out | Some place ↦ passed place ])) stack (next stack spot)) (spot ∷ rest) (λ after. run after rest)) (run stack (spot ∷ rest))
-told [] [] stack spot rest = goes refl refl
-told [] (place ∷ limits) stack spot rest = breaks place (inl refl) refl
-told (place ∷ deep) limits stack spot rest = breaks place (inl refl) refl
+told : (telling : Telling) (deep limits : List Position) (stack : List Expected) (spot : Spot) (rest : List Spot)
+    → Judged (deep ++ limits) (followed (met (changed (whole_or_broken telling [] (earlier None limits)) (within deep (elim (earlier None limits) [ None ↦ left_out | Some place ↦ passed place ]))) stack (next_so telling stack spot)) (spot ∷ rest) (λ after. run_so telling after rest))
+    (run_so telling stack (spot ∷ rest))
+told telling [] [] stack spot rest = goes refl refl
+told as_told [] (place ∷ limits) stack spot rest = breaks place (inl refl) refl
+told (of_whole its_depth) [] (place ∷ limits) stack spot rest = breaks place (inl refl) refl
+told (of_whole within_it) [] (place ∷ limits) stack spot rest = breaks place (inl refl) refl
+told as_told (place ∷ deep) limits stack spot rest = breaks place (inl refl) refl
+told (of_whole its_depth) (place ∷ deep) limits stack spot rest = breaks place (inl refl) refl
+told (of_whole within_it) (place ∷ deep) [] stack spot rest = breaks place (inl refl) refl
+told (of_whole within_it) (place ∷ deep) (other ∷ limits) stack spot rest = breaks other (in_back other (place ∷ deep) (other ∷ limits) (inl refl)) refl
 
 -- a token that may stand behind the expression of a statement, and behind a component
 abbrev pub AfterExpression : Lexeme → Type 0
@@ -271,53 +278,60 @@ EndsComponent (symbol sign.CloseBracket) = ⊤
 EndsComponent (symbol sign.Greater) = ⊤
 EndsComponent _ = ⊥
 
+end_looks : (lexeme : Lexeme) → AfterExpression lexeme → (before : Option Position) (first position : Position) (level : Level) (prod : Prod)
+    → look (behind_operand (so_far before first level []) prod) lexeme position ≡ finished (so_far before first level []) (level_expr level prod)
+end_looks (symbol sign.Semicolon) ends before first position level prod = refl
+end_looks (symbol sign.CloseRound) ends before first position level prod = refl
+end_looks (symbol sign.DoubleDot) ends before first position level prod = refl
+end_looks (symbol sign.OpenBrace) ends before first position level prod = refl
+end_looks _ ends before first position level prod = absurd ends
+
+component_end_looks : (lexeme : Lexeme) → EndsComponent lexeme → (before : Option Position) (first position : Position) (sum : Option (Sum × Addition)) (prod : Prod)
+    → look (behind_operand (so_far before first (at_product never sum) []) prod) lexeme position ≡ finished (so_far before first (at_product never sum) []) (sum_alone (sum_of sum prod))
+component_end_looks (symbol sign.Comma) ends before first position sum prod = refl
+component_end_looks (symbol sign.CloseBracket) ends before first position sum prod = refl
+component_end_looks (symbol sign.Greater) ends before first position sum prod = refl
+component_end_looks _ ends before first position sum prod = absurd ends
+
 pub at_end : (lexeme : Lexeme) → AfterExpression lexeme → (before : Option Position) (first position : Position) (level : Level) (prod : Prod) (stack : List Expected)
     → next (behind_operand (so_far before first level []) prod ∷ stack) (lexeme, position) ≡ met (finished (so_far before first level []) (level_expr level prod)) stack (next stack (lexeme, position))
-at_end (symbol sign.Semicolon) ends before first position level prod stack = refl
-at_end (symbol sign.CloseRound) ends before first position level prod stack = refl
-at_end (symbol sign.DoubleDot) ends before first position level prod stack = refl
-at_end (symbol sign.OpenBrace) ends before first position level prod stack = refl
-at_end _ ends before first position level prod stack = absurd ends
+at_end lexeme ends before first position level prod stack = ap (λ (move : Move). met move stack (next stack (lexeme, position))) (end_looks lexeme ends before first position level prod)
 
 pub at_component_end : (lexeme : Lexeme) → EndsComponent lexeme → (before : Option Position) (first position : Position) (sum : Option (Sum × Addition)) (prod : Prod) (stack : List Expected)
     → next (behind_operand (so_far before first (at_product never sum) []) prod ∷ stack) (lexeme, position)
     ≡ met (finished (so_far before first (at_product never sum) []) (sum_alone (sum_of sum prod))) stack (next stack (lexeme, position))
-at_component_end (symbol sign.Comma) ends before first position sum prod stack = refl
-at_component_end (symbol sign.CloseBracket) ends before first position sum prod stack = refl
-at_component_end (symbol sign.Greater) ends before first position sum prod stack = refl
-at_component_end _ ends before first position sum prod stack = absurd ends
+at_component_end lexeme ends before first position sum prod stack = ap (λ (move : Move). met move stack (next stack (lexeme, position))) (component_end_looks lexeme ends before first position sum prod)
 
-run_on : (stack more : List Expected) (spot : Spot) (spots : List Spot) → next stack spot ≡ on more → run stack (spot ∷ spots) ≡ run more spots
-run_on stack more spot spots is = ap (λ (after : Next). followed after (spot ∷ spots) (λ then_on. run then_on spots)) is
+-- what comes of a whole expression in front of this token
+abbrev ended_so : Telling → List Expected → Spot → List Spot → Option Position → Move → Verdict
+ended_so telling stack spot rest before move = followed (met (changed (whole_or_broken telling [] before) move) stack (next_so telling stack spot)) (spot ∷ rest) (λ after. run_so telling after rest)
 
 -- an expression of a statement
 pub expression_comes : (expr : Expr) → Comes AfterExpression (whole possible ∷ []) [] (expr_pieces expr) (expr_limits expr)
 expression_comes expr = record { comes = by }
   where
-    by : (tokens later : List Spot) (behind : List Expected) → AfterExpression (front_of later).0 → ArePieces (expr_pieces expr) tokens
-        → Judged (expr_limits expr) (run (whole possible ∷ behind) (tokens ++ later)) (run behind later)
-    by tokens [] behind ends are = absurd ends
-    by tokens (spot ∷ rest) behind ends are =
+    by : (telling : Telling) (tokens later : List Spot) (more : List Expected) → AfterExpression (front_of later).0 → ArePieces (expr_pieces expr) tokens
+        → Judged (expr_limits expr) (run_so telling (whole possible ∷ more) (tokens ++ later)) (run_so telling more later)
+    by telling tokens [] more ends are = absurd ends
+    by telling tokens (spot ∷ rest) more ends are =
         judged_behind (
-        begins possible (expr_first expr) (expr_pieces expr) tokens (spot ∷ rest) behind (expr_begins expr) are
-        ∙ expr_goes run run_on (expr_first expr) expr None [] behind tokens (spot ∷ rest) are
-        ∙ ap (λ (after : Next). followed after (spot ∷ rest) (λ then_on. run then_on rest))
-        (at_end spot.0 ends (earlier None (expr_within 0 expr)) (expr_first expr) spot.1 (expr_level expr) (expr_last expr) behind)
-        ∙ ap (λ (it : Expr). followed (met (finished (so_far (earlier None (expr_within 0 expr)) (expr_first expr) (expr_level expr) []) it) behind (next behind spot)) (spot ∷ rest) (λ after. run after rest)) (expr_is expr)
-        ) (told (depth_limits (expr_depth expr) (expr_first expr)) (expr_within 0 expr) behind spot rest)
+        begins telling possible (expr_first expr) (expr_pieces expr) tokens (spot ∷ rest) more (expr_begins expr) are
+        ∙ expr_goes (run_so telling) (run_on telling) (expr_first expr) expr None [] more tokens (spot ∷ rest) are
+        ∙ ap (ended_so telling more spot rest (earlier None (expr_within 0 expr))) (end_looks spot.0 ends (earlier None (expr_within 0 expr)) (expr_first expr) spot.1 (expr_level expr) (expr_last expr))
+        ∙ ap (λ (it : Expr). ended_so telling more spot rest (earlier None (expr_within 0 expr)) (finished (so_far (earlier None (expr_within 0 expr)) (expr_first expr) (expr_level expr) []) it)) (expr_is expr)
+        ) (told telling (depth_limits (expr_depth expr) (expr_first expr)) (expr_within 0 expr) more spot rest)
 
 -- a component of a key
 pub component_comes : (sum : Sum) → Comes EndsComponent (whole never ∷ []) [] (sum_pieces sum) (sum_limits sum)
 component_comes sum = record { comes = by }
   where
-    by : (tokens later : List Spot) (behind : List Expected) → EndsComponent (front_of later).0 → ArePieces (sum_pieces sum) tokens
-        → Judged (sum_limits sum) (run (whole never ∷ behind) (tokens ++ later)) (run behind later)
-    by tokens [] behind ends are = absurd ends
-    by tokens (spot ∷ rest) behind ends are =
+    by : (telling : Telling) (tokens later : List Spot) (more : List Expected) → EndsComponent (front_of later).0 → ArePieces (sum_pieces sum) tokens
+        → Judged (sum_limits sum) (run_so telling (whole never ∷ more) (tokens ++ later)) (run_so telling more later)
+    by telling tokens [] more ends are = absurd ends
+    by telling tokens (spot ∷ rest) more ends are =
         judged_behind (
-        begins never (sum_first sum) (sum_pieces sum) tokens (spot ∷ rest) behind (sum_begins sum) are
-        ∙ sum_goes run run_on (sum_first sum) sum never None [] behind tokens (spot ∷ rest) are
-        ∙ ap (λ (after : Next). followed after (spot ∷ rest) (λ then_on. run then_on rest))
-        (at_component_end spot.0 ends (earlier None (sum_within 0 sum)) (sum_first sum) spot.1 (sum_waits sum) (last_prod sum) behind)
-        ∙ ap (λ (it : Sum). followed (met (finished (so_far (earlier None (sum_within 0 sum)) (sum_first sum) (at_product never (sum_waits sum)) []) (sum_alone it)) behind (next behind spot)) (spot ∷ rest) (λ after. run after rest)) (sum_is sum)
-        ) (told (depth_limits (sum_depth sum) (sum_first sum)) (sum_within 0 sum) behind spot rest)
+        begins telling never (sum_first sum) (sum_pieces sum) tokens (spot ∷ rest) more (sum_begins sum) are
+        ∙ sum_goes (run_so telling) (run_on telling) (sum_first sum) sum never None [] more tokens (spot ∷ rest) are
+        ∙ ap (ended_so telling more spot rest (earlier None (sum_within 0 sum))) (component_end_looks spot.0 ends (earlier None (sum_within 0 sum)) (sum_first sum) spot.1 (sum_waits sum) (last_prod sum))
+        ∙ ap (λ (it : Sum). ended_so telling more spot rest (earlier None (sum_within 0 sum)) (finished (so_far (earlier None (sum_within 0 sum)) (sum_first sum) (at_product never (sum_waits sum)) []) (sum_alone it))) (sum_is sum)
+        ) (told telling (depth_limits (sum_depth sum) (sum_first sum)) (sum_within 0 sum) more spot rest)

@@ -9,7 +9,8 @@ use Rattle.syntax.specs.Grammar.{Position, Declaration, item_declared, tag_decla
 use Rattle.syntax.specs.Spelled.{Piece, ArePieces, Derives, declaration_pieces, relation_pieces, step_pieces}
 use Rattle.syntax.specs.Limits.{declarations_limits, relation_limits, steps_limits, graph_limits}
 use Rattle.syntax.specs.Expected.{Expected, declarations, relations, steps, step_rest, taken, left_out, look, accepted, run, graph_expected}
-use Rattle.syntax.proofs.Judged.{Judged, Comes, any_fronts, comes_on, comes_limits, comes_pieces, nothing}
+use Rattle.syntax.proofs.Tellings.{Telling, as_told, run_so, same_run, plainly}
+use Rattle.syntax.proofs.Judged.{Judged, judged_behind, Comes, any_fronts, comes_on, comes_limits, comes_pieces, nothing}
 use Rattle.syntax.proofs.JudgedDeclarations.{declaration_comes}
 use Rattle.syntax.proofs.JudgedRelations.{relation_comes, first_relation_comes}
 use Rattle.syntax.proofs.JudgedSteps.{step_comes}
@@ -36,8 +37,8 @@ steps_come before [] = nothing (no_step before)
 steps_come before (step ∷ more) = comes_on (step_comes (steps before) before step (λ position. refl)) any_fronts (steps_come (suc before) more)
 
 -- where no step was before
-first_steps : (first : Expected) (them : List StepText) → ((lexeme : Lexeme) (position : Position) → IsEnd lexeme → look first lexeme position ≡ left_out)
-    → ((position : Position) → look first (word kept.Step) position ≡ taken (step_rest 0)) → Comes IsEnd (first ∷ []) [] (flat_map step_pieces them) (steps_limits 0 them)
+first_steps : (first : Expected) (them : List StepText) → ((lexeme : Lexeme) (position : Position) → IsEnd lexeme → plainly first lexeme position ≡ left_out)
+    → ((position : Position) → plainly first (word kept.Step) position ≡ taken (step_rest 0)) → Comes IsEnd (first ∷ []) [] (flat_map step_pieces them) (steps_limits 0 them)
 first_steps first [] none looks = nothing none
 first_steps first (step ∷ more) none looks = comes_on (step_comes first 0 step looks) any_fronts (steps_come 1 more)
 
@@ -71,13 +72,17 @@ declarations_come items tags (tag_declared it components ∷ more) others texts 
     (comes_limits (sym (append_assoc _ (declarations_limits items (suc tags) more) (flat_map relation_limits others ++ steps_limits 0 texts)))
     (comes_on (declaration_comes (items, tags) (tag_declared it components)) any_fronts (declarations_come items (suc tags) more others texts)))
 
-pub graph_judged : (graph : GraphText) (spots : List Spot) → Derives graph spots → Judged (graph_limits graph) (run graph_expected spots) accepted
-graph_judged graph spots derives =
+pub graph_judged : (graph : GraphText) (spots : List Spot) → Derives graph spots → (telling : Telling) → Judged (graph_limits graph) (run_so telling graph_expected spots) accepted
+graph_judged graph spots derives telling =
     let d = flat_map declaration_pieces graph.declarations in
     let r = flat_map relation_pieces graph.relations in
     let s = flat_map step_pieces graph.steps in
     let whole = declarations_come 0 0 graph.declarations graph.relations graph.steps in
     let pieces : ArePieces (d ++ (r ++ s)) spots = subst (λ (list : List Piece). ArePieces list spots) (append_assoc d r s) derives in
-    let judged = whole.comes spots [] [] tt pieces in
-    subst (λ (limits : List Position). Judged limits (run graph_expected spots) accepted) (sym (append_assoc (declarations_limits 0 0 graph.declarations) (flat_map relation_limits graph.relations) (steps_limits 0 graph.steps)))
-    (subst (λ (tokens : List Spot). Judged (declarations_limits 0 0 graph.declarations ++ (flat_map relation_limits graph.relations ++ steps_limits 0 graph.steps)) (run graph_expected tokens) accepted) (append-nil spots) judged)
+    let judged = whole.comes telling spots [] [] tt pieces in
+    subst (λ (limits : List Position). Judged limits (run_so telling graph_expected spots) accepted) (sym (append_assoc (declarations_limits 0 0 graph.declarations) (flat_map relation_limits graph.relations) (steps_limits 0 graph.steps)))
+    (subst (λ (tokens : List Spot). Judged (declarations_limits 0 0 graph.declarations ++ (flat_map relation_limits graph.relations ++ steps_limits 0 graph.steps)) (run_so telling graph_expected tokens) accepted) (append-nil spots) judged)
+
+-- as the machine tells it
+pub graph_told : (graph : GraphText) (spots : List Spot) → Derives graph spots → Judged (graph_limits graph) (run graph_expected spots) accepted
+graph_told graph spots derives = judged_behind (sym (same_run spots graph_expected)) (graph_judged graph spots derives as_told)

@@ -6,7 +6,8 @@ use Rattle.syntax.specs.Tokens.{word, symbol}
 use Rattle.syntax.specs.Grammar.{Position, Named, Relation, prescribes, reads, puts_item, puts_tag, environment_puts_item, environment_puts_tag, environment_gets}
 use Rattle.syntax.specs.Spelled.{a_sign, a_word, named, item_at, step_at, environment_at, angled_name, bracketed_name, round_name, relation_pieces}
 use Rattle.syntax.specs.Limits.{name_limits, relation_limits}
-use Rattle.syntax.specs.Expected.{Expected, exactly, a_name, declarations, front, front_named, front_closed, relations, reader, related, round_rest, semicolon_relations, prescribed_rest, item, tag, taken, look}
+use Rattle.syntax.specs.Expected.{Expected, exactly, a_name, declarations, front, front_named, front_closed, relations, reader, related, round_rest, semicolon_relations, prescribed_rest, item, tag, taken}
+use Rattle.syntax.proofs.Tellings.{plainly}
 use Rattle.syntax.proofs.Judged.{Comes, Any, any_fronts, comes_on, comes_plain, comes_with, token, token_at}
 use Rattle.syntax.proofs.JudgedKeys.{sign_comes, name_comes}
 use Rattle.syntax.proofs.JudgedDeclarations.{front_comes}
@@ -40,8 +41,8 @@ related_tag it =
 record Sides (first : Expected) : Type 0 where
   item_side : (position : Position) (it : Named) → Comes Any (first ∷ []) (reader ∷ semicolon_relations) (item_at position it ++ a_sign sign.Arrow) (name_limits it)
   tag_side : (it : Named) → Comes Any (first ∷ []) prescribed_rest (angled_name it ++ a_sign sign.DoubleColon) (name_limits it)
-  step_taken : (position : Position) → look first (symbol sign.OpenRound) position ≡ taken (round_rest ++ exactly sign.Arrow ∷ related ∷ semicolon_relations)
-  environment_taken : (position : Position) → look first (word kept.Env) position ≡ taken (exactly sign.Arrow ∷ related ∷ semicolon_relations)
+  step_taken : (position : Position) → plainly first (symbol sign.OpenRound) position ≡ taken (round_rest ++ exactly sign.Arrow ∷ related ∷ semicolon_relations)
+  environment_taken : (position : Position) → plainly first (word kept.Env) position ≡ taken (exactly sign.Arrow ∷ related ∷ semicolon_relations)
 
 module _ (first : Expected) (sides : Sides first) where
   step_side : (position : Position) (it : Named) → Comes Any (first ∷ []) (related ∷ semicolon_relations) (step_at position it ++ a_sign sign.Arrow) (name_limits it)

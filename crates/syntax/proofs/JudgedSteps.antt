@@ -13,6 +13,7 @@ use Rattle.syntax.specs.Grammar.{Position, Named, Names, StepText}
 use Rattle.syntax.specs.Spelled.{Piece, a_sign, a_word, named, parameters_pieces, variables_pieces, in_braces, statements_pieces, get_pieces, put_pieces, step_pieces}
 use Rattle.syntax.specs.Limits.{one_more, name_limits, names_behind, all_names, step_names, statements_limits, get_limits, put_limits, step_limits}
 use Rattle.syntax.specs.Expected.{Expected, exactly, keyword, statements, steps, step_name, parameters, parameter, behind_parameter, variables, step_variable, behind_variable, step_rest, step_body, reading, writing, taken, left_out, look}
+use Rattle.syntax.proofs.Tellings.{plainly}
 use Rattle.syntax.proofs.Judged.{Comes, Any, any_fronts, piece_fronts, comes_on, comes_plain, comes_pieces, comes_before, comes_with, token, token_at, nothing}
 use Rattle.syntax.proofs.Covers.{Covers, covers_same, covers_then, covers_on, covers_swap, covers_middle, comes_covered}
 use Rattle.syntax.proofs.JudgedKeys.{sign_comes, word_comes}
@@ -122,7 +123,7 @@ in_order name_is more named_more variables_more reads writes each four all many 
         ∙ ap (λ (list : List Position). o ++ list)
         (sym (append_assoc n (a ++ f) (m ++ (r ++ w))) ∙ ap (λ (list : List Position). list ++ (m ++ (r ++ w))) (sym (append_assoc n a f)) ∙ sym (append_assoc (n ++ a ++ f) m (r ++ w)) ∙ sym (append_assoc (n ++ a ++ f ++ m) r w))
 
-pub step_comes : (first : Expected) (before : ℕ) (step : StepText) → ((position : Position) → look first (word kept.Step) position ≡ taken (step_rest before))
+pub step_comes : (first : Expected) (before : ℕ) (step : StepText) → ((position : Position) → plainly first (word kept.Step) position ≡ taken (step_rest before))
     → Comes Any (first ∷ []) (steps (suc before) ∷ []) (step_pieces step) (one_more MOST_COLLECTIONS before step.name.1 ++ step_limits step)
 step_comes first before step looks =
     let last = steps (suc before) ∷ [] in

@@ -17,6 +17,7 @@ pub mod Forward
 pub mod Fronts
 pub mod GraphParts
 pub mod Heads
+pub mod InFront
 pub mod Judged
 pub mod JudgedDeclarations
 pub mod JudgedExpressions
@@ -52,5 +53,6 @@ pub mod StatementParts
 pub mod StatementSteps
 pub mod StepParts
 pub mod Stopping
+pub mod Tellings
 pub mod Wholes
 pub mod WithoutFault

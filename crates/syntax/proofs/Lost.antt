@@ -1,14 +1,15 @@
--- An expression in which a limit is passed, or that is too deep, is never accepted, whatever tokens come.
-use Rattle.std.proofs.Common.{◌≡◌, ◌≤◌, ◌<◌, ◌⊎◌, inl, inr, true, false, Bool, nat_lt, if◌then◌else◌, List, [], ◌∷◌, ◌++◌, length, Option, Some, None, refl, ap, subst, ◌∙◌, append_assoc, arith, rules}
+-- An expression in which a limit is passed, or that is too deep: of it nothing else is told where it is whole, whatever tokens come.
+use Rattle.std.proofs.Common.{◌≡◌, ◌≤◌, ◌<◌, true, false, Bool, nat_lt, if◌then◌else◌, List, [], ◌∷◌, length, Option, Some, None, refl, sym, ap, subst, arith, rules}
 use Rattle.std.specs.Prelude.{⊤}
 use Rattle.syntax.specs.declared.limits.TheConstants.{MOST_BRACKETS, MOST_DEPTH}
 use Rattle.syntax.specs.Tokens.{Lexeme, Spot, unknown}
 use Rattle.syntax.specs.Grammar.{Position, Sum, Prod, Unary, literal, variable, bracketed, multiplied, Multiplication, added, Addition, Comparison}
 use Rattle.syntax.specs.Limits.{one_more, name_limits, expr_depth, sum_depth, prod_depth}
 use Rattle.syntax.specs.Expected.{Comparing, never, possible, behind_left, Level, Expression, level_expr, sum_of, compared_of, product_of, negated_by, product_behind, earlier}
-use Rattle.syntax.specs.Expected.{negating, bracketing, passing, without_product, awaiting_product, awaiting_sum, closed, broken_off, finished}
-use Rattle.syntax.specs.Expected.{Joint, by_product, by_sum, by_comparison, closes, ends, joint, Head, minus_sign, open_bracket, a_number, a_variable, no_head, head, look, look_operand, look_behind, look_end, look_close, look_comparison}
-use Rattle.syntax.specs.Expected.{Expected, operand, behind_operand, Move, taken, left_out, wrong, passed, within, Next, met, next, followed, ended, accepted, run}
+use Rattle.syntax.specs.Expected.{negating, bracketing, passing, without_product, awaiting_product, awaiting_sum, awaiting_comparison, closed, broken_off, finished}
+use Rattle.syntax.specs.Expected.{Joint, by_product, by_sum, by_comparison, closes, ends, joint, Head, minus_sign, open_bracket, a_number, a_variable, no_head, head, look_operand, look_behind, look_end, look_close, look_comparison}
+use Rattle.syntax.specs.Expected.{Expected, operand, behind_operand, Move, taken, left_out, wrong, passed, within, Next, met, followed, ended, Verdict, accepted, syntax, too_large}
+use Rattle.syntax.proofs.Tellings.{Sooner, its_depth, within_it, of_whole, broken, chosen, whole_or_broken, changed, look_so, next_so, run_so}
 
 -- ---- expressions that are too deep
 
@@ -64,168 +65,161 @@ deep_comparison level (around ∷ outer) prod how may deep = deep
 
 -- ---- what is lost
 
-abbrev pub HasPassed : Expression → Type 0
-HasPassed state = (place : Position) × (state.passed ≡ Some place)
+-- of it a limit at this place is told where it is whole, sooner than another: in front of an operand, and behind one
+abbrev pub LostOperand : Sooner → Position → Expression → Type 0
+LostOperand its_depth place state = WaitsDeep state.level state.outer × (state.first ≡ place)
+LostOperand within_it place state = state.passed ≡ Some place
 
--- in front of an operand, and behind one
-abbrev pub LostOperand : Expression → Type 0
-LostOperand state = HasPassed state ⊎ WaitsDeep state.level state.outer
+abbrev pub LostBehind : Sooner → Position → Expression → Prod → Type 0
+LostBehind its_depth place state prod = EndsDeep state.level state.outer prod × (state.first ≡ place)
+LostBehind within_it place state prod = state.passed ≡ Some place
 
-abbrev pub LostBehind : Expression → Prod → Type 0
-LostBehind state prod = HasPassed state ⊎ EndsDeep state.level state.outer prod
+abbrev pub Lost : Sooner → Position → Expected → Type 0
+Lost sooner place (operand state) = LostOperand sooner place state
+Lost sooner place (behind_operand state prod) = LostBehind sooner place state prod
+Lost sooner place _ = ⊥
 
-abbrev pub Lost : Expected → Type 0
-Lost (operand state) = LostOperand state
-Lost (behind_operand state prod) = LostBehind state prod
-Lost _ = ⊥
+abbrev pub IsLost : Position → Expected → Type 0
+IsLost place first = (sooner : Sooner) × Lost sooner place first
 
--- what comes of it at a token is lost too
-abbrev LostStack : List Expected → Type 0
-LostStack [] = ⊥
-LostStack (first ∷ []) = Lost first
-LostStack (first ∷ second ∷ more) = ⊥
+-- what comes of it at a token is lost too, or that limit is told
+abbrev LostStack : Sooner → Position → List Expected → Type 0
+LostStack sooner place [] = ⊥
+LostStack sooner place (first ∷ []) = Lost sooner place first
+LostStack sooner place (first ∷ second ∷ more) = ⊥
 
-abbrev LostMove : Move → Type 0
-LostMove (taken more) = LostStack more
-LostMove left_out = ⊥
-LostMove wrong = ⊤
-LostMove (passed place) = ⊤
+abbrev LostMove : Sooner → Position → Move → Type 0
+LostMove sooner place (taken more) = LostStack sooner place more
+LostMove sooner place left_out = ⊥
+LostMove sooner place wrong = ⊤
+LostMove sooner place (passed other) = other ≡ place
 
-lost_broken : (place : Option Position) → LostMove (broken_off place)
-lost_broken None = tt
-lost_broken (Some place) = tt
+lost_broken : (sooner : Sooner) (place : Position) (before : Option Position) → LostMove sooner place (changed (broken (of_whole sooner)) (broken_off before))
+lost_broken sooner place None = tt
+lost_broken sooner place (Some other) = tt
 
-lost_minus : (state : Expression) (place : Position) → LostOperand state → LostOperand (negating state place)
-lost_minus state place (inl it) = inl it
-lost_minus state place (inr deep) = inr (deep_negating state.level state.outer (place ∷ state.level.negations) deep)
+lost_minus : (sooner : Sooner) (place : Position) (state : Expression) (at : Position) → LostOperand sooner place state → LostOperand sooner place (negating state at)
+lost_minus its_depth place state at lost = (deep_negating state.level state.outer (at ∷ state.level.negations) lost.0, lost.1)
+lost_minus within_it place state at lost = lost
 
-lost_bracket : (state : Expression) (place : Position) → LostOperand state → LostOperand (bracketing state place)
-lost_bracket state place (inl it) = inl (it.0, ap (λ (one : Option Position). earlier one (one_more MOST_BRACKETS (length state.outer) place)) it.1)
-lost_bracket state place (inr deep) = inr deep
+lost_bracket : (sooner : Sooner) (place : Position) (state : Expression) (at : Position) → LostOperand sooner place state → LostOperand sooner place (bracketing state at)
+lost_bracket its_depth place state at lost = lost
+lost_bracket within_it place state at lost = ap (λ (one : Option Position). earlier one (one_more MOST_BRACKETS (length state.outer) at)) lost
 
-lost_passing : (state : Expression) (places : List Position) → LostOperand state → LostOperand (passing state places)
-lost_passing state places (inl it) = inl (it.0, ap (λ (one : Option Position). earlier one places) it.1)
-lost_passing state places (inr deep) = inr deep
+lost_passing : (sooner : Sooner) (place : Position) (state : Expression) (places : List Position) → LostOperand sooner place state → LostOperand sooner place (passing state places)
+lost_passing its_depth place state places lost = lost
+lost_passing within_it place state places lost = ap (λ (one : Option Position). earlier one places) lost
 
-lost_read : (state : Expression) (unary : Unary) → LostOperand state → LostBehind (without_product state) (product_behind state unary)
-lost_read state unary (inl it) = inl it
-lost_read state unary (inr deep) = inr (deep_read state.level state.outer unary deep)
+lost_read : (sooner : Sooner) (place : Position) (state : Expression) (unary : Unary) → LostOperand sooner place state → LostBehind sooner place (without_product state) (product_behind state unary)
+lost_read its_depth place state unary lost = (deep_read state.level state.outer unary lost.0, lost.1)
+lost_read within_it place state unary lost = lost
 
-lost_operand : (state : Expression) (place : Position) (it : Head) → LostOperand state → LostMove (look_operand state place it)
-lost_operand state place minus_sign lost = lost_minus state place lost
-lost_operand state place open_bracket lost = lost_bracket state place lost
-lost_operand state place (a_number value) lost = lost_read state (literal place value) lost
-lost_operand state place (a_variable text) lost =
-    lost_read (passing state (name_limits (text, place))) (variable (text, place)) (lost_passing state (name_limits (text, place)) lost)
-lost_operand state place no_head lost = lost_broken state.passed
+lost_operand : (sooner : Sooner) (place : Position) (state : Expression) (at : Position) (it : Head) → LostOperand sooner place state
+    → LostMove sooner place (changed (broken (of_whole sooner)) (look_operand state at it))
+lost_operand sooner place state at minus_sign lost = lost_minus sooner place state at lost
+lost_operand sooner place state at open_bracket lost = lost_bracket sooner place state at lost
+lost_operand sooner place state at (a_number value) lost = lost_read sooner place state (literal at value) lost
+lost_operand sooner place state at (a_variable text) lost =
+    lost_read sooner place (passing state (name_limits (text, at))) (variable (text, at)) (lost_passing sooner place state (name_limits (text, at)) lost)
+lost_operand sooner place state at no_head lost = lost_broken sooner place state.passed
 
-told : (deep : Bool) (place : Option Position) (first : Position) → (deep ≡ true) ⊎ ((other : Position) × (place ≡ Some other))
-    → LostMove (within (if deep then first ∷ [] else []) (elim place [ None ↦ left_out | Some other ↦ passed other ]))
-told true place first lost = tt
-told false (Some other) first lost = tt
-told false None first (inl e) = absurd (cc)
-told false None first (inr found) = let e = found.1 in absurd (cc)
+-- a whole expression, whether it is too deep, with the first limit within it
+abbrev told : Sooner → Position → Bool → Option Position → Position → Type 0
+told sooner place deep before first =
+    LostMove sooner place (changed (chosen sooner before) (within (if deep then first ∷ [] else []) (elim before [ None ↦ left_out | Some other ↦ passed other ])))
 
-lost_finished : (state : Expression) (prod : Prod) → state.outer ≡ [] → LostBehind state prod → LostMove (finished state (level_expr state.level prod))
-lost_finished state prod none (inl it) = told (nat_lt MOST_DEPTH (expr_depth (level_expr state.level prod))) state.passed state.first (inr it)
-lost_finished state prod none (inr deep) =
-    let here : MOST_DEPTH < expr_depth (level_expr state.level prod) = subst (λ (outer : List (Level × Position)). EndsDeep state.level outer prod) none deep in
+told_within : (deep : Bool) (place first : Position) → told within_it place deep (Some place) first
+told_within true place first = refl
+told_within false place first = refl
+
+lost_finished : (sooner : Sooner) (place : Position) (state : Expression) (prod : Prod) → state.outer ≡ [] → LostBehind sooner place state prod
+    → LostMove sooner place (changed (chosen sooner state.passed) (finished state (level_expr state.level prod)))
+lost_finished its_depth place state prod none lost =
+    let here : MOST_DEPTH < expr_depth (level_expr state.level prod) = subst (λ (outer : List (Level × Position)). EndsDeep state.level outer prod) none lost.0 in
     let is : nat_lt MOST_DEPTH (expr_depth (level_expr state.level prod)) ≡ true = search (rules, here) in
-    told (nat_lt MOST_DEPTH (expr_depth (level_expr state.level prod))) state.passed state.first (inl is)
+    subst (λ (deep : Bool). told its_depth place deep state.passed state.first) (sym is) lost.1
+lost_finished within_it place state prod none lost =
+    let deep = nat_lt MOST_DEPTH (expr_depth (level_expr state.level prod)) in
+    subst (λ (before : Option Position). told within_it place deep before state.first) (sym lost) (told_within deep place state.first)
 
-lost_end : (state : Expression) (outer : List (Level × Position)) (prod : Prod) → state.outer ≡ outer → LostBehind state prod → LostMove (look_end state outer prod)
-lost_end state [] prod same lost = lost_finished state prod same lost
-lost_end state (around ∷ outer) prod same lost = lost_broken state.passed
+lost_inside : (sooner : Sooner) (place : Position) (around : Level × Position) (outer : List (Level × Position)) (before other : Option Position)
+    → LostMove sooner place (changed (whole_or_broken (of_whole sooner) (around ∷ outer) before) (broken_off other))
+lost_inside sooner place around outer before None = tt
+lost_inside sooner place around outer before (Some other) = tt
 
-lost_closed : (state : Expression) (around : Level × Position) (outer : List (Level × Position)) (prod : Prod) → state.outer ≡ around ∷ outer → LostBehind state prod → LostOperand (closed state around.0 outer)
-lost_closed state around outer prod same (inl it) = inl it
-lost_closed state around outer prod same (inr deep) = inr (subst (λ (list : List (Level × Position)). EndsDeep state.level list prod) same deep)
+lost_end : (sooner : Sooner) (place : Position) (state : Expression) (outer : List (Level × Position)) (prod : Prod) → state.outer ≡ outer → LostBehind sooner place state prod
+    → LostMove sooner place (changed (whole_or_broken (of_whole sooner) outer state.passed) (look_end state outer prod))
+lost_end sooner place state [] prod same lost = lost_finished sooner place state prod same lost
+lost_end sooner place state (around ∷ outer) prod same lost = lost_inside sooner place around outer state.passed state.passed
 
-lost_close : (state : Expression) (outer : List (Level × Position)) (prod : Prod) → state.outer ≡ outer → LostBehind state prod → LostMove (look_close state outer prod)
-lost_close state [] prod same lost = lost_finished state prod same lost
-lost_close state (around ∷ outer) prod same lost =
-    lost_read (closed state around.0 outer) (bracketed around.1 (level_expr state.level prod)) (lost_closed state around outer prod same lost)
+lost_closed : (sooner : Sooner) (place : Position) (state : Expression) (around : Level × Position) (outer : List (Level × Position)) (prod : Prod) → state.outer ≡ around ∷ outer → LostBehind sooner place state prod
+    → LostOperand sooner place (closed state around.0 outer)
+lost_closed its_depth place state around outer prod same lost = (subst (λ (list : List (Level × Position)). EndsDeep state.level list prod) same lost.0, lost.1)
+lost_closed within_it place state around outer prod same lost = lost
 
-lost_product : (state : Expression) (prod : Prod) (how : Multiplication) → LostBehind state prod → LostOperand (awaiting_product state prod how)
-lost_product state prod how (inl it) = inl it
-lost_product state prod how (inr deep) = inr (deep_product state.level state.outer prod how deep)
+lost_close : (sooner : Sooner) (place : Position) (state : Expression) (outer : List (Level × Position)) (prod : Prod) → state.outer ≡ outer → LostBehind sooner place state prod
+    → LostMove sooner place (changed (whole_or_broken (of_whole sooner) outer state.passed) (look_close state outer prod))
+lost_close sooner place state [] prod same lost = lost_finished sooner place state prod same lost
+lost_close sooner place state (around ∷ outer) prod same lost =
+    lost_read sooner place (closed state around.0 outer) (bracketed around.1 (level_expr state.level prod)) (lost_closed sooner place state around outer prod same lost)
 
-lost_sum : (state : Expression) (prod : Prod) (how : Addition) → LostBehind state prod → LostOperand (awaiting_sum state prod how)
-lost_sum state prod how (inl it) = inl it
-lost_sum state prod how (inr deep) = inr (deep_sum state.level state.outer prod how deep)
+lost_product : (sooner : Sooner) (place : Position) (state : Expression) (prod : Prod) (how : Multiplication) → LostBehind sooner place state prod → LostOperand sooner place (awaiting_product state prod how)
+lost_product its_depth place state prod how lost = (deep_product state.level state.outer prod how lost.0, lost.1)
+lost_product within_it place state prod how lost = lost
 
-lost_comparison : (state : Expression) (comparing : Comparing) (prod : Prod) (how : Comparison) → state.level.comparing ≡ comparing → LostBehind state prod → LostMove (look_comparison state comparing prod how)
-lost_comparison state never prod how same lost = lost_end state state.outer prod refl lost
-lost_comparison state (behind_left left other) prod how same lost = lost_end state state.outer prod refl lost
-lost_comparison state possible prod how same (inl it) = inl it
-lost_comparison state possible prod how same (inr deep) = inr (deep_comparison state.level state.outer prod how same deep)
+lost_sum : (sooner : Sooner) (place : Position) (state : Expression) (prod : Prod) (how : Addition) → LostBehind sooner place state prod → LostOperand sooner place (awaiting_sum state prod how)
+lost_sum its_depth place state prod how lost = (deep_sum state.level state.outer prod how lost.0, lost.1)
+lost_sum within_it place state prod how lost = lost
 
-lost_behind : (state : Expression) (prod : Prod) (it : Joint) → LostBehind state prod → LostMove (look_behind state prod it)
-lost_behind state prod (by_product how) lost = lost_product state prod how lost
-lost_behind state prod (by_sum how) lost = lost_sum state prod how lost
-lost_behind state prod (by_comparison how) lost = lost_comparison state state.level.comparing prod how refl lost
-lost_behind state prod closes lost = lost_close state state.outer prod refl lost
-lost_behind state prod ends lost = lost_end state state.outer prod refl lost
+lost_compared : (sooner : Sooner) (place : Position) (state : Expression) (prod : Prod) (how : Comparison) → state.level.comparing ≡ possible → LostBehind sooner place state prod
+    → LostOperand sooner place (awaiting_comparison state prod how)
+lost_compared its_depth place state prod how may lost = (deep_comparison state.level state.outer prod how may lost.0, lost.1)
+lost_compared within_it place state prod how may lost = lost
 
-lost_look : (first : Expected) (lexeme : Lexeme) (place : Position) → Lost first → LostMove (look first lexeme place)
-lost_look (operand state) lexeme place lost = lost_operand state place (head lexeme) lost
-lost_look (behind_operand state prod) lexeme place lost = lost_behind state prod (joint lexeme) lost
-lost_look _ lexeme place lost = absurd lost
+lost_comparison : (sooner : Sooner) (place : Position) (state : Expression) (comparing : Comparing) (prod : Prod) (how : Comparison) → state.level.comparing ≡ comparing → LostBehind sooner place state prod
+    → LostMove sooner place (changed (whole_or_broken (of_whole sooner) state.outer state.passed) (look_comparison state comparing prod how))
+lost_comparison sooner place state never prod how same lost = lost_end sooner place state state.outer prod refl lost
+lost_comparison sooner place state (behind_left left other) prod how same lost = lost_end sooner place state state.outer prod refl lost
+lost_comparison sooner place state possible prod how same lost = lost_compared sooner place state prod how same lost
 
--- ---- never accepted
+lost_behind : (sooner : Sooner) (place : Position) (state : Expression) (prod : Prod) (it : Joint) → LostBehind sooner place state prod
+    → LostMove sooner place (changed (whole_or_broken (of_whole sooner) state.outer state.passed) (look_behind state prod it))
+lost_behind sooner place state prod (by_product how) lost = lost_product sooner place state prod how lost
+lost_behind sooner place state prod (by_sum how) lost = lost_sum sooner place state prod how lost
+lost_behind sooner place state prod (by_comparison how) lost = lost_comparison sooner place state state.level.comparing prod how refl lost
+lost_behind sooner place state prod closes lost = lost_close sooner place state state.outer prod refl lost
+lost_behind sooner place state prod ends lost = lost_end sooner place state state.outer prod refl lost
 
--- no tokens are accepted where these may come
-abbrev pub Never : List Expected → Type 0
-Never stack = (spots : List Spot) → run stack spots ≡ accepted → ⊥
+lost_look : (sooner : Sooner) (place : Position) (first : Expected) (lexeme : Lexeme) (at : Position) → Lost sooner place first → LostMove sooner place (look_so (of_whole sooner) first lexeme at)
+lost_look sooner place (operand state) lexeme at lost = lost_operand sooner place state at (head lexeme) lost
+lost_look sooner place (behind_operand state prod) lexeme at lost = lost_behind sooner place state prod (joint lexeme) lost
+lost_look sooner place _ lexeme at lost = absurd lost
 
-at_end : (move : Move) (rest : List Expected) (without : Next) → LostMove move → ended (met move rest without) ≡ accepted → ⊥
-at_end (taken more) rest without lost e = cc
-at_end left_out rest without lost e = lost
-at_end wrong rest without lost e = cc
-at_end (passed place) rest without lost e = cc
+-- ---- nothing else is told
 
-at_token : (move : Move) (rest : List Expected) (without : Next) (here spots : List Spot) → LostMove move → ((first : Expected) → Lost first → run (first ∷ rest) spots ≡ accepted → ⊥)
-    → followed (met move rest without) here (λ after. run after spots) ≡ accepted → ⊥
-at_token (taken []) rest without here spots lost later e = lost
-at_token (taken (first ∷ [])) rest without here spots lost later e = later first lost e
-at_token (taken (first ∷ second ∷ more)) rest without here spots lost later e = lost
-at_token left_out rest without here spots lost later e = lost
-at_token wrong rest without here spots lost later e = cc
-at_token (passed place) rest without here spots lost later e = cc
+-- the tokens are not accepted, and no limit is told but at this place
+abbrev pub TellsOnly : Position → Verdict → Type 0
+TellsOnly place accepted = ⊥
+TellsOnly place (syntax rest) = ⊤
+TellsOnly place (too_large other) = other ≡ place
 
-pub never_lost : (spots : List Spot) (rest : List Expected) (first : Expected) → Lost first → run (first ∷ rest) spots ≡ accepted → ⊥
-never_lost [] rest first lost e = at_end (look first unknown 0) rest (next rest (unknown, 0)) (lost_look first unknown 0 lost) e
-never_lost (spot ∷ spots) rest first lost e = at_token (look first spot.0 spot.1) rest (next rest spot) (spot ∷ spots) spots (lost_look first spot.0 spot.1 lost) (never_lost spots rest) e
+at_end : (sooner : Sooner) (place : Position) (move : Move) (rest : List Expected) (without : Next) → LostMove sooner place move → TellsOnly place (ended (met move rest without))
+at_end sooner place (taken more) rest without lost = tt
+at_end sooner place left_out rest without lost = absurd lost
+at_end sooner place wrong rest without lost = tt
+at_end sooner place (passed other) rest without lost = lost
 
--- where tokens are accepted, some of them are accepted by what may come behind the first things
-abbrev Accepts : List Expected → Type 0
-Accepts stack = (spots : List Spot) × (run stack spots ≡ accepted)
+at_token : (sooner : Sooner) (place : Position) (move : Move) (rest : List Expected) (without : Next) (here spots : List Spot) → LostMove sooner place move
+    → ((first : Expected) → Lost sooner place first → TellsOnly place (run_so (of_whole sooner) (first ∷ rest) spots)) → TellsOnly place (followed (met move rest without) here (λ after. run_so (of_whole sooner) after spots))
+at_token sooner place (taken []) rest without here spots lost later = absurd lost
+at_token sooner place (taken (first ∷ [])) rest without here spots lost later = later first lost
+at_token sooner place (taken (first ∷ second ∷ more)) rest without here spots lost later = absurd lost
+at_token sooner place left_out rest without here spots lost later = absurd lost
+at_token sooner place wrong rest without here spots lost later = tt
+at_token sooner place (passed other) rest without here spots lost later = lost
 
-end_behind : (move : Move) (more rest : List Expected) → (run (more ++ rest) [] ≡ accepted → Accepts rest) → ended (met move (more ++ rest) (next (more ++ rest) (unknown, 0))) ≡ accepted → Accepts rest
-end_behind (taken others) more rest later e = absurd (cc)
-end_behind left_out more rest later e = later e
-end_behind wrong more rest later e = absurd (cc)
-end_behind (passed place) more rest later e = absurd (cc)
-
-ends_behind : (more rest : List Expected) → run (more ++ rest) [] ≡ accepted → Accepts rest
-ends_behind [] rest e = ([], e)
-ends_behind (first ∷ more) rest e = end_behind (look first unknown 0) more rest (ends_behind more rest) e
-
-token_behind : (move : Move) (more rest : List Expected) (spot : Spot) (spots : List Spot) → ((others : List Expected) → run (others ++ rest) spots ≡ accepted → Accepts rest)
-    → (run (more ++ rest) (spot ∷ spots) ≡ accepted → Accepts rest) → followed (met move (more ++ rest) (next (more ++ rest) spot)) (spot ∷ spots) (λ after. run after spots) ≡ accepted → Accepts rest
-token_behind (taken others) more rest spot spots further later e = further (others ++ more) (ap (λ (stack : List Expected). run stack spots) (append_assoc others more rest) ∙ e)
-token_behind left_out more rest spot spots further later e = later e
-token_behind wrong more rest spot spots further later e = absurd (cc)
-token_behind (passed place) more rest spot spots further later e = absurd (cc)
-
-tokens_behind : (spot : Spot) (spots : List Spot) (rest : List Expected) → ((others : List Expected) → run (others ++ rest) spots ≡ accepted → Accepts rest)
-    → (more : List Expected) → run (more ++ rest) (spot ∷ spots) ≡ accepted → Accepts rest
-tokens_behind spot spots rest further [] e = (spot ∷ spots, e)
-tokens_behind spot spots rest further (first ∷ more) e = token_behind (look first spot.0 spot.1) more rest spot spots further (tokens_behind spot spots rest further more) e
-
-accepts_behind : (spots : List Spot) (rest more : List Expected) → run (more ++ rest) spots ≡ accepted → Accepts rest
-accepts_behind [] rest more e = ends_behind more rest e
-accepts_behind (spot ∷ spots) rest more e = tokens_behind spot spots rest (accepts_behind spots rest) more e
-
-pub never_behind : (first : Expected) (rest : List Expected) → Never rest → Never (first ∷ rest)
-never_behind first rest none spots e = let behind = accepts_behind spots rest (first ∷ []) e in none behind.0 behind.1
+pub lost_tells : (spots : List Spot) (sooner : Sooner) (place : Position) (first : Expected) (rest : List Expected) → Lost sooner place first → TellsOnly place (run_so (of_whole sooner) (first ∷ rest) spots)
+lost_tells [] sooner place first rest lost = at_end sooner place (look_so (of_whole sooner) first unknown 0) rest (next_so (of_whole sooner) rest (unknown, 0)) (lost_look sooner place first unknown 0 lost)
+lost_tells (spot ∷ spots) sooner place first rest lost =
+    at_token sooner place (look_so (of_whole sooner) first spot.0 spot.1) rest (next_so (of_whole sooner) rest spot) (spot ∷ spots) spots (lost_look sooner place first spot.0 spot.1 lost)
+    (λ other still. lost_tells spots sooner place other rest still)

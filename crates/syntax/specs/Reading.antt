@@ -1,5 +1,5 @@
 -- What a text is read as, and the cause of each fault.
-use Rattle.std.specs.Prelude.{◌≡◌, ◌⊎◌, ◌≤◌, ℕ, suc, List, length, map, take, drop, get_or, slice_get, Some}
+use Rattle.std.specs.Prelude.{◌≡◌, ◌≤◌, ℕ, suc, List, length, map, take, drop, get_or, slice_get, Some}
 use Rattle.syntax.specs.declared.fault.TreeError.{TreeError}
 use Rattle.syntax.specs.declared.fault.TreeError.TheVariants as error
 use Rattle.syntax.specs.declared.fault.TreeFault.{TreeFault}
@@ -20,42 +20,39 @@ pub record IsRead (text : List ℕ) (tree : Tree) : Type 0 where
   pub within : IsWithin graph
   pub is : IsTree graph tree
 
--- the tokens of this graph text are the same as these, so many of them and the next one; and where there is no next one,
--- they end too
-abbrev pub GoesOn : List Spot → ℕ → GraphText → Type 0
-GoesOn spots count graph = (others : List Spot) × Derives graph others × (take (suc count) others ≡ take (suc count) spots)
+-- some graph text begins with so many of these tokens; with more than there are of them, it is these tokens
+abbrev pub CanGoOn : List Spot → ℕ → Type 0
+CanGoOn spots count = (graph : GraphText) × (others : List Spot) × Derives graph others × (take count others ≡ take count spots)
+
+-- each graph text that begins with so many of these tokens passes a limit at this place
+abbrev pub AllPass : List Spot → ℕ → Position → Type 0
+AllPass spots count place = (graph : GraphText) (others : List Spot) → Derives graph others → take count others ≡ take count spots → (i : ℕ) × (slice_get (graph_limits graph) i ≡ Some place)
 
 -- the position of the token behind so many, or the end of the text
 abbrev pub position_behind : List ℕ → List Spot → ℕ → Position
 position_behind text spots count = get_or (map (λ spot. spot.1) spots) count (length text)
 
--- Some graph text begins with the tokens before this place, and none goes on with the token at it, or ends there; and it is there that
--- the tokens, read one by one from the left, are told to break off, so no limit is passed in front of it.
+-- `count` tokens can be completed to a graph text, and with the next one, or with the end of the text, they cannot; and there
+-- the tokens, read one by one from the left, are told to break off
 pub record IsSyntaxFault (text : List ℕ) (place : Position) : Type 0 where
   pub spots : List Spot
   pub tokens : AreTokens 0 text spots
   pub count : ℕ
   pub counted : count ≤ length spots
   pub there : place ≡ position_behind text spots count
-  -- some graph text has the tokens before
-  pub before : (graph : GraphText) × (others : List Spot) × Derives graph others × (take count others ≡ take count spots)
-  pub none : (graph : GraphText) → GoesOn spots count graph → ⊥
+  pub before : CanGoOn spots count
+  pub none : CanGoOn spots (suc count) → ⊥
   pub told : run graph_expected spots ≡ syntax (drop count spots)
 
--- Some graph text begins with so many tokens, and none that does is within the limits. Each that goes on with the next token too, or
--- ends there, passes a limit at this place. Also where none goes on so, behind an expression that passes a limit, it is there that the
--- tokens, read one by one from the left, are told to pass one.
+-- `count` tokens can be completed to a graph text, and every completion passes a limit at this place; and there
+-- the tokens, read one by one from the left, are told to pass one
 pub record IsLimitFault (text : List ℕ) (place : Position) : Type 0 where
   pub spots : List Spot
   pub tokens : AreTokens 0 text spots
   pub count : ℕ
   pub counted : count ≤ length spots
-  -- so many tokens pass it: those before one, or that one with them
-  pub passing : ℕ
-  pub is_passing : (passing ≡ count) ⊎ (passing ≡ suc count)
-  pub begins : (graph : GraphText) × (others : List Spot) × Derives graph others × (take passing others ≡ take passing spots)
-  pub past : (graph : GraphText) (others : List Spot) → Derives graph others → take passing others ≡ take passing spots → IsWithin graph → ⊥
-  pub passed : (graph : GraphText) → GoesOn spots count graph → (i : ℕ) × (slice_get (graph_limits graph) i ≡ Some place)
+  pub begins : CanGoOn spots count
+  pub pass : AllPass spots count place
   pub told : run graph_expected spots ≡ too_large place
 
 -- the cause of a fault at its place; want of memory has none, and no place

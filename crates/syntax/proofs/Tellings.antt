@@ -1,0 +1,126 @@
+-- The machine, with a say in which limit of a whole expression it tells, and telling none of one that breaks off.
+use Rattle.std.proofs.Common.{◌≡◌, ◌≢◌, List, [], ◌∷◌, Option, Some, None, refl, sym, ap, ◌∙◌}
+use Rattle.syntax.specs.Tokens.{Lexeme, unknown, Spot}
+use Rattle.syntax.specs.Grammar.{Position}
+use Rattle.syntax.specs.Expected.{Level, Expected, whole, operand, behind_operand, Move, taken, left_out, wrong, passed, look, Next, on, nothing_left, at_fault, limit_passed, met, next, Verdict, ended, followed, run}
+
+-- what is told sooner of a whole expression that passes both
+pub data Sooner : Type 0 where
+  its_depth : Sooner
+  within_it : Sooner
+
+pub data Telling : Type 0 where
+  -- as the machine tells it
+  as_told : Telling
+  -- of a whole expression this sooner, and none of one that breaks off
+  of_whole : Sooner → Telling
+
+-- what comes in place of a limit at this place: of an expression that breaks off, and of one that is whole behind an operand,
+-- within no bracket, where the first limit within it is known
+abbrev pub broken : Telling → Position → Move
+broken as_told place = passed place
+broken (of_whole sooner) place = wrong
+
+abbrev pub chosen : Sooner → Option Position → Position → Move
+chosen its_depth before place = passed place
+chosen within_it None place = passed place
+chosen within_it (Some other) place = passed other
+
+abbrev pub whole_or_broken : Telling → List (Level × Position) → Option Position → Position → Move
+whole_or_broken as_told outer before place = passed place
+whole_or_broken (of_whole sooner) [] before place = chosen sooner before place
+whole_or_broken (of_whole sooner) (around ∷ outer) before place = wrong
+
+abbrev pub instead : Expected → Telling → Position → Move
+instead (whole comparing) telling place = broken telling place
+instead (operand state) telling place = broken telling place
+instead (behind_operand state prod) telling place = whole_or_broken telling state.outer state.passed place
+instead _ telling place = passed place
+
+abbrev pub changed : (Position → Move) → Move → Move
+changed change (taken more) = taken more
+changed change left_out = left_out
+changed change wrong = wrong
+changed change (passed place) = change place
+
+abbrev pub look_so : Telling → Expected → Lexeme → Position → Move
+look_so telling first lexeme place = changed (instead first telling) (look first lexeme place)
+
+abbrev pub next_so : Telling → List Expected → Spot → Next
+next_so telling [] spot = nothing_left
+next_so telling (first ∷ rest) spot = met (look_so telling first spot.0 spot.1) rest (next_so telling rest spot)
+
+abbrev pub run_so : Telling → List Expected → List Spot → Verdict
+run_so telling stack [] = ended (next_so telling stack (unknown, 0))
+run_so telling stack (spot ∷ spots) = followed (next_so telling stack spot) (spot ∷ spots) (λ after. run_so telling after spots)
+
+-- ---- as the machine tells it
+
+same_place : (first : Expected) (place : Position) → instead first as_told place ≡ passed place
+same_place (whole comparing) place = refl
+same_place (operand state) place = refl
+same_place (behind_operand state prod) place = refl
+same_place _ place = refl
+
+same_move : (first : Expected) (move : Move) → changed (instead first as_told) move ≡ move
+same_move first (taken more) = refl
+same_move first left_out = refl
+same_move first wrong = refl
+same_move first (passed place) = same_place first place
+
+same_next : (stack : List Expected) (spot : Spot) → next_so as_told stack spot ≡ next stack spot
+same_next [] spot = refl
+same_next (first ∷ rest) spot =
+    ap (λ (move : Move). met move rest (next_so as_told rest spot)) (same_move first (look first spot.0 spot.1)) ∙ ap (met (look first spot.0 spot.1) rest) (same_next rest spot)
+
+same_later : (it : Next) (here spots : List Spot) → ((stack : List Expected) → run_so as_told stack spots ≡ run stack spots)
+    → followed it here (λ after. run_so as_told after spots) ≡ followed it here (λ after. run after spots)
+same_later (on stack) here spots later = later stack
+same_later nothing_left here spots later = refl
+same_later at_fault here spots later = refl
+same_later (limit_passed place) here spots later = refl
+
+pub same_run : (spots : List Spot) (stack : List Expected) → run_so as_told stack spots ≡ run stack spots
+same_run [] stack = ap ended (same_next stack (unknown, 0))
+same_run (spot ∷ spots) stack =
+    ap (λ (it : Next). followed it (spot ∷ spots) (λ after. run_so as_told after spots)) (same_next stack spot) ∙ same_later (next stack spot) (spot ∷ spots) spots (same_run spots)
+
+pub as_the_machine : (one two : List Spot) (first second : List Expected) → run_so as_told first one ≡ run_so as_told second two → run first one ≡ run second two
+as_the_machine one two first second same = sym (same_run one first) ∙ same ∙ same_run two second
+
+-- ---- the same tokens are taken
+
+met_on : (change : Position → Move) (move : Move) (rest more : List Expected) (one other : Next) → (one ≡ on more → other ≡ on more) → met move rest one ≡ on more → met (changed change move) rest other ≡ on more
+met_on change (taken others) rest more one other behind is = is
+met_on change left_out rest more one other behind is = behind is
+met_on change wrong rest more one other behind is = absurd (cc)
+met_on change (passed place) rest more one other behind is = absurd (cc)
+
+pub next_on : (telling : Telling) (stack more : List Expected) (spot : Spot) → next stack spot ≡ on more → next_so telling stack spot ≡ on more
+next_on telling [] more spot is = is
+next_on telling (first ∷ rest) more spot is =
+    met_on (instead first telling) (look first spot.0 spot.1) rest more (next rest spot) (next_so telling rest spot) (next_on telling rest more spot) is
+
+pub run_on : (telling : Telling) (stack more : List Expected) (spot : Spot) (spots : List Spot) → next stack spot ≡ on more → run_so telling stack (spot ∷ spots) ≡ run_so telling more spots
+run_on telling stack more spot spots is = ap (λ (it : Next). followed it (spot ∷ spots) (λ after. run_so telling after spots)) (next_on telling stack more spot is)
+
+-- ---- where no expression is expected
+
+-- what comes of the first thing that may come, which is no expression
+abbrev pub plainly : Expected → Lexeme → Position → Move
+plainly (whole comparing) lexeme place = wrong
+plainly (operand state) lexeme place = wrong
+plainly (behind_operand state prod) lexeme place = wrong
+plainly first lexeme place = look first lexeme place
+
+unchanged : (move : Move) → changed passed move ≡ move
+unchanged (taken more) = refl
+unchanged left_out = refl
+unchanged wrong = refl
+unchanged (passed place) = refl
+
+pub plain_so : (telling : Telling) (first : Expected) (lexeme : Lexeme) (place : Position) (move : Move) → move ≢ wrong → plainly first lexeme place ≡ move → look_so telling first lexeme place ≡ move
+plain_so telling (whole comparing) lexeme place move not_wrong is = absurd (not_wrong (sym is))
+plain_so telling (operand state) lexeme place move not_wrong is = absurd (not_wrong (sym is))
+plain_so telling (behind_operand state prod) lexeme place move not_wrong is = absurd (not_wrong (sym is))
+plain_so telling first lexeme place move not_wrong is = unchanged (look first lexeme place) ∙ is
