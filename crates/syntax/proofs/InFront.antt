@@ -1,5 +1,5 @@
 -- Of the things that may come, only the first one is an expression that is begun.
-use Rattle.std.proofs.Common.{◌≡◌, ◌⊎◌, inl, inr, ℕ, Bool, true, false, if◌then◌else◌, ◌==◌, List, [], ◌∷◌, ◌++◌, Option, Some, None, refl, subst}
+use Rattle.std.proofs.Common.{◌≡◌, ◌⊎◌, inl, inr, ℕ, suc, Bool, true, false, if◌then◌else◌, ◌==◌, List, [], ◌∷◌, ◌++◌, Option, Some, None, refl, subst}
 use Rattle.terms.specs.declared.key.TheConstants.{MAX_COMPONENTS}
 use Rattle.steptree.specs.declared.sheet.TheConstants.{MOST_COLLECTIONS}
 use Rattle.syntax.specs.declared.limits.TheConstants.{MOST_BRACES}
@@ -12,11 +12,13 @@ use Rattle.syntax.specs.Grammar.{Position, Expr, Prod}
 use Rattle.syntax.specs.Limits.{one_more, name_limits, depth_limits, expr_depth}
 use Rattle.syntax.specs.Expected.{Comparing, never, possible, behind_left, Level, Expression, begun, level_expr, Joint, by_product, by_sum, by_comparison, closes, ends, joint, Head, minus_sign, open_bracket, a_number, a_variable, no_head, head}
 use Rattle.syntax.specs.Expected.{Move, taken, left_out, wrong, passed, within, broken_off, finished, look_operand, look_behind, look_end, look_close, look_comparison, look_name, look_if, look_if_word, sign_number, word_number, nested}
+use Rattle.syntax.specs.Expected.{look_sign, look_word, look_nested_brace, look_put_target, look_reader, look_related, look_parameters, look_behind_parameter, look_behind_variable}
 use Rattle.syntax.specs.Expected.{look_statement, look_statement_word, look_relation, look_declarations, look_relations, look_front_named, look_front_closed, step_name_limits, declared_limits, declared, step_rest, look, Next, on, met, next}
 use Rattle.syntax.specs.Expected.{Kind, item, tag, closing, Part, reading, writing, Expected, exactly, keyword, a_name, whole, operand, behind_operand, components, more_components, statements, nested_brace, or_else, put_target, declarations, front, front_named, front_closed}
 use Rattle.syntax.specs.Expected.{component_name, behind_component, relations, reader, related, steps, step_name, parameters, parameter, behind_parameter, variables, step_variable, behind_variable}
 use Rattle.syntax.proofs.Lost.{IsLost}
 
+-- an expression whose first token is taken
 abbrev is_begun : Expected → Bool
 is_begun (operand state) = true
 is_begun (behind_operand state prod) = true
@@ -31,11 +33,13 @@ abbrev none_behind : List Expected → Bool
 none_behind [] = true
 none_behind (first ∷ rest) = none_begun rest
 
+-- only the first one may be begun
 abbrev pub BegunInFront : List Expected → Type 0
 BegunInFront stack = none_behind stack ≡ true
 
 -- ---- what comes of one thing at a token
 
+-- of what it puts in the place of that thing only the first one is begun
 abbrev is_so : Move → Bool
 is_so (taken more) = none_behind more
 is_so left_out = true
@@ -158,11 +162,51 @@ so_front_closed tag items tags at (symbol sign.DoubleColon) = refl
 so_front_closed item items tags at _ = refl
 so_front_closed tag items tags at _ = refl
 
+so_exactly : (it : Symbol) (lexeme : Lexeme) → IsSo (look_sign it lexeme)
+so_exactly it (symbol other) = so_if (sign_number it == sign_number other) (taken []) wrong refl refl
+so_exactly it _ = refl
+
+so_keyword : (it : Word) (lexeme : Lexeme) → IsSo (look_word it lexeme)
+so_keyword it (word other) = so_if (word_number it == word_number other) (taken []) wrong refl refl
+so_keyword it _ = refl
+
+so_brace : (around : ℕ) (lexeme : Lexeme) (place : Position) → IsSo (look_nested_brace around lexeme place)
+so_brace around (symbol sign.OpenBrace) place = so_within (one_more MOST_BRACES around place) (taken []) refl
+so_brace around _ place = refl
+
+so_target : (lexeme : Lexeme) → IsSo (look_put_target lexeme)
+so_target (symbol sign.OpenBracket) = refl
+so_target (symbol sign.Less) = refl
+so_target _ = refl
+
+so_reader : (lexeme : Lexeme) → IsSo (look_reader lexeme)
+so_reader (symbol sign.OpenRound) = refl
+so_reader (word kept.Env) = refl
+so_reader _ = refl
+
+so_related : (lexeme : Lexeme) → IsSo (look_related lexeme)
+so_related (symbol sign.OpenBracket) = refl
+so_related (symbol sign.Less) = refl
+so_related _ = refl
+
+so_parameters : (lexeme : Lexeme) (place : Position) → IsSo (look_parameters lexeme place)
+so_parameters (name text) place = so_name (name text) place (one_more MAX_COMPONENTS 0 place ++ step_name_limits 0 place) (behind_parameter 1 ∷ []) refl
+so_parameters (symbol sign.CloseRound) place = refl
+so_parameters _ place = refl
+
+so_behind_parameter : (before : ℕ) (lexeme : Lexeme) → IsSo (look_behind_parameter before lexeme)
+so_behind_parameter before (symbol sign.Comma) = refl
+so_behind_parameter before (symbol sign.CloseRound) = refl
+so_behind_parameter before _ = refl
+
+so_behind_variable : (before : ℕ) (lexeme : Lexeme) → IsSo (look_behind_variable before lexeme)
+so_behind_variable before (symbol sign.Comma) = refl
+so_behind_variable before (symbol sign.Semicolon) = refl
+so_behind_variable before _ = refl
+
 so_look : (first : Expected) (lexeme : Lexeme) (place : Position) → IsSo (look first lexeme place)
-so_look (exactly it) (symbol other) place = so_if (sign_number it == sign_number other) (taken []) wrong refl refl
-so_look (exactly it) _ place = refl
-so_look (keyword it) (word other) place = so_if (word_number it == word_number other) (taken []) wrong refl refl
-so_look (keyword it) _ place = refl
+so_look (exactly it) lexeme place = so_exactly it lexeme
+so_look (keyword it) lexeme place = so_keyword it lexeme
 so_look a_name lexeme place = so_name lexeme place [] [] refl
 so_look (whole comparing) lexeme place = so_operand (begun comparing place) place (head lexeme)
 so_look (operand state) lexeme place = so_operand state place (head lexeme)
@@ -170,43 +214,30 @@ so_look (behind_operand state prod) lexeme place = so_behind state prod (joint l
 so_look components lexeme place = so_sign sign.Colon lexeme (whole never ∷ more_components ∷ []) refl
 so_look more_components lexeme place = so_sign sign.Comma lexeme (whole never ∷ more_components ∷ []) refl
 so_look (statements part around) lexeme place = so_statement part around lexeme place
-so_look (nested_brace around) (symbol sign.OpenBrace) place = so_within (one_more MOST_BRACES around place) (taken []) refl
-so_look (nested_brace around) _ place = refl
+so_look (nested_brace around) lexeme place = so_brace around lexeme place
 so_look (or_else part around) lexeme place = so_word kept.Else lexeme (nested part around) refl
-so_look put_target (symbol sign.OpenBracket) place = refl
-so_look put_target (symbol sign.Less) place = refl
-so_look put_target _ place = refl
+so_look put_target lexeme place = so_target lexeme
 so_look (declarations items tags) lexeme place = so_declarations items tags lexeme
 so_look (front kind items tags) lexeme place = so_name lexeme place [] (front_named kind items tags place ∷ []) refl
 so_look (front_named kind items tags at) lexeme place = so_front_named kind items tags at lexeme
 so_look (front_closed kind items tags at) lexeme place = so_front_closed kind items tags at lexeme
-so_look (component_name before) lexeme place = so_name lexeme place (one_more MAX_COMPONENTS before place) _ refl
+so_look (component_name before) lexeme place = so_name lexeme place (one_more MAX_COMPONENTS before place) (behind_component (suc before) ∷ []) refl
 so_look (behind_component before) lexeme place = so_sign sign.Comma lexeme (component_name before ∷ []) refl
 so_look relations lexeme place = so_relations lexeme
-so_look reader (symbol sign.OpenRound) place = refl
-so_look reader (word kept.Env) place = refl
-so_look reader _ place = refl
-so_look related (symbol sign.OpenBracket) place = refl
-so_look related (symbol sign.Less) place = refl
-so_look related _ place = refl
+so_look reader lexeme place = so_reader lexeme
+so_look related lexeme place = so_related lexeme
 so_look (steps before) lexeme place = so_word kept.Step lexeme (step_rest before) refl
 so_look (step_name before) lexeme place = so_name lexeme place (one_more MOST_COLLECTIONS before place) [] refl
-so_look parameters (name text) place = so_name (name text) place (one_more MAX_COMPONENTS 0 place ++ step_name_limits 0 place) (behind_parameter 1 ∷ []) refl
-so_look parameters (symbol sign.CloseRound) place = refl
-so_look parameters _ place = refl
-so_look (parameter before) lexeme place = so_name lexeme place (one_more MAX_COMPONENTS before place ++ step_name_limits before place) _ refl
-so_look (behind_parameter before) (symbol sign.Comma) place = refl
-so_look (behind_parameter before) (symbol sign.CloseRound) place = refl
-so_look (behind_parameter before) _ place = refl
+so_look parameters lexeme place = so_parameters lexeme place
+so_look (parameter before) lexeme place = so_name lexeme place (one_more MAX_COMPONENTS before place ++ step_name_limits before place) (behind_parameter (suc before) ∷ []) refl
+so_look (behind_parameter before) lexeme place = so_behind_parameter before lexeme
 so_look (variables before) lexeme place = so_word kept.Var lexeme (step_variable before ∷ []) refl
-so_look (step_variable before) lexeme place = so_name lexeme place (step_name_limits before place) _ refl
-so_look (behind_variable before) (symbol sign.Comma) place = refl
-so_look (behind_variable before) (symbol sign.Semicolon) place = refl
-so_look (behind_variable before) _ place = refl
+so_look (step_variable before) lexeme place = so_name lexeme place (step_name_limits before place) (behind_variable (suc before) ∷ []) refl
+so_look (behind_variable before) lexeme place = so_behind_variable before lexeme
 
 -- ---- from one token to the next
 
--- the two parts of `none_begun` of several
+-- the parts of `none_begun` of several
 not_first : (one others : Bool) → (if one then false else others) ≡ true → one ≡ false
 not_first true others none = absurd (cc)
 not_first false others none = refl

@@ -15,34 +15,38 @@ pub data Telling : Type 0 where
   -- of a whole expression this sooner, and none of one that breaks off
   of_whole : Sooner → Telling
 
--- what comes in place of a limit at this place: of an expression that breaks off, and of one that is whole behind an operand,
--- within no bracket, where the first limit within it is known
+-- what comes in place of a limit at this place, where an expression breaks off
 abbrev pub broken : Telling → Position → Move
 broken as_told place = passed place
 broken (of_whole sooner) place = wrong
 
+-- where it is whole, with the first limit within it
 abbrev pub chosen : Sooner → Option Position → Position → Move
 chosen its_depth before place = passed place
 chosen within_it None place = passed place
 chosen within_it (Some other) place = passed other
 
+-- behind an operand: it is whole within no bracket
 abbrev pub whole_or_broken : Telling → List (Level × Position) → Option Position → Position → Move
 whole_or_broken as_told outer before place = passed place
 whole_or_broken (of_whole sooner) [] before place = chosen sooner before place
 whole_or_broken (of_whole sooner) (around ∷ outer) before place = wrong
 
+-- whatever may come first
 abbrev pub instead : Expected → Telling → Position → Move
 instead (whole comparing) telling place = broken telling place
 instead (operand state) telling place = broken telling place
 instead (behind_operand state prod) telling place = whole_or_broken telling state.outer state.passed place
 instead _ telling place = passed place
 
+-- with this in place of a limit
 abbrev pub changed : (Position → Move) → Move → Move
 changed change (taken more) = taken more
 changed change left_out = left_out
 changed change wrong = wrong
 changed change (passed place) = change place
 
+-- the machine that tells so
 abbrev pub look_so : Telling → Expected → Lexeme → Position → Move
 look_so telling first lexeme place = changed (instead first telling) (look first lexeme place)
 
