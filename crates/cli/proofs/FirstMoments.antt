@@ -63,12 +63,12 @@ module _ {D : Type 0} (files : D → Side → File) (moment : D → ℕ) (left_a
     | inr before ↦ elim (at_once t from before) [
       | inl all ↦ inl (λ k begins ends. (
         reads_of old,
-        (appends.stays k (reads_of old) (omega (arith, ends, before))).1 (all k (reads_of old) begins ends reads),
+        (appends.stays k (reads_of old) (omega (arith, ends, before))).1 (all k begins ends (reads_of old) reads),
         ap (λ (f : File). f.content) empty,
       ))
       | inr settled ↦ inr (λ k contents begins ends left. elim (cases_lt (moment mid) k) [
         | inl late ↦ added contents (appends.each k contents (omega (arith, late)) ends left)
-        | inr early ↦ started contents (settled k contents begins early ((appends.stays k contents early).0 left))
+        | inr early ↦ started contents (settled k begins early contents ((appends.stays k contents early).0 left))
       ])
     ]
   ]

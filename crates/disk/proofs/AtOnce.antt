@@ -63,16 +63,16 @@ module _ {D : Type 0} (files : D → Side → File) (moment : D → ℕ) (left_a
   pub kept_at_once : (old new : D) → Elapses (moment old) (moment new) (left_at old) (left_at new)
       → ((contents : Contents) → MayLeaveNow (files old) contents → MayLeaveNow (files new) contents) → AtOnce files moment left_at old new
   kept_at_once old new time keeps t from to =
-      inl (λ k contents begins ends left. call_keeps moment left_at files at_now old new time contents left (keeps contents left) k begins (omega (arith, ends, to)))
+      inl (λ k begins ends contents left. call_keeps moment left_at files at_now old new time contents left (keeps contents left) k begins (omega (arith, ends, to)))
 
   -- and one behind it: a moment is one of theirs, or there is but what a crash may leave in the end
   pub call_at_once : (old mid new : D) → Elapses (moment old) (moment mid) (left_at old) (left_at mid)
       → ((contents : Contents) → MayLeaveNow (files old) contents → MayLeaveNow (files mid) contents)
       → Elapses (moment mid) (moment new) (left_at mid) (left_at new) → AtOnce files moment left_at old new
   call_at_once old mid new first keeps time t from to = elim (cases_lt (moment mid) t) [
-    | inl behind ↦ inr (λ k contents begins ends left.
+    | inl behind ↦ inr (λ k begins ends contents left.
         (at_now new contents).0 (subst (λ (n : ℕ). left_at new n contents) (omega (arith, behind, begins, ends, time.by_one)) left))
-    | inr before ↦ inl (λ k contents begins ends left.
+    | inr before ↦ inl (λ k begins ends contents left.
         (time.stays k contents (omega (arith, before, ends))).1
         (call_keeps moment left_at files at_now old mid first contents left (keeps contents left) k begins (omega (arith, before, ends))))
   ]

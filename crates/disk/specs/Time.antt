@@ -37,12 +37,16 @@ pub record LeavesOnly {D : Type 0} (moment : D → ℕ) (left_at : D → ℕ →
 abbrev pub KeepsAll : {D : Type 0} → (D → Side → File) → (D → ℕ) → (D → ℕ → Contents → Type 0) → D → D → Type 0
 KeepsAll files moment left_at old new = (k : ℕ) (contents : Contents) → moment old ≤ k → k ≤ moment new → MayLeaveNow (files old) contents → left_at new k contents
 
--- These calls settle nothing until they settle all: of each moment it holds that up to it a crash may leave all that it might
--- have left before them, or that from it on one leaves only what it may leave behind them.
+-- Before a moment the first holds, and from it on the second: of each moment from first to last it holds that the first does of all up to
+-- it, or the second of all from it on.
+abbrev pub Switches : ℕ → ℕ → (ℕ → Type 0) → (ℕ → Type 0) → Type 0
+Switches first last Before After = (t : ℕ) → first ≤ t → t ≤ last → ((k : ℕ) → first ≤ k → k ≤ t → Before k) ⊎ ((k : ℕ) → t ≤ k → k ≤ last → After k)
+
+-- These calls settle nothing until they settle all: up to a moment a crash may leave all that it might have left before them, and from it
+-- on only what it may leave behind them.
 abbrev pub AtOnce : {D : Type 0} → (D → Side → File) → (D → ℕ) → (D → ℕ → Contents → Type 0) → D → D → Type 0
-AtOnce files moment left_at old new = (t : ℕ) → moment old ≤ t → t ≤ moment new
-    → ((k : ℕ) (contents : Contents) → moment old ≤ k → k ≤ t → MayLeaveNow (files old) contents → left_at new k contents)
-    ⊎ ((k : ℕ) (contents : Contents) → t ≤ k → k ≤ moment new → left_at new k contents → MayLeaveNow (files new) contents)
+AtOnce files moment left_at old new =
+    Switches (moment old) (moment new) (λ k. (contents : Contents) → MayLeaveNow (files old) contents → left_at new k contents) (λ k. (contents : Contents) → left_at new k contents → MayLeaveNow (files new) contents)
 
 -- `Device` is answered exactly where the count of failures grew
 pub record HasCause {T : Type 0} (before now : ℕ) (result : Result T DiskError) : Type 0 where

@@ -28,7 +28,7 @@ returns-clause-begun g c honest =
     }
 
 pub returns-then-at-ge-LIMIT-clause-at_once : goal.returns-then-at-ge-LIMIT-clause-at_once
-returns-then-at-ge-LIMIT-clause-at_once g c honest t from to = inl (λ k contents begins ends left.
+returns-then-at-ge-LIMIT-clause-at_once g c honest t from to = inl (λ k begins ends contents left.
     subst (λ (n : ℕ). g.D.Disk.left_at c.args.disk.now n contents) (omega (arith, from, to, begins, ends)) ((g.met.D.Disk.at_now honest c.args.disk.now contents).1 left))
 
 pub returns-then-at-ge-LIMIT-clause-err_moments : goal.returns-then-at-ge-LIMIT-clause-err_moments
