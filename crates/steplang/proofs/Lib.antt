@@ -1,4 +1,5 @@
 pub mod Answered
+pub mod Begun
 pub mod Counted
 pub mod Endings
 pub mod Valued

@@ -1,4 +1,5 @@
 pub mod Leaf
 pub mod Machine
+pub mod Running
 pub mod Stages
 pub mod Turns

@@ -1,5 +1,5 @@
 -- How far a run is, and what is still to come of it.
-use Rattle.std.specs.Prelude.{◌≡◌, ⊤, ℕ, ℤ, List, [], ◌∷◌, ◌++◌, Option, Some, None}
+use Rattle.std.specs.Prelude.{◌≡◌, ℕ, ℤ, List, ◌∷◌, ◌++◌}
 use Rattle.terms.specs.declared.name.Addr.{Addr}
 use Rattle.steptree.specs.declared.body.Body.{Body}
 use Rattle.steptree.specs.Run.{Read, asks, assigned, run}
@@ -8,6 +8,8 @@ use Rattle.steplang.specs.declared.machine.Machine.{Machine}
 use Rattle.steplang.specs.declared.run.Stage.{Stage}
 use Rattle.steplang.specs.declared.run.Stage.TheVariants.{Ready, Waits, Over, Refused}
 use Rattle.steplang.specs.Machine.{state_of, unwound, outcome_from}
+use Rattle.steplang.specs.Running as running
+use Rattle.steplang.specs.Running.{Awaits}
 
 -- before its first statement: along any reads the same comes of the body and of the machine
 abbrev pub IsReady : Stage → Body → List ℤ → List Read → Machine → Type 0
@@ -18,21 +20,9 @@ abbrev pub IsWaiting : Stage → Body → List ℤ → List Read → Machine →
 IsWaiting stage body key reads machine = (address : Addr) (variable : ℕ) → stage ≡ Waits address variable → (outcome_of body key reads ≡ asks address)
     × ((value : ℤ) (more : List Read) → outcome_of body key (reads ++ (address, value) ∷ more) ≡ unwound machine.frames.items (run machine.block.now (assigned variable value (state_of machine more))))
 
--- the item that is asked for
-abbrev pub pending_of : Stage → Option Addr
-pending_of (Waits address variable) = Some address
-pending_of Ready = None
-pending_of Over = None
-pending_of Refused = None
-
--- a run may go on with this: with a value just where an item is asked for, and not behind an end
-abbrev pub IsDue : Stage → Option ℤ → Type 0
-IsDue Ready None = ⊤
-IsDue (Waits address variable) (Some value) = ⊤
-IsDue Refused answer = ⊤
-IsDue stage answer = ⊥
-
--- the reads, with the one that is answered now
-abbrev pub reads_with : List Read → Stage → Option ℤ → List Read
-reads_with reads (Waits address variable) (Some value) = reads ++ (address, value) ∷ []
-reads_with reads stage answer = reads
+-- what a run waits for at this stage
+abbrev pub awaits_of : Stage → Awaits
+awaits_of Ready = running.Nothing
+awaits_of (Waits address variable) = running.ValueOf address
+awaits_of Over = running.Over
+awaits_of Refused = running.Refused

@@ -3,6 +3,7 @@ ghost use Rattle.steplang.specs.Stages.{IsReady, IsWaiting};
 use crate::machine::{Machine, Step};
 use crate::outcome::{Bad, Given, Parked, Reads, Turn};
 use std::alloc::{AllocError, Global};
+use std::marker::Model;
 use std::mem;
 use steptree::{Checked, Slot};
 use terms::{Addr, Inst, Puts};
@@ -20,7 +21,8 @@ pub(crate) enum Stage {
     Refused,
 }
 
-/// The body of an instance while it runs. It stops at each item that the body gets, and goes on with its value.
+/// The body of an instance while it runs. It stops at each item that the body gets, and goes on with its value. Clauses see
+/// of which step and instance it is, what it has read, and what it waits for.
 #[derive(Drop)]
 pub struct Run<'a> {
     alloc: Global,
@@ -33,18 +35,29 @@ pub struct Run<'a> {
     ghost waiting: { IsWaiting stage checked.now.body instance.key reads.items machine },
 }
 
+impl<'a> Model for Run<'a> {
+    ghost use Rattle.std.specs.Coded.{codes};
+    ghost use Rattle.steptree.specs.contracts.checked.Checked as step;
+    ghost use Rattle.steplang.specs.Running.{Running};
+
+    ghost Value = { Running };
+
+    ghost coded = { Prim.hlevel (codes, step.the_row.coded) };
+
+    ghost use Rattle.steplang.specs.Stages.{awaits_of};
+
+    ghost view = { λ r. record { checked = r.checked; instance = r.instance; reads = r.reads.items; awaits = awaits_of r.stage } };
+}
+
 impl<'a> Run<'a> {
-    ghost use Rattle.std.specs.Prelude.{◌≡◌, [], length, IfOk, OnOk, OnErr, IsErr, IsSome, Some};
-    ghost use Rattle.steplang.specs.Stages.{IsDue, pending_of, reads_with};
+    ghost use Rattle.std.specs.Prelude.{◌≡◌, [], length, IfOk, OnOk, OnErr, IsErr, IsSome};
+    ghost use Rattle.steplang.specs.Running.{Nothing, ValueOf, Refused, IsDue, pending_of, answered};
     ghost use Rattle.steplang.specs.Turns.{Tells};
-    ghost use Rattle.steplang.specs.declared.run.Stage.TheVariants.{Ready, Waits, Refused};
 
     /// A run of this step for an instance, whose key has as many components as the step has parameters.
     pub fn start(alloc: Global, checked: &'a Checked, instance: Inst) -> Result<Run<'a>, AllocError>
         requires { length instance.key ≡ checked.now.parameters }
-        ensures checked { IfOk result (λ run. run.checked ≡ checked.entry) }
-        ensures instance { IfOk result (λ run. run.instance ≡ instance) }
-        ensures fresh { IfOk result (λ run. (run.stage ≡ Ready) × (run.reads.items ≡ [])) }
+        ensures begins { IfOk result (λ run. run ≡ record { checked = checked.entry; instance = instance; reads = []; awaits = Nothing }) }
     {
         Ok(Run {
             alloc,
@@ -60,11 +73,11 @@ impl<'a> Run<'a> {
     ///
     /// After a refusal of memory each further call is refused too.
     pub fn advance(&mut self, answer: Option<i64>) -> Result<Turn<'a>, AllocError>
-        requires { IsDue self.old.stage answer }
-        ensures turn { IfOk result (λ turn. Tells turn self.old.checked self.old.instance (reads_with self.old.reads.items self.old.stage answer) self.new) }
+        requires { IsDue self.old.awaits answer }
+        ensures turn { IfOk result (λ turn. Tells turn (answered self.old answer) self.new) }
         ensures same { (self.new.checked ≡ self.old.checked) × (self.new.instance ≡ self.old.instance) }
-        ensures refused { OnErr result (self.new.stage ≡ Refused) }
-        ensures stays { self.old.stage ≡ Refused → IsErr result }
+        ensures refused { OnErr result (self.new.awaits ≡ Refused) }
+        ensures stays { self.old.awaits ≡ Refused → IsErr result }
     {
         self.take(answer)?;
         self.proceed()
@@ -72,12 +85,11 @@ impl<'a> Run<'a> {
 
     // Takes the value of the item that is asked for, if one is.
     fn take(&mut self, answer: Option<i64>) -> Result<(), AllocError>
-        requires { IsDue self.old.stage answer }
-        ensures ready { OnOk result (self.new.stage ≡ Ready) }
-        ensures reads { OnOk result (self.new.reads.items ≡ reads_with self.old.reads.items self.old.stage answer) }
+        requires { IsDue self.old.awaits answer }
+        ensures answered { OnOk result (self.new ≡ answered self.old answer) }
         ensures same { (self.new.checked ≡ self.old.checked) × (self.new.instance ≡ self.old.instance) }
-        ensures refused { OnErr result (self.new.stage ≡ Refused) }
-        ensures stays { self.old.stage ≡ Refused → IsErr result }
+        ensures refused { OnErr result (self.new.awaits ≡ Refused) }
+        ensures stays { self.old.awaits ≡ Refused → IsErr result }
     {
         let stage = self.stage;
         self.stage = Stage::Refused;
@@ -96,10 +108,10 @@ impl<'a> Run<'a> {
 
     // Goes on to the next item that is asked for, or to the end.
     fn proceed(&mut self) -> Result<Turn<'a>, AllocError>
-        requires { self.old.stage ≡ Ready }
-        ensures turn { IfOk result (λ turn. Tells turn self.old.checked self.old.instance self.old.reads.items self.new) }
+        requires { self.old.awaits ≡ Nothing }
+        ensures turn { IfOk result (λ turn. Tells turn self.old self.new) }
         ensures same { (self.new.checked ≡ self.old.checked) × (self.new.instance ≡ self.old.instance) }
-        ensures refused { OnErr result (self.new.stage ≡ Refused) }
+        ensures refused { OnErr result (self.new.awaits ≡ Refused) }
     {
         self.stage = Stage::Refused;
         match self.machine.go()? {
@@ -136,7 +148,7 @@ impl<'a> Run<'a> {
 
     /// The item that is asked for.
     pub fn pending(&self) -> Option<Addr>
-        ensures { result ≡ pending_of self.now.stage }
+        ensures { result ≡ pending_of self.now.awaits }
     {
         match self.stage {
             Stage::Waits(address, _) => Some(address),
@@ -146,11 +158,8 @@ impl<'a> Run<'a> {
 
     /// What the run came to while an item is asked for.
     pub fn park(self) -> Parked<'a>
-        requires { IsSome (pending_of self.stage) }
-        ensures checked { result.checked ≡ self.entry.checked }
-        ensures instance { result.instance ≡ self.entry.instance }
-        ensures reads { result.reads ≡ self.entry.reads.items }
-        ensures address { pending_of self.entry.stage ≡ Some result.address }
+        requires { IsSome (pending_of self.awaits) }
+        ensures parked { self.entry ≡ record { checked = result.checked; instance = result.instance; reads = result.reads; awaits = ValueOf result.address } }
     {
         let Stage::Waits(address, _) = self.stage else {
             unreachable!()
