@@ -3,8 +3,6 @@ use Rattle.std.proofs.Common.{◌≡◌, ℕ, List, [], ◌∷◌, Some, refl, s
 use Rattle.steptree.specs.declared.expression.Expression.{Expression}
 use Rattle.steptree.specs.Tree as tree
 use Rattle.steptree.specs.declared.block.Block.{Block}
-use Rattle.steptree.specs.declared.sheet.Declared.{Declared}
-use Rattle.steptree.specs.declared.sheet.Sheet.{Sheet}
 use Rattle.steptree.specs.declared.step.Name.{Name}
 use Rattle.steptree.specs.declared.step.NamedExpression.{NamedExpression}
 use Rattle.steptree.specs.declared.step.NamedExpression.TheVariants.{Number, Variable, Negation', Operation'}
@@ -13,6 +11,7 @@ use Rattle.steptree.specs.declared.step.NamedBlock.{NamedBlock}
 use Rattle.steptree.specs.declared.step.NamedBlock.TheVariants.{End, Assign', If', For', Get', PutItem', PutTag'}
 use Rattle.steptree.specs.Names.{Text, place_of, names_declared}
 use Rattle.steptree.specs.Resolved.{IsExpression, AreExpressions, IsKey, IsBlock}
+use Rattle.steptree.specs.Nameable.{Collection, Nameable}
 use Rattle.syntax.specs.Tree.{AreAll}
 use Rattle.graph.proofs.AlikeTrees.{SameName, Alike, AlikeKey, AlikeBlock}
 
@@ -52,15 +51,15 @@ module _ (names : List Text) where
   expressions_same (one ∷ ones) (two ∷ twos) (e ∷ es) (f ∷ fs) alike a b =
       let first = expression_same one two e f alike.0 a.0 b.0 in let rest = expressions_same ones twos es fs alike.1 a.1 b.1 in λ k. first k ∷ rest k
 
-  key_same : (first second : List Declared) → names_declared first ≡ names_declared second → (one two : NamedKey) (m n : ℕ) (es fs : List Expression) → AlikeKey one two
-      → IsKey names first one m es → IsKey names second two n fs → (m ≡ n) × es ≡ fs
-  key_same first second declared one two m n es fs alike a b = (
-    same_place (names_declared first) one.collection two.collection m n alike.0 a.0 (ap (λ (them : List Text). place_of them two.collection.text.now) declared ∙ b.0),
+  key_same : (collections : List Collection) (one two : NamedKey) (m n : ℕ) (es fs : List Expression) → AlikeKey one two
+      → IsKey names collections one m es → IsKey names collections two n fs → (m ≡ n) × es ≡ fs
+  key_same collections one two m n es fs alike a b = (
+    same_place (names_declared collections) one.collection two.collection m n alike.0 a.0 b.0,
     expressions_same one.components.items two.components.items es fs alike.1 a.1 b.1,
   )
 
-  module _ (first second : Sheet) (items : names_declared first.items.now ≡ names_declared second.items.now) (tags : names_declared first.tags.now ≡ names_declared second.tags.now) where
-    pub block_same : (one two : NamedBlock) (b c : Block) → AlikeBlock one two → IsBlock names first one b → IsBlock names second two c → b ≡ c
+  module _ (sheet : Nameable) where
+    pub block_same : (one two : NamedBlock) (b c : Block) → AlikeBlock one two → IsBlock names sheet one b → IsBlock names sheet two c → b ≡ c
     block_same End End tree.End tree.End alike a d = refl
     block_same End End tree.End _ alike a d = absurd d
     block_same End End _ c alike a d = absurd a
@@ -86,21 +85,21 @@ module _ (names : List Text) where
     block_same (For' m e1 g1 _ a1 _ one) (For' n e2 g2 _ a2 _ two) _ c alike a d = absurd a
     block_same (For' m e1 g1 _ a1 _ one) _ b c alike a d = absurd alike
     block_same (Get' m k1 _ one) (Get' n k2 _ two) (tree.Get i i1 es rest) (tree.Get j i2 fs more) alike a d =
-        let key = key_same first.items.now second.items.now items k1 k2 i1.0 i2.0 es fs alike.1 a.1 d.1 in
+        let key = key_same sheet.items k1 k2 i1.0 i2.0 es fs alike.1 a.1 d.1 in
         let slot = same_place names m n i j alike.0 a.0 d.0 in let behind = block_same one two rest more alike.2 a.2 d.2 in
         λ k. tree.Get (slot k) (record { 0 = key.0 k }) (key.1 k) (behind k)
     block_same (Get' m k1 _ one) (Get' n k2 _ two) (tree.Get i i1 es rest) _ alike a d = absurd d
     block_same (Get' m k1 _ one) (Get' n k2 _ two) _ c alike a d = absurd a
     block_same (Get' m k1 _ one) _ b c alike a d = absurd alike
     block_same (PutItem' k1 e1 _ one) (PutItem' k2 e2 _ two) (tree.PutItem i1 es f1 rest) (tree.PutItem i2 fs f2 more) alike a d =
-        let key = key_same first.items.now second.items.now items k1 k2 i1.0 i2.0 es fs alike.0 a.0 d.0 in
+        let key = key_same sheet.items k1 k2 i1.0 i2.0 es fs alike.0 a.0 d.0 in
         let value = expression_same e1 e2 f1 f2 alike.1 a.1 d.1 in let behind = block_same one two rest more alike.2 a.2 d.2 in
         λ k. tree.PutItem (record { 0 = key.0 k }) (key.1 k) (value k) (behind k)
     block_same (PutItem' k1 e1 _ one) (PutItem' k2 e2 _ two) (tree.PutItem i1 es f1 rest) _ alike a d = absurd d
     block_same (PutItem' k1 e1 _ one) (PutItem' k2 e2 _ two) _ c alike a d = absurd a
     block_same (PutItem' k1 e1 _ one) _ b c alike a d = absurd alike
     block_same (PutTag' k1 _ one) (PutTag' k2 _ two) (tree.PutTag t1 es rest) (tree.PutTag t2 fs more) alike a d =
-        let key = key_same first.tags.now second.tags.now tags k1 k2 t1.0 t2.0 es fs alike.0 a.0 d.0 in
+        let key = key_same sheet.tags k1 k2 t1.0 t2.0 es fs alike.0 a.0 d.0 in
         let behind = block_same one two rest more alike.1 a.1 d.1 in
         λ k. tree.PutTag (record { 0 = key.0 k }) (key.1 k) (behind k)
     block_same (PutTag' k1 _ one) (PutTag' k2 _ two) (tree.PutTag t1 es rest) _ alike a d = absurd d

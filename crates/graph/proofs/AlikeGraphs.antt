@@ -1,8 +1,9 @@
 -- All that trees of one derivation are as graphs is one graph.
-use Rattle.std.proofs.Common.{◌≡◌, List, [], ◌∷◌, ◌++◌, map, Some, refl, sym, subst, ◌∙◌}
+use Rattle.std.proofs.Common.{◌≡◌, List, [], ◌∷◌, ◌++◌, map, Some, refl, sym, ap, subst, ◌∙◌}
 use Rattle.std.proofs.lemmas.List.{map-append}
 use Rattle.steptree.specs.declared.step.Name.{Name}
 use Rattle.steptree.specs.declared.step.Step.{Step as NamedStep}
+use Rattle.steptree.specs.Nameable.{Nameable}
 use Rattle.steptree.specs.Resolved.{IsBlock}
 use Rattle.steptree.specs.Names.{Text, place_of, names_of}
 use Rattle.syntax.specs.declared.tree.Tree.{Tree}
@@ -10,10 +11,10 @@ use Rattle.syntax.specs.Grammar.{Named, StepText, GraphText}
 use Rattle.syntax.specs.Limits.{all_names}
 use Rattle.syntax.specs.Tree.{IsName, AreAll, IsStep, IsTree, IsGet, IsPut}
 use Rattle.graph.specs.Graph.{Step, Graph}
-use Rattle.graph.specs.Tree.{text_of, names_in, is_environment_item_put, is_environment_tag_put, is_environment_get, each_of, prescriber_of, IsStepOf, IsGraphOf}
+use Rattle.graph.specs.Tree.{text_of, names_in, is_environment_item_put, is_environment_tag_put, is_environment_get, each_of, prescriber_of, sheet_in, IsStepOf, IsGraphOf}
 use Rattle.graph.proofs.AlikeTrees.{statements_alike, get_alike, put_alike}
 use Rattle.graph.proofs.AlikeBodies.{block_same}
-use Rattle.graph.proofs.AlikeSheets.{SharesNames, shared, sheet_same, declared_same}
+use Rattle.graph.proofs.AlikeSheets.{SharesNames, shared, sheet_same}
 use Rattle.graph.proofs.SmallTrees.{as_many}
 use Rattle.graph.proofs.Ties.{prescriber_tie, prescriber_told, each_same, environment_item_tie, environment_item_told, environment_tag_tie, environment_tag_told, environment_get_tie, environment_get_told}
 
@@ -42,20 +43,18 @@ module _ (t u : Tree) (g h : Graph) (same : SharesNames t u) (tags_are_same : g.
       let one_tag : Some c.prescriber.0 ≡ Some d.prescriber.0 = sym c.prescriber.1 ∙ found ∙ d.prescriber.1 in
       let tag : c.prescriber.0 ≡ d.prescriber.0 = cc in
       let numbers : Some first.prescriber ≡ Some second.prescriber = sym c.prescriber.2 ∙ (λ i. place_of (names_in (tags_are_same i)) (tag i)) ∙ d.prescriber.2 in
-      let sheets = sheet_same t u same one two c.sheet d.sheet named c.is_sheet d.is_sheet in
-      let sheet_items = declared_same c.sheet.items.now d.sheet.items.now sheets.items in
-      let sheet_tags = declared_same c.sheet.tags.now d.sheet.tags.now sheets.tags in
+      let sheets = sheet_same t u same one two named in
       let prescriber : first.prescriber ≡ second.prescriber = cc in
       let all_named : first.names ≡ second.names = c.names ∙ names ∙ sym d.names in
       let parameters : first.parameters ≡ second.parameters =
       c.parameters ∙ as_many IsName (all_names text.parameters) one.parameters.items a.parameters ∙ sym (as_many IsName (all_names text.parameters) two.parameters.items b.parameters) ∙ sym d.parameters in
-      let reads : first.reads ≡ second.reads = c.reads ∙ sheets.reads ∙ sym d.reads in
-      let item_puts : first.item_puts ≡ second.item_puts = c.item_puts ∙ sheets.item_puts ∙ sym d.item_puts in
-      let tag_puts : first.tag_puts ≡ second.tag_puts = c.tag_puts ∙ sheets.tag_puts ∙ sym d.tag_puts in
-      let read = block_same (names_of one) c.sheet d.sheet sheet_items sheet_tags one.read two.read first.body.read second.body.read (statements_alike IsGet get_alike text.read one.read two.read a.read b.read) c.read
-      (subst (λ (them : List Text). IsBlock them d.sheet two.read second.body.read) (sym names) d.read) in
-      let write = block_same (names_of one) c.sheet d.sheet sheet_items sheet_tags one.write two.write first.body.write second.body.write (statements_alike IsPut put_alike text.write one.write two.write a.write b.write) c.write
-      (subst (λ (them : List Text). IsBlock them d.sheet two.write second.body.write) (sym names) d.write) in
+      let reads : first.reads ≡ second.reads = c.reads ∙ ap (λ (sheet : Nameable). sheet.reads) sheets ∙ sym d.reads in
+      let item_puts : first.item_puts ≡ second.item_puts = c.item_puts ∙ ap (λ (sheet : Nameable). sheet.item_puts) sheets ∙ sym d.item_puts in
+      let tag_puts : first.tag_puts ≡ second.tag_puts = c.tag_puts ∙ ap (λ (sheet : Nameable). sheet.tag_puts) sheets ∙ sym d.tag_puts in
+      let read = block_same (names_of one) (sheet_in t one) one.read two.read first.body.read second.body.read (statements_alike IsGet get_alike text.read one.read two.read a.read b.read) c.read
+      (subst (λ (sheet : Nameable). IsBlock (names_of one) sheet two.read second.body.read) (sym sheets) (subst (λ (them : List Text). IsBlock them (sheet_in u two) two.read second.body.read) (sym names) d.read)) in
+      let write = block_same (names_of one) (sheet_in t one) one.write two.write first.body.write second.body.write (statements_alike IsPut put_alike text.write one.write two.write a.write b.write) c.write
+      (subst (λ (sheet : Nameable). IsBlock (names_of one) sheet two.write second.body.write) (sym sheets) (subst (λ (them : List Text). IsBlock them (sheet_in u two) two.write second.body.write) (sym names) d.write)) in
       λ i. record {
         name = step_named i;
         prescriber = prescriber i;

@@ -1,18 +1,16 @@
 -- What trees of one derivation let their steps name.
 use Rattle.std.proofs.Common.{◌≡◌, ℕ, List, [], ◌∷◌, length, map, refl, sym, ap, ◌∙◌}
-use Rattle.steptree.specs.declared.sheet.Declared.{Declared}
-use Rattle.steptree.specs.declared.sheet.Sheet.{Sheet}
 use Rattle.steptree.specs.declared.step.Name.{Name}
 use Rattle.steptree.specs.declared.step.Step.{Step as NamedStep}
-use Rattle.steptree.specs.Names.{Text, names_declared}
+use Rattle.steptree.specs.Names.{Text}
+use Rattle.steptree.specs.Nameable.{Collection}
 use Rattle.syntax.specs.declared.tree.Declaration.{Declaration as Declaring}
 use Rattle.syntax.specs.declared.tree.Declaration.TheVariants as declared
 use Rattle.syntax.specs.declared.tree.Tree.{Tree}
 use Rattle.syntax.specs.Grammar.{Named, Declaration, item_declared, tag_declared, GraphText}
 use Rattle.syntax.specs.Limits.{all_names}
 use Rattle.syntax.specs.Tree.{IsName, AreAll, IsDeclaration, IsTree}
-use Rattle.graph.specs.Graph.{Collection, declared_collections}
-use Rattle.graph.specs.Tree.{text_of, items_of, tags_of, names_in, is_read, is_item_put, is_tag_put, each_of, IsSheetOf}
+use Rattle.graph.specs.Tree.{text_of, items_of, tags_of, names_in, is_read, is_item_put, is_tag_put, each_of, sheet_in}
 use Rattle.graph.proofs.Ties.{tie, ties_are, each_same, read_tie, read_told, item_put_tie, item_put_told, tag_put_tie, tag_put_told}
 
 -- ---- declarations
@@ -68,37 +66,19 @@ shared graph t u a b = record {
 
 -- ---- sheets
 
--- two sheets that differ in nothing but where their parts lie in memory
-pub record SameSheet (first second : Sheet) : Type 0 where
-  pub items : declared_collections first.items.now ≡ declared_collections second.items.now
-  pub tags : declared_collections first.tags.now ≡ declared_collections second.tags.now
-  pub reads : first.reads.now ≡ second.reads.now
-  pub item_puts : first.item_puts.now ≡ second.item_puts.now
-  pub tag_puts : first.tag_puts.now ≡ second.tag_puts.now
-
-pub declared_same : (ones twos : List Declared) → declared_collections ones ≡ declared_collections twos → names_declared ones ≡ names_declared twos
-declared_same ones twos same = told ones ∙ ap names_in same ∙ sym (told twos)
-  where
-    told : (them : List Declared) → names_declared them ≡ names_in (declared_collections them)
-    told [] = refl
-    told (it ∷ them) = ap (λ (names : List Text). it.name.now ∷ names) (told them)
-
 module _ (t u : Tree) (same : SharesNames t u) where
-  -- the sheets of a step with one name
-  pub sheet_same : (one two : NamedStep) (first second : Sheet) → text_of one.name ≡ text_of two.name → IsSheetOf t one first → IsSheetOf u two second → SameSheet first second
-  sheet_same one two first second named a b =
+  -- what two trees let a step with one name name is the same
+  pub sheet_same : (one two : NamedStep) → text_of one.name ≡ text_of two.name → sheet_in t one ≡ sheet_in u two
+  sheet_same one two named =
       let item_names : names_in (items_of t.declarations.items) ≡ names_in (items_of u.declarations.items) = ap names_in same.items in
       let tag_names : names_in (tags_of t.declarations.items) ≡ names_in (tags_of u.declarations.items) = ap names_in same.tags in
-      record {
-        items = a.items ∙ same.items ∙ sym b.items;
-        tags = a.tags ∙ same.tags ∙ sym b.tags;
-        reads = a.reads
-            ∙ each_same (λ item. is_read item (text_of one.name)) (λ item. read_tie item (text_of one.name)) (λ item. read_told item (text_of one.name)) t.relations.items u.relations.items same.ties (names_in (items_of t.declarations.items))
-            ∙ (λ i. each_of (λ item. is_read item (named i)) u.relations.items (item_names i)) ∙ sym b.reads;
-        item_puts = a.item_puts
-            ∙ each_same (is_item_put (text_of one.name)) (item_put_tie (text_of one.name)) (item_put_told (text_of one.name)) t.relations.items u.relations.items same.ties (names_in (items_of t.declarations.items))
-            ∙ (λ i. each_of (is_item_put (named i)) u.relations.items (item_names i)) ∙ sym b.item_puts;
-        tag_puts = a.tag_puts
-            ∙ each_same (is_tag_put (text_of one.name)) (tag_put_tie (text_of one.name)) (tag_put_told (text_of one.name)) t.relations.items u.relations.items same.ties (names_in (tags_of t.declarations.items))
-            ∙ (λ i. each_of (is_tag_put (named i)) u.relations.items (tag_names i)) ∙ sym b.tag_puts;
-      }
+      let reads : (sheet_in t one).reads ≡ (sheet_in u two).reads =
+      each_same (λ item. is_read item (text_of one.name)) (λ item. read_tie item (text_of one.name)) (λ item. read_told item (text_of one.name)) t.relations.items u.relations.items same.ties (names_in (items_of t.declarations.items))
+      ∙ (λ i. each_of (λ item. is_read item (named i)) u.relations.items (item_names i)) in
+      let item_puts : (sheet_in t one).item_puts ≡ (sheet_in u two).item_puts =
+      each_same (is_item_put (text_of one.name)) (item_put_tie (text_of one.name)) (item_put_told (text_of one.name)) t.relations.items u.relations.items same.ties (names_in (items_of t.declarations.items))
+      ∙ (λ i. each_of (is_item_put (named i)) u.relations.items (item_names i)) in
+      let tag_puts : (sheet_in t one).tag_puts ≡ (sheet_in u two).tag_puts =
+      each_same (is_tag_put (text_of one.name)) (tag_put_tie (text_of one.name)) (tag_put_told (text_of one.name)) t.relations.items u.relations.items same.ties (names_in (tags_of t.declarations.items))
+      ∙ (λ i. each_of (is_tag_put (named i)) u.relations.items (tag_names i)) in
+      λ i. record { items = same.items i; tags = same.tags i; reads = reads i; item_puts = item_puts i; tag_puts = tag_puts i }

@@ -7,41 +7,29 @@ use Rattle.steptree.specs.declared.checker.CheckError.TheVariants.{UnknownName, 
 use Rattle.steptree.specs.declared.expression.Expression.{Expression}
 use Rattle.steptree.specs.Tree as tree
 use Rattle.steptree.specs.declared.block.Block.{Block}
-use Rattle.steptree.specs.declared.sheet.Declared.{Declared}
-use Rattle.steptree.specs.declared.sheet.Sheet.{Sheet}
 use Rattle.steptree.specs.declared.step.Name.{Name}
 use Rattle.steptree.specs.declared.step.NamedExpression.{NamedExpression}
 use Rattle.steptree.specs.declared.step.NamedExpression.TheVariants.{Number, Variable, Negation', Operation'}
 use Rattle.steptree.specs.declared.step.NamedKey.{NamedKey}
 use Rattle.steptree.specs.declared.step.NamedBlock.{NamedBlock}
 use Rattle.steptree.specs.declared.step.NamedBlock.TheVariants.{End, Assign', If', For', Get', PutItem', PutTag'}
-use Rattle.steptree.specs.Names.{Text, place_of, slot_of, number_of}
+use Rattle.steptree.specs.Names.{Text, place_of, names_declared, slot_of, number_of}
 use Rattle.steptree.specs.CheckFaults.{fault_if, variable_faults, expression_faults, component_faults, is_number, components_of, known_faults, key_faults, block_faults}
 use Rattle.steptree.specs.Resolved.{IsExpression, AreExpressions, IsKey, IsBlock}
 use Rattle.steptree.specs.Sheet.{IsAllowed, KeepsTo}
+use Rattle.steptree.specs.Nameable.{Collection, Nameable}
 use Rattle.syntax.specs.Tree.{AreAll}
-use Rattle.graph.specs.Graph.{Collection, declared_collections}
 use Rattle.graph.proofs.AlikeTrees.{SameName, Alike, AlikeKey, AlikeBlock}
-use Rattle.graph.proofs.AlikeSheets.{SameSheet, declared_same}
 
 -- ---- keys of declared collections
 
-components_told : (them : List Declared) (number : ℕ) → components_of them number ≡ option_map (λ (it : Collection). it.components) (slice_get (declared_collections them) number)
-components_told [] number = refl
-components_told (it ∷ them) zero = refl
-components_told (it ∷ them) (suc number) = components_told them number
-
-module _ (collections others : List Declared) (same : declared_collections collections ≡ declared_collections others) (allowed also : List Bool) (allows : allowed ≡ also) where
-  -- a collection that is there, allowed, and has so many components
-  known_clear : (error : CheckError) (key : NamedKey) (number components : ℕ) → number_of others key.collection ≡ Some number → IsAllowed collections allowed number components → length key.components.items ≡ components
-      → known_faults others also error key (number_of others key.collection) ≡ []
-  known_clear error key number components found is counted =
-      let may : get_or also number false ≡ true = ap (λ (them : List Bool). get_or them number false) (sym allows) ∙ is.is_allowed in
-      let has : components_of others number ≡ Some (length key.components.items) =
-      components_told others number ∙ ap (λ (them : List Collection). option_map (λ (it : Collection). it.components) (slice_get them number)) (sym same) ∙ sym (components_told collections number)
-      ∙ ap (option_map (λ (it : Declared). it.components)) is.declared.1 ∙ ap (λ (n : ℕ). Some n) (is.declared.2 ∙ sym counted) in
-      let as_many : is_number (components_of others number) (length key.components.items) ≡ true = ap (λ (it : Option ℕ). is_number it (length key.components.items)) has ∙ eq-eqb (length key.components.items) (length key.components.items) refl in
-      ap (known_faults others also error key) found ∙ (λ i. fault_if (not (may i)) error key.collection ++ fault_if (not (as_many i)) Arity key.collection)
+-- a collection that is there, allowed, and has so many components
+known_clear : (collections : List Collection) (allowed : List Bool) (error : CheckError) (key : NamedKey) (number components : ℕ) → number_of collections key.collection ≡ Some number → IsAllowed collections allowed number components
+    → length key.components.items ≡ components → known_faults collections allowed error key (number_of collections key.collection) ≡ []
+known_clear collections allowed error key number components found is counted =
+    let has : components_of collections number ≡ Some (length key.components.items) = ap (option_map (λ (it : Collection). it.components)) is.declared.1 ∙ ap (λ (n : ℕ). Some n) (is.declared.2 ∙ sym counted) in
+    let as_many : is_number (components_of collections number) (length key.components.items) ≡ true = ap (λ (it : Option ℕ). is_number it (length key.components.items)) has ∙ eq-eqb (length key.components.items) (length key.components.items) refl in
+    ap (known_faults collections allowed error key) found ∙ (λ i. fault_if (not (is.is_allowed i)) error key.collection ++ fault_if (not (as_many i)) Arity key.collection)
 
 -- ---- expressions and keys
 
@@ -73,18 +61,18 @@ module _ (names : List Text) where
       let rest = components_clear ones twos es alike.1 are.1 in
       (λ i. first i ++ rest.0 i, ap suc rest.1)
 
-  key_clear : (collections others : List Declared) → declared_collections collections ≡ declared_collections others → (allowed also : List Bool) → allowed ≡ also → (error : CheckError) (one two : NamedKey) (number : ℕ) (es : List Expression)
-      → AlikeKey one two → IsKey names collections one number es → IsAllowed collections allowed number (length es) → key_faults names others also error two ≡ []
-  key_clear collections others same allowed also allows error one two number es alike is may =
-      let found : number_of others two.collection ≡ Some number = (λ i. place_of (sym (declared_same collections others same) i) (sym alike.0 i)) ∙ is.0 in
+  key_clear : (collections : List Collection) (allowed : List Bool) (error : CheckError) (one two : NamedKey) (number : ℕ) (es : List Expression)
+      → AlikeKey one two → IsKey names collections one number es → IsAllowed collections allowed number (length es) → key_faults names collections allowed error two ≡ []
+  key_clear collections allowed error one two number es alike is may =
+      let found : number_of collections two.collection ≡ Some number = ap (place_of (names_declared collections)) (sym alike.0) ∙ is.0 in
       let components = components_clear one.components.items two.components.items es alike.1 is.1 in
-      let known = known_clear collections others same allowed also allows error two number (length es) found may components.1 in
+      let known = known_clear collections allowed error two number (length es) found may components.1 in
       λ i. known i ++ components.0 i
 
   -- ---- blocks
 
-  module _ (first second : Sheet) (same : SameSheet first second) where
-    pub block_clear : (one two : NamedBlock) (b : Block) → AlikeBlock one two → IsBlock names first one b → KeepsTo first b → block_faults names second two ≡ []
+  module _ (sheet : Nameable) where
+    pub block_clear : (one two : NamedBlock) (b : Block) → AlikeBlock one two → IsBlock names sheet one b → KeepsTo sheet b → block_faults names sheet two ≡ []
     block_clear End End b alike is keeps = refl
     block_clear End _ b alike is keeps = absurd alike
     block_clear (Assign' m e1 _ one) (Assign' n e2 _ two) (tree.Assign slot e rest) alike is keeps =
@@ -100,17 +88,17 @@ module _ (names : List Text) where
     block_clear (For' m e1 g1 _ a1 _ one) (For' n e2 g2 _ a2 _ two) _ alike is keeps = absurd is
     block_clear (For' m e1 g1 _ a1 _ one) _ b alike is keeps = absurd alike
     block_clear (Get' m k1 _ one) (Get' n k2 _ two) (tree.Get slot item es rest) alike is keeps =
-        let key = key_clear first.items.now second.items.now same.items first.reads.now second.reads.now same.reads UndeclaredRead k1 k2 item.0 es alike.1 is.1 keeps.0 in
+        let key = key_clear sheet.items sheet.reads UndeclaredRead k1 k2 item.0 es alike.1 is.1 keeps.0 in
         λ i. variable_clear m n slot alike.0 is.0 i ++ key i ++ block_clear one two rest alike.2 is.2 keeps.1 i
     block_clear (Get' m k1 _ one) (Get' n k2 _ two) _ alike is keeps = absurd is
     block_clear (Get' m k1 _ one) _ b alike is keeps = absurd alike
     block_clear (PutItem' k1 e1 _ one) (PutItem' k2 e2 _ two) (tree.PutItem item es e rest) alike is keeps =
-        let key = key_clear first.items.now second.items.now same.items first.item_puts.now second.item_puts.now same.item_puts UndeclaredPut k1 k2 item.0 es alike.0 is.0 keeps.0 in
+        let key = key_clear sheet.items sheet.item_puts UndeclaredPut k1 k2 item.0 es alike.0 is.0 keeps.0 in
         λ i. key i ++ expression_clear e1 e2 e alike.1 is.1 i ++ block_clear one two rest alike.2 is.2 keeps.1 i
     block_clear (PutItem' k1 e1 _ one) (PutItem' k2 e2 _ two) _ alike is keeps = absurd is
     block_clear (PutItem' k1 e1 _ one) _ b alike is keeps = absurd alike
     block_clear (PutTag' k1 _ one) (PutTag' k2 _ two) (tree.PutTag tag es rest) alike is keeps =
-        let key = key_clear first.tags.now second.tags.now same.tags first.tag_puts.now second.tag_puts.now same.tag_puts UndeclaredPut k1 k2 tag.0 es alike.0 is.0 keeps.0 in
+        let key = key_clear sheet.tags sheet.tag_puts UndeclaredPut k1 k2 tag.0 es alike.0 is.0 keeps.0 in
         λ i. key i ++ block_clear one two rest alike.1 is.1 keeps.1 i
     block_clear (PutTag' k1 _ one) (PutTag' k2 _ two) _ alike is keeps = absurd is
     block_clear (PutTag' k1 _ one) _ b alike is keeps = absurd alike

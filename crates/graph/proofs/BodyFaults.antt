@@ -3,8 +3,6 @@ use Rattle.std.proofs.Common.{◌≡◌, ◌<◌, ◌+◌, ℕ, zero, suc, Bool,
 use Rattle.std.specs.Prelude.{option_map, ◌⊎◌}
 use Rattle.std.proofs.lemmas.List.{take_more, take-append-drop, map-append}
 use Rattle.steptree.specs.declared.checker.CheckFault.{CheckFault}
-use Rattle.steptree.specs.declared.sheet.Declared.{Declared}
-use Rattle.steptree.specs.declared.sheet.Sheet.{Sheet}
 use Rattle.steptree.specs.declared.step.Step.{Step as NamedStep}
 use Rattle.steptree.specs.CheckFaults.{faults_of}
 use Rattle.steptree.specs.Names.{Text, is_text, place_of}
@@ -13,54 +11,17 @@ use Rattle.graph.specs.declared.fault.PlacedFault.{PlacedFault}
 use Rattle.graph.specs.declared.graph.Prescribed.{Prescribed}
 use Rattle.graph.specs.CheckedSteps.{IsCheckedStep, IsBodyFault, AreCheckedSteps}
 use Rattle.graph.specs.Faults.{At, body_fault, tree_faults}
-use Rattle.graph.specs.Graph.{Collection, declared_collections}
 use Rattle.graph.specs.Numbered.{names_numbered}
 use Rattle.graph.specs.Placed.{no_memory, IsFirst}
-use Rattle.graph.specs.Reads.{AreBodyFaults, IsTreeFault}
-use Rattle.graph.specs.Tree.{text_of, items_of, tags_of, names_in, step_names, is_read, is_item_put, is_tag_put, each_of, IsSheetOf}
+use Rattle.graph.specs.Reads.{body_faults, IsTreeFault}
+use Rattle.graph.specs.Tree.{text_of, step_names, sheet_in}
 use Rattle.graph.proofs.Lists.{opened}
 
--- ---- a sheet that the tree gives
-
-abbrev declared_as : Collection → Declared
-declared_as collection = record { name = record { ref_ptr = (0, 0); now = collection.name }; components = collection.components }
-
-declared_back : (collections : List Collection) → declared_collections (map declared_as collections) ≡ collections
-declared_back [] = refl
-declared_back (collection ∷ collections) = ap (λ l. collection ∷ l) (declared_back collections)
-
 module _ (tree : Tree) where
-  abbrev sheet_of : NamedStep → Sheet
-  sheet_of step = record {
-    items = record { ref_ptr = (0, 0); now = map declared_as (items_of tree.declarations.items) };
-    tags = record { ref_ptr = (0, 0); now = map declared_as (tags_of tree.declarations.items) };
-    reads = record { ref_ptr = (0, 0); now = each_of (λ item. is_read item (text_of step.name)) tree.relations.items (names_in (items_of tree.declarations.items)) };
-    item_puts = record { ref_ptr = (0, 0); now = each_of (is_item_put (text_of step.name)) tree.relations.items (names_in (items_of tree.declarations.items)) };
-    tag_puts = record { ref_ptr = (0, 0); now = each_of (is_tag_put (text_of step.name)) tree.relations.items (names_in (tags_of tree.declarations.items)) };
-  }
-
-  is_its_sheet : (step : NamedStep) → IsSheetOf tree step (sheet_of step)
-  is_its_sheet step = record {
-    items = declared_back (items_of tree.declarations.items);
-    tags = declared_back (tags_of tree.declarations.items);
-    reads = refl;
-    item_puts = refl;
-    tag_puts = refl;
-  }
-
-  -- the faults of the bodies of some steps
-  abbrev faults_in : List NamedStep → List CheckFault
-  faults_in [] = []
-  faults_in (step ∷ steps) = faults_of (sheet_of step) step ++ faults_in steps
-
-  are_faults_in : (steps : List NamedStep) → AreBodyFaults tree steps (faults_in steps)
-  are_faults_in [] = refl
-  are_faults_in (step ∷ steps) = (sheet_of step, is_its_sheet step, (faults_in steps, refl, are_faults_in steps))
-
   -- those of names and relations come first
   pub names_first : (fault : PlacedFault) → IsFirst (tree_faults tree) fault → (fault ≡ no_memory) ⊎ IsTreeFault tree fault.error fault.position
   names_first fault (inl memory) = inl memory
-  names_first fault (inr first) = inr (record { bodies = faults_in tree.steps.items; are_bodies = are_faults_in tree.steps.items; first = at_front (tree_faults tree) _ fault first })
+  names_first fault (inr first) = inr (at_front (tree_faults tree) _ fault first)
     where
       at_front : (front others : List At) (fault : PlacedFault) → slice_get front 0 ≡ Some (fault.error, fault.position) → slice_get (front ++ others) 0 ≡ Some (fault.error, fault.position)
       at_front [] others fault first = absurd (cc)
@@ -68,13 +29,11 @@ module _ (tree : Tree) where
 
   -- ---- checked steps
 
-  behind_checked : (before : List NamedStep) (them : List (Text × Prescribed)) (behind : List NamedStep) (faults : List CheckFault) → AreCheckedSteps tree before them → AreBodyFaults tree behind faults
-      → AreBodyFaults tree (before ++ behind) faults
-  behind_checked [] [] behind faults all are = are
-  behind_checked [] (entry ∷ them) behind faults all are = absurd all
-  behind_checked (step ∷ before) [] behind faults all are = absurd all
-  behind_checked (step ∷ before) (entry ∷ them) behind faults all are =
-      (all.0.1.sheet, all.0.1.is_sheet, (faults, sym (ap (λ l. l ++ faults) all.0.1.no_fault), behind_checked before them behind faults all.1 are))
+  behind_checked : (before : List NamedStep) (them : List (Text × Prescribed)) (behind : List NamedStep) → AreCheckedSteps tree before them → body_faults tree (before ++ behind) ≡ body_faults tree behind
+  behind_checked [] [] behind all = refl
+  behind_checked [] (entry ∷ them) behind all = absurd all
+  behind_checked (step ∷ before) [] behind all = absurd all
+  behind_checked (step ∷ before) (entry ∷ them) behind all = ap (λ l. l ++ body_faults tree (before ++ behind)) all.0.1.no_fault ∙ behind_checked before them behind all.1
 
   same_names : (steps : List NamedStep) (them : List (Text × Prescribed)) → AreCheckedSteps tree steps them → names_numbered them ≡ step_names steps
   same_names [] [] all = refl
@@ -100,17 +59,13 @@ module _ (tree : Tree) where
     -- the first fault of this step's body is that of the tree
     pub body_first : (fault : PlacedFault) → tree_faults tree ≡ [] → IsBodyFault tree step fault → (fault ≡ no_memory) ⊎ IsTreeFault tree fault.error fault.position
     body_first fault none (inl memory) = inl memory
-    body_first fault none (inr it) =
+    body_first fault none (inr first) =
+        let here : List CheckFault = faults_of (sheet_in tree step) step in
         let more = drop (number + 1) tree.steps.items in
-        let faults : List CheckFault = faults_of it.sheet step ++ faults_in more in
-        inr (record {
-          bodies = faults;
-          are_bodies = subst (λ (l : List NamedStep). AreBodyFaults tree l faults) whole
-              (behind_checked (take number tree.steps.items) them (step ∷ more) faults so (it.sheet, it.is_sheet, (faults_in more, refl, are_faults_in more)));
-          first = ap (λ (l : List At). slice_get (l ++ map body_fault faults) 0) none
-              ∙ ap (λ (l : List At). slice_get l 0) (map-append body_fault (faults_of it.sheet step) (faults_in more))
-              ∙ at_front (map body_fault (faults_of it.sheet step)) (map body_fault (faults_in more)) it.first;
-        })
+        let bodies : body_faults tree tree.steps.items ≡ here ++ body_faults tree more = sym (ap (body_faults tree) whole) ∙ behind_checked (take number tree.steps.items) them (step ∷ more) so in
+        inr ((λ i. slice_get (none i ++ map body_fault (bodies i)) 0)
+            ∙ ap (λ (l : List At). slice_get l 0) (map-append body_fault here (body_faults tree more))
+            ∙ at_front (map body_fault here) (map body_fault (body_faults tree more)) first)
       where
         at_front : (front others : List At) → slice_get front 0 ≡ Some (fault.error, fault.position) → slice_get (front ++ others) 0 ≡ Some (fault.error, fault.position)
         at_front [] others first = absurd (cc)

@@ -2,7 +2,6 @@
 use Rattle.std.proofs.Common.{◌≡◌, ◌<◌, ℕ, zero, suc, Bool, true, false, not, List, [], ◌∷◌, ◌++◌, length, get_or, take, drop, Some, None, Option, if◌then◌else◌, refl, sym, ap, subst, ◌∙◌, ◌+◌, arith, is_some, slice_get}
 use Rattle.std.specs.Prelude.{option_map, ◌==◌}
 use Rattle.std.proofs.lemmas.Bool.{eqb-true, eq-eqb, true≢false, false≢true}
-use Rattle.steptree.specs.declared.sheet.Declared.{Declared}
 use Rattle.steptree.specs.declared.step.Step.{Step as NamedStep}
 use Rattle.steptree.specs.Names.{Text, is_text, place_of}
 use Rattle.terms.specs.declared.name.TagCollection.{TagCollection}
@@ -11,7 +10,6 @@ use Rattle.graph.specs.declared.fault.GraphError.TheVariants.{StepTwice, Arity}
 use Rattle.graph.specs.declared.fault.PlacedFault.{PlacedFault}
 use Rattle.graph.specs.declared.relations.Relations.{Relations}
 use Rattle.graph.specs.Faults.{At, fault_if, or_else, has, repeated, step_faults, arity_faults, components_of, is_other}
-use Rattle.graph.specs.Graph.{Collection, declared_collections}
 use Rattle.graph.specs.Marks.{IsPrescriber, prescriber_at}
 use Rattle.graph.specs.Placed.{IsFirst}
 use Rattle.graph.specs.Relations.{AreRelations}
@@ -25,15 +23,16 @@ use Rattle.std.specs.Option.{option_eq}
 use Rattle.std.proofs.Math.Dec.{eqb}
 use Rattle.std.proofs.lemmas.List.{take-append-drop, map-append}
 use Rattle.std.proofs.lemmas.Option.{slice_get-map}
+use Rattle.steptree.specs.Nameable.{Collection}
 use Rattle.graph.proofs.Naming.{one_more_named, so_many}
 
 -- ---- components
 
 -- the tags with a number have the components that are declared
-pub looked_up : (tags : List Declared) (tag : Text) (number : ℕ) → place_of (names_in (declared_collections tags)) tag ≡ Some number
-    → components_of (declared_collections tags) tag ≡ option_map (λ declared. declared.components) (slice_get tags number)
+pub looked_up : (tags : List Collection) (tag : Text) (number : ℕ) → place_of (names_in tags) tag ≡ Some number
+    → components_of tags tag ≡ option_map (λ declared. declared.components) (slice_get tags number)
 looked_up [] tag number there = absurd (cc)
-looked_up (first ∷ tags) tag number there = by (is_text first.name.now tag) refl number there (looked_up tags tag)
+looked_up (first ∷ tags) tag number there = by (is_text first.name tag) refl number there (looked_up tags tag)
   where
     before_it : (place : Option ℕ) (n : ℕ) → option_map suc place ≡ Some (suc n) → place ≡ Some n
     before_it None n e = absurd (cc)
@@ -47,31 +46,29 @@ looked_up (first ∷ tags) tag number there = by (is_text first.name.now tag) re
         let f : suc place ≡ zero = cc in
         omega arith
 
-    by : (same : Bool) → is_text first.name.now tag ≡ same → (n : ℕ) → place_of (names_in (declared_collections (first ∷ tags))) tag ≡ Some n
-        → ((m : ℕ) → place_of (names_in (declared_collections tags)) tag ≡ Some m → components_of (declared_collections tags) tag ≡ option_map (λ declared. declared.components) (slice_get tags m))
-        → components_of (declared_collections (first ∷ tags)) tag ≡ option_map (λ declared. declared.components) (slice_get (first ∷ tags) n)
+    by : (same : Bool) → is_text first.name tag ≡ same → (n : ℕ) → place_of (names_in (first ∷ tags)) tag ≡ Some n
+        → ((m : ℕ) → place_of (names_in tags) tag ≡ Some m → components_of tags tag ≡ option_map (λ declared. declared.components) (slice_get tags m))
+        → components_of (first ∷ tags) tag ≡ option_map (λ declared. declared.components) (slice_get (first ∷ tags) n)
     by true same n is deeper =
-        let here : Some zero ≡ Some n = sym (ap (λ (b : Bool). if b then Some zero else option_map suc (place_of (names_in (declared_collections tags)) tag)) same) ∙ is in
+        let here : Some zero ≡ Some n = sym (ap (λ (b : Bool). if b then Some zero else option_map suc (place_of (names_in tags) tag)) same) ∙ is in
         let e : zero ≡ n = cc in
-        ap (λ (b : Bool). if b then Some first.components else components_of (declared_collections tags) tag) same
+        ap (λ (b : Bool). if b then Some first.components else components_of tags tag) same
         ∙ ap (λ (k : ℕ). option_map (λ declared. declared.components) (slice_get (first ∷ tags) k)) e
-    by false same zero is deeper = absurd (not_first (place_of (names_in (declared_collections tags)) tag) (sym (ap (λ (b : Bool). if b then Some zero else option_map suc (place_of (names_in (declared_collections tags)) tag)) same) ∙ is))
+    by false same zero is deeper = absurd (not_first (place_of (names_in tags) tag) (sym (ap (λ (b : Bool). if b then Some zero else option_map suc (place_of (names_in tags) tag)) same) ∙ is))
     by false same (suc n) is deeper =
-        ap (λ (b : Bool). if b then Some first.components else components_of (declared_collections tags) tag) same
-        ∙ deeper n (before_it (place_of (names_in (declared_collections tags)) tag) n (sym (ap (λ (b : Bool). if b then Some zero else option_map suc (place_of (names_in (declared_collections tags)) tag)) same) ∙ is))
+        ap (λ (b : Bool). if b then Some first.components else components_of tags tag) same
+        ∙ deeper n (before_it (place_of (names_in tags) tag) n (sym (ap (λ (b : Bool). if b then Some zero else option_map suc (place_of (names_in tags) tag)) same) ∙ is))
 
-pub declared_there : (tags : List Declared) (number : ℕ) (tag : Text) → place_of (names_in (declared_collections tags)) tag ≡ Some number → (components : ℕ) × (option_map (λ declared. declared.components) (slice_get tags number) ≡ Some components)
+pub declared_there : (tags : List Collection) (number : ℕ) (tag : Text) → place_of (names_in tags) tag ≡ Some number → (components : ℕ) × (option_map (λ declared. declared.components) (slice_get tags number) ≡ Some components)
 declared_there tags number tag there =
-    by (slice_get tags number) (sym (slice_get-map (λ collection. collection.name) (declared_collections tags) number
-    ∙ ap (option_map (λ collection. collection.name)) (slice_get-map (λ it. record { name = it.name.now; components = it.components }) tags number)) ∙ at_place (names_in (declared_collections tags)) tag number there)
+    by (slice_get tags number) (sym (slice_get-map (λ collection. collection.name) tags number) ∙ at_place (names_in tags) tag number there)
   where
-    by : (declared : Option Declared) → option_map (λ collection. collection.name) (option_map (λ it. let c : Collection = record { name = it.name.now; components = it.components } in c) declared) ≡ Some tag
-        → (components : ℕ) × (option_map (λ declared. declared.components) declared ≡ Some components)
+    by : (declared : Option Collection) → option_map (λ collection. collection.name) declared ≡ Some tag → (components : ℕ) × (option_map (λ declared. declared.components) declared ≡ Some components)
     by None none = absurd (cc)
     by (Some declared) some = (declared.components, refl)
 
-arity : (tags : List Declared) (step : NamedStep) (tag : Option Text) (number : Option TagCollection) → IsPrescriber (names_in (declared_collections tags)) tag number
-    → arity_faults (declared_collections tags) tag step ≡ components_faults (components_by tags number) step
+arity : (tags : List Collection) (step : NamedStep) (tag : Option Text) (number : Option TagCollection) → IsPrescriber (names_in tags) tag number
+    → arity_faults tags tag step ≡ components_faults (components_by tags number) step
 arity tags step None number is = ap (λ (n : Option TagCollection). components_faults (components_by tags n) step) (sym is)
 arity tags step (Some tag) None is = absurd is
 arity tags step (Some tag) (Some number) is =
@@ -128,10 +125,10 @@ not_twice : (b : Bool) → not (not b) ≡ b
 not_twice true = refl
 not_twice false = refl
 
-module _ (tags : List Declared) (items : List Text) (all : List Relation) (steps : List NamedStep) (relations : Relations)
-    (are : AreRelations items (names_in (declared_collections tags)) (step_names steps) all relations) where
+module _ (tags : List Collection) (items : List Text) (all : List Relation) (steps : List NamedStep) (relations : Relations)
+    (are : AreRelations items (names_in tags) (step_names steps) all relations) where
   abbrev pub IsLeft : ℕ → Type 0
-  IsLeft index = step_faults (declared_collections tags) all [] steps ≡ step_faults (declared_collections tags) all (step_names (take index steps)) (drop index steps)
+  IsLeft index = step_faults tags all [] steps ≡ step_faults tags all (step_names (take index steps)) (drop index steps)
 
   module _ (index : ℕ) (this : NamedStep) (within : index < length steps) (is : this ≡ get_or steps index this) (left : IsLeft index) (twice : Bool)
       (tells : twice ≡ not (is_place (place_of (step_names steps) (text_of this.name)) index)) where
@@ -149,41 +146,41 @@ module _ (tags : List Declared) (items : List Text) (all : List Relation) (steps
         ∙ ap not (own (step_names (take index steps)) (text_of this.name) (step_names (drop (index + 1) steps)))
         ∙ not_twice (is_some (place_of (step_names (take index steps)) (text_of this.name)))
 
-    same_prescription : or_else (fault_if (has (step_names (take index steps)) this.name) StepTwice this.name.place) (arity_faults (declared_collections tags) (prescriber_of all (text_of this.name)) this) ≡ prescription
+    same_prescription : or_else (fault_if (has (step_names (take index steps)) this.name) StepTwice this.name.place) (arity_faults tags (prescriber_of all (text_of this.name)) this) ≡ prescription
     same_prescription =
-        ap (λ (b : Bool). or_else (fault_if b StepTwice this.name.place) (arity_faults (declared_collections tags) (prescriber_of all (text_of this.name)) this)) (sym stands_before) ∙ by twice refl
+        ap (λ (b : Bool). or_else (fault_if b StepTwice this.name.place) (arity_faults tags (prescriber_of all (text_of this.name)) this)) (sym stands_before) ∙ by twice refl
       where
         by : (b : Bool) → twice ≡ b
-            → or_else (fault_if b StepTwice this.name.place) (arity_faults (declared_collections tags) (prescriber_of all (text_of this.name)) this)
+            → or_else (fault_if b StepTwice this.name.place) (arity_faults tags (prescriber_of all (text_of this.name)) this)
             ≡ or_else (fault_if b StepTwice this.name.place) (components_faults (components_by tags (get_or relations.prescribers.items index None)) this)
         by true e = refl
         by false e =
             let here : place_of (step_names steps) (text_of this.name) ≡ Some index =
             its_place (place_of (step_names steps) (text_of this.name)) index (sym (not_twice (is_place (place_of (step_names steps) (text_of this.name)) index)) ∙ ap not (sym tells ∙ e)) in
             arity tags this (prescriber_of all (text_of this.name)) (get_or relations.prescribers.items index None)
-            (subst (λ (p : Option ℕ). IsPrescriber (names_in (declared_collections tags)) (prescriber_of all (text_of this.name)) (prescriber_at relations.prescribers.items p)) here
+            (subst (λ (p : Option ℕ). IsPrescriber (names_in tags) (prescriber_of all (text_of this.name)) (prescriber_at relations.prescribers.items p)) here
             (are.prescribers.each (text_of this.name)))
 
     abbrev pub naming : List At
     naming = repeated [] (this.parameters.items ++ this.variables.items)
 
-    here : step_faults (declared_collections tags) all [] steps ≡ prescription ++ naming ++ step_faults (declared_collections tags) all (step_names (take index steps) ++ text_of this.name ∷ []) (drop (index + 1) steps)
-    here = left ∙ ap (step_faults (declared_collections tags) all (step_names (take index steps))) (opened steps index this within is)
-        ∙ ap (λ (l : List At). l ++ naming ++ step_faults (declared_collections tags) all (step_names (take index steps) ++ text_of this.name ∷ []) (drop (index + 1) steps)) same_prescription
+    here : step_faults tags all [] steps ≡ prescription ++ naming ++ step_faults tags all (step_names (take index steps) ++ text_of this.name ∷ []) (drop (index + 1) steps)
+    here = left ∙ ap (step_faults tags all (step_names (take index steps))) (opened steps index this within is)
+        ∙ ap (λ (l : List At). l ++ naming ++ step_faults tags all (step_names (take index steps) ++ text_of this.name ∷ []) (drop (index + 1) steps)) same_prescription
 
-    pub first_prescription : (fault : PlacedFault) → IsFirst prescription fault → IsFirst (step_faults (declared_collections tags) all [] steps) fault
+    pub first_prescription : (fault : PlacedFault) → IsFirst prescription fault → IsFirst (step_faults tags all [] steps) fault
     first_prescription fault first = subst (λ (l : List At). IsFirst l fault) (sym here) (in_front (prescription ++ naming) _ fault (in_front prescription naming fault first))
 
-    pub first_name : (fault : PlacedFault) → prescription ≡ [] → IsFirst naming fault → IsFirst (step_faults (declared_collections tags) all [] steps) fault
+    pub first_name : (fault : PlacedFault) → prescription ≡ [] → IsFirst naming fault → IsFirst (step_faults tags all [] steps) fault
     first_name fault none first = subst (λ (l : List At). IsFirst l fault) (sym here) (in_front (prescription ++ naming) _ fault (behind_none prescription naming fault none first))
 
     pub next_step : prescription ≡ [] → naming ≡ [] → IsLeft (index + 1)
     next_step none differ =
         here ∙ empty_in_front (prescription ++ naming) _ (empty_in_front prescription naming none ∙ differ)
-        ∙ ap (λ (l : List Text). step_faults (declared_collections tags) all l (drop (index + 1) steps)) (one_more_named steps index this within is)
+        ∙ ap (λ (l : List Text). step_faults tags all l (drop (index + 1) steps)) (one_more_named steps index this within is)
 
-  pub all_checked : (index : ℕ) → index ≡ length steps → IsLeft index → step_faults (declared_collections tags) all [] steps ≡ []
-  all_checked index end left = left ∙ ap (step_faults (declared_collections tags) all (step_names (take index steps))) (past steps index end)
+  pub all_checked : (index : ℕ) → index ≡ length steps → IsLeft index → step_faults tags all [] steps ≡ []
+  all_checked index end left = left ∙ ap (step_faults tags all (step_names (take index steps))) (past steps index end)
 
 pub compared : (place : Option ℕ) (number : ℕ) → option_eq eqb place (Some number) ≡ is_place place number
 compared None number = refl

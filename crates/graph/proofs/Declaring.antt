@@ -3,13 +3,13 @@ use Rattle.std.proofs.Common.{◌≡◌, ◌<◌, ℕ, List, [], ◌∷◌, ◌+
 use Rattle.std.proofs.lemmas.List.{take_more, map-append}
 use Rattle.steptree.specs.declared.step.Name.{Name}
 use Rattle.steptree.specs.Names.{Text}
+use Rattle.steptree.specs.Nameable.{Collection}
 use Rattle.syntax.specs.declared.tree.Declaration.{Declaration}
 use Rattle.syntax.specs.declared.tree.Declaration.TheVariants as declared
 use Rattle.graph.specs.declared.declarations.Collections.{Collections}
 use Rattle.graph.specs.declared.fault.PlacedFault.{PlacedFault}
 use Rattle.graph.specs.Collected.{AreCollected, again, of_name, collections_numbered}
 use Rattle.graph.specs.Faults.{At, declaration_faults}
-use Rattle.graph.specs.Graph.{Collection, declared_collections}
 use Rattle.graph.specs.Numbered.{names_numbered}
 use Rattle.graph.specs.Placed.{IsFirst}
 use Rattle.graph.specs.Tree.{items_of, tags_of, names_in, text_of}
@@ -55,7 +55,7 @@ module _ (ds : List Declaration) where
     here so = so.left ∙ ap (declaration_faults (names_in (items_of (take index ds))) (names_in (tags_of (take index ds)))) (opened ds index this within is)
 
     pub item_declared : (name : Name) (components : ℕ) (new : Collections) → this ≡ declared.Item name components → SoFar index items tags → again (names_numbered items.numbered) name ≡ []
-        → declared_collections new.declared.items ≡ declared_collections items.declared.items ++ of_name name components ∷ []
+        → new.declared.items ≡ items.declared.items ++ of_name name components ∷ []
         → collections_numbered new.numbered ≡ collections_numbered items.numbered ++ of_name name components ∷ [] → SoFar (index + 1) new tags
     item_declared name components new it so none one two =
         let more : items_of (take (index + 1) ds) ≡ items_of (take index ds) ++ of_name name components ∷ [] =
@@ -78,7 +78,7 @@ module _ (ds : List Declaration) where
         }
 
     pub tag_declared : (name : Name) (components : ℕ) (new : Collections) → this ≡ declared.Tag name components → SoFar index items tags → again (names_numbered tags.numbered) name ≡ []
-        → declared_collections new.declared.items ≡ declared_collections tags.declared.items ++ of_name name components ∷ []
+        → new.declared.items ≡ tags.declared.items ++ of_name name components ∷ []
         → collections_numbered new.numbered ≡ collections_numbered tags.numbered ++ of_name name components ∷ [] → SoFar (index + 1) items new
     tag_declared name components new it so none one two =
         let more : tags_of (take (index + 1) ds) ≡ tags_of (take index ds) ++ of_name name components ∷ [] =

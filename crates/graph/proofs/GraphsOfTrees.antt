@@ -5,14 +5,17 @@ use Rattle.std.proofs.lemmas.Bool.{eqb-true}
 use Rattle.steptree.specs.declared.step.Name.{Name}
 use Rattle.steptree.specs.declared.step.Step.{Step as NamedStep}
 use Rattle.steptree.specs.Names.{Text, is_text, place_of, names_of}
+use Rattle.steptree.specs.Nameable.{Collection, Nameable}
+use Rattle.steptree.specs.Sheet.{BodyKeepsTo}
+use Rattle.steptree.specs.Limits.{AreFew}
 use Rattle.syntax.specs.declared.tree.Relation.{Relation}
 use Rattle.syntax.specs.declared.tree.Tree.{Tree}
 use Rattle.syntax.specs.Tree.{AreAll}
 use Rattle.graph.specs.declared.fault.GraphError.TheVariants.{Arity}
 use Rattle.graph.specs.Faults.{arity_faults, fault_if, is_other, components_of, tree_faults}
-use Rattle.graph.specs.Graph.{Collection, Step, Graph, AreCollections, IsGraph, IsOf, IsOfGraph}
+use Rattle.graph.specs.Graph.{Step, Graph, sheet_of, IsGraph, IsOf, IsOfGraph}
 use Rattle.graph.specs.Small.{IsSmall}
-use Rattle.graph.specs.Tree.{text_of, items_of, tags_of, names_in, each_of, prescriber_of, is_environment_item_put, is_environment_tag_put, is_environment_get, IsStepOf, IsGraphOf}
+use Rattle.graph.specs.Tree.{text_of, items_of, tags_of, names_in, each_of, prescriber_of, is_environment_item_put, is_environment_tag_put, is_environment_get, sheet_in, IsStepOf, IsGraphOf}
 use Rattle.graph.proofs.Faultless.{no_arity, not_so}
 use Rattle.graph.proofs.Rising.{as_many_mapped}
 use Rattle.graph.proofs.Sheets.{small_step}
@@ -99,29 +102,22 @@ module _ (tree : Tree) (g : Graph) (small : IsSmall tree) (none : tree_faults tr
       let sum : length (names_of named) ≡ length named.parameters.items + length named.variables.items =
       as_many_mapped (λ (name : Name). name.text.now) (named.parameters.items ++ named.variables.items) ∙ length-append named.parameters.items named.variables.items in
       let parameters : step.parameters ≡ length named.parameters.items = means.parameters in
+      let same : sheet_in tree named ≡ sheet_of g step = λ i. record { items = sym is.items i; tags = sym is.tags i; reads = sym means.reads i; item_puts = sym means.item_puts i; tag_puts = sym means.tag_puts i } in
       record {
         prescribed = subst (λ (n : ℕ). IsOf g.tags step.prescriber n) (sym parameters)
             (subst (λ (l : List Collection). IsOf l step.prescriber (length named.parameters.items)) (sym is.tags) (prescribed_as_declared number named tag step.prescriber there first at));
         parameters = omega (arith, count, sum, parameters);
         names = omega (arith, count, few.names);
-        sheet = means.sheet;
-        is_sheet = record {
-          items = means.is_sheet.items ∙ sym is.items;
-          tags = means.is_sheet.tags ∙ sym is.tags;
-          reads = sym means.reads;
-          item_puts = sym means.item_puts;
-          tag_puts = sym means.tag_puts;
-        };
-        keeps = means.keeps;
-        each_read = as_many_marks _ items step.reads (means.reads ∙ means.is_sheet.reads) ∙ ap (λ (l : List Collection). length l) (sym is.items);
-        each_item_put = as_many_marks _ items step.item_puts (means.item_puts ∙ means.is_sheet.item_puts) ∙ ap (λ (l : List Collection). length l) (sym is.items);
-        each_tag_put = as_many_marks _ tags step.tag_puts (means.tag_puts ∙ means.is_sheet.tag_puts) ∙ ap (λ (l : List Collection). length l) (sym is.tags);
+        keeps = subst (λ (sheet : Nameable). BodyKeepsTo sheet step.body) same means.keeps;
+        each_read = as_many_marks _ items step.reads means.reads ∙ ap (λ (l : List Collection). length l) (sym is.items);
+        each_item_put = as_many_marks _ items step.item_puts means.item_puts ∙ ap (λ (l : List Collection). length l) (sym is.items);
+        each_tag_put = as_many_marks _ tags step.tag_puts means.tag_puts ∙ ap (λ (l : List Collection). length l) (sym is.tags);
       }
 
   pub graph_is : IsGraph g
   graph_is = record {
-    items = subst AreCollections (sym is.items) small.items;
-    tags = subst AreCollections (sym is.tags) small.tags;
+    items = subst AreFew (sym is.items) small.items;
+    tags = subst AreFew (sym is.tags) small.tags;
     few = omega (arith, as_many (IsStepOf tree g) tree.steps.items g.steps is.steps, small.few);
     steps = λ number step there.
         let at = step_at tree g tree.steps.items g.steps number step is.steps there in

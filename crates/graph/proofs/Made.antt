@@ -7,6 +7,7 @@ use Rattle.std.proofs.lemmas.Option.{slice_get_within}
 use Rattle.terms.specs.declared.name.StepCollection.{StepCollection}
 use Rattle.steptree.specs.declared.step.Step.{Step as NamedStep}
 use Rattle.steptree.specs.Names.{Text, place_of}
+use Rattle.steptree.specs.Nameable.{Collection}
 use Rattle.syntax.specs.declared.tree.Relation.{Relation}
 use Rattle.syntax.specs.declared.tree.Tree.{Tree}
 use Rattle.syntax.specs.Tree.{AreAll}
@@ -17,7 +18,7 @@ use Rattle.graph.specs.CheckedSteps.{IsCheckedStep, AreCheckedSteps}
 use Rattle.graph.specs.Faults.{tree_faults}
 use Rattle.graph.specs.declared.limits.TheConstants.{MOST_TEXT}
 use Rattle.graph.specs.Canonical.{canonical}
-use Rattle.graph.specs.Graph.{Collection, Graph, IsGraph}
+use Rattle.graph.specs.Graph.{Graph, IsGraph}
 use Rattle.graph.specs.Inside.{graph_seen, IsKept}
 use Rattle.graph.specs.Seen.{collection_seen, step_seen}
 use Rattle.graph.specs.Prescribed.{numbers_of, ArePrescriptions}
@@ -83,8 +84,6 @@ module _ (tree : Tree) (resolved : Resolved) (steps : List (Text × Prescribed))
 
   step_of : (named : NamedStep) (entry : Text × Prescribed) → entry.0 ≡ text_of named.name → IsCheckedStep tree named entry.1 → IsStepOf tree g named (step_seen entry)
   step_of named entry name is = record {
-    sheet = is.sheet;
-    is_sheet = is.is_sheet;
     name = name;
     prescriber = (is.prescriber.tag, ap (prescriber_of tree.relations.items) name ∙ is.prescriber.first, ap (λ (l : List Collection). place_of (names_in l) is.prescriber.tag) same_tags ∙ is.prescriber.place);
     names = is.resolves.names;

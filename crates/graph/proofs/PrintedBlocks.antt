@@ -5,16 +5,16 @@ use Rattle.terms.specs.declared.name.TagCollection.{TagCollection}
 use Rattle.steptree.specs.declared.expression.Expression.{Expression}
 use Rattle.steptree.specs.declared.block.Block.{Block}
 use Rattle.steptree.specs.Tree.{End, Assign, If, For, Get, PutItem, PutTag}
-use Rattle.steptree.specs.declared.sheet.Sheet.{Sheet}
 use Rattle.steptree.specs.declared.step.NamedBlock.TheVariants as tree
 use Rattle.steptree.specs.Names.{Text, place_of, names_declared}
 use Rattle.steptree.specs.Sheet.{IsAllowed, KeepsTo}
+use Rattle.steptree.specs.Nameable.{Nameable}
 use Rattle.syntax.specs.declared.token.Word.TheVariants as kept
 use Rattle.syntax.specs.Grammar.{sum_alone, prod_alone, unary_alone, own, and_then, put_item, put_tag}
 use Rattle.syntax.specs.Spelled.{get_pieces, put_pieces}
 use Rattle.syntax.specs.Limits.{get_limits, put_limits}
 use Rattle.syntax.specs.Tree.{IsGet, IsPut}
-use Rattle.graph.specs.Graph.{Graph}
+use Rattle.graph.specs.Graph.{Graph, Step, sheet_of}
 use Rattle.graph.specs.Tree.{names_in}
 use Rattle.graph.specs.Textual.{IsTextExpression, AreComponents, IsGraphName, AreNames, IsReadBlock, IsWriteBlock}
 use Rattle.graph.specs.Canonical.{expression_text, item_text, tag_text, line}
@@ -27,9 +27,12 @@ use Rattle.graph.proofs.PrintedStatements.{BlockPrinted, end_printed, assign_pri
 use Rattle.graph.proofs.PrintedCollections.{Known}
 use Rattle.graph.proofs.PrintedValues.{boxed, name_of}
 
-module _ (g : Graph) (names : List Text) (sheet : Sheet) (are : AreNames names)
-    (items_known : (allowed : List Bool) (index components : ℕ) → IsAllowed sheet.items.now allowed index components → Known sheet.items.now g.items index components)
-    (tags_known : (allowed : List Bool) (index components : ℕ) → IsAllowed sheet.tags.now allowed index components → Known sheet.tags.now g.tags index components) where
+module _ (g : Graph) (step : Step) (names : List Text) (are : AreNames names)
+    (items_known : (allowed : List Bool) (index components : ℕ) → IsAllowed g.items allowed index components → Known g.items index components)
+    (tags_known : (allowed : List Bool) (index components : ℕ) → IsAllowed g.tags allowed index components → Known g.tags index components) where
+  abbrev sheet : Nameable
+  sheet = sheet_of g step
+
   abbrev ReadPrinted : ℕ → ℕ → ℕ → Block → Type 0
   ReadPrinted level around place block = BlockPrinted get_pieces get_limits IsGet g names sheet level around place block
 
@@ -40,7 +43,7 @@ module _ (g : Graph) (names : List Text) (sheet : Sheet) (are : AreNames names)
   get_line level slot collection components = line level (codes "get " ++ get_or names slot [] ++ codes " = " ++ item_text g names collection components ++ codes ";")
 
   get_printed : (level around place slot : ℕ) (collection : ItemCollection) (components : List Expression) (rest : Block) → slot < length names
-      → AreComponents (length names) components → Known sheet.items.now g.items collection.0 (length components)
+      → AreComponents (length names) components → Known g.items collection.0 (length components)
       → ReadPrinted level around (place + length (get_line level slot collection.0 components)) rest → ReadPrinted level around place (Get slot collection components rest)
   get_printed level around place slot collection components rest within all is later =
       let start : ℕ = inside level place in
@@ -55,14 +58,14 @@ module _ (g : Graph) (names : List Text) (sheet : Sheet) (are : AreNames names)
         limits = no_both _ _ (no_both _ _ (no_name_limit variable (start + 4) good) it.limits) later.limits;
         value = tree.Get' (name_of (variable, start + 4)) it.value boxed later.value;
         is = ((refl, refl), it.is, later.is);
-        resolves = (found_at names slot are.distinct within, (ap (λ (t : Text). place_of (names_declared sheet.items.now) t) it.is_of ∙ is.found, it.resolve), later.resolves);
+        resolves = (found_at names slot are.distinct within, (ap (λ (t : Text). place_of (names_declared g.items) t) it.is_of ∙ is.found, it.resolve), later.resolves);
       }
 
   abbrev item_line : ℕ → ℕ → List Expression → Expression → Text
   item_line level collection components value = line level (codes "put " ++ item_text g names collection components ++ codes " = " ++ expression_text g names value ++ codes ";")
 
   item_put_printed : (level around place : ℕ) (collection : ItemCollection) (components : List Expression) (value : Expression) (rest : Block)
-      → AreComponents (length names) components → IsTextExpression (length names) value → Known sheet.items.now g.items collection.0 (length components)
+      → AreComponents (length names) components → IsTextExpression (length names) value → Known g.items collection.0 (length components)
       → WritePrinted level around (place + length (item_line level collection.0 components value)) rest → WritePrinted level around place (PutItem collection components value rest)
   item_put_printed level around place collection components value rest all value_is is later =
       let start : ℕ = inside level place in
@@ -77,14 +80,14 @@ module _ (g : Graph) (names : List Text) (sheet : Sheet) (are : AreNames names)
         limits = no_both _ _ (no_both _ _ it.limits (no_limits it2 value_is.1)) later.limits;
         value = tree.PutItem' it.value it2.value boxed later.value;
         is = (it.is, it2.is, later.is);
-        resolves = ((ap (λ (t : Text). place_of (names_declared sheet.items.now) t) it.is_of ∙ is.found, it.resolve), it2.resolves, later.resolves);
+        resolves = ((ap (λ (t : Text). place_of (names_declared g.items) t) it.is_of ∙ is.found, it.resolve), it2.resolves, later.resolves);
       }
 
   abbrev tag_line : ℕ → ℕ → List Expression → Text
   tag_line level collection components = line level (codes "put " ++ tag_text g names collection components ++ codes ";")
 
   tag_put_printed : (level around place : ℕ) (collection : TagCollection) (components : List Expression) (rest : Block)
-      → AreComponents (length names) components → Known sheet.tags.now g.tags collection.0 (length components)
+      → AreComponents (length names) components → Known g.tags collection.0 (length components)
       → WritePrinted level around (place + length (tag_line level collection.0 components)) rest → WritePrinted level around place (PutTag collection components rest)
   tag_put_printed level around place collection components rest all is later =
       let start : ℕ = inside level place in
@@ -98,7 +101,7 @@ module _ (g : Graph) (names : List Text) (sheet : Sheet) (are : AreNames names)
         limits = no_both _ _ it.limits later.limits;
         value = tree.PutTag' it.value boxed later.value;
         is = (it.is, later.is);
-        resolves = ((ap (λ (t : Text). place_of (names_declared sheet.tags.now) t) it.is_of ∙ is.found, it.resolve), later.resolves);
+        resolves = ((ap (λ (t : Text). place_of (names_declared g.tags) t) it.is_of ∙ is.found, it.resolve), later.resolves);
       }
 
   pub read_printed : (block : Block) (level around place : ℕ) → IsReadBlock (length names) around block → KeepsTo sheet block → ReadPrinted level around place block
@@ -112,7 +115,7 @@ module _ (g : Graph) (names : List Text) (sheet : Sheet) (are : AreNames names)
       for_printed _ _ _ g names sheet are level around place slot from to block rest is.0 is.1 is.2 is.3
       (read_printed block (suc level) (suc around) _ is.4 keeps.0) (read_printed rest level around _ is.5 keeps.1)
   read_printed (Get slot collection components rest) level around place is keeps =
-      get_printed level around place slot collection components rest is.0 is.1 (items_known sheet.reads.now collection.0 (length components) keeps.0) (read_printed rest level around _ is.2 keeps.1)
+      get_printed level around place slot collection components rest is.0 is.1 (items_known sheet.reads collection.0 (length components) keeps.0) (read_printed rest level around _ is.2 keeps.1)
   read_printed (PutItem collection components value rest) level around place is keeps = absurd is
   read_printed (PutTag collection components rest) level around place is keeps = absurd is
 
@@ -128,6 +131,6 @@ module _ (g : Graph) (names : List Text) (sheet : Sheet) (are : AreNames names)
       (write_printed block (suc level) (suc around) _ is.4 keeps.0) (write_printed rest level around _ is.5 keeps.1)
   write_printed (Get slot collection components rest) level around place is keeps = absurd is
   write_printed (PutItem collection components value rest) level around place is keeps =
-      item_put_printed level around place collection components value rest is.0 is.1 (items_known sheet.item_puts.now collection.0 (length components) keeps.0) (write_printed rest level around _ is.2 keeps.1)
+      item_put_printed level around place collection components value rest is.0 is.1 (items_known sheet.item_puts collection.0 (length components) keeps.0) (write_printed rest level around _ is.2 keeps.1)
   write_printed (PutTag collection components rest) level around place is keeps =
-      tag_put_printed level around place collection components rest is.0 (tags_known sheet.tag_puts.now collection.0 (length components) keeps.0) (write_printed rest level around _ is.1 keeps.1)
+      tag_put_printed level around place collection components rest is.0 (tags_known sheet.tag_puts collection.0 (length components) keeps.0) (write_printed rest level around _ is.1 keeps.1)

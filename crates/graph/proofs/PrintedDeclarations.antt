@@ -3,12 +3,12 @@ use Rattle.std.proofs.Common.{◌≡◌, ℕ, ◌+◌, ◌≤◌, List, [], ◌+
 use Rattle.std.specs.List.{AllByRecursion}
 use Rattle.terms.specs.declared.key.TheConstants.{MAX_COMPONENTS}
 use Rattle.steptree.specs.Names.{Text}
+use Rattle.steptree.specs.Nameable.{Collection}
 use Rattle.syntax.specs.declared.token.Symbol.TheVariants as sign
 use Rattle.syntax.specs.Tokens.{BeginsWithout}
 use Rattle.syntax.specs.Grammar.{Position, Named, Names, Declaration, item_declared, tag_declared}
 use Rattle.syntax.specs.Spelled.{Piece, a_sign, declaration_pieces}
 use Rattle.syntax.specs.Limits.{all_names, declared_limits}
-use Rattle.graph.specs.Graph.{Collection}
 use Rattle.graph.specs.Textual.{IsGraphName}
 use Rattle.graph.specs.Canonical.{in_brackets, in_angles, with_colon, component_names, line}
 use Rattle.graph.proofs.PrintedTokens.{after_word, after_sign, never, anything, Printed, behind, and, and_blanks, closed_sign, open_sign}

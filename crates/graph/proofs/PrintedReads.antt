@@ -4,14 +4,17 @@ use Rattle.std.specs.List.{AllByRecursion, flat_map}
 use Rattle.std.proofs.lemmas.List.{append-nil}
 use Rattle.steptree.specs.declared.sheet.TheConstants.{MOST_COLLECTIONS}
 use Rattle.steptree.specs.declared.step.Step.{Step as NamedStep}
-use Rattle.steptree.specs.Names.{Text, is_text}
+use Rattle.steptree.specs.Nameable.{Collection, Nameable}
+use Rattle.steptree.specs.Names.{Text, is_text, names_of}
+use Rattle.steptree.specs.Resolved.{IsBlock}
+use Rattle.steptree.specs.Sheet.{BodyKeepsTo}
 use Rattle.syntax.specs.declared.tree.Tree.{Tree}
 use Rattle.syntax.specs.Grammar.{Declaration, Relation, GraphText, item_declared, tag_declared}
 use Rattle.syntax.specs.Spelled.{Piece, declaration_pieces, relation_pieces, step_pieces, graph_pieces}
 use Rattle.syntax.specs.Limits.{relation_limits}
 use Rattle.syntax.specs.Tree.{AreAll}
-use Rattle.graph.specs.Graph.{Collection, Graph, Step}
-use Rattle.graph.specs.Tree.{text_of, items_of, tags_of, names_in, step_names, is_read, is_item_put, is_tag_put, each_of, IsStepOf}
+use Rattle.graph.specs.Graph.{Graph, Step, sheet_of}
+use Rattle.graph.specs.Tree.{text_of, items_of, tags_of, names_in, step_names, is_read, is_item_put, is_tag_put, each_of, sheet_in, IsStepOf}
 use Rattle.graph.specs.Faults.{At, declaration_faults, relation_faults, step_faults}
 use Rattle.graph.specs.Textual.{IsTextual, CanonicalReads}
 use Rattle.graph.specs.Prescribed.{names_of_steps}
@@ -35,29 +38,28 @@ use Rattle.graph.proofs.PrintedValues.{vec_of}
 
 module _ (tree : Tree) (g : Graph) (items : items_of tree.declarations.items ≡ g.items) (tags : tags_of tree.declarations.items ≡ g.tags) where
   step_of : (value : NamedStep) (step : Step) → Shown g value step → Facts g tree.relations.items step → IsStepOf tree g value step
-  step_of value step shown told = record {
-    sheet = shown.sheet;
-    is_sheet = record {
-      items = shown.is_sheet.items ∙ sym items;
-      tags = shown.is_sheet.tags ∙ sym tags;
-      reads = shown.is_sheet.reads ∙ sym (ap (λ (l : List Collection). each_of (λ item. is_read item (text_of value.name)) tree.relations.items (names_in l)) items
-          ∙ ap (λ (t : Text). each_of (λ item. is_read item t) tree.relations.items (names_in g.items)) shown.name ∙ told.reads);
-      item_puts = shown.is_sheet.item_puts ∙ sym (ap (λ (l : List Collection). each_of (is_item_put (text_of value.name)) tree.relations.items (names_in l)) items
-          ∙ ap (λ (t : Text). each_of (is_item_put t) tree.relations.items (names_in g.items)) shown.name ∙ told.item_puts);
-      tag_puts = shown.is_sheet.tag_puts ∙ sym (ap (λ (l : List Collection). each_of (is_tag_put (text_of value.name)) tree.relations.items (names_in l)) tags
-          ∙ ap (λ (t : Text). each_of (is_tag_put t) tree.relations.items (names_in g.tags)) shown.name ∙ told.tag_puts);
-    };
-    name = sym shown.name;
-    prescriber = (get_or (names_in g.tags) step.prescriber [], told.prescriber, told.place);
-    names = shown.names;
-    parameters = shown.parameters;
-    reads = sym shown.is_sheet.reads;
-    item_puts = sym shown.is_sheet.item_puts;
-    tag_puts = sym shown.is_sheet.tag_puts;
-    read = shown.read;
-    write = shown.write;
-    keeps = shown.keeps;
-  }
+  step_of value step shown told =
+      let reads : step.reads ≡ (sheet_in tree value).reads =
+      sym (ap (λ (l : List Collection). each_of (λ item. is_read item (text_of value.name)) tree.relations.items (names_in l)) items
+      ∙ ap (λ (t : Text). each_of (λ item. is_read item t) tree.relations.items (names_in g.items)) shown.name ∙ told.reads) in
+      let item_puts : step.item_puts ≡ (sheet_in tree value).item_puts =
+      sym (ap (λ (l : List Collection). each_of (is_item_put (text_of value.name)) tree.relations.items (names_in l)) items
+      ∙ ap (λ (t : Text). each_of (is_item_put t) tree.relations.items (names_in g.items)) shown.name ∙ told.item_puts) in
+      let tag_puts : step.tag_puts ≡ (sheet_in tree value).tag_puts =
+      sym (ap (λ (l : List Collection). each_of (is_tag_put (text_of value.name)) tree.relations.items (names_in l)) tags
+      ∙ ap (λ (t : Text). each_of (is_tag_put t) tree.relations.items (names_in g.tags)) shown.name ∙ told.tag_puts) in
+      let same : sheet_of g step ≡ sheet_in tree value = λ i. record { items = sym items i; tags = sym tags i; reads = reads i; item_puts = item_puts i; tag_puts = tag_puts i } in record {
+        name = sym shown.name;
+        prescriber = (get_or (names_in g.tags) step.prescriber [], told.prescriber, told.place);
+        names = shown.names;
+        parameters = shown.parameters;
+        reads = reads;
+        item_puts = item_puts;
+        tag_puts = tag_puts;
+        read = subst (λ (sheet : Nameable). IsBlock (names_of value) sheet value.read step.body.read) same shown.read;
+        write = subst (λ (sheet : Nameable). IsBlock (names_of value) sheet value.write step.body.write) same shown.write;
+        keeps = subst (λ (sheet : Nameable). BodyKeepsTo sheet step.body) same shown.keeps;
+      }
 
   steps_of : (values : List NamedStep) (steps : List Step) → AreAll (Shown g) values steps → AllByRecursion (Facts g tree.relations.items) steps → AreAll (IsStepOf tree g) values steps
   steps_of [] [] all told = tt

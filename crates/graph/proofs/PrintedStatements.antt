@@ -3,11 +3,11 @@ use Rattle.std.proofs.Common.{◌≡◌, ℕ, suc, ◌+◌, ◌<◌, List, [], �
 use Rattle.steptree.specs.declared.expression.Expression.{Expression}
 use Rattle.steptree.specs.declared.block.Block.{Block}
 use Rattle.steptree.specs.Tree.{End, Assign, If, For}
-use Rattle.steptree.specs.declared.sheet.Sheet.{Sheet}
 use Rattle.steptree.specs.declared.step.NamedBlock.{NamedBlock}
 use Rattle.steptree.specs.declared.step.NamedBlock.TheVariants as tree
 use Rattle.steptree.specs.Names.{Text}
 use Rattle.steptree.specs.Resolved.{IsBlock}
+use Rattle.steptree.specs.Nameable.{Nameable}
 use Rattle.syntax.specs.declared.limits.TheConstants.{MOST_BRACES}
 use Rattle.syntax.specs.declared.token.Word.TheVariants as kept
 use Rattle.syntax.specs.declared.token.Symbol.TheVariants as sign
@@ -35,7 +35,7 @@ both_in_order : (front first second rest : List Piece) (begin end other_word oth
     ≡ front ++ (begin ∷ (first ++ (end ∷ []))) ++ (other_word ∷ []) ++ (other_open ∷ (second ++ (other_close ∷ []))) ++ rest
 both_in_order front first second rest begin end other_word other_open other_close = simp append_assoc
 
-module _ {B : Type 0} (own_pieces : B → List Piece) (own_limits : B → List Position) (IsOwn : B → NamedBlock → (NamedBlock → Type 0) → Type 0) (g : Graph) (names : List Text) (sheet : Sheet) where
+module _ {B : Type 0} (own_pieces : B → List Piece) (own_limits : B → List Position) (IsOwn : B → NamedBlock → (NamedBlock → Type 0) → Type 0) (g : Graph) (names : List Text) (sheet : Nameable) where
   -- what a printed block is, with so many braces around it
   pub record BlockPrinted (level around place : ℕ) (block : Block) : Type 0 where
     pub statements : Statements B

@@ -5,12 +5,12 @@ use Rattle.std.specs.List.{AllByRecursion}
 use Rattle.std.proofs.lemmas.List.{map-append}
 use Rattle.terms.specs.declared.key.TheConstants.{MAX_COMPONENTS}
 use Rattle.steptree.specs.declared.slot.TheConstants.{MOST_NAMES}
-use Rattle.steptree.specs.declared.sheet.Sheet.{Sheet}
 use Rattle.steptree.specs.declared.step.Name.{Name}
 use Rattle.steptree.specs.declared.step.Step.{Step as NamedStep}
 use Rattle.steptree.specs.Names.{Text, is_text, names_of}
 use Rattle.steptree.specs.Resolved.{IsBlock}
 use Rattle.steptree.specs.Sheet.{BodyKeepsTo}
+use Rattle.steptree.specs.Limits.{AreFew}
 use Rattle.syntax.specs.declared.token.Word.TheVariants as kept
 use Rattle.syntax.specs.declared.token.Symbol.TheVariants as sign
 use Rattle.syntax.specs.Tokens.{symbol, word}
@@ -19,7 +19,7 @@ use Rattle.syntax.specs.Spelled.{Piece, plain, named, a_sign, a_word, parameters
 use Rattle.syntax.specs.Limits.{all_names, step_limits}
 use Rattle.syntax.specs.Tree.{AreAll, IsStep}
 use Rattle.graph.specs.declared.fault.GraphError.TheVariants.{Redeclared}
-use Rattle.graph.specs.Graph.{Graph, Step, IsSheet, IsOfGraph, AreCollections}
+use Rattle.graph.specs.Graph.{Graph, Step, sheet_of, IsOfGraph}
 use Rattle.graph.specs.Tree.{text_of, names_in}
 use Rattle.graph.specs.Faults.{At, fault_if, has, repeated}
 use Rattle.graph.specs.Textual.{IsGraphName, AreNames, IsTextStep}
@@ -101,24 +101,20 @@ pub record IsGood (g : Graph) (step : Step) : Type 0 where
 
 -- what the derivation of a printed step is
 pub record DerivedStep (g : Graph) (step : Step) (text : StepText) : Type 0 where
-  pub sheet : Sheet
-  pub is_sheet : IsSheet g step sheet
   pub limits : step_limits text ≡ []
   pub value : NamedStep
   pub is : IsStep text value
   pub name : text_of value.name ≡ step.name
   pub names : step.names ≡ names_of value
   pub parameters : step.parameters ≡ length value.parameters.items
-  pub read : IsBlock (names_of value) sheet value.read step.body.read
-  pub write : IsBlock (names_of value) sheet value.write step.body.write
-  pub keeps : BodyKeepsTo sheet step.body
+  pub read : IsBlock (names_of value) (sheet_of g step) value.read step.body.read
+  pub write : IsBlock (names_of value) (sheet_of g step) value.write step.body.write
+  pub keeps : BodyKeepsTo (sheet_of g step) step.body
   pub once : repeated [] (value.parameters.items ++ value.variables.items) ≡ []
 
-module _ (g : Graph) (items : AreCollections g.items) (tags : AreCollections g.tags) (item_names : AreNames (names_in g.items)) (tag_names : AreNames (names_in g.tags)) where
+module _ (g : Graph) (items : AreFew g.items) (tags : AreFew g.tags) (item_names : AreNames (names_in g.items)) (tag_names : AreNames (names_in g.tags)) where
   pub step_printed : (step : Step) (place : ℕ) → IsGood g step → OnePrinted never (step_text g) step_pieces (DerivedStep g) place step
   step_printed step place good =
-      let sheet : Sheet = good.of_graph.sheet in
-      let is_sheet : IsSheet g step sheet = good.of_graph.is_sheet in
       let inputs : List Text = take step.parameters step.names in
       let locals : List Text = drop step.parameters step.names in
       let head : Text = codes "step " ++ step.name in
@@ -132,10 +128,8 @@ module _ (g : Graph) (items : AreCollections g.items) (tags : AreCollections g.t
       let text7 : Text = text6 ++ line 1 (codes "}") in
       let parameters = parameters_printed inputs (place + length head + 1) (take_each IsGraphName step.parameters step.names good.textual.names.each) in
       let variables = variables_printed locals (place + length line0) (drop_each IsGraphName step.parameters step.names good.textual.names.each) in
-      let read = read_printed g step.names sheet good.textual.names (λ allowed index components is. known sheet.items.now g.items allowed index components is_sheet.items items item_names is)
-      (λ allowed index components is. known sheet.tags.now g.tags allowed index components is_sheet.tags tags tag_names is) step.body.read 2 0 (place + length text2) good.textual.read good.of_graph.keeps.0 in
-      let write = write_printed g step.names sheet good.textual.names (λ allowed index components is. known sheet.items.now g.items allowed index components is_sheet.items items item_names is)
-      (λ allowed index components is. known sheet.tags.now g.tags allowed index components is_sheet.tags tags tag_names is) step.body.write 2 0 (place + length text5) good.textual.write good.of_graph.keeps.1 in
+      let read = read_printed g step step.names good.textual.names (known g.items items item_names) (known g.tags tags tag_names) step.body.read 2 0 (place + length text2) good.textual.read good.of_graph.keeps.0 in
+      let write = write_printed g step step.names good.textual.names (known g.items items item_names) (known g.tags tags tag_names) step.body.write 2 0 (place + length text5) good.textual.write good.of_graph.keeps.1 in
       let title = behind (and (word_first place kept.Step) (printed_name (place + 5) step.name good.textual.name)) (rounded_anywhere parameters.printed) (λ rest may. refl) in
       let first = lined 0 place (and title (plain_brace (place + length (head ++ in_rounds (joined inputs))))) in
       let upto3 = and (and (and first variables.printed) (lined 1 (place + length text1) (opened (inside 1 (place + length text1))))) read.printed in
@@ -168,16 +162,14 @@ module _ (g : Graph) (items : AreCollections g.items) (tags : AreCollections g.t
             (statements_pieces put_pieces write.statements) (plain (symbol sign.OpenBrace)) (plain (word kept.Read)) (plain (symbol sign.OpenBrace)) (plain (symbol sign.CloseBrace)) (plain (word kept.Write)) (plain (symbol sign.OpenBrace))
             (plain (symbol sign.CloseBrace)) (plain (symbol sign.CloseBrace))) all;
         related = record {
-          sheet = sheet;
-          is_sheet = is_sheet;
           limits = no_both _ _ (no_both _ _ no_names read.limits) write.limits;
           value = value;
           is = record { name = (refl, refl); parameters = names_of_all one; variables = names_of_all two; read = read.is; write = write.is };
           name = refl;
           names = sym named_all;
           parameters = omega (arith, many_one, few);
-          read = subst (λ (l : List Text). IsBlock l sheet read.value step.body.read) (sym named_all) read.resolves;
-          write = subst (λ (l : List Text). IsBlock l sheet write.value step.body.write) (sym named_all) write.resolves;
+          read = subst (λ (l : List Text). IsBlock l (sheet_of g step) read.value step.body.read) (sym named_all) read.resolves;
+          write = subst (λ (l : List Text). IsBlock l (sheet_of g step) write.value step.body.write) (sym named_all) write.resolves;
           keeps = good.of_graph.keeps;
           once = ap (λ (l : List Name). repeated [] l) (sym (map-append name_of one two))
               ∙ not_repeated [] step.names (one ++ two) bear (apart step.names good.textual.names.distinct) (each (λ text. AllByRecursion (λ other. is_text text other ≡ false) []) (λ text. tt) step.names);

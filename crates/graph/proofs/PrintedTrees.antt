@@ -4,17 +4,17 @@ use Rattle.std.specs.Prelude.{is_some, not, slice_get}
 use Rattle.std.specs.List.{AllByRecursion}
 use Rattle.std.proofs.lemmas.Bool.Decides.{nat_tests}
 use Rattle.steptree.specs.declared.sheet.TheConstants.{MOST_COLLECTIONS}
-use Rattle.steptree.specs.declared.sheet.Sheet.{Sheet}
 use Rattle.steptree.specs.declared.step.Step.{Step as NamedStep}
 use Rattle.steptree.specs.Names.{Text, is_text, place_of, names_of}
 use Rattle.steptree.specs.Resolved.{IsBlock}
 use Rattle.steptree.specs.Sheet.{BodyKeepsTo}
+use Rattle.steptree.specs.Nameable.{Collection}
 use Rattle.syntax.specs.declared.tree.Relation.{Relation as Related}
 use Rattle.syntax.specs.Grammar.{StepText}
 use Rattle.syntax.specs.Limits.{steps_limits}
 use Rattle.syntax.specs.Tree.{AreAll, IsStep}
 use Rattle.graph.specs.declared.fault.GraphError.TheVariants.{StepTwice, Arity}
-use Rattle.graph.specs.Graph.{Collection, Graph, Step, IsSheet}
+use Rattle.graph.specs.Graph.{Graph, Step, sheet_of}
 use Rattle.graph.specs.Tree.{text_of, names_in, step_names, is_read, is_item_put, is_tag_put, each_of, prescriber_of}
 use Rattle.graph.specs.Faults.{At, fault_if, or_else, has, repeated, components_of, is_other, arity_faults, step_faults}
 use Rattle.graph.specs.Prescribed.{names_of_steps}
@@ -33,14 +33,12 @@ all_indexed Q (x ∷ xs) it = (it 0 x refl, all_indexed Q xs (λ index y there. 
 
 -- a step of the tree, and that of the graph
 pub record Shown (g : Graph) (value : NamedStep) (step : Step) : Type 0 where
-  pub sheet : Sheet
-  pub is_sheet : IsSheet g step sheet
   pub name : text_of value.name ≡ step.name
   pub names : step.names ≡ names_of value
   pub parameters : step.parameters ≡ length value.parameters.items
-  pub read : IsBlock (names_of value) sheet value.read step.body.read
-  pub write : IsBlock (names_of value) sheet value.write step.body.write
-  pub keeps : BodyKeepsTo sheet step.body
+  pub read : IsBlock (names_of value) (sheet_of g step) value.read step.body.read
+  pub write : IsBlock (names_of value) (sheet_of g step) value.write step.body.write
+  pub keeps : BodyKeepsTo (sheet_of g step) step.body
   pub once : repeated [] (value.parameters.items ++ value.variables.items) ≡ []
 
 pub record StepTrees (g : Graph) (steps : List Step) (texts : List StepText) : Type 0 where
@@ -56,7 +54,7 @@ step_trees g (step ∷ steps) [] all = absurd all
 step_trees g (step ∷ steps) (text ∷ texts) all =
     let one = all.0 in
     let rest = step_trees g steps texts all.1 in
-    let first : Shown g one.value step = record { sheet = one.sheet; is_sheet = one.is_sheet; name = one.name; names = one.names; parameters = one.parameters; read = one.read; write = one.write; keeps = one.keeps; once = one.once } in
+    let first : Shown g one.value step = record { name = one.name; names = one.names; parameters = one.parameters; read = one.read; write = one.write; keeps = one.keeps; once = one.once } in
     record { values = one.value ∷ rest.values; are = (one.is, rest.are); shown = (first, rest.shown); many = omega (arith, rest.many) }
 
 pub names_shown : (g : Graph) (values : List NamedStep) (steps : List Step) → AreAll (Shown g) values steps → step_names values ≡ names_of_steps steps

@@ -3,13 +3,12 @@ use Rattle.std.proofs.Common.{◌≡◌, ◌<◌, ℕ, suc, List, [], ◌++◌, 
 use Rattle.steptree.specs.declared.expression.Expression.{Expression}
 use Rattle.steptree.specs.declared.block.Block.{Block}
 use Rattle.steptree.specs.Tree as tree
-use Rattle.steptree.specs.declared.sheet.Declared.{Declared}
-use Rattle.steptree.specs.declared.sheet.Sheet.{Sheet}
 use Rattle.steptree.specs.declared.step.NamedKey.{NamedKey}
 use Rattle.steptree.specs.declared.step.NamedBlock.{NamedBlock}
 use Rattle.steptree.specs.declared.step.NamedBlock.TheVariants.{End, Assign', If', For', Get', PutItem', PutTag'}
 use Rattle.steptree.specs.Names.{Text}
 use Rattle.steptree.specs.Resolved.{IsBlock, IsKey as IsKeyOf}
+use Rattle.steptree.specs.Nameable.{Collection, Nameable}
 use Rattle.syntax.specs.declared.token.Word.TheVariants as kept
 use Rattle.syntax.specs.declared.token.Symbol.TheVariants as sign
 use Rattle.syntax.specs.declared.limits.TheConstants.{MOST_BRACES}
@@ -33,10 +32,10 @@ record IsKind (many : ℕ) (Kind : ℕ → Block → Type 0) : Type 0 where
       → Kind around rest → Kind around (tree.For slot from to inner rest)
 
 -- what follows a statement
-abbrev Rests : List Text → Sheet → (ℕ → Block → Type 0) → ℕ → (NamedBlock → Type 0) → Type 0
+abbrev Rests : List Text → Nameable → (ℕ → Block → Type 0) → ℕ → (NamedBlock → Type 0) → Type 0
 Rests names sheet Kind around Rest = (it : NamedBlock) (rest : Block) → Rest it → IsBlock names sheet it rest → Kind around rest
 
-module _ (names : List Text) (sheet : Sheet) where
+module _ (names : List Text) (sheet : Nameable) where
   module _ (Kind : ℕ → Block → Type 0) (kind : IsKind (length names) Kind) {B : Type 0} (IsOwn : B → NamedBlock → (NamedBlock → Type 0) → Type 0) (own_pieces : B → List Piece) (own_limits : B → List Position)
       (own_read : (around : ℕ) (it : B) (block : NamedBlock) (b : Block) (Rest : NamedBlock → Type 0) → Rests names sheet Kind around Rest → AreSound (own_pieces it) → own_limits it ≡ [] → IsOwn it block Rest → IsBlock names sheet block b → Kind around b) where
     ends_read : (around : ℕ) (block : NamedBlock) (b : Block) → block ≡ End → IsBlock names sheet block b → Kind around b
@@ -117,7 +116,7 @@ module _ (names : List Text) (sheet : Sheet) where
 
   -- ---- keys, gets and puts
 
-  key_read : (collections : List Declared) (key : Key) (it : NamedKey) (number : ℕ) (es : List Expression) → AreSound (sums_pieces key.components) → key_limits key ≡ [] → IsKey key it → IsKeyOf names collections it number es
+  key_read : (collections : List Collection) (key : Key) (it : NamedKey) (number : ℕ) (es : List Expression) → AreSound (sums_pieces key.components) → key_limits key ≡ [] → IsKey key it → IsKeyOf names collections it number es
       → AreComponents (length names) es
   key_read collections key it number es sound none is means =
       components_read names key.components it.components.items es sound (second_empty (name_limits key.collection) (sums_limits key.components) none) is.1 means.1
@@ -143,7 +142,7 @@ module _ (names : List Text) (sheet : Sheet) where
   get_read around get (Get' name key _ rest) (tree.Get slot collection es more) Rest rests sound none is means =
       let parts : AreSound (sums_pieces get.item.components ++ a_sign sign.CloseBracket ++ a_sign sign.Semicolon) = sound.1.1.1.1.1 in
       let components = front (sums_pieces get.item.components) (a_sign sign.CloseBracket) (front (sums_pieces get.item.components ++ a_sign sign.CloseBracket) (a_sign sign.Semicolon) parts) in
-      (slot_within names name slot means.0, key_read sheet.items.now get.item key collection.0 es components (second_empty (name_limits get.variable) (key_limits get.item) none) is.1 means.1, rests rest more is.2 means.2)
+      (slot_within names name slot means.0, key_read sheet.items get.item key collection.0 es components (second_empty (name_limits get.variable) (key_limits get.item) none) is.1 means.1, rests rest more is.2 means.2)
   get_read around get (Get' name key _ rest) _ Rest rests sound none is means = absurd means
   get_read around get _ b Rest rests sound none is means = absurd is
 
@@ -153,7 +152,7 @@ module _ (names : List Text) (sheet : Sheet) where
       let parts : AreSound (sums_pieces item.components ++ a_sign sign.CloseBracket ++ a_sign sign.Assign ++ expr_pieces value ++ a_sign sign.Semicolon) = sound.1.1.1 in
       let head = front (sums_pieces item.components ++ a_sign sign.CloseBracket ++ a_sign sign.Assign ++ expr_pieces value) (a_sign sign.Semicolon) parts in
       let key_parts = front (sums_pieces item.components ++ a_sign sign.CloseBracket) (a_sign sign.Assign) (front (sums_pieces item.components ++ a_sign sign.CloseBracket ++ a_sign sign.Assign) (expr_pieces value) head) in (
-        key_read sheet.items.now item key collection.0 es (front (sums_pieces item.components) (a_sign sign.CloseBracket) key_parts) (first_empty (key_limits item) (expr_limits value) none) is.0 means.0,
+        key_read sheet.items item key collection.0 es (front (sums_pieces item.components) (a_sign sign.CloseBracket) key_parts) (first_empty (key_limits item) (expr_limits value) none) is.0 means.0,
         expression_read names value it e (rear (sums_pieces item.components ++ a_sign sign.CloseBracket ++ a_sign sign.Assign) (expr_pieces value) head) (second_empty (key_limits item) (expr_limits value) none) is.1 means.1,
         rests rest more is.2 means.2,
       )
@@ -162,7 +161,7 @@ module _ (names : List Text) (sheet : Sheet) where
   put_read around (put_tag tag) (PutTag' key _ rest) (tree.PutTag collection es more) Rest rests sound none is means =
       let parts : AreSound (sums_pieces tag.components ++ a_sign sign.Greater ++ a_sign sign.Semicolon) = sound.1.1.1 in
       let components = front (sums_pieces tag.components) (a_sign sign.Greater) (front (sums_pieces tag.components ++ a_sign sign.Greater) (a_sign sign.Semicolon) parts) in
-      (key_read sheet.tags.now tag key collection.0 es components none is.0 means.0, rests rest more is.1 means.1)
+      (key_read sheet.tags tag key collection.0 es components none is.0 means.0, rests rest more is.1 means.1)
   put_read around (put_tag tag) (PutTag' key _ rest) _ Rest rests sound none is means = absurd means
   put_read around (put_tag tag) _ b Rest rests sound none is means = absurd is
 

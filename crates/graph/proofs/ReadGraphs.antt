@@ -3,12 +3,13 @@ use Rattle.std.proofs.Common.{◌≡◌, List, [], ◌∷◌, ◌++◌, refl, sy
 use Rattle.std.specs.List.{AllByRecursion, IsDistinct, flat_map}
 use Rattle.std.specs.Str.{bytes_eq}
 use Rattle.steptree.specs.declared.step.Step.{Step as NamedStep}
+use Rattle.steptree.specs.Nameable.{Collection}
 use Rattle.syntax.specs.declared.tree.Tree.{Tree}
 use Rattle.syntax.specs.Grammar.{Position}
 use Rattle.syntax.specs.Limits.{declarations_limits, relation_limits, steps_limits}
 use Rattle.syntax.specs.Spelled.{Piece, declaration_pieces, relation_pieces, step_pieces, graph_pieces}
 use Rattle.syntax.specs.Tree.{AreAll}
-use Rattle.graph.specs.Graph.{Collection, Step, Graph}
+use Rattle.graph.specs.Graph.{Step, Graph}
 use Rattle.graph.specs.Prescribed.{names_of_steps}
 use Rattle.graph.specs.Textual.{IsGraphName, AreNames, IsTextStep, ReadsTextual}
 use Rattle.graph.specs.Tree.{items_of, tags_of, names_in, step_names, IsStepOf}

@@ -18,7 +18,7 @@ use Rattle.syntax.specs.Tree.{AreAll, IsStep}
 use Rattle.graph.specs.Faults.{repeated, step_faults}
 use Rattle.graph.specs.Graph.{Step, Graph}
 use Rattle.graph.specs.Textual.{IsGraphName, IsReadBlock, IsWriteBlock, IsTextStep}
-use Rattle.graph.specs.Tree.{text_of, tags_of, IsStepOf}
+use Rattle.graph.specs.Tree.{text_of, tags_of, sheet_in, IsStepOf}
 use Rattle.graph.proofs.AlikeGraphs.{names_are}
 use Rattle.graph.proofs.Faultless.{first_empty, second_empty, later, own_names, names_in_step_apart}
 use Rattle.graph.proofs.PrintedApart.{each_of_both}
@@ -97,9 +97,9 @@ module _ (text : StepText) (sound : AreSound (step_pieces text)) (none : step_li
         (subst (λ (them : List Text). IsDistinct bytes_eq them) (sym means.names) (names_in_step_apart (it.parameters.items ++ it.variables.items) once));
     few = let small = small_step text it none is in subst (λ (n : ℕ). n ≤ MAX_COMPONENTS) (sym means.parameters) small.parameters;
     read = subst (λ (them : List Text). IsReadBlock (length them) 0 step.body.read) (sym means.names)
-        (read_block_read (names_of it) means.sheet text.read it.read step.body.read read_sound (second_empty counted_limits read_limits no_body_limit) is.read means.read);
+        (read_block_read (names_of it) (sheet_in tree it) text.read it.read step.body.read read_sound (second_empty counted_limits read_limits no_body_limit) is.read means.read);
     write = subst (λ (them : List Text). IsWriteBlock (length them) 0 step.body.write) (sym means.names)
-        (write_block_read (names_of it) means.sheet text.write it.write step.body.write write_sound (second_empty (counted_limits ++ read_limits) (statements_limits put_limits 0 text.write) none) is.write means.write);
+        (write_block_read (names_of it) (sheet_in tree it) text.write it.write step.body.write write_sound (second_empty (counted_limits ++ read_limits) (statements_limits put_limits 0 text.write) none) is.write means.write);
   }
 
 pub steps_read : (tree : Tree) (g : Graph) (before : ℕ) (names : List Text) (texts : List StepText) (them : List NamedStep) (steps : List Step) → AreSound (flat_map step_pieces texts) → steps_limits before texts ≡ []

@@ -1,8 +1,8 @@
 -- The parts of a tree, one behind another.
 use Rattle.std.proofs.Common.{◌≡◌, ℕ, suc, List, [], ◌∷◌, ◌++◌, length, map, refl, sym, ap, subst, ◌∙◌}
-use Rattle.steptree.specs.declared.sheet.Declared.{Declared}
 use Rattle.steptree.specs.declared.step.Step.{Step as NamedStep}
 use Rattle.steptree.specs.Names.{Text, place_of}
+use Rattle.steptree.specs.Nameable.{Collection}
 use Rattle.syntax.specs.declared.tree.Declaration.{Declaration}
 use Rattle.syntax.specs.declared.tree.Relation.{Relation}
 use Rattle.syntax.specs.declared.tree.Tree.{Tree}
@@ -12,7 +12,6 @@ use Rattle.graph.specs.declared.fault.PlacedFault.{PlacedFault}
 use Rattle.graph.specs.declared.relations.Numbers.{Numbers}
 use Rattle.graph.specs.declared.relations.Relations.{Relations}
 use Rattle.graph.specs.Faults.{At, declaration_faults, relation_faults, step_faults, tree_faults}
-use Rattle.graph.specs.Graph.{Collection, declared_collections}
 use Rattle.graph.specs.Numbered.{found}
 use Rattle.graph.specs.Placed.{IsFirst}
 use Rattle.graph.specs.Relations.{AreNumbers, AreRelations}
@@ -55,15 +54,15 @@ module _ (tree : Tree) where
       (behind_none (declaration_faults [] [] tree.declarations.items) _ fault (first_part ds d none)
       (subst (λ (l : List Relation). IsFirst (relation_faults item_names tag_names its_steps [] l) fault) r first))
 
-  module _ (ds : List Declaration) (declared : List Declared) (steps : List NamedStep) (relations : List Relation) (tags : Collections) (them : Relations)
+  module _ (ds : List Declaration) (declared : List Collection) (steps : List NamedStep) (relations : List Relation) (tags : Collections) (them : Relations)
       (d : ds ≡ tree.declarations.items) (t : declared ≡ tags.declared.items) (s : steps ≡ tree.steps.items) (r : relations ≡ tree.relations.items) (are : AreCollected (tags_of ds) tags) where
-    their_tags : declared_collections declared ≡ tags_of tree.declarations.items
-    their_tags = ap declared_collections t ∙ are.declared ∙ ap tags_of d
+    their_tags : declared ≡ tags_of tree.declarations.items
+    their_tags = t ∙ are.declared ∙ ap tags_of d
 
     -- the relations, as the steps are checked by them
-    pub as_checked : AreRelations item_names tag_names its_steps relations them → AreRelations item_names (names_in (declared_collections declared)) (step_names steps) relations them
+    pub as_checked : AreRelations item_names tag_names its_steps relations them → AreRelations item_names (names_in declared) (step_names steps) relations them
     as_checked them_are =
-        subst (λ (l : List NamedStep). AreRelations item_names (names_in (declared_collections declared)) (step_names l) relations them) (sym s)
+        subst (λ (l : List NamedStep). AreRelations item_names (names_in declared) (step_names l) relations them) (sym s)
         (subst (λ (l : List Collection). AreRelations item_names (names_in l) its_steps relations them) (sym their_tags) them_are)
 
     parts : (declaration_faults [] [] ds ≡ []) → relation_faults item_names tag_names its_steps [] relations ≡ []
@@ -72,7 +71,7 @@ module _ (tree : Tree) where
         empty_in_front (declaration_faults [] [] tree.declarations.items) _ (first_part ds d none)
         ∙ sym (ap (relation_faults item_names tag_names its_steps []) r) ∙ no_relation
 
-    same_steps : step_faults (declared_collections declared) relations [] steps ≡ step_faults (tags_of tree.declarations.items) tree.relations.items [] tree.steps.items
+    same_steps : step_faults declared relations [] steps ≡ step_faults (tags_of tree.declarations.items) tree.relations.items [] tree.steps.items
     same_steps =
         ap (λ (l : List Collection). step_faults l relations [] steps) their_tags
         ∙ ap (λ (l : List Relation). step_faults (tags_of tree.declarations.items) l [] steps) r
@@ -80,11 +79,11 @@ module _ (tree : Tree) where
 
     -- the first fault of the steps
     pub step_first : (fault : PlacedFault) → declaration_faults [] [] ds ≡ [] → relation_faults item_names tag_names its_steps [] relations ≡ []
-        → IsFirst (step_faults (declared_collections declared) relations [] steps) fault → IsFirst (tree_faults tree) fault
+        → IsFirst (step_faults declared relations [] steps) fault → IsFirst (tree_faults tree) fault
     step_first fault none no_relation first =
         behind_none (declaration_faults [] [] tree.declarations.items ++ relation_faults item_names tag_names its_steps [] tree.relations.items) _ fault (parts none no_relation)
         (subst (λ (l : List At). IsFirst l fault) same_steps first)
 
-    pub no_fault : declaration_faults [] [] ds ≡ [] → relation_faults item_names tag_names its_steps [] relations ≡ [] → step_faults (declared_collections declared) relations [] steps ≡ [] → tree_faults tree ≡ []
+    pub no_fault : declaration_faults [] [] ds ≡ [] → relation_faults item_names tag_names its_steps [] relations ≡ [] → step_faults declared relations [] steps ≡ [] → tree_faults tree ≡ []
     no_fault none no_relation no_step =
         empty_in_front (declaration_faults [] [] tree.declarations.items ++ relation_faults item_names tag_names its_steps [] tree.relations.items) _ (parts none no_relation) ∙ sym same_steps ∙ no_step

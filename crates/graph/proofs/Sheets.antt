@@ -5,14 +5,12 @@ use Rattle.std.specs.List.{AllByRecursion, IsDistinct, list_any}
 use Rattle.std.specs.Str.{bytes_eq}
 use Rattle.std.specs.declared.alloc.Global.{Global}
 use Rattle.std.proofs.lemmas.Option.{slice_get_within}
-use Rattle.terms.specs.declared.key.TheConstants.{MAX_COMPONENTS}
 use Rattle.terms.specs.declared.name.TagCollection.{TagCollection}
-use Rattle.steptree.specs.declared.sheet.Declared.{Declared}
-use Rattle.steptree.specs.declared.sheet.Sheet.{Sheet}
 use Rattle.steptree.specs.declared.step.Step.{Step as NamedStep}
 use Rattle.steptree.specs.CheckFaults.{faults_of}
 use Rattle.steptree.specs.Limits.{AreFew, IsWithinLimits}
 use Rattle.steptree.specs.Names.{Text, place_of}
+use Rattle.steptree.specs.Nameable.{Nameable}
 use Rattle.syntax.specs.declared.tree.Relation.{Relation}
 use Rattle.syntax.specs.declared.tree.Tree.{Tree}
 use Rattle.graph.specs.declared.fault.PlacedFault.{PlacedFault}
@@ -20,38 +18,16 @@ use Rattle.graph.specs.declared.resolved.Resolved.{Resolved}
 use Rattle.graph.specs.CheckedSteps.{IsPrescribedBy, IsBodyFault}
 use Rattle.graph.specs.Faults.{arity_faults, body_fault, tree_faults}
 use Rattle.graph.specs.Placed.{IsFirst}
-use Rattle.graph.specs.Graph.{Collection, AreCollections, declared_collections}
 use Rattle.graph.specs.Marks.{mark_at, AreMarks, AreRows, IsPrescriber, prescriber_at}
 use Rattle.graph.specs.Resolved.{IsResolved}
 use Rattle.graph.specs.Small.{IsSmall, IsSmallStep}
-use Rattle.graph.specs.Tree.{text_of, items_of, tags_of, names_in, step_names, is_read, is_item_put, is_tag_put, each_of, prescriber_of, IsSheetOf}
+use Rattle.graph.specs.Tree.{text_of, items_of, tags_of, names_in, step_names, is_read, is_item_put, is_tag_put, each_of, prescriber_of, sheet_in}
 use Rattle.graph.proofs.Faultless.{items_apart, tags_apart, step_names_apart, no_arity}
 use Rattle.graph.proofs.Lists.{any_default}
 use Rattle.graph.proofs.Marks.{width_at, stood}
 use Rattle.graph.proofs.Places.{own_place}
 
 -- ---- limits
-
-as_many : (them : List Declared) → length (declared_collections them) ≡ length them
-as_many [] = refl
-as_many (it ∷ them) = ap suc (as_many them)
-
-abbrev seen : Declared → Collection
-seen declared = record { name = declared.name.now; components = declared.components }
-
-same_place : (them : List Declared) (index : ℕ) (default : Declared) → get_or (declared_collections them) index (seen default) ≡ seen (get_or them index default)
-same_place [] index default = refl
-same_place (it ∷ them) zero default = refl
-same_place (it ∷ them) (suc index) default = same_place them index default
-
-all_short : (them : List Declared) → All (λ collection. collection.components ≤ MAX_COMPONENTS) (declared_collections them) → All (λ declared. declared.components ≤ MAX_COMPONENTS) them
-all_short them short = λ index default within.
-    subst (λ (c : Collection). c.components ≤ MAX_COMPONENTS) (same_place them index default) (short index (seen default) (omega (arith, as_many them)))
-
-few_declared : (them : List Declared) (collections : List Collection) → declared_collections them ≡ collections → AreCollections collections → AreFew them
-few_declared them collections same are =
-    let these : AreCollections (declared_collections them) = subst AreCollections (sym same) are in
-    record { few = omega (arith, as_many them, these.few); short = all_short them these.short }
 
 pub small_step : (steps : List NamedStep) (number : ℕ) (step : NamedStep) → slice_get steps number ≡ Some step → AllByRecursion IsSmallStep steps → IsSmallStep step
 small_step [] number step there small = absurd (cc)
@@ -106,9 +82,8 @@ one_step steps number one two here there =
     let same : Some one ≡ Some two = sym here ∙ there in
     cc
 
-pub first_of_body : (tree : Tree) (step : NamedStep) (sheet : Sheet) (fault : PlacedFault) → IsSheetOf tree step sheet → IsFirst (map body_fault (faults_of sheet step)) fault → IsBodyFault tree step fault
-first_of_body tree step sheet fault is (inl memory) = inl memory
-first_of_body tree step sheet fault is (inr first) = inr (record { sheet = sheet; is_sheet = is; first = first })
+pub first_of_body : (tree : Tree) (step : NamedStep) (sheet : Nameable) (fault : PlacedFault) → sheet ≡ sheet_in tree step → IsFirst (map body_fault (faults_of sheet step)) fault → IsBodyFault tree step fault
+first_of_body tree step sheet fault same = subst (λ (s : Nameable). IsFirst (map body_fault (faults_of s step)) fault) same
 
 module _ (tree : Tree) (resolved : Resolved) (small : IsSmall tree) (none : tree_faults tree ≡ []) (are : IsResolved tree resolved) (number : ℕ) (step : NamedStep) (there : slice_get tree.steps.items number ≡ Some step) where
   abbrev items : List Text
@@ -131,27 +106,27 @@ module _ (tree : Tree) (resolved : Resolved) (small : IsSmall tree) (none : tree
   is_within = slice_get_within (step_names tree.steps.items) number (text_of step.name) (named tree.steps.items number there)
 
   -- the sheet that is made of the tables
-  pub record IsTabled (sheet : Sheet) (reads item_puts tag_puts : Vec Bool Global) : Type 0 where
-    pub items_are : sheet.items.now ≡ resolved.items.declared.items
-    pub tags_are : sheet.tags.now ≡ resolved.tags.declared.items
-    pub reads_are : sheet.reads.now ≡ reads.items
-    pub item_puts_are : sheet.item_puts.now ≡ item_puts.items
-    pub tag_puts_are : sheet.tag_puts.now ≡ tag_puts.items
+  pub record IsTabled (sheet : Nameable) (reads item_puts tag_puts : Vec Bool Global) : Type 0 where
+    pub items_are : sheet.items ≡ resolved.items.declared.items
+    pub tags_are : sheet.tags ≡ resolved.tags.declared.items
+    pub reads_are : sheet.reads ≡ reads.items
+    pub item_puts_are : sheet.item_puts ≡ item_puts.items
+    pub tag_puts_are : sheet.tag_puts ≡ tag_puts.items
     pub reads_there : reads ≡ get_or resolved.relations.reads.items number reads
     pub item_puts_there : item_puts ≡ get_or resolved.relations.item_puts.items number item_puts
     pub tag_puts_there : tag_puts ≡ get_or resolved.relations.tag_puts.items number tag_puts
 
-  pub is_sheet : (sheet : Sheet) (reads item_puts tag_puts : Vec Bool Global) → IsTabled sheet reads item_puts tag_puts → IsSheetOf tree step sheet
-  is_sheet sheet reads item_puts tag_puts tabled = record {
-    items = ap declared_collections tabled.items_are ∙ are.items.declared;
-    tags = ap declared_collections tabled.tags_are ∙ are.tags.declared;
-    reads = tabled.reads_are ∙ rows_told (λ step item. is_read item step) (step_names tree.steps.items) items tree.relations.items resolved.relations.reads.items number (text_of step.name) reads
-        is_within its_place (items_apart tree none) are.relations.reads tabled.reads_there;
-    item_puts = tabled.item_puts_are ∙ rows_told is_item_put (step_names tree.steps.items) items tree.relations.items resolved.relations.item_puts.items number (text_of step.name) item_puts
-        is_within its_place (items_apart tree none) are.relations.item_puts tabled.item_puts_there;
-    tag_puts = tabled.tag_puts_are ∙ rows_told is_tag_put (step_names tree.steps.items) tags tree.relations.items resolved.relations.tag_puts.items number (text_of step.name) tag_puts
-        is_within its_place (tags_apart tree none) are.relations.tag_puts tabled.tag_puts_there;
-  }
+  pub is_sheet : (sheet : Nameable) (reads item_puts tag_puts : Vec Bool Global) → IsTabled sheet reads item_puts tag_puts → sheet ≡ sheet_in tree step
+  is_sheet sheet reads item_puts tag_puts tabled =
+      let same_items = tabled.items_are ∙ are.items.declared in
+      let same_tags = tabled.tags_are ∙ are.tags.declared in
+      let same_reads = tabled.reads_are ∙ rows_told (λ step item. is_read item step) (step_names tree.steps.items) items tree.relations.items resolved.relations.reads.items number (text_of step.name) reads
+      is_within its_place (items_apart tree none) are.relations.reads tabled.reads_there in
+      let same_item_puts = tabled.item_puts_are ∙ rows_told is_item_put (step_names tree.steps.items) items tree.relations.items resolved.relations.item_puts.items number (text_of step.name) item_puts
+      is_within its_place (items_apart tree none) are.relations.item_puts tabled.item_puts_there in
+      let same_tag_puts = tabled.tag_puts_are ∙ rows_told is_tag_put (step_names tree.steps.items) tags tree.relations.items resolved.relations.tag_puts.items number (text_of step.name) tag_puts
+      is_within its_place (tags_apart tree none) are.relations.tag_puts tabled.tag_puts_there in
+      λ i. record { items = same_items i; tags = same_tags i; reads = same_reads i; item_puts = same_item_puts i; tag_puts = same_tag_puts i }
 
   -- a row that is looked up again, and copied
   pub copied_row : (is : Text → Text → Relation → Bool) (names : List Text) (rows : List (Vec Bool Global)) (one two : Vec Bool Global) (copy row : List Bool)
@@ -160,12 +135,12 @@ module _ (tree : Tree) (resolved : Resolved) (small : IsSmall tree) (none : tree
       let both = again ∙ any_default rows number two one (omega (arith, is_within, them.long, long rows)) ∙ sym here in
       copied ∙ ap (λ (v : Vec Bool Global). v.items) both ∙ sym same
 
-  pub within_limits : (sheet : Sheet) → sheet.items.now ≡ resolved.items.declared.items → sheet.tags.now ≡ resolved.tags.declared.items → IsWithinLimits sheet step
+  pub within_limits : (sheet : Nameable) → sheet.items ≡ resolved.items.declared.items → sheet.tags ≡ resolved.tags.declared.items → IsWithinLimits sheet step
   within_limits sheet same_items same_tags =
       let it = small_step tree.steps.items number step there small.steps in
       record {
-        items = few_declared sheet.items.now (items_of tree.declarations.items) (ap declared_collections same_items ∙ are.items.declared) small.items;
-        tags = few_declared sheet.tags.now (tags_of tree.declarations.items) (ap declared_collections same_tags ∙ are.tags.declared) small.tags;
+        items = subst AreFew (sym (same_items ∙ are.items.declared)) small.items;
+        tags = subst AreFew (sym (same_tags ∙ are.tags.declared)) small.tags;
         names = it.names;
         parameters = it.parameters;
       }

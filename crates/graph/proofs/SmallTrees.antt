@@ -7,13 +7,13 @@ use Rattle.steptree.specs.declared.sheet.TheConstants.{MOST_COLLECTIONS}
 use Rattle.steptree.specs.declared.slot.TheConstants.{MOST_NAMES}
 use Rattle.steptree.specs.declared.step.Name.{Name}
 use Rattle.steptree.specs.declared.step.Step.{Step as NamedStep}
+use Rattle.steptree.specs.Nameable.{Collection}
 use Rattle.syntax.specs.declared.tree.Declaration.{Declaration as Declared}
 use Rattle.syntax.specs.declared.tree.Declaration.TheVariants as declared
 use Rattle.syntax.specs.declared.tree.Tree.{Tree}
 use Rattle.syntax.specs.Grammar.{Position, Named, Declaration, item_declared, tag_declared, StepText, GraphText}
 use Rattle.syntax.specs.Limits.{IsWithin, one_more, names_behind, name_limits, all_names, declared_limits, declarations_limits, relation_limits, step_names, step_limits, steps_limits, statements_limits, get_limits, put_limits}
 use Rattle.syntax.specs.Tree.{AreAll, IsName, IsDeclaration, IsStep, IsTree}
-use Rattle.graph.specs.Graph.{Collection}
 use Rattle.graph.specs.Small.{IsSmallStep, IsSmall}
 use Rattle.graph.specs.Tree.{items_of, tags_of}
 use Rattle.graph.proofs.Faultless.{first_empty, second_empty}

@@ -6,6 +6,7 @@ use Rattle.steptree.specs.declared.checker.CheckFault.{CheckFault}
 use Rattle.steptree.specs.declared.step.Name.{Name}
 use Rattle.steptree.specs.declared.step.Step.{Step as NamedStep}
 use Rattle.steptree.specs.Names.{Text}
+use Rattle.steptree.specs.Nameable.{Collection}
 use Rattle.syntax.specs.declared.tree.Declaration.{Declaration}
 use Rattle.syntax.specs.declared.tree.Declaration.TheVariants as declared
 use Rattle.syntax.specs.declared.tree.Relation.{Relation}
@@ -16,10 +17,9 @@ use Rattle.graph.specs.declared.fault.GraphError.{GraphError}
 use Rattle.graph.specs.declared.fault.GraphError.TheVariants as error
 use Rattle.graph.specs.declared.fault.PlacedFault.{PlacedFault}
 use Rattle.graph.specs.Placed.{no_memory}
-use Rattle.graph.specs.Graph.{Collection}
 use Rattle.graph.specs.Tree.{text_of, items_of, tags_of, names_in, step_names, prescriber_of}
 use Rattle.graph.specs.Faults.{At, fault_if, or_else, has, repeated, declaration_faults, again, unknown, missing, prescribed_before, relation_fault, relation_faults, arity_faults, step_faults, tree_faults, body_fault}
-use Rattle.graph.specs.Reads.{IsPlain, IsTreeFault, IsFirstFault, IsCause}
+use Rattle.graph.specs.Reads.{IsPlain, body_faults, IsTreeFault, IsFirstFault, IsCause}
 
 -- a fault of a name, a relation or a body
 abbrev pub IsNamed : GraphError → Type 0
@@ -138,7 +138,8 @@ named_cause text (error.Check kind) place named plain fault = (plain, fault)
 
 tree_cause : (text : List ℕ) (tree : Tree) (kind : GraphError) (place : ℕ) → IsPlain text → IsRead text tree → IsTreeFault tree kind place → IsCause text kind place
 tree_cause text tree kind place plain read fault =
-    named_cause text kind place (first_named (tree_faults tree ++ map body_fault fault.bodies) kind place (both (tree_faults tree) (map body_fault fault.bodies) (tree_named tree) (bodies_named fault.bodies)) fault.first) plain
+    let bodies : List CheckFault = body_faults tree tree.steps.items in
+    named_cause text kind place (first_named (tree_faults tree ++ map body_fault bodies) kind place (both (tree_faults tree) (map body_fault bodies) (tree_named tree) (bodies_named bodies)) fault) plain
     (record { tree = tree; read = read; first = fault })
 
 pub tree_causes : (text : List ℕ) (tree : Tree) (fault : PlacedFault) → IsPlain text → IsRead text tree → (fault ≡ no_memory) ⊎ IsTreeFault tree fault.error fault.position → (fault ≡ no_memory) ⊎ IsCause text fault.error fault.position

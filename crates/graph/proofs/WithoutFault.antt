@@ -1,11 +1,10 @@
 -- A text that reads as a graph has no fault but want of memory.
-use Rattle.std.proofs.Common.{◌≡◌, ◌≤◌, ◌<◌, inl, inr, ℕ, zero, suc, List, [], ◌∷◌, ◌++◌, length, map, Some, slice_get, sym, ap, subst, ◌∙◌, arith}
+use Rattle.std.proofs.Common.{◌≡◌, ◌≤◌, ◌<◌, inl, inr, ℕ, zero, suc, List, [], ◌∷◌, ◌++◌, length, map, Some, slice_get, refl, sym, ap, subst, ◌∙◌, arith}
 use Rattle.std.specs.List.{AllByRecursion}
-use Rattle.steptree.specs.declared.checker.CheckFault.{CheckFault}
-use Rattle.steptree.specs.declared.sheet.Sheet.{Sheet}
 use Rattle.steptree.specs.declared.step.Step.{Step as NamedStep}
 use Rattle.steptree.specs.CheckFaults.{faults_of, block_faults}
 use Rattle.steptree.specs.Names.{names_of}
+use Rattle.steptree.specs.Nameable.{Nameable}
 use Rattle.syntax.specs.declared.fault.TreeError.TheVariants as syntax_error
 use Rattle.syntax.specs.declared.tree.Tree.{Tree}
 use Rattle.syntax.specs.Grammar.{StepText, GraphText}
@@ -20,9 +19,9 @@ use Rattle.graph.specs.declared.fault.GraphError.TheVariants as error
 use Rattle.graph.specs.Canonical.{canonical}
 use Rattle.graph.specs.Faults.{tree_faults, body_fault}
 use Rattle.graph.specs.Graph.{Step, Graph}
-use Rattle.graph.specs.Reads.{Reads, AreBodyFaults, IsTreeFault, IsFirstFault, IsCause, HasCause, no_memory}
+use Rattle.graph.specs.Reads.{Reads, body_faults, IsTreeFault, IsFirstFault, IsCause, HasCause, no_memory}
 use Rattle.graph.specs.Textual.{OneGraph}
-use Rattle.graph.specs.Tree.{IsSheetOf, IsStepOf, IsGraphOf}
+use Rattle.graph.specs.Tree.{sheet_in, IsStepOf, IsGraphOf}
 use Rattle.graph.proofs.AlikeFaults.{faults_same}
 use Rattle.graph.proofs.AlikeGraphs.{names_are}
 use Rattle.graph.proofs.AlikeSheets.{SharesNames, shared, sheet_same}
@@ -32,33 +31,34 @@ use Rattle.graph.proofs.BodiesWithoutFault.{block_clear}
 -- ---- bodies
 
 module _ (t u : Tree) (g : Graph) (same : SharesNames t u) where
-  step_clear : (text : StepText) (one two : NamedStep) (step : Step) (sheet : Sheet) → IsStep text one → IsStep text two → IsStepOf t g one step → IsSheetOf u two sheet → faults_of sheet two ≡ []
-  step_clear text one two step sheet a b is its =
-      let sheets = sheet_same t u same one two is.sheet sheet (a.name.0 ∙ sym b.name.0) is.is_sheet its in
+  step_clear : (text : StepText) (one two : NamedStep) (step : Step) → IsStep text one → IsStep text two → IsStepOf t g one step → faults_of (sheet_in u two) two ≡ []
+  step_clear text one two step a b is =
+      let sheet : Nameable = sheet_in t one in
+      let sheets : sheet ≡ sheet_in u two = sheet_same t u same one two (a.name.0 ∙ sym b.name.0) in
       let names : names_of one ≡ names_of two = names_are text one a ∙ sym (names_are text two b) in
-      let read = block_clear (names_of one) is.sheet sheet sheets one.read two.read step.body.read (statements_alike IsGet get_alike text.read one.read two.read a.read b.read) is.read is.keeps.0 in
-      let write = block_clear (names_of one) is.sheet sheet sheets one.write two.write step.body.write (statements_alike IsPut put_alike text.write one.write two.write a.write b.write) is.write is.keeps.1 in
-      (λ i. block_faults (sym names i) sheet two.read ++ block_faults (sym names i) sheet two.write) ∙ (λ i. read i ++ write i)
+      let read = block_clear (names_of one) sheet one.read two.read step.body.read (statements_alike IsGet get_alike text.read one.read two.read a.read b.read) is.read is.keeps.0 in
+      let write = block_clear (names_of one) sheet one.write two.write step.body.write (statements_alike IsPut put_alike text.write one.write two.write a.write b.write) is.write is.keeps.1 in
+      (λ i. block_faults (sym names i) (sym sheets i) two.read ++ block_faults (sym names i) (sym sheets i) two.write) ∙ (λ i. read i ++ write i)
 
-  bodies_clear : (texts : List StepText) (ones twos : List NamedStep) (steps : List Step) (faults : List CheckFault) → AreAll IsStep texts ones → AreAll IsStep texts twos → AreAll (IsStepOf t g) ones steps → AreBodyFaults u twos faults → faults ≡ []
-  bodies_clear [] [] [] steps faults a b are of_them = of_them
-  bodies_clear [] [] (two ∷ twos) steps faults a b are of_them = absurd b
-  bodies_clear [] (one ∷ ones) twos steps faults a b are of_them = absurd a
-  bodies_clear (text ∷ texts) [] twos steps faults a b are of_them = absurd a
-  bodies_clear (text ∷ texts) (one ∷ ones) [] steps faults a b are of_them = absurd b
-  bodies_clear (text ∷ texts) (one ∷ ones) (two ∷ twos) [] faults a b are of_them = absurd are
-  bodies_clear (text ∷ texts) (one ∷ ones) (two ∷ twos) (step ∷ steps) faults a b are of_them =
-      let first : faults_of of_them.0 two ≡ [] = step_clear text one two step of_them.0 a.0 b.0 are.0 of_them.1 in
-      let rest : of_them.2.0 ≡ [] = bodies_clear texts ones twos steps of_them.2.0 a.1 b.1 are.1 of_them.2.2 in
-      of_them.2.1 ∙ (λ i. first i ++ rest i)
+  bodies_clear : (texts : List StepText) (ones twos : List NamedStep) (steps : List Step) → AreAll IsStep texts ones → AreAll IsStep texts twos → AreAll (IsStepOf t g) ones steps → body_faults u twos ≡ []
+  bodies_clear [] [] [] steps a b are = refl
+  bodies_clear [] [] (two ∷ twos) steps a b are = absurd b
+  bodies_clear [] (one ∷ ones) twos steps a b are = absurd a
+  bodies_clear (text ∷ texts) [] twos steps a b are = absurd a
+  bodies_clear (text ∷ texts) (one ∷ ones) [] steps a b are = absurd b
+  bodies_clear (text ∷ texts) (one ∷ ones) (two ∷ twos) [] a b are = absurd are
+  bodies_clear (text ∷ texts) (one ∷ ones) (two ∷ twos) (step ∷ steps) a b are =
+      let first = step_clear text one two step a.0 b.0 are.0 in
+      let rest = bodies_clear texts ones twos steps a.1 b.1 are.1 in
+      λ i. first i ++ rest i
 
 -- ---- trees
 
 tree_clear : (graph : GraphText) (t u : Tree) (g : Graph) (kind : GraphError) (position : ℕ) → IsTree graph t → IsTree graph u → IsGraphOf t g → tree_faults t ≡ [] → IsTreeFault u kind position → ⊥
 tree_clear graph t u g kind position a b is none fault =
     let of_names : tree_faults u ≡ [] = sym (faults_same graph t u a b) ∙ none in
-    let of_bodies : fault.bodies ≡ [] = bodies_clear t u g (shared graph t u a b) graph.steps t.steps.items u.steps.items g.steps fault.bodies a.steps b.steps is.steps fault.are_bodies in
-    let first : slice_get ([] ++ map body_fault []) 0 ≡ Some (kind, position) = (λ i. slice_get (sym of_names i ++ map body_fault (sym of_bodies i)) 0) ∙ fault.first in
+    let of_bodies : body_faults u u.steps.items ≡ [] = bodies_clear t u g (shared graph t u a b) graph.steps t.steps.items u.steps.items g.steps a.steps b.steps is.steps in
+    let first : slice_get ([] ++ map body_fault []) 0 ≡ Some (kind, position) = (λ i. slice_get (sym of_names i ++ map body_fault (sym of_bodies i)) 0) ∙ fault in
     cc
 
 -- ---- texts

@@ -8,7 +8,8 @@ use Rattle.steptree.specs.declared.expression.Expression.{Expression}
 use Rattle.steptree.specs.declared.block.Block.{Block}
 use Rattle.steptree.specs.Tree.{Number, Variable, Negation, Operation, End, Assign, If, For, Get, PutItem, PutTag}
 use Rattle.steptree.specs.Names.{Text}
-use Rattle.graph.specs.Graph.{Collection, Step, Graph}
+use Rattle.steptree.specs.Nameable.{Collection}
+use Rattle.graph.specs.Graph.{Step, Graph}
 use Rattle.graph.specs.Tree.{names_in}
 
 -- these, with ", " between them

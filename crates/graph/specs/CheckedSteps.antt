@@ -1,6 +1,5 @@
 -- The steps of a tree with their bodies checked, each by what the tree lets it name.
-use Rattle.std.specs.Prelude.{◌≡◌, ◌⊎◌, ℕ, List, [], map, Some, slice_get}
-use Rattle.steptree.specs.declared.sheet.Sheet.{Sheet}
+use Rattle.std.specs.Prelude.{◌≡◌, ℕ, List, [], map, Some}
 use Rattle.steptree.specs.declared.step.Step.{Step as NamedStep}
 use Rattle.steptree.specs.CheckFaults.{faults_of}
 use Rattle.steptree.specs.Names.{Text, place_of}
@@ -11,8 +10,8 @@ use Rattle.syntax.specs.Tree.{AreAll}
 use Rattle.graph.specs.declared.fault.PlacedFault.{PlacedFault}
 use Rattle.graph.specs.declared.graph.Prescribed.{Prescribed}
 use Rattle.graph.specs.Faults.{body_fault}
-use Rattle.graph.specs.Placed.{no_memory}
-use Rattle.graph.specs.Tree.{text_of, names_in, tags_of, prescriber_of, IsSheetOf}
+use Rattle.graph.specs.Placed.{IsFirst}
+use Rattle.graph.specs.Tree.{text_of, names_in, tags_of, prescriber_of, sheet_in}
 
 -- the number is that of the tags that prescribe the step
 pub record IsPrescribedBy (tree : Tree) (step : NamedStep) (number : ℕ) : Type 0 where
@@ -22,25 +21,17 @@ pub record IsPrescribedBy (tree : Tree) (step : NamedStep) (number : ℕ) : Type
 
 -- it is the step: what prescribes it, what it may read and put, and its body, which has no fault
 pub record IsCheckedStep (tree : Tree) (step : NamedStep) (it : Prescribed) : Type 0 where
-  pub sheet : Sheet
-  pub is_sheet : IsSheetOf tree step sheet
   pub prescriber : IsPrescribedBy tree step it.prescriber.0
-  pub reads : it.reads.items ≡ sheet.reads.now
-  pub item_puts : it.item_puts.items ≡ sheet.item_puts.now
-  pub tag_puts : it.tag_puts.items ≡ sheet.tag_puts.now
-  pub resolves : Resolves sheet step it.checked
-  pub keeps : BodyKeepsTo sheet it.checked.body
-  pub no_fault : faults_of sheet step ≡ []
+  pub reads : it.reads.items ≡ (sheet_in tree step).reads
+  pub item_puts : it.item_puts.items ≡ (sheet_in tree step).item_puts
+  pub tag_puts : it.tag_puts.items ≡ (sheet_in tree step).tag_puts
+  pub resolves : Resolves (sheet_in tree step) step it.checked
+  pub keeps : BodyKeepsTo (sheet_in tree step) it.checked.body
+  pub no_fault : faults_of (sheet_in tree step) step ≡ []
 
--- it is the first fault of the step's body
-pub record IsFirstOf (tree : Tree) (step : NamedStep) (fault : PlacedFault) : Type 0 where
-  pub sheet : Sheet
-  pub is_sheet : IsSheetOf tree step sheet
-  pub first : slice_get (map body_fault (faults_of sheet step)) 0 ≡ Some (fault.error, fault.position)
-
--- memory was refused, or it is that fault
+-- memory was refused, or it is the first fault of the step's body
 abbrev pub IsBodyFault : Tree → NamedStep → PlacedFault → Type 0
-IsBodyFault tree step fault = (fault ≡ no_memory) ⊎ IsFirstOf tree step fault
+IsBodyFault tree step = IsFirst (map body_fault (faults_of (sheet_in tree step) step))
 
 -- the names of these steps, and the steps
 abbrev pub AreCheckedSteps : Tree → List NamedStep → List (Text × Prescribed) → Type 0

@@ -2,9 +2,9 @@
 use Rattle.std.specs.Prelude.{◌≡◌, ℕ, List, map}
 use Rattle.steptree.specs.declared.step.Name.{Name}
 use Rattle.steptree.specs.Names.{Text}
+use Rattle.steptree.specs.Nameable.{Collection}
 use Rattle.graph.specs.declared.fault.GraphError.TheVariants.{Redeclared}
 use Rattle.graph.specs.declared.declarations.Collections.{Collections}
-use Rattle.graph.specs.Graph.{Collection, declared_collections}
 use Rattle.graph.specs.Faults.{At, fault_if, has}
 use Rattle.graph.specs.Seen.{collection_seen}
 use Rattle.graph.specs.Tree.{text_of}
@@ -21,5 +21,5 @@ collections_numbered numbered = map collection_seen numbered
 
 -- these are the collections, as they are declared and by their numbers
 pub record AreCollected (collections : List Collection) (them : Collections) : Type 0 where
-  pub declared : declared_collections them.declared.items ≡ collections
+  pub declared : them.declared.items ≡ collections
   pub numbered : collections_numbered them.numbered ≡ collections

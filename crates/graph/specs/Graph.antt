@@ -1,21 +1,15 @@
 -- A graph: its collections by their numbers, and what stands between them.
-use Rattle.std.specs.Prelude.{◌≡◌, ◌≤◌, ℕ, ℤ, Bool, true, false, List, map, length, get_or, slice_get, Some, All}
-use Rattle.terms.specs.declared.key.TheConstants.{MAX_COMPONENTS}
+use Rattle.std.specs.Prelude.{◌≡◌, ◌≤◌, ℕ, ℤ, Bool, true, false, List, length, get_or, slice_get, Some}
 use Rattle.terms.specs.declared.name.Addr.{Addr}
 use Rattle.terms.specs.declared.name.Tag.{Tag}
 use Rattle.terms.specs.declared.name.Inst.{Inst}
 use Rattle.steptree.specs.declared.body.Body.{Body}
 use Rattle.steptree.specs.declared.sheet.TheConstants.{MOST_COLLECTIONS}
-use Rattle.steptree.specs.declared.sheet.Declared.{Declared}
-use Rattle.steptree.specs.declared.sheet.Sheet.{Sheet}
 use Rattle.steptree.specs.declared.slot.TheConstants.{MOST_NAMES}
 use Rattle.steptree.specs.Bodies.{Ending, Means}
+use Rattle.steptree.specs.Limits.{AreFew}
+use Rattle.steptree.specs.Nameable.{Collection, Nameable}
 use Rattle.steptree.specs.Sheet.{BodyKeepsTo}
-
--- a collection of items or of tags: its name, and how many components its keys have
-pub record Collection : Type 0 where
-  pub name : List ℕ
-  pub components : ℕ
 
 -- a step collection: its name, the number of the tag collection that prescribes it, the names of its parameters and then of its
 -- variables, what it may read and what it may put, each by the numbers of the collections, and its body
@@ -73,38 +67,23 @@ EnvironmentMayGet g address = IsOf g.items address.collection.0 (length address.
 
 -- ---- what is kept of a graph
 
--- the collections that a sheet declares
-abbrev pub declared_collections : List Declared → List Collection
-declared_collections declared = map (λ it. record { name = it.name.now; components = it.components }) declared
-
--- the sheet is what the graph lets the step name
-pub record IsSheet (g : Graph) (step : Step) (sheet : Sheet) : Type 0 where
-  pub items : declared_collections sheet.items.now ≡ g.items
-  pub tags : declared_collections sheet.tags.now ≡ g.tags
-  pub reads : sheet.reads.now ≡ step.reads
-  pub item_puts : sheet.item_puts.now ≡ step.item_puts
-  pub tag_puts : sheet.tag_puts.now ≡ step.tag_puts
-
--- not too many collections, none whose keys have too many components
-pub record AreCollections (collections : List Collection) : Type 0 where
-  pub few : length collections ≤ MOST_COLLECTIONS
-  pub short : All (λ collection. collection.components ≤ MAX_COMPONENTS) collections
+-- what the graph lets the step name
+abbrev pub sheet_of : Graph → Step → Nameable
+sheet_of g step = record { items = g.items; tags = g.tags; reads = step.reads; item_puts = step.item_puts; tag_puts = step.tag_puts }
 
 -- the step has as many parameters as the tags that prescribe it have components, and keeps to what the graph lets it name
 pub record IsOfGraph (g : Graph) (step : Step) : Type 0 where
   pub prescribed : IsOf g.tags step.prescriber step.parameters
   pub parameters : step.parameters ≤ length step.names
   pub names : length step.names ≤ MOST_NAMES
-  pub sheet : Sheet
-  pub is_sheet : IsSheet g step sheet
-  pub keeps : BodyKeepsTo sheet step.body
+  pub keeps : BodyKeepsTo (sheet_of g step) step.body
   pub each_read : length step.reads ≡ length g.items
   pub each_item_put : length step.item_puts ≡ length g.items
   pub each_tag_put : length step.tag_puts ≡ length g.tags
 
 pub record IsGraph (g : Graph) : Type 0 where
-  pub items : AreCollections g.items
-  pub tags : AreCollections g.tags
+  pub items : AreFew g.items
+  pub tags : AreFew g.tags
   pub few : length g.steps ≤ MOST_COLLECTIONS
   pub steps : (number : ℕ) (step : Step) → IsStep g number step → IsOfGraph g step
   pub each_item : length g.environment_item_puts ≡ length g.items

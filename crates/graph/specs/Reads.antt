@@ -2,7 +2,6 @@
 use Rattle.std.specs.Prelude.{◌≡◌, ◌≤◌, ◌<◌, ◌⊎◌, ℕ, suc, List, [], ◌∷◌, ◌++◌, map, length, take, Some, slice_get, ◌==◌, if◌then◌else◌}
 use Rattle.std.specs.List.{AllByRecursion}
 use Rattle.steptree.specs.declared.checker.CheckFault.{CheckFault}
-use Rattle.steptree.specs.declared.sheet.Sheet.{Sheet}
 use Rattle.steptree.specs.declared.step.Step.{Step as NamedStep}
 use Rattle.steptree.specs.CheckFaults.{faults_of}
 use Rattle.syntax.specs.declared.tree.Tree.{Tree}
@@ -12,7 +11,7 @@ use Rattle.graph.specs.declared.fault.GraphError.TheVariants as error
 use Rattle.graph.specs.declared.fault.GraphFault.{GraphFault}
 use Rattle.graph.specs.declared.limits.TheConstants.{MOST_TEXT}
 use Rattle.graph.specs.Graph.{Graph}
-use Rattle.graph.specs.Tree.{IsSheetOf, IsGraphOf}
+use Rattle.graph.specs.Tree.{sheet_in, IsGraphOf}
 use Rattle.graph.specs.Faults.{tree_faults, body_fault}
 use Rattle.graph.specs.Canonical.{canonical}
 
@@ -42,15 +41,13 @@ pub record IsNotAscii (text : List ℕ) (position : ℕ) : Type 0 where
   pub large : 128 ≤ byte
 
 -- the faults of the bodies of these steps, from the left
-abbrev pub AreBodyFaults : Tree → List NamedStep → List CheckFault → Type 0
-AreBodyFaults tree [] faults = faults ≡ []
-AreBodyFaults tree (step ∷ steps) faults = (sheet : Sheet) × IsSheetOf tree step sheet × ((more : List CheckFault) × (faults ≡ faults_of sheet step ++ more) × AreBodyFaults tree steps more)
+abbrev pub body_faults : Tree → List NamedStep → List CheckFault
+body_faults tree [] = []
+body_faults tree (step ∷ steps) = faults_of (sheet_in tree step) step ++ body_faults tree steps
 
 -- the first fault of a tree: of its names and relations, and behind them of its bodies
-pub record IsTreeFault (tree : Tree) (error : GraphError) (position : ℕ) : Type 0 where
-  pub bodies : List CheckFault
-  pub are_bodies : AreBodyFaults tree tree.steps.items bodies
-  pub first : slice_get (tree_faults tree ++ map body_fault bodies) 0 ≡ Some (error, position)
+abbrev pub IsTreeFault : Tree → GraphError → ℕ → Type 0
+IsTreeFault tree error position = slice_get (tree_faults tree ++ map body_fault (body_faults tree tree.steps.items)) 0 ≡ Some (error, position)
 
 -- the first fault of a text that is in the grammar and within the limits
 pub record IsFirstFault (text : List ℕ) (error : GraphError) (position : ℕ) : Type 0 where

@@ -1,7 +1,8 @@
 -- What the collections and the steps of a graph are seen as.
 use Rattle.std.specs.Prelude.{ℕ, List, map}
+use Rattle.steptree.specs.Nameable.{Collection}
 use Rattle.graph.specs.declared.graph.Prescribed.{Prescribed}
-use Rattle.graph.specs.Graph.{Collection, Step}
+use Rattle.graph.specs.Graph.{Step}
 
 abbrev pub collection_seen : List ℕ × ℕ → Collection
 collection_seen entry = record { name = entry.0; components = entry.1 }

@@ -1,9 +1,9 @@
 -- The graph that a tree is: its names by their numbers, its relations as sets.
 use Rattle.std.specs.Prelude.{◌≡◌, Bool, false, ◌&&◌, if◌then◌else◌, List, [], ◌∷◌, map, length, Option, Some, None}
 use Rattle.std.specs.List.{list_any}
-use Rattle.steptree.specs.declared.sheet.Sheet.{Sheet}
 use Rattle.steptree.specs.declared.step.Name.{Name}
 use Rattle.steptree.specs.declared.step.Step.{Step as NamedStep}
+use Rattle.steptree.specs.Nameable.{Collection, Nameable}
 use Rattle.steptree.specs.Names.{Text, is_text, place_of, names_of}
 use Rattle.steptree.specs.Resolved.{IsBlock}
 use Rattle.steptree.specs.Sheet.{BodyKeepsTo}
@@ -13,7 +13,7 @@ use Rattle.syntax.specs.declared.tree.Relation.{Relation}
 use Rattle.syntax.specs.declared.tree.Relation.TheVariants as related
 use Rattle.syntax.specs.declared.tree.Tree.{Tree}
 use Rattle.syntax.specs.Tree.{AreAll}
-use Rattle.graph.specs.Graph.{Collection, Step, Graph, declared_collections}
+use Rattle.graph.specs.Graph.{Step, Graph}
 
 abbrev pub text_of : Name → Text
 text_of name = name.text.now
@@ -82,28 +82,28 @@ prescriber_of (relation ∷ more) step = prescriber_of more step
 
 -- ---- the graph
 
--- the sheet is what the tree lets the step name
-pub record IsSheetOf (tree : Tree) (text : NamedStep) (sheet : Sheet) : Type 0 where
-  pub items : declared_collections sheet.items.now ≡ items_of tree.declarations.items
-  pub tags : declared_collections sheet.tags.now ≡ tags_of tree.declarations.items
-  pub reads : sheet.reads.now ≡ each_of (λ item. is_read item (text_of text.name)) tree.relations.items (names_in (items_of tree.declarations.items))
-  pub item_puts : sheet.item_puts.now ≡ each_of (is_item_put (text_of text.name)) tree.relations.items (names_in (items_of tree.declarations.items))
-  pub tag_puts : sheet.tag_puts.now ≡ each_of (is_tag_put (text_of text.name)) tree.relations.items (names_in (tags_of tree.declarations.items))
+-- what the tree lets the step name
+abbrev pub sheet_in : Tree → NamedStep → Nameable
+sheet_in tree step = record {
+  items = items_of tree.declarations.items;
+  tags = tags_of tree.declarations.items;
+  reads = each_of (λ item. is_read item (text_of step.name)) tree.relations.items (names_in (items_of tree.declarations.items));
+  item_puts = each_of (is_item_put (text_of step.name)) tree.relations.items (names_in (items_of tree.declarations.items));
+  tag_puts = each_of (is_tag_put (text_of step.name)) tree.relations.items (names_in (tags_of tree.declarations.items));
+}
 
 -- the step of a graph is this one of the tree
 pub record IsStepOf (tree : Tree) (g : Graph) (text : NamedStep) (step : Step) : Type 0 where
-  pub sheet : Sheet
-  pub is_sheet : IsSheetOf tree text sheet
   pub name : step.name ≡ text_of text.name
   pub prescriber : (tag : Text) × (prescriber_of tree.relations.items step.name ≡ Some tag) × (place_of (names_in g.tags) tag ≡ Some step.prescriber)
   pub names : step.names ≡ names_of text
   pub parameters : step.parameters ≡ length text.parameters.items
-  pub reads : step.reads ≡ sheet.reads.now
-  pub item_puts : step.item_puts ≡ sheet.item_puts.now
-  pub tag_puts : step.tag_puts ≡ sheet.tag_puts.now
-  pub read : IsBlock (names_of text) sheet text.read step.body.read
-  pub write : IsBlock (names_of text) sheet text.write step.body.write
-  pub keeps : BodyKeepsTo sheet step.body
+  pub reads : step.reads ≡ (sheet_in tree text).reads
+  pub item_puts : step.item_puts ≡ (sheet_in tree text).item_puts
+  pub tag_puts : step.tag_puts ≡ (sheet_in tree text).tag_puts
+  pub read : IsBlock (names_of text) (sheet_in tree text) text.read step.body.read
+  pub write : IsBlock (names_of text) (sheet_in tree text) text.write step.body.write
+  pub keeps : BodyKeepsTo (sheet_in tree text) step.body
 
 pub record IsGraphOf (tree : Tree) (g : Graph) : Type 0 where
   pub items : g.items ≡ items_of tree.declarations.items

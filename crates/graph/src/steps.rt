@@ -7,7 +7,6 @@ ghost use Rattle.graph.specs.Faults.{fault_if, or_else, repeated, step_faults};
 ghost use Rattle.graph.specs.Numbered.{names_numbered, found};
 ghost use Rattle.graph.specs.Placed.{Reports};
 ghost use Rattle.graph.specs.Steps.{ArePlaces, components_by, components_faults};
-ghost use Rattle.graph.specs.Graph.{declared_collections};
 ghost use Rattle.graph.specs.Relations.{AreRelations};
 ghost use Rattle.syntax.specs.declared.tree.Relation.{Relation as Tied};
 ghost use Rattle.graph.specs.Tree.{names_in, step_names};
@@ -108,7 +107,7 @@ pub(crate) fn check_steps(
     steps: &[Step<'_>],
 ) -> Result<(), PlacedFault>
     requires { length relations.now.prescribers.items ≡ length steps.now }
-    ensures { (items : List Text) (all : List Tied) → AreRelations items (names_in (declared_collections tags.now)) (step_names steps.now) all relations.now → ArePlaces numbered.now (step_names steps.now) → Reports (step_faults (declared_collections tags.now) all [] steps.now) result }
+    ensures { (items : List Text) (all : List Tied) → AreRelations items (names_in tags.now) (step_names steps.now) all relations.now → ArePlaces numbered.now (step_names steps.now) → Reports (step_faults tags.now all [] steps.now) result }
 {
     for (number, step) in steps.iter().enumerate() {
         let twice = numbered.get(step.name.text).copied() != Some(number);

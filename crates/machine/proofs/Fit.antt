@@ -10,10 +10,10 @@ use Rattle.terms.specs.declared.event.Event.{Event}
 use Rattle.terms.specs.declared.event.Event.TheVariants.{EnvItem, EnvTag, Done, Stopped}
 use Rattle.terms.specs.Facts.{Fact, tag, bad, event_facts, environment_facts}
 use Rattle.terms.specs.Sets.{Facts, among, OneFact, AmongBoth}
-use Rattle.steptree.specs.declared.sheet.Declared.{Declared}
+use Rattle.steptree.specs.Nameable.{Collection}
 use Rattle.steptree.specs.Sheet.{PutIsAllowed, KeepsAtAnyReads}
 use Rattle.steptree.specs.Bodies.{Gives}
-use Rattle.graph.specs.Graph.{Graph, Collection, Step, IsOf, IsGraph, IsOfGraph}
+use Rattle.graph.specs.Graph.{Graph, Step, sheet_of, IsGraph}
 use Rattle.graph.specs.Fits.{AllFit, IsPrescribed, TagIsOf, InstanceIsOf, PutIsOf, Fits, FitsState, HasOneItemEach}
 use Rattle.graph.specs.FitLaws.{FitKeeps}
 use Rattle.machine.specs.Meaning.{BodyGives}
@@ -25,18 +25,6 @@ use Rattle.machine.proofs.Kept.{AddsItems, one_item_more, adds_no_item, adds_ite
 -- the tags of a set are of the graph
 abbrev TagsAreOf : Graph → Facts → Type 0
 TagsAreOf g X = (name : Tag) → X (tag name) ≡ true → TagIsOf g name
-
-abbrev collection_of : Declared → Collection
-collection_of declared = record { name = declared.name.now; components = declared.components }
-
--- a collection that a sheet declares is one of the graph
-declared_is_of : (declared : List Declared) (collections : List Collection) → map collection_of declared ≡ collections
-    → (number components : ℕ) → (it : Declared) × (slice_get declared number ≡ Some it) × (it.components ≡ components) → IsOf collections number components
-declared_is_of declared collections same number components it = (
-  collection_of it.0,
-  ap (λ (list : List Collection). slice_get list number) (sym same) ∙ slice_get-map collection_of declared number ∙ ap (option_map collection_of) it.1,
-  it.2,
-)
 
 module _ (keeps : KeepsAtAnyReads) (g : Graph) (is_graph : IsGraph g) where
   instance_is_of : (X : Facts) → TagsAreOf g X → (instance : Inst) → IsPrescribed g X instance → InstanceIsOf g instance
@@ -50,18 +38,18 @@ module _ (keeps : KeepsAtAnyReads) (g : Graph) (is_graph : IsGraph g) where
       same_collection : {a b : Collection} → Some a ≡ Some b → a ≡ b
       same_collection same = cc
 
-  put_is_of : (step : Step) (it : IsOfGraph g step) (one : Put) → PutIsAllowed it.sheet one → PutIsOf g one
-  put_is_of step it (put.Item address value) allowed = declared_is_of it.sheet.items.now g.items it.is_sheet.items address.collection.0 (length address.key) allowed.declared
-  put_is_of step it (put.Tag name) allowed = declared_is_of it.sheet.tags.now g.tags it.is_sheet.tags name.collection.0 (length name.key) allowed.declared
+  put_is_of : (step : Step) (one : Put) → PutIsAllowed (sheet_of g step) one → PutIsOf g one
+  put_is_of step (put.Item address value) allowed = allowed.declared
+  put_is_of step (put.Tag name) allowed = allowed.declared
 
-  puts_are_of : (step : Step) (it : IsOfGraph g step) (puts : List Put) → AllByRecursion (PutIsAllowed it.sheet) puts → AllByRecursion (PutIsOf g) puts
-  puts_are_of step it [] allowed = tt
-  puts_are_of step it (one ∷ puts) allowed = (put_is_of step it one allowed.0, puts_are_of step it puts allowed.1)
+  puts_are_of : (step : Step) (puts : List Put) → AllByRecursion (PutIsAllowed (sheet_of g step)) puts → AllByRecursion (PutIsOf g) puts
+  puts_are_of step [] allowed = tt
+  puts_are_of step (one ∷ puts) allowed = (put_is_of step one allowed.0, puts_are_of step puts allowed.1)
 
   given_are_of : (X : Facts) (instance : Inst) (puts : List Put) → BodyGives g X instance puts → AllByRecursion (PutIsOf g) puts
   given_are_of X instance puts gives =
       let it = is_graph.steps instance.collection.0 gives.step gives.is_step in
-      puts_are_of gives.step it puts (keeps it.sheet gives.step.body instance.key gives.means.reads (Gives puts) it.keeps gives.means.along).1
+      puts_are_of gives.step puts (keeps (sheet_of g gives.step) gives.step.body instance.key gives.means.reads (Gives puts) it.keeps gives.means.along).1
 
   event_fits : (X : Facts) (event : Event) → TagsAreOf g X → IsLegal g X event → Fits g X event
   event_fits X (EnvItem address value) tags legal = record { working = legal.working; event_fits = legal.event_is_legal }

@@ -16,7 +16,7 @@ use Rattle.steptree.specs.Tree.{End, Assign, If, For, Get, PutItem, PutTag}
 use Rattle.steptree.specs.declared.body.Body.{Body}
 use Rattle.steptree.specs.declared.body.TheConstants.{BUDGET}
 use Rattle.terms.specs.declared.put.TheConstants.{MOST_PUTS}
-use Rattle.steptree.specs.declared.sheet.Sheet.{Sheet}
+use Rattle.steptree.specs.Nameable.{Nameable}
 use Rattle.steptree.specs.Values.{with_value, value_of, values_of}
 use Rattle.steptree.specs.Run.{Read, State, Outcome, ends, faults, asks, strays, followed, counting, given, assigned, answered, putting, turns, run}
 use Rattle.steptree.specs.Bodies.{Ending, Gives, Faults, Asks, used_up, ending_of, begun, outcome_of, Along}
@@ -45,7 +45,7 @@ as_many (first ∷ rest) variables key is =
 
 -- ---- one sheet
 
-module _ (sheet : Sheet) where
+module _ (sheet : Nameable) where
   abbrev Readable : List Read → Type 0
   Readable reads = AllByRecursion (λ read. ReadIsAllowed sheet read.0) reads
 

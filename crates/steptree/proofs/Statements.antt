@@ -3,7 +3,7 @@ use Rattle.std.proofs.Common.{◌≡◌, ◌≤◌, List, [], ◌∷◌, ◌++�
 use Rattle.std.specs.Prelude.{Result, Ok, Err, IfOk, MatchResult}
 use Rattle.steptree.specs.declared.block.Block.{Block}
 use Rattle.steptree.specs.declared.checker.CheckFault.{CheckFault}
-use Rattle.steptree.specs.declared.sheet.Sheet.{Sheet}
+use Rattle.steptree.specs.Nameable.{Nameable}
 use Rattle.steptree.specs.declared.step.NamedBlock.{NamedBlock, size-NamedBlock}
 use Rattle.steptree.specs.declared.step.NamedBlock.TheViews.{sized-Assign, sized-If, sized-For, sized-Get, sized-PutItem, sized-PutTag}
 use Rattle.steptree.specs.declared.step.NamedBlock.TheVariants as named
@@ -17,7 +17,7 @@ use Rattle.steptree.proofs.Joining.{joined_last}
 use Rattle.steptree.proofs.Lists.{empty_in_front}
 
 -- what becomes of a statement becomes of a block that begins with it
-pub firsts : (names : List Text) (sheet : Sheet) (block : NamedBlock) (statement : NamedBlock → NamedBlock) (rest : NamedBlock) (faults : List CheckFault) (result : Result Block CheckFault)
+pub firsts : (names : List Text) (sheet : Nameable) (block : NamedBlock) (statement : NamedBlock → NamedBlock) (rest : NamedBlock) (faults : List CheckFault) (result : Result Block CheckFault)
     → block ≡ statement rest → behind (statement rest) ≡ rest → block_faults names sheet (statement rest) ≡ faults ++ block_faults names sheet rest
     → IfOk result (IsStatement names sheet statement) → Reports faults result
     → MatchResult result (IsFirstOf names sheet block) (IsFirst (block_faults names sheet block))
@@ -41,7 +41,7 @@ shallower (named.Get' name item p rest) = omega (arith, sized-Get name item (rec
 shallower (named.PutItem' item value p rest) = omega (arith, sized-PutItem item value (record { ptr = p.ptr; alloc = p.alloc; value = rest }))
 shallower (named.PutTag' tag p rest) = omega (arith, sized-PutTag tag (record { ptr = p.ptr; alloc = p.alloc; value = rest }))
 
-module _ (names : List Text) (sheet : Sheet) (block : NamedBlock) where
+module _ (names : List Text) (sheet : Nameable) (block : NamedBlock) where
   -- the statements in front of those that are left are resolved, and none of them is at fault
   pub record Resolved (left : NamedBlock) (statements : List Block) : Type 0 where
     pub resolves : (rest : Block) → IsBlock names sheet left rest → IsBlock names sheet block (joined statements rest)

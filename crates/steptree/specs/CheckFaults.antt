@@ -3,8 +3,7 @@ use Rattle.std.specs.Prelude.{ℕ, Bool, true, false, not, is_none, option_map, 
 use Rattle.steptree.specs.declared.checker.CheckError.{CheckError}
 use Rattle.steptree.specs.declared.checker.CheckError.TheVariants.{UnknownName, Arity, UndeclaredRead, UndeclaredPut, NoMemory}
 use Rattle.steptree.specs.declared.checker.CheckFault.{CheckFault}
-use Rattle.steptree.specs.declared.sheet.Declared.{Declared}
-use Rattle.steptree.specs.declared.sheet.Sheet.{Sheet}
+use Rattle.steptree.specs.Nameable.{Collection, Nameable}
 use Rattle.steptree.specs.declared.step.Name.{Name}
 use Rattle.steptree.specs.declared.step.NamedExpression.{NamedExpression}
 use Rattle.steptree.specs.declared.step.NamedExpression.TheVariants.{Number, Variable, Negation', Operation'}
@@ -41,21 +40,21 @@ is_number None number = false
 is_number (Some other) number = other == number
 
 -- how many components the keys of the collection with this number have
-abbrev pub components_of : List Declared → ℕ → Option ℕ
+abbrev pub components_of : List Collection → ℕ → Option ℕ
 components_of collections number = option_map (λ collection. collection.components) (slice_get collections number)
 
 -- of a collection with this number: that the step may not name it so, and that its keys have another number of components
-abbrev pub known_faults : List Declared → List Bool → CheckError → NamedKey → Option ℕ → List CheckFault
+abbrev pub known_faults : List Collection → List Bool → CheckError → NamedKey → Option ℕ → List CheckFault
 known_faults collections allowed error key None = fault_if true UnknownName key.collection
 known_faults collections allowed error key (Some number) =
     fault_if (not (get_or allowed number false)) error key.collection
     ++ fault_if (not (is_number (components_of collections number) (length key.components.items))) Arity key.collection
 
-abbrev pub key_faults : List Text → List Declared → List Bool → CheckError → NamedKey → List CheckFault
+abbrev pub key_faults : List Text → List Collection → List Bool → CheckError → NamedKey → List CheckFault
 key_faults names collections allowed error key =
     known_faults collections allowed error key (number_of collections key.collection) ++ component_faults names key.components.items
 
-abbrev pub block_faults : List Text → Sheet → NamedBlock → List CheckFault
+abbrev pub block_faults : List Text → Nameable → NamedBlock → List CheckFault
 block_faults names sheet End = []
 block_faults names sheet (Assign' name value _ rest) = variable_faults names name ++ expression_faults names value ++ block_faults names sheet rest
 block_faults names sheet (If' condition _ first _ second _ rest) =
@@ -63,12 +62,12 @@ block_faults names sheet (If' condition _ first _ second _ rest) =
 block_faults names sheet (For' name from to _ block _ rest) =
     variable_faults names name ++ expression_faults names from ++ expression_faults names to ++ block_faults names sheet block ++ block_faults names sheet rest
 block_faults names sheet (Get' name item _ rest) =
-    variable_faults names name ++ key_faults names sheet.items.now sheet.reads.now UndeclaredRead item ++ block_faults names sheet rest
+    variable_faults names name ++ key_faults names sheet.items sheet.reads UndeclaredRead item ++ block_faults names sheet rest
 block_faults names sheet (PutItem' item value _ rest) =
-    key_faults names sheet.items.now sheet.item_puts.now UndeclaredPut item ++ expression_faults names value ++ block_faults names sheet rest
+    key_faults names sheet.items sheet.item_puts UndeclaredPut item ++ expression_faults names value ++ block_faults names sheet rest
 block_faults names sheet (PutTag' tag _ rest) =
-    key_faults names sheet.tags.now sheet.tag_puts.now UndeclaredPut tag ++ block_faults names sheet rest
+    key_faults names sheet.tags sheet.tag_puts UndeclaredPut tag ++ block_faults names sheet rest
 
 -- all of them, the read block in front of the write block
-abbrev pub faults_of : Sheet → Step → List CheckFault
+abbrev pub faults_of : Nameable → Step → List CheckFault
 faults_of sheet step = block_faults (names_of step) sheet step.read ++ block_faults (names_of step) sheet step.write

@@ -4,6 +4,7 @@ pub mod CodesOfBlocks
 pub mod CodesOfExpressions
 pub mod Laws
 pub mod Limits
+pub mod Nameable
 pub mod Names
 pub mod Resolved
 pub mod Run

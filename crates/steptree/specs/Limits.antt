@@ -3,18 +3,17 @@ use Rattle.std.specs.Prelude.{◌≤◌, List, length, All}
 use Rattle.terms.specs.declared.key.TheConstants.{MAX_COMPONENTS}
 use Rattle.steptree.specs.declared.slot.TheConstants.{MOST_NAMES}
 use Rattle.steptree.specs.declared.sheet.TheConstants.{MOST_COLLECTIONS}
-use Rattle.steptree.specs.declared.sheet.Declared.{Declared}
-use Rattle.steptree.specs.declared.sheet.Sheet.{Sheet}
+use Rattle.steptree.specs.Nameable.{Collection, Nameable}
 use Rattle.steptree.specs.declared.step.Step.{Step}
 use Rattle.steptree.specs.Names.{names_of}
 
 -- not too many collections, and none whose keys have too many components
-pub record AreFew (collections : List Declared) : Type 0 where
+pub record AreFew (collections : List Collection) : Type 0 where
   pub few : length collections ≤ MOST_COLLECTIONS
   pub short : All (λ collection. collection.components ≤ MAX_COMPONENTS) collections
 
-pub record IsWithinLimits (sheet : Sheet) (step : Step) : Type 0 where
-  pub items : AreFew sheet.items.now
-  pub tags : AreFew sheet.tags.now
+pub record IsWithinLimits (sheet : Nameable) (step : Step) : Type 0 where
+  pub items : AreFew sheet.items
+  pub tags : AreFew sheet.tags
   pub names : length (names_of step) ≤ MOST_NAMES
   pub parameters : length step.parameters.items ≤ MAX_COMPONENTS

@@ -1,6 +1,6 @@
 -- The names of a step and what they stand for.
 use Rattle.std.specs.Prelude.{ℕ, zero, suc, Bool, true, false, ◌==◌, ◌&&◌, List, [], ◌∷◌, ◌++◌, map, Option, Some, None, option_map, if◌then◌else◌}
-use Rattle.steptree.specs.declared.sheet.Declared.{Declared}
+use Rattle.steptree.specs.Nameable.{Collection}
 use Rattle.steptree.specs.declared.step.Name.{Name}
 use Rattle.steptree.specs.declared.step.Step.{Step}
 
@@ -24,13 +24,13 @@ place_of (first ∷ rest) text = if is_text first text then Some zero else optio
 abbrev pub names_of : Step → List Text
 names_of step = map (λ name. name.text.now) (step.parameters.items ++ step.variables.items)
 
-abbrev pub names_declared : List Declared → List Text
-names_declared collections = map (λ collection. collection.name.now) collections
+abbrev pub names_declared : List Collection → List Text
+names_declared collections = map (λ collection. collection.name) collections
 
 -- the slot of a variable
 abbrev pub slot_of : List Text → Name → Option ℕ
 slot_of names name = place_of names name.text.now
 
 -- the number of a collection
-abbrev pub number_of : List Declared → Name → Option ℕ
+abbrev pub number_of : List Collection → Name → Option ℕ
 number_of collections name = place_of (names_declared collections) name.text.now

@@ -4,8 +4,7 @@ use Rattle.steptree.specs.declared.expression.Expression.{Expression}
 use Rattle.steptree.specs.Tree as tree
 use Rattle.steptree.specs.declared.block.Block.{Block}
 use Rattle.steptree.specs.declared.checked.Checked.{Checked}
-use Rattle.steptree.specs.declared.sheet.Declared.{Declared}
-use Rattle.steptree.specs.declared.sheet.Sheet.{Sheet}
+use Rattle.steptree.specs.Nameable.{Collection, Nameable}
 use Rattle.steptree.specs.declared.step.NamedExpression.{NamedExpression}
 use Rattle.steptree.specs.declared.step.NamedExpression.TheVariants as named
 use Rattle.steptree.specs.declared.step.NamedKey.{NamedKey}
@@ -27,10 +26,10 @@ AreExpressions names (e ∷ es) (f ∷ fs) = IsExpression names e f × AreExpres
 AreExpressions names es fs = ⊥
 
 -- a key with names is one of the collection with this number, with these components
-abbrev pub IsKey : List Text → List Declared → NamedKey → ℕ → List Expression → Type 0
+abbrev pub IsKey : List Text → List Collection → NamedKey → ℕ → List Expression → Type 0
 IsKey names collections key number components = (number_of collections key.collection ≡ Some number) × AreExpressions names key.components.items components
 
-abbrev pub IsBlock : List Text → Sheet → NamedBlock → Block → Type 0
+abbrev pub IsBlock : List Text → Nameable → NamedBlock → Block → Type 0
 IsBlock names sheet named_block.End tree.End = ⊤
 IsBlock names sheet (named_block.Assign' name e _ block) (tree.Assign slot f rest) = (slot_of names name ≡ Some slot) × IsExpression names e f × IsBlock names sheet block rest
 IsBlock names sheet (named_block.If' e _ a _ b _ block) (tree.If f first second rest) =
@@ -38,15 +37,15 @@ IsBlock names sheet (named_block.If' e _ a _ b _ block) (tree.If f first second 
 IsBlock names sheet (named_block.For' name e1 e2 _ a _ block) (tree.For slot f1 f2 inner rest) =
     (slot_of names name ≡ Some slot) × IsExpression names e1 f1 × IsExpression names e2 f2 × IsBlock names sheet a inner × IsBlock names sheet block rest
 IsBlock names sheet (named_block.Get' name key _ block) (tree.Get slot collection components rest) =
-    (slot_of names name ≡ Some slot) × IsKey names sheet.items.now key collection.0 components × IsBlock names sheet block rest
+    (slot_of names name ≡ Some slot) × IsKey names sheet.items key collection.0 components × IsBlock names sheet block rest
 IsBlock names sheet (named_block.PutItem' key e _ block) (tree.PutItem collection components f rest) =
-    IsKey names sheet.items.now key collection.0 components × IsExpression names e f × IsBlock names sheet block rest
+    IsKey names sheet.items key collection.0 components × IsExpression names e f × IsBlock names sheet block rest
 IsBlock names sheet (named_block.PutTag' key _ block) (tree.PutTag collection components rest) =
-    IsKey names sheet.tags.now key collection.0 components × IsBlock names sheet block rest
+    IsKey names sheet.tags key collection.0 components × IsBlock names sheet block rest
 IsBlock names sheet block other = ⊥
 
 -- a checked step is the step, each name by what it stands for
-pub record Resolves (sheet : Sheet) (step : Step) (checked : Checked) : Type 0 where
+pub record Resolves (sheet : Nameable) (step : Step) (checked : Checked) : Type 0 where
   pub names : map (λ name. name.bytes.items) checked.names.items ≡ names_of step
   pub parameters : checked.parameters ≡ length step.parameters.items
   pub read : IsBlock (names_of step) sheet step.read checked.body.read

@@ -4,8 +4,7 @@ use Rattle.std.specs.List.{AllByRecursion}
 use Rattle.terms.specs.declared.name.Addr.{Addr}
 use Rattle.terms.specs.declared.put.Put.{Put}
 use Rattle.terms.specs.declared.put.Put.TheVariants as put
-use Rattle.steptree.specs.declared.sheet.Declared.{Declared}
-use Rattle.steptree.specs.declared.sheet.Sheet.{Sheet}
+use Rattle.steptree.specs.Nameable.{Collection, Nameable}
 use Rattle.steptree.specs.declared.block.Block.{Block}
 use Rattle.steptree.specs.Tree.{End, Assign, If, For, Get, PutItem, PutTag}
 use Rattle.steptree.specs.declared.body.Body.{Body}
@@ -13,21 +12,21 @@ use Rattle.steptree.specs.Run.{Read}
 use Rattle.steptree.specs.Bodies.{Ending, Gives, Faults, Asks, Along}
 
 -- a collection is declared with keys of so many components, and is allowed
-pub record IsAllowed (collections : List Declared) (allowed : List Bool) (number components : ℕ) : Type 0 where
-  pub declared : (collection : Declared) × (slice_get collections number ≡ Some collection) × (collection.components ≡ components)
+pub record IsAllowed (collections : List Collection) (allowed : List Bool) (number components : ℕ) : Type 0 where
+  pub declared : (collection : Collection) × (slice_get collections number ≡ Some collection) × (collection.components ≡ components)
   pub is_allowed : get_or allowed number false ≡ true
 
-abbrev pub MayRead : Sheet → ℕ → ℕ → Type 0
-MayRead sheet number components = IsAllowed sheet.items.now sheet.reads.now number components
+abbrev pub MayRead : Nameable → ℕ → ℕ → Type 0
+MayRead sheet number components = IsAllowed sheet.items sheet.reads number components
 
-abbrev pub MayPutItem : Sheet → ℕ → ℕ → Type 0
-MayPutItem sheet number components = IsAllowed sheet.items.now sheet.item_puts.now number components
+abbrev pub MayPutItem : Nameable → ℕ → ℕ → Type 0
+MayPutItem sheet number components = IsAllowed sheet.items sheet.item_puts number components
 
-abbrev pub MayPutTag : Sheet → ℕ → ℕ → Type 0
-MayPutTag sheet number components = IsAllowed sheet.tags.now sheet.tag_puts.now number components
+abbrev pub MayPutTag : Nameable → ℕ → ℕ → Type 0
+MayPutTag sheet number components = IsAllowed sheet.tags sheet.tag_puts number components
 
 -- the block gets and puts only what the sheet allows
-abbrev pub KeepsTo : Sheet → Block → Type 0
+abbrev pub KeepsTo : Nameable → Block → Type 0
 KeepsTo sheet End = ⊤
 KeepsTo sheet (Assign variable value rest) = KeepsTo sheet rest
 KeepsTo sheet (If condition first second rest) = KeepsTo sheet first × KeepsTo sheet second × KeepsTo sheet rest
@@ -36,23 +35,23 @@ KeepsTo sheet (Get variable collection components rest) = MayRead sheet collecti
 KeepsTo sheet (PutItem collection components value rest) = MayPutItem sheet collection.0 (length components) × KeepsTo sheet rest
 KeepsTo sheet (PutTag collection components rest) = MayPutTag sheet collection.0 (length components) × KeepsTo sheet rest
 
-abbrev pub BodyKeepsTo : Sheet → Body → Type 0
+abbrev pub BodyKeepsTo : Nameable → Body → Type 0
 BodyKeepsTo sheet body = KeepsTo sheet body.read × KeepsTo sheet body.write
 
 -- an instance may read this item, and make this put
-abbrev pub ReadIsAllowed : Sheet → Addr → Type 0
+abbrev pub ReadIsAllowed : Nameable → Addr → Type 0
 ReadIsAllowed sheet address = MayRead sheet address.collection.0 (length address.key)
 
-abbrev pub PutIsAllowed : Sheet → Put → Type 0
+abbrev pub PutIsAllowed : Nameable → Put → Type 0
 PutIsAllowed sheet (put.Item address value) = MayPutItem sheet address.collection.0 (length address.key)
 PutIsAllowed sheet (put.Tag tag) = MayPutTag sheet tag.collection.0 (length tag.key)
 
-abbrev pub EndingIsAllowed : Sheet → Ending → Type 0
+abbrev pub EndingIsAllowed : Nameable → Ending → Type 0
 EndingIsAllowed sheet (Gives puts) = AllByRecursion (PutIsAllowed sheet) puts
 EndingIsAllowed sheet (Faults kind) = ⊤
 EndingIsAllowed sheet (Asks address) = ReadIsAllowed sheet address
 
 -- a body that keeps to its sheet reads and puts nothing else, at any reads
 abbrev pub KeepsAtAnyReads : Type 0
-KeepsAtAnyReads = (sheet : Sheet) (body : Body) (key : List ℤ) (reads : List Read) (ending : Ending) → BodyKeepsTo sheet body → Along body key reads ending
+KeepsAtAnyReads = (sheet : Nameable) (body : Body) (key : List ℤ) (reads : List Read) (ending : Ending) → BodyKeepsTo sheet body → Along body key reads ending
     → AllByRecursion (λ read. ReadIsAllowed sheet read.0) reads × EndingIsAllowed sheet ending

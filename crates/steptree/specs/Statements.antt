@@ -3,7 +3,7 @@ use Rattle.std.specs.Prelude.{◌≡◌, ◌⊎◌, List, [], ◌∷◌, map, So
 use Rattle.steptree.specs.declared.block.Block.{Block}
 use Rattle.steptree.specs.Tree.{End, Assign, If, For, Get, PutItem, PutTag}
 use Rattle.steptree.specs.declared.checker.CheckFault.{CheckFault}
-use Rattle.steptree.specs.declared.sheet.Sheet.{Sheet}
+use Rattle.steptree.specs.Nameable.{Nameable}
 use Rattle.steptree.specs.declared.step.Name.{Name}
 use Rattle.steptree.specs.declared.step.NamedBlock.{NamedBlock}
 use Rattle.steptree.specs.declared.step.NamedBlock.TheVariants as named
@@ -49,12 +49,12 @@ joined [] block = block
 joined (first ∷ others) block = with_rest first (joined others block)
 
 -- the first statement of a block is the statement with names, whatever stands behind the two, and is allowed by the sheet
-pub record IsStatement (names : List Text) (sheet : Sheet) (statement : NamedBlock → NamedBlock) (first : Block) : Type 0 where
+pub record IsStatement (names : List Text) (sheet : Nameable) (statement : NamedBlock → NamedBlock) (first : Block) : Type 0 where
   pub resolves : (block : NamedBlock) (rest : Block) → IsBlock names sheet block rest → IsBlock names sheet (statement block) (with_rest first rest)
   pub keeps : (rest : Block) → KeepsTo sheet rest → KeepsTo sheet (with_rest first rest)
 
 -- the first statement of a block is that of a block with names, and has no fault
-pub record IsFirstOf (names : List Text) (sheet : Sheet) (block : NamedBlock) (first : Block) : Type 0 where
+pub record IsFirstOf (names : List Text) (sheet : Nameable) (block : NamedBlock) (first : Block) : Type 0 where
   pub resolves : (rest : Block) → IsBlock names sheet (behind block) rest → IsBlock names sheet block (with_rest first rest)
   pub keeps : (rest : Block) → KeepsTo sheet rest → KeepsTo sheet (with_rest first rest)
   pub no_fault : block_faults names sheet block ≡ block_faults names sheet (behind block)

@@ -29,7 +29,7 @@ impl Named for Name<'_> {
 }
 
 impl Named for Declared<'_> {
-    ghost name = { λ d. d.name.now };
+    ghost name = { λ d. d.name };
 
     fn text(&self) -> &str {
         self.name
@@ -99,10 +99,11 @@ pub(crate) fn number(
     match place(collections, key.collection.text) {
         None => Err(at(&key.collection, CheckError::UnknownName)),
         Some(number) => {
+            let collection = &collections[number];
             if number >= allowed.len() || !allowed[number] {
                 return Err(at(&key.collection, error));
             }
-            if collections[number].components != key.components.len() {
+            if collection.components != key.components.len() {
                 return Err(at(&key.collection, CheckError::Arity));
             }
             Ok(number as u16)

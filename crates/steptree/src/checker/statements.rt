@@ -2,7 +2,7 @@ ghost use Rattle.std.specs.Prelude.{◌≡◌, ◌≤◌, ◌++◌, length, IfOk
 ghost use Rattle.steptree.specs.Tree.{End};
 ghost use Rattle.steptree.specs.declared.checker.CheckError.TheVariants.{UndeclaredRead, UndeclaredPut};
 ghost use Rattle.steptree.specs.declared.slot.TheConstants.{MOST_NAMES};
-ghost use Rattle.steptree.specs.declared.sheet.Sheet.{Sheet};
+ghost use Rattle.steptree.specs.Nameable.{Nameable};
 ghost use Rattle.steptree.specs.declared.step.NamedBlock.TheVariants as named;
 ghost use Rattle.steptree.specs.CheckFaults.{variable_faults, expression_faults, key_faults, block_faults};
 ghost use Rattle.steptree.specs.Limits.{AreFew};
@@ -26,7 +26,7 @@ fn assign(
     value: &NamedExpression<'_>,
 ) -> Result<Block, CheckFault>
     requires { length names.now ≤ MOST_NAMES }
-    ensures statement { IfOk result (λ first. (sheet : Sheet) (p : _) → IsStatement (texts names.now) sheet (named.Assign' variable.now value.now p) first) }
+    ensures statement { IfOk result (λ first. (sheet : Nameable) (p : _) → IsStatement (texts names.now) sheet (named.Assign' variable.now value.now p) first) }
     ensures faults { Reports (variable_faults (texts names.now) variable.now ++ expression_faults (texts names.now) value.now) result }
 {
     Ok(Block {
@@ -49,8 +49,8 @@ fn choose(
     second: &NamedBlock<'_>,
 ) -> Result<Block, CheckFault>
     requires named { length names.now ≤ MOST_NAMES }
-    requires items { AreFew sheet.now.items.now }
-    requires tags { AreFew sheet.now.tags.now }
+    requires items { AreFew sheet.now.items }
+    requires tags { AreFew sheet.now.tags }
     ensures statement { IfOk result (λ block. (p q r : _) → IsStatement (texts names.now) sheet.now (named.If' condition.now p first.now q second.now r) block) }
     ensures faults { Reports (expression_faults (texts names.now) condition.now ++ block_faults (texts names.now) sheet.now first.now ++ block_faults (texts names.now) sheet.now second.now) result }
 {
@@ -79,8 +79,8 @@ fn repeat(
     block: &NamedBlock<'_>,
 ) -> Result<Block, CheckFault>
     requires named { length names.now ≤ MOST_NAMES }
-    requires items { AreFew sheet.now.items.now }
-    requires tags { AreFew sheet.now.tags.now }
+    requires items { AreFew sheet.now.items }
+    requires tags { AreFew sheet.now.tags }
     ensures statement { IfOk result (λ first. (p q : _) → IsStatement (texts names.now) sheet.now (named.For' variable.now from.now to.now p block.now q) first) }
     ensures faults { Reports (variable_faults (texts names.now) variable.now ++ expression_faults (texts names.now) from.now ++ expression_faults (texts names.now) to.now ++ block_faults (texts names.now) sheet.now block.now) result }
 {
@@ -108,9 +108,9 @@ fn get(
     item: &NamedKey<'_>,
 ) -> Result<Block, CheckFault>
     requires named { length names.now ≤ MOST_NAMES }
-    requires items { AreFew sheet.now.items.now }
+    requires items { AreFew sheet.now.items }
     ensures statement { IfOk result (λ first. (p : _) → IsStatement (texts names.now) sheet.now (named.Get' variable.now item.now p) first) }
-    ensures faults { Reports (variable_faults (texts names.now) variable.now ++ key_faults (texts names.now) sheet.now.items.now sheet.now.reads.now UndeclaredRead item.now) result }
+    ensures faults { Reports (variable_faults (texts names.now) variable.now ++ key_faults (texts names.now) sheet.now.items sheet.now.reads UndeclaredRead item.now) result }
 {
     let variable = slot(names, variable)?;
     let error = CheckError::UndeclaredRead;
@@ -134,9 +134,9 @@ fn put_item(
     value: &NamedExpression<'_>,
 ) -> Result<Block, CheckFault>
     requires named { length names.now ≤ MOST_NAMES }
-    requires items { AreFew sheet.now.items.now }
+    requires items { AreFew sheet.now.items }
     ensures statement { IfOk result (λ first. (p : _) → IsStatement (texts names.now) sheet.now (named.PutItem' item.now value.now p) first) }
-    ensures faults { Reports (key_faults (texts names.now) sheet.now.items.now sheet.now.item_puts.now UndeclaredPut item.now ++ expression_faults (texts names.now) value.now) result }
+    ensures faults { Reports (key_faults (texts names.now) sheet.now.items sheet.now.item_puts UndeclaredPut item.now ++ expression_faults (texts names.now) value.now) result }
 {
     let error = CheckError::UndeclaredPut;
     let (number, components) = resolve_key(
@@ -166,10 +166,10 @@ fn put_tag(
     tag: &NamedKey<'_>,
 ) -> Result<Block, CheckFault>
     requires named { length names.now ≤ MOST_NAMES }
-    requires items { AreFew sheet.now.items.now }
-    requires tags { AreFew sheet.now.tags.now }
+    requires items { AreFew sheet.now.items }
+    requires tags { AreFew sheet.now.tags }
     ensures statement { IfOk result (λ first. (p : _) → IsStatement (texts names.now) sheet.now (named.PutTag' tag.now p) first) }
-    ensures faults { Reports (key_faults (texts names.now) sheet.now.tags.now sheet.now.tag_puts.now UndeclaredPut tag.now) result }
+    ensures faults { Reports (key_faults (texts names.now) sheet.now.tags sheet.now.tag_puts UndeclaredPut tag.now) result }
 {
     let error = CheckError::UndeclaredPut;
     let (number, components) = resolve_key(alloc, names, sheet.tags, sheet.tag_puts, error, tag)?;
@@ -191,8 +191,8 @@ fn resolve_first(
     block: &NamedBlock<'_>,
 ) -> Result<Block, CheckFault>
     requires named { length names.now ≤ MOST_NAMES }
-    requires items { AreFew sheet.now.items.now }
-    requires tags { AreFew sheet.now.tags.now }
+    requires items { AreFew sheet.now.items }
+    requires tags { AreFew sheet.now.tags }
     ensures { MatchResult result (IsFirstOf (texts names.now) sheet.now block.now) (IsFirst (block_faults (texts names.now) sheet.now block.now)) }
 {
     match block {
@@ -232,8 +232,8 @@ pub(crate) fn resolve_block(
     block: &NamedBlock<'_>,
 ) -> Result<Block, CheckFault>
     requires named { length names.now ≤ MOST_NAMES }
-    requires items { AreFew sheet.now.items.now }
-    requires tags { AreFew sheet.now.tags.now }
+    requires items { AreFew sheet.now.items }
+    requires tags { AreFew sheet.now.tags }
     ensures resolves { IfOk result (IsBlock (texts names.now) sheet.now block.now) }
     ensures keeps { IfOk result (KeepsTo sheet.now) }
     ensures faults { Reports (block_faults (texts names.now) sheet.now block.now) result }

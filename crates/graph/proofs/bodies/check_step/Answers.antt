@@ -1,7 +1,10 @@
 use Rattle.std.proofs.Common.{Some, None, ◌≡◌, ◌∙◌, ap, sym, subst, slice_get}
 use Rattle.std.proofs.lemmas.Option.{slice_get-get_or}
-use Rattle.steptree.specs.declared.sheet.Sheet.{Sheet}
 use Rattle.steptree.specs.declared.step.Step.{Step as NamedStep}
+use Rattle.steptree.specs.CheckFaults.{faults_of}
+use Rattle.steptree.specs.Nameable.{Nameable}
+use Rattle.steptree.specs.Resolved.{Resolves}
+use Rattle.steptree.specs.Sheet.{BodyKeepsTo}
 use Rattle.graph.specs.CheckedSteps.{IsBodyFault, IsCheckedStep}
 use Rattle.graph.specs.Tree.{items_of, tags_of, names_in, is_read, is_item_put, is_tag_put}
 use Rattle.graph.proofs.FirstFaults.{fault_passed_on}
@@ -22,7 +25,7 @@ returns-in_err-checked c = λ step there.
     let this = c.index-4.result.now in
     let here : slice_get tree.steps.items c.args.number ≡ Some this =
     slice_get-get_or tree.steps.items c.args.number this c.requires.within ∙ ap (λ (s : NamedStep). Some s) (sym c.index-4.ensures) in
-    let sheet : Sheet = record { items = c.deref.result; tags = c.deref-2.result; reads = c.deref-3.result; item_puts = c.deref-4.result; tag_puts = c.deref-5.result } in
+    let sheet : Nameable = record { items = c.deref.result.now; tags = c.deref-2.result.now; reads = c.deref-3.result.now; item_puts = c.deref-4.result.now; tag_puts = c.deref-5.result.now } in
     let is = is_sheet tree c.args.resolved.now c.requires.small c.requires.no_fault c.requires.resolved c.args.number this here sheet c.index.result.now c.index-2.result.now c.index-3.result.now (record {
       items_are = c.deref.ensures.value;
       tags_are = c.deref-2.ensures.value;
@@ -52,7 +55,7 @@ returns c = λ step there.
     let this = c.index-4.result.now in
     let here : slice_get tree.steps.items c.args.number ≡ Some this =
     slice_get-get_or tree.steps.items c.args.number this c.requires.within ∙ ap (λ (s : NamedStep). Some s) (sym c.index-4.ensures) in
-    let sheet : Sheet = record { items = c.deref.result; tags = c.deref-2.result; reads = c.deref-3.result; item_puts = c.deref-4.result; tag_puts = c.deref-5.result } in
+    let sheet : Nameable = record { items = c.deref.result.now; tags = c.deref-2.result.now; reads = c.deref-3.result.now; item_puts = c.deref-4.result.now; tag_puts = c.deref-5.result.now } in
     let is = is_sheet tree c.args.resolved.now c.requires.small c.requires.no_fault c.requires.resolved c.args.number this here sheet c.index.result.now c.index-2.result.now c.index-3.result.now (record {
       items_are = c.deref.ensures.value;
       tags_are = c.deref-2.ensures.value;
@@ -71,13 +74,11 @@ returns c = λ step there.
     let copy = copied_row tree resolved c.requires.small c.requires.no_fault c.requires.resolved c.args.number this here in
     subst (λ (s : NamedStep). IsCheckedStep tree s (record { prescriber = c.unwrap.result; reads = c.in_ok-copied.field-0; item_puts = c.in_ok-copied-2.field-0; tag_puts = c.in_ok-copied-3.field-0; checked = c.in_ok-checked.checked }))
     (one_step tree.steps.items c.args.number this step here there) (record {
-      sheet = sheet;
-      is_sheet = is;
       prescriber = prescribed_by tree resolved c.requires.small c.requires.no_fault c.requires.resolved c.args.number this here c.unwrap.result (at ∙ c.unwrap.ensures);
-      reads = copy (λ step item. is_read item step) (names_in (items_of tree.declarations.items)) resolved.relations.reads.items c.index.result.now c.index-6.result.now _ _ relations.reads c.index.ensures c.index-6.ensures c.in_ok-copied.ensures c.deref-3.ensures.value;
-      item_puts = copy is_item_put (names_in (items_of tree.declarations.items)) resolved.relations.item_puts.items c.index-2.result.now c.index-7.result.now _ _ relations.item_puts c.index-2.ensures c.index-7.ensures c.in_ok-copied-2.ensures c.deref-4.ensures.value;
-      tag_puts = copy is_tag_put (names_in (tags_of tree.declarations.items)) resolved.relations.tag_puts.items c.index-3.result.now c.index-8.result.now _ _ relations.tag_puts c.index-3.ensures c.index-8.ensures c.in_ok-copied-3.ensures c.deref-5.ensures.value;
-      resolves = c.in_ok-checked.ensures.resolves;
-      keeps = c.in_ok-checked.ensures.keeps;
-      no_fault = c.in_ok-checked.ensures.no_fault;
+      reads = copy (λ step item. is_read item step) (names_in (items_of tree.declarations.items)) resolved.relations.reads.items c.index.result.now c.index-6.result.now _ _ relations.reads c.index.ensures c.index-6.ensures c.in_ok-copied.ensures c.deref-3.ensures.value ∙ ap (λ (s : Nameable). s.reads) is;
+      item_puts = copy is_item_put (names_in (items_of tree.declarations.items)) resolved.relations.item_puts.items c.index-2.result.now c.index-7.result.now _ _ relations.item_puts c.index-2.ensures c.index-7.ensures c.in_ok-copied-2.ensures c.deref-4.ensures.value ∙ ap (λ (s : Nameable). s.item_puts) is;
+      tag_puts = copy is_tag_put (names_in (tags_of tree.declarations.items)) resolved.relations.tag_puts.items c.index-3.result.now c.index-8.result.now _ _ relations.tag_puts c.index-3.ensures c.index-8.ensures c.in_ok-copied-3.ensures c.deref-5.ensures.value ∙ ap (λ (s : Nameable). s.tag_puts) is;
+      resolves = subst (λ (s : Nameable). Resolves s this c.in_ok-checked.checked) is c.in_ok-checked.ensures.resolves;
+      keeps = subst (λ (s : Nameable). BodyKeepsTo s c.in_ok-checked.checked.body) is c.in_ok-checked.ensures.keeps;
+      no_fault = ap (λ (s : Nameable). faults_of s this) (sym is) ∙ c.in_ok-checked.ensures.no_fault;
     })

@@ -38,7 +38,7 @@ resolve_first-returns-in-Get t c =
     let names = texts c.args.names.now in
     let sheet = c.args.sheet.now in
     firsts names sheet c.args.block.now (named.Get' c.in-Get.variable c.in-Get.item (record { ptr = c.in-Get.rest.ptr; alloc = c.in-Get.rest.alloc; value = tt })) c.in-Get.rest.value
-    (variable_faults names c.in-Get.variable ++ key_faults names sheet.items.now sheet.reads.now UndeclaredRead c.in-Get.item) c.get.result
+    (variable_faults names c.in-Get.variable ++ key_faults names sheet.items sheet.reads UndeclaredRead c.in-Get.item) c.get.result
     (cc) refl refl (IfOk-weaker c.get.result _ _ (λ first are. are _) c.get.ensures.statement) c.get.ensures.faults
 
 pub resolve_first-returns-in-PutItem : goal.resolve_first-returns-in-PutItem
@@ -46,7 +46,7 @@ resolve_first-returns-in-PutItem t c =
     let names = texts c.args.names.now in
     let sheet = c.args.sheet.now in
     firsts names sheet c.args.block.now (named.PutItem' c.in-PutItem.item c.in-PutItem.value (record { ptr = c.in-PutItem.rest.ptr; alloc = c.in-PutItem.rest.alloc; value = tt })) c.in-PutItem.rest.value
-    (key_faults names sheet.items.now sheet.item_puts.now UndeclaredPut c.in-PutItem.item ++ expression_faults names c.in-PutItem.value) c.put_item.result
+    (key_faults names sheet.items sheet.item_puts UndeclaredPut c.in-PutItem.item ++ expression_faults names c.in-PutItem.value) c.put_item.result
     (cc) refl refl (IfOk-weaker c.put_item.result _ _ (λ first are. are _) c.put_item.ensures.statement) c.put_item.ensures.faults
 
 pub resolve_first-returns-in-PutTag : goal.resolve_first-returns-in-PutTag
@@ -54,7 +54,7 @@ resolve_first-returns-in-PutTag t c =
     let names = texts c.args.names.now in
     let sheet = c.args.sheet.now in
     firsts names sheet c.args.block.now (named.PutTag' c.in-PutTag.tag (record { ptr = c.in-PutTag.rest.ptr; alloc = c.in-PutTag.rest.alloc; value = tt })) c.in-PutTag.rest.value
-    (key_faults names sheet.tags.now sheet.tag_puts.now UndeclaredPut c.in-PutTag.tag) c.put_tag.result
+    (key_faults names sheet.tags sheet.tag_puts UndeclaredPut c.in-PutTag.tag) c.put_tag.result
     (cc) refl refl (IfOk-weaker c.put_tag.result _ _ (λ first are. are _) c.put_tag.ensures.statement) c.put_tag.ensures.faults
 
 pub resolve_block-loop-statements-preserved-in-Assign : goal.resolve_block-loop-statements-preserved-in-Assign
