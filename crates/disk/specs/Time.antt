@@ -61,6 +61,13 @@ CountsRefusal before now (Err NoMemory) = now ≢ before
 CountsRefusal before now (Err Device) = now ≡ before
 CountsRefusal before now (Ok _) = now ≡ before
 
+-- Why a call over a disk answers an error that a call of the disk answered: this one exactly where the device failed, and want of memory
+-- wherever a call of the disk was refused for it.
+pub record HasCauses {D T E : Type 0} (failures refusals : D → ℕ) (failed no_memory : E) (old new : D) (result : Result T E) : Type 0 where
+  pub device : IsErrOf result failed ↔ (failures old < failures new)
+  pub refused : refusals new ≢ refusals old → IsErrOf result no_memory
+  pub later : failures old ≤ failures new
+
 -- A call of the disk answered an error between these two moments: the count of failures grew, or the number of refusals changed. Two refusals
 -- may bring that number back; of calls of which the first error is the last this is exact.
 abbrev pub HasErred : {D : Type 0} → (D → ℕ) → (D → ℕ) → D → D → Type 0

@@ -1,6 +1,6 @@
 ghost use Rattle.std.specs.Prelude.{◌≡◌, ◌≢◌, ◌≤◌, ◌<◌, ◌+◌, ◌^◌, ◌↔◌, ◌⊎◌, [], ◌∷◌, ◌++◌, List, ℕ, length, take, drop, IsTrue, IfOk, OnOk, OnErr, IsErrOf, Err};
 ghost use Rattle.disk.specs.File.{WriteLeaves, at_rest, overwritten};
-ghost use Rattle.disk.specs.Time.{Contents, MayLeaveNow, OtherStays, OtherMayBe, LeavesOnly, KeepsAll, AtOnce};
+ghost use Rattle.disk.specs.Time.{Contents, MayLeaveNow, OtherStays, OtherMayBe, LeavesOnly, KeepsAll, AtOnce, HasCauses};
 ghost use Rattle.byteorder.specs.Endian.{little_bytes};
 ghost use Rattle.journal.specs.Records.{record_of};
 ghost use Rattle.journal.specs.declared.journal.TheConstants.{LIMIT};
@@ -73,9 +73,7 @@ impl Journal {
         ensures full { IsErrOf result Full ↔ (LIMIT ≤ at) }
         ensures before_the_disk { IsErrOf result Full → disk.new ≡ disk.old }
         ensures damaged { (place : ℕ) → IsErrOf result (Damaged place) → ⊥ }
-        ensures device { IsErrOf result Device ↔ (D.failures disk.old < D.failures disk.new) }
-        ensures refusals { D.refusals disk.new ≢ D.refusals disk.old → IsErrOf result NoMemory }
-        ensures failures { D.failures disk.old ≤ D.failures disk.new }
+        ensures causes { HasCauses D.failures D.refusals Device NoMemory disk.old disk.new result }
     {
         if at >= LIMIT {
             return Err(JournalError::Full);
@@ -107,9 +105,7 @@ impl Journal {
         ensures full { IsErrOf result Full ↔ (LIMIT ≤ self.old.end + 5 + length payload.now) }
         ensures before_the_disk { IsErrOf result Full → disk.new ≡ disk.old }
         ensures damaged { (place : ℕ) → IsErrOf result (Damaged place) → ⊥ }
-        ensures device { IsErrOf result Device ↔ (D.failures disk.old < D.failures disk.new) }
-        ensures refusals { D.refusals disk.new ≢ D.refusals disk.old → IsErrOf result NoMemory }
-        ensures failures { D.failures disk.old ≤ D.failures disk.new }
+        ensures causes { HasCauses D.failures D.refusals Device NoMemory disk.old disk.new result }
     {
         self.try_append(disk, payload)?;
         Ok(())
@@ -137,9 +133,8 @@ impl Journal {
         ensures before { (cause : JournalError) → IsErrOf result (Before cause) → disk.new ≡ disk.old }
         ensures full { IsErrOf result (Before Full) ↔ (LIMIT ≤ self.old.end + 5 + length payload.now) }
         ensures refused { (cause : JournalError) → IsErrOf result (Before cause) → (cause ≡ Full) ⊎ (cause ≡ NoMemory) }
-        ensures device { IsErrOf result (Within DiskError.Device) ↔ (D.failures disk.old < D.failures disk.new) }
-        ensures refusals { IsErrOf result (Within DiskError.NoMemory) ↔ (D.refusals disk.new ≢ D.refusals disk.old) }
-        ensures failures { D.failures disk.old ≤ D.failures disk.new }
+        ensures causes { HasCauses D.failures D.refusals (Within DiskError.Device) (Within DiskError.NoMemory) disk.old disk.new result }
+        ensures refusals { IsErrOf result (Within DiskError.NoMemory) → D.refusals disk.new ≢ D.refusals disk.old }
     {
         if !fits(self.end, payload.len()) {
             return Err(AppendError::Before(JournalError::Full));

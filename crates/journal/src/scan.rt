@@ -1,6 +1,6 @@
 ghost use Rattle.std.specs.Prelude.{◌≡◌, ◌≢◌, ◌≤◌, ◌<◌, ◌+◌, ◌^◌, ◌↔◌, ℕ, List, drop, vec_len, IsTrue, IfOk, IsErrOf};
 ghost use Rattle.disk.specs.declared.side.Side.{Side};
-ghost use Rattle.disk.specs.Time.{LeavesOnly, MayLeaveNow, HasCause};
+ghost use Rattle.disk.specs.Time.{LeavesOnly, MayLeaveNow, HasCause, HasCauses};
 ghost use Rattle.journal.specs.Records.{StandsFor};
 ghost use Rattle.journal.specs.declared.error.JournalError.TheVariants.{Device, NoMemory, Damaged, Full};
 ghost use Rattle.disk.specs.declared.error.DiskError.TheVariants as DiskError;
@@ -32,9 +32,7 @@ impl Journal {
         ensures damaged { IsTrue D.is_honest → (place : ℕ) → IsErrOf result (Damaged place) → BreaksAt at (D.files disk.old side).content place }
         ensures nothing { IsTrue D.is_honest → (place : ℕ) → IsErrOf result (Damaged place) → (payloads : List (List ℕ)) → StandsFor (drop at (D.files disk.old side).content) payloads → ⊥ }
         ensures full { IsErrOf result Full → ⊥ }
-        ensures device { IsErrOf result Device ↔ (D.failures disk.old < D.failures disk.new) }
-        ensures refusals { D.refusals disk.new ≢ D.refusals disk.old → IsErrOf result NoMemory }
-        ensures failures { D.failures disk.old ≤ D.failures disk.new }
+        ensures causes { HasCauses D.failures D.refusals Device NoMemory disk.old disk.new result }
 
         ensures same { IsTrue D.is_honest → (each : Side) → D.files disk.new each ≡ D.files disk.old each }
         ensures any_moment { IsTrue D.is_honest → LeavesOnly D.moment D.left_at disk.old disk.new (MayLeaveNow (D.files disk.old)) }

@@ -2,11 +2,10 @@
 use Rattle.std.proofs.Common.{◌≡◌, ◌≢◌, ◌≤◌, ◌⊎◌, inl, inr, ℕ, zero, suc, refl, sym, ap, ◌∙◌, arith}
 use Rattle.std.specs.Prelude.{Result, Ok, Err, IsErrOf}
 use Rattle.disk.specs.declared.side.Side.{Side}
-use Rattle.disk.specs.Time.{Contents, HasErred}
+use Rattle.disk.specs.Time.{Contents, HasCauses, HasErred}
 use Rattle.sides.specs.Side.{IsOpen}
 use Rattle.vault.specs.declared.error.VaultError.{VaultError}
 use Rattle.vault.specs.declared.error.VaultError.TheVariants.{Device, NoMemory, NotAStore, Damaged}
-use Rattle.vault.specs.Calls.{HasCauses}
 use Rattle.vault.specs.Store.{SaysNothing}
 use Rattle.vault.specs.Opened.{HeadsFault, TellsWhy, StandsForNothing, NoneIsOpen}
 use Rattle.vault.proofs.HeadsFaults.{same_error}
@@ -29,10 +28,10 @@ pub ok_is_no_error : {T : Type 0} (value : T) (error : VaultError) → IsErrOf (
 ok_is_no_error value error is = absurd (cc)
 
 -- a call that answered `Ok` counts none
-pub none_refused : {D T : Type 0} (failures refusals : D → ℕ) (old new : D) (value : T) → HasCauses failures refusals old new (Ok value) → refusals new ≡ refusals old
+pub none_refused : {D T : Type 0} (failures refusals : D → ℕ) (old new : D) (value : T) → HasCauses failures refusals Device NoMemory old new (Ok value) → refusals new ≡ refusals old
 none_refused failures refusals old new value causes = one_number (refusals new) (refusals old) (λ changed. ok_is_no_error value NoMemory (causes.refused changed))
 
-pub none_erred : {D T : Type 0} (failures refusals : D → ℕ) (old new : D) (value : T) → HasCauses failures refusals old new (Ok value) → HasErred failures refusals old new → ⊥
+pub none_erred : {D T : Type 0} (failures refusals : D → ℕ) (old new : D) (value : T) → HasCauses failures refusals Device NoMemory old new (Ok value) → HasErred failures refusals old new → ⊥
 none_erred failures refusals old new value causes (inl failed) = ok_is_no_error value Device (causes.device.1 failed)
 none_erred failures refusals old new value causes (inr changed) = ok_is_no_error value NoMemory (causes.refused changed)
 

@@ -3,7 +3,7 @@ use Rattle.std.specs.Prelude.{◌≡◌, ◌≢◌, ◌⊎◌, ◌↔◌, ◌+�
 use Rattle.disk.specs.declared.side.Side.{Side}
 use Rattle.disk.specs.declared.side.Side.TheVariants.{A, B}
 use Rattle.disk.specs.File.{File, at_rest, overwritten}
-use Rattle.disk.specs.Time.{Contents, MayLeaveNow, LeavesOnly, HasErred, OtherStays}
+use Rattle.disk.specs.Time.{Contents, MayLeaveNow, LeavesOnly, HasCauses, HasErred, OtherStays}
 use Rattle.codec.specs.declared.image.Image.{Image}
 use Rattle.graph.specs.Graph.{Graph}
 use Rattle.graph.specs.Canonical.{canonical}
@@ -13,13 +13,6 @@ use Rattle.vault.specs.declared.error.VaultError.{VaultError}
 use Rattle.vault.specs.declared.error.VaultError.TheVariants.{Device, NoMemory, Full, Halted, Exists}
 use Rattle.vault.specs.Stands.{other_side}
 use Rattle.vault.specs.Store.{Holds, IsSame, IsReady, new_side, empty, nothing}
-
--- Why an error is answered that a call of the disk answered, on every disk: `Device` exactly where the device failed, and want of memory
--- wherever a call of the disk was refused for it.
-pub record HasCauses {D T : Type 0} (failures refusals : D → ℕ) (old new : D) (result : Result T VaultError) : Type 0 where
-  pub device : IsErrOf result Device ↔ (failures old < failures new)
-  pub refused : refusals new ≢ refusals old → IsErrOf result NoMemory
-  pub later : failures old ≤ failures new
 
 -- ---- calls of a vault
 
@@ -33,7 +26,7 @@ pub record Halts {D T : Type 0} (failures refusals : D → ℕ) (old new : Vault
   pub halts : (new.halted ≡ true) ↔ ((old.halted ≡ true) ⊎ HasErred failures refusals old.disk new.disk)
   -- a halted vault answers `Halted`, and makes no call of the disk
   pub halted : IsErrOf result Halted ↔ (old.halted ≡ true)
-  pub disk : HasCauses failures refusals old.disk new.disk result
+  pub disk : HasCauses failures refusals Device NoMemory old.disk new.disk result
   -- where an error does not halt it, nothing changed
   pub same : OnErr result (new.halted ≡ old.halted → IsSame old new)
   pub causes : IfErr result IsOfCall

@@ -1,6 +1,6 @@
 ghost use Rattle.std.specs.Prelude.{◌≡◌, ◌≢◌, ◌≤◌, ◌<◌, ◌+◌, ◌^◌, ◌⊎◌, ◌↔◌, ℕ, true, false, List, [], ◌∷◌, length, IsTrue, IfOk, OnOk, IfErr, IsErrAnd, IsErrOf};
 ghost use Rattle.disk.specs.File.{at_rest};
-ghost use Rattle.disk.specs.Time.{HasCause, CountsRefusal, LeavesOnly, MayLeaveNow};
+ghost use Rattle.disk.specs.Time.{HasCause, CountsRefusal, LeavesOnly, MayLeaveNow, HasCauses};
 ghost use Rattle.disk.specs.declared.side.Side.{Side};
 ghost use Rattle.disk.specs.declared.side.Side.TheVariants.{A, B};
 ghost use Rattle.graph.specs.Graph.{Graph};
@@ -8,7 +8,7 @@ ghost use Rattle.graph.specs.Canonical.{canonical};
 ghost use Rattle.graph.specs.Reads.{Reads};
 ghost use Rattle.codec.specs.Spelling.{image_bytes};
 ghost use Rattle.sides.specs.Side.{behind_gate};
-ghost use Rattle.vault.specs.Calls.{HasCauses, IsCreated, LeavesNonEmpty};
+ghost use Rattle.vault.specs.Calls.{IsCreated, LeavesNonEmpty};
 ghost use Rattle.vault.specs.Store.{IsCanonical, BComesFirst, disk_of, answer_of, empty, new_side};
 ghost use Rattle.vault.specs.Opened.{OnlyReads};
 ghost use Rattle.vault.specs.declared.error.VaultError.TheVariants.{Device, NoMemory, Exists};
@@ -39,7 +39,7 @@ pub fn create<D: Disk>(alloc: Global, disk: D, text: &[u8]) -> Result<Vault<D>, 
 
     // Why it is refused. All growth comes before the first call of the disk.
     ensures errors { IfErr result (λ refused. (refused.error ≡ Exists) ⊎ (refused.error ≡ NoMemory) ⊎ (refused.error ≡ Device)) }
-    ensures causes { HasCauses D.failures D.refusals disk (disk_of result) (answer_of result) }
+    ensures causes { HasCauses D.failures D.refusals Device NoMemory disk (disk_of result) (answer_of result) }
     ensures grown_first { IfErr result (λ refused. refused.error ≡ NoMemory → D.refusals refused.disk ≡ D.refusals disk → refused.disk ≡ disk) }
 {
     sides_go_on();
@@ -85,7 +85,7 @@ fn write_store<D: Disk>(alloc: Global, disk: &mut D, text: &[u8]) -> Result<Made
     ensures kept { IsTrue D.is_honest → (some : Side) → (D.files disk.old some).content ≢ [] → (each : Side) → D.files disk.new each ≡ D.files disk.old each }
     ensures kept_moments { IsTrue D.is_honest → (some : Side) → (D.files disk.old some).content ≢ [] → LeavesOnly D.moment D.left_at disk.old disk.new (MayLeaveNow (D.files disk.old)) }
     ensures errors { IfErr result (λ error. (error ≡ Exists) ⊎ (error ≡ NoMemory) ⊎ (error ≡ Device)) }
-    ensures causes { HasCauses D.failures D.refusals disk.old disk.new result }
+    ensures causes { HasCauses D.failures D.refusals Device NoMemory disk.old disk.new result }
     ensures grown_first { IsErrOf result NoMemory → D.refusals disk.new ≡ D.refusals disk.old → disk.new ≡ disk.old }
 {
     let kept = Vec::from_slice(alloc, text)?;

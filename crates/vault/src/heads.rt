@@ -1,10 +1,9 @@
 ghost use Rattle.std.specs.Prelude.{◌≡◌, ◌⊎◌, ◌≤◌, ◌<◌, ◌≢◌, ◌↔◌, ℕ, length, IsTrue, IfOk, IfErr, IsErrAnd, IsErrOf};
 ghost use Rattle.disk.specs.declared.side.Side.{Side};
 ghost use Rattle.disk.specs.declared.side.Side.TheVariants.{A, B};
-ghost use Rattle.disk.specs.Time.{Contents, HasCause, CountsRefusal, HasErred};
+ghost use Rattle.disk.specs.Time.{Contents, HasCause, CountsRefusal, HasErred, HasCauses};
 ghost use Rattle.sides.specs.Reading.{Tells};
 ghost use Rattle.sides.specs.Side.{IsOpen, HasGeneration};
-ghost use Rattle.vault.specs.Calls.{HasCauses};
 ghost use Rattle.vault.specs.Store.{SaysNothing};
 ghost use Rattle.vault.specs.Opened.{OnlyReads, IsGenerationOf, IsAhead, IsCutShort, HeadsFault, StandsForNothing, NoneIsOpen, IsOfOpening, contents_of};
 ghost use Rattle.vault.specs.declared.error.VaultError.TheVariants.{Device, NoMemory, NotAStore, Damaged};
@@ -27,7 +26,7 @@ pub(crate) fn live_side<D: Disk>(disk: &mut D) -> Result<Side, VaultError>
     ensures same { IsTrue D.is_honest → (each : Side) → D.files disk.new each ≡ D.files disk.old each }
     ensures only_reads { IsTrue D.is_honest → OnlyReads D.files D.moment D.left_at disk.old disk.new }
     ensures others { IfErr result IsOfOpening }
-    ensures causes { HasCauses D.failures D.refusals disk.old disk.new result }
+    ensures causes { HasCauses D.failures D.refusals Device NoMemory disk.old disk.new result }
 {
     let a = generation_of(disk, Side::A)?;
     let b = generation_of(disk, Side::B)?;
@@ -44,7 +43,7 @@ fn generation_of<D: Disk>(disk: &mut D, side: Side) -> Result<Option<u64>, Vault
     ensures same { IsTrue D.is_honest → (each : Side) → D.files disk.new each ≡ D.files disk.old each }
     ensures only_reads { IsTrue D.is_honest → OnlyReads D.files D.moment D.left_at disk.old disk.new }
     ensures others { IfErr result IsOfOpening }
-    ensures causes { HasCauses D.failures D.refusals disk.old disk.new result }
+    ensures causes { HasCauses D.failures D.refusals Device NoMemory disk.old disk.new result }
 {
     one_meaning_of_a_side();
     let (gate, count) = head_of(disk, side)?;

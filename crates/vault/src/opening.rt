@@ -1,10 +1,9 @@
 ghost use Rattle.std.specs.Prelude.{◌≡◌, ◌≢◌, ◌⊎◌, ◌≤◌, ◌<◌, ◌↔◌, ℕ, false, IsTrue, IfOk, IfErr, IsErrAnd, IsErrOf, OnOk};
 ghost use Rattle.disk.specs.declared.side.Side.{Side};
 ghost use Rattle.disk.specs.File.{at_rest};
-ghost use Rattle.disk.specs.Time.{Contents, LeavesOnly, MayLeaveNow, HasCause, CountsRefusal, HasErred};
+ghost use Rattle.disk.specs.Time.{Contents, LeavesOnly, MayLeaveNow, HasCause, CountsRefusal, HasErred, HasCauses};
 ghost use Rattle.sides.specs.Image.{facts_in, environment_in};
 ghost use Rattle.sides.specs.Side.{IsOpen};
-ghost use Rattle.vault.specs.Calls.{HasCauses};
 ghost use Rattle.vault.specs.Store.{Holds, IsReady, SaysNothing, disk_of_opening, answer_of};
 ghost use Rattle.vault.specs.Opened.{OnlyReads, IsFound, IsSound, HeadsFault, TellsWhy, StandsForNothing, NoneIsOpen, IsOfOpening, contents_of};
 ghost use Rattle.vault.specs.declared.error.VaultError.TheVariants.{Device, NoMemory, NotAStore, Damaged};
@@ -50,7 +49,7 @@ pub fn open<D: Disk>(alloc: Global, disk: D) -> Result<Recovered<D>, Refused<D>>
     ensures only_reads { IsTrue D.is_honest → OnlyReads D.files D.moment D.left_at disk (disk_of_opening result) }
 
     ensures errors { IfErr result (λ refused. IsOfOpening refused.error) }
-    ensures causes { HasCauses D.failures D.refusals disk (disk_of_opening result) (answer_of result) }
+    ensures causes { HasCauses D.failures D.refusals Device NoMemory disk (disk_of_opening result) (answer_of result) }
 {
     sides_go_on();
     let mut disk = disk;
@@ -93,7 +92,7 @@ fn recover<D: Disk>(alloc: Global, disk: &mut D) -> Result<Found, VaultError>
         → IsErrOf result (Damaged here place) ⊎ HasErred D.failures D.refusals disk.old disk.new }
     ensures only_reads { IsTrue D.is_honest → OnlyReads D.files D.moment D.left_at disk.old disk.new }
     ensures others { IfErr result IsOfOpening }
-    ensures causes { HasCauses D.failures D.refusals disk.old disk.new result }
+    ensures causes { HasCauses D.failures D.refusals Device NoMemory disk.old disk.new result }
 {
     settle(disk)?;
     look(alloc, disk)
@@ -122,7 +121,7 @@ fn look<D: Disk>(alloc: Global, disk: &mut D) -> Result<Found, VaultError>
     ensures same { IsTrue D.is_honest → (each : Side) → D.files disk.new each ≡ D.files disk.old each }
     ensures only_reads { IsTrue D.is_honest → OnlyReads D.files D.moment D.left_at disk.old disk.new }
     ensures others { IfErr result IsOfOpening }
-    ensures causes { HasCauses D.failures D.refusals disk.old disk.new result }
+    ensures causes { HasCauses D.failures D.refusals Device NoMemory disk.old disk.new result }
 {
     one_meaning_of_a_side();
     let side = live_side(disk)?;
