@@ -1,13 +1,11 @@
 -- That a call of the disk answered an error, in one of two calls.
 use Rattle.std.proofs.Common.{◌≡◌, ◌≢◌, ◌≤◌, ◌⊎◌, inl, inr, ℕ, zero, suc, refl, sym, ap, ◌∙◌, arith}
 use Rattle.std.specs.Prelude.{Result, Ok, Err, IsErrOf}
-use Rattle.disk.specs.declared.side.Side.{Side}
 use Rattle.disk.specs.Time.{Contents, HasCauses, HasErred}
-use Rattle.sides.specs.Side.{IsOpen}
 use Rattle.vault.specs.declared.error.VaultError.{VaultError}
-use Rattle.vault.specs.declared.error.VaultError.TheVariants.{Device, NoMemory, NotAStore, Damaged}
+use Rattle.vault.specs.declared.error.VaultError.TheVariants.{Device, NoMemory}
 use Rattle.vault.specs.Store.{SaysNothing}
-use Rattle.vault.specs.Opened.{HeadsFault, TellsWhy, StandsForNothing, NoneIsOpen}
+use Rattle.vault.specs.Opened.{HeadsFault, IsOfAhead, TellsWhy, StandsForNothing}
 use Rattle.vault.proofs.HeadsFaults.{same_error}
 
 -- two numbers that do not differ are one
@@ -42,29 +40,19 @@ pub other_error : {S T : Type 0} (error fault : VaultError) → IsErrOf {T = S} 
 other_error {S} {T} error fault is = ap (λ (it : VaultError). Err it) (same_error {T = S} error fault is)
 
 abbrev pub ToldHeads : {T : Type 0} → Contents → Type 0 → Result T VaultError → Type 0
-ToldHeads contents erred result = (side : Side) (place : ℕ) → HeadsFault contents side place → IsErrOf result (Damaged side place) ⊎ erred
+ToldHeads contents erred result = (fault : VaultError) → HeadsFault contents fault → IsErrOf result fault ⊎ erred
 
 pub tells_ok : {S T : Type 0} (contents : Contents) (erred : Type 0) (found : S) (value : T) → ToldHeads contents erred (Ok found) → TellsWhy contents erred (Ok value)
-tells_ok {S} {T} contents erred found value told = record {
-  nothing = tt;
-  not_a_store = tt;
-  damaged = λ side place. tt;
-  heads = λ side place fault. only side place (told side place fault);
-}
+tells_ok {S} {T} contents erred found value told = record { nothing = tt; heads = λ fault it. only fault (told fault it); cause = tt }
   where
-    only : (side : Side) (place : ℕ) → IsErrOf {T = S} (Ok found) (Damaged side place) ⊎ erred → IsErrOf {T = T} (Ok value) (Damaged side place) ⊎ erred
-    only side place (inl is) = absurd (ok_is_no_error found (Damaged side place) is)
-    only side place (inr it) = inr it
+    only : (fault : VaultError) → IsErrOf {T = S} (Ok found) fault ⊎ erred → IsErrOf {T = T} (Ok value) fault ⊎ erred
+    only fault (inl is) = absurd (ok_is_no_error found fault is)
+    only fault (inr it) = inr it
 
-pub tells_err : {S T : Type 0} (contents : Contents) (erred : Type 0) (error : VaultError) → (SaysNothing error → StandsForNothing contents) → (error ≡ NotAStore → NoneIsOpen contents)
-    → ((side : Side) (place : ℕ) → error ≡ Damaged side place → IsOpen (contents side)) → ToldHeads {T = S} contents erred (Err error) → TellsWhy {T = T} contents erred (Err error)
-tells_err {S} {T} contents erred error nothing not_a_store damaged told = record {
-  nothing = nothing;
-  not_a_store = not_a_store;
-  damaged = damaged;
-  heads = λ side place fault. carried side place (told side place fault);
-}
+pub tells_err : {S T : Type 0} (contents : Contents) (erred : Type 0) (error : VaultError) → (SaysNothing error → StandsForNothing contents)
+    → (SaysNothing error → HeadsFault contents error ⊎ IsOfAhead contents error) → ToldHeads {T = S} contents erred (Err error) → TellsWhy {T = T} contents erred (Err error)
+tells_err {S} {T} contents erred error nothing cause told = record { nothing = nothing; heads = λ fault it. carried fault (told fault it); cause = cause }
   where
-    carried : (side : Side) (place : ℕ) → IsErrOf {T = S} (Err error) (Damaged side place) ⊎ erred → IsErrOf {T = T} (Err error) (Damaged side place) ⊎ erred
-    carried side place (inl is) = inl (other_error {S = S} {T = T} error (Damaged side place) is)
-    carried side place (inr it) = inr it
+    carried : (fault : VaultError) → IsErrOf {T = S} (Err error) fault ⊎ erred → IsErrOf {T = T} (Err error) fault ⊎ erred
+    carried fault (inl is) = inl (other_error {S = S} {T = T} error fault is)
+    carried fault (inr it) = inr it

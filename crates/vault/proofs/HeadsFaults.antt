@@ -1,12 +1,12 @@
 -- Which fault of the heads an opening tells.
-use Rattle.std.proofs.Common.{◌≡◌, inl, inr, ℕ, List, length, sym, ap, ◌∙◌, arith}
+use Rattle.std.proofs.Common.{◌≡◌, inl, inr, ℕ, List, length, sym, ap, ◌∙◌, arith, refl, subst}
 use Rattle.std.specs.Prelude.{Option, Some, None, Result, Ok, Err, IsErrOf, IsErrAnd}
 use Rattle.disk.specs.declared.side.Side.{Side}
 use Rattle.disk.specs.declared.side.Side.TheVariants.{A, B}
 use Rattle.disk.specs.Time.{Contents}
-use Rattle.sides.specs.Side.{HasGeneration}
+use Rattle.sides.specs.Side.{IsOpen, HasGeneration}
 use Rattle.vault.specs.declared.error.VaultError.{VaultError}
-use Rattle.vault.specs.declared.error.VaultError.TheVariants.{Damaged}
+use Rattle.vault.specs.declared.error.VaultError.TheVariants.{Damaged, NotAStore}
 use Rattle.vault.specs.Opened.{IsGenerationOf, IsCutShort, HeadsFault}
 use Rattle.vault.proofs.OpenedHeads.{opens}
 
@@ -15,38 +15,39 @@ pub not_short : (o : Option ℕ) (bytes : List ℕ) → IsGenerationOf o bytes �
 not_short None bytes closed short = closed short.0
 not_short (Some n) bytes has short = omega (arith, (opens bytes n has).1, short.1)
 
--- a fault of this side, at its length, is the one that is told
-same_fault : (error : VaultError) (one side : Side) (at place : ℕ) → error ≡ Damaged one at → side ≡ one → place ≡ at → error ≡ Damaged side place
-same_fault error one side at place is here there = is ∙ ap (λ (s : Side). Damaged s at) (sym here) ∙ ap (λ (p : ℕ). Damaged side p) (sym there)
+-- one that is not open has none
+pub closed_none : (o : Option ℕ) (bytes : List ℕ) → IsGenerationOf o bytes → (IsOpen bytes → ⊥) → o ≡ None
+closed_none None bytes closed none = refl
+closed_none (Some n) bytes has none = absurd (none (opens bytes n has).0)
 
 -- what asking one side answers where it answers an error, but where a call of the disk did
 abbrev pub TellsOne : Side → List ℕ → VaultError → Type 0
 TellsOne side bytes error = IsCutShort bytes × (error ≡ Damaged side (length bytes))
 
-module _ (contents : Contents) (side : Side) (place : ℕ) (error : VaultError) where
+module _ (contents : Contents) (fault error : VaultError) where
   -- of A
-  pub a_is_told : HeadsFault contents side place → TellsOne A (contents A) error → error ≡ Damaged side place
-  a_is_told (inl first) it = same_fault error A side (length (contents A)) place it.1 first.1 first.2
+  pub a_is_told : HeadsFault contents fault → TellsOne A (contents A) error → error ≡ fault
+  a_is_told (inl first) it = it.1 ∙ sym first.1
   a_is_told (inr (inl second)) it = absurd (second.0 it.0)
-  a_is_told (inr (inr third)) it = absurd (not_short (Some third.0.0) (contents A) third.0.1 it.0)
+  a_is_told (inr (inr (inl third))) it = absurd (not_short (Some third.0.0) (contents A) third.0.1 it.0)
+  a_is_told (inr (inr (inr none))) it = absurd (none.0 A it.0.0)
 
   -- of B, where A is not short
-  pub b_is_told : (IsCutShort (contents A) → ⊥) → HeadsFault contents side place → TellsOne B (contents B) error → error ≡ Damaged side place
+  pub b_is_told : (IsCutShort (contents A) → ⊥) → HeadsFault contents fault → TellsOne B (contents B) error → error ≡ fault
   b_is_told long (inl first) it = absurd (long first.0)
-  b_is_told long (inr (inl second)) it = same_fault error B side (length (contents B)) place it.1 second.2 second.3
-  b_is_told long (inr (inr third)) it = absurd (not_short (Some third.0.0) (contents B) third.0.2 it.0)
+  b_is_told long (inr (inl second)) it = it.1 ∙ sym second.2
+  b_is_told long (inr (inr (inl third))) it = absurd (not_short (Some third.0.0) (contents B) third.0.2 it.0)
+  b_is_told long (inr (inr (inr none))) it = absurd (none.0 B it.0.0)
 
 -- of both, where neither is short
-pub one_is_told : {T : Type 0} (result : Result T VaultError) (contents : Contents) (side : Side) (place : ℕ) → (IsCutShort (contents A) → ⊥) → (IsCutShort (contents B) → ⊥)
-    → ((generation : ℕ) → HasGeneration (contents A) generation → HasGeneration (contents B) generation → IsErrOf result (Damaged A 2))
-    → HeadsFault contents side place → IsErrOf result (Damaged side place)
-one_is_told result contents side place a b alike (inl first) = absurd (a first.0)
-one_is_told result contents side place a b alike (inr (inl second)) = absurd (b second.1)
-one_is_told (Ok _) contents side place a b alike (inr (inr third)) = let never = alike third.0.0 third.0.1 third.0.2 in absurd (cc)
-one_is_told (Err error) contents side place a b alike (inr (inr third)) =
-    let answered = alike third.0.0 third.0.1 third.0.2 in
-    let is : error ≡ Damaged A 2 = cc in
-    ap (λ (it : VaultError). Err it) (same_fault error A side 2 place is third.1 third.2)
+pub both_are_told : {T : Type 0} (result : Result T VaultError) (contents : Contents) (a b : Option ℕ) (fault : VaultError) → IsGenerationOf a (contents A) → IsGenerationOf b (contents B)
+    → ((generation : ℕ) → HasGeneration (contents A) generation → HasGeneration (contents B) generation → IsErrOf result (Damaged A 2)) → (a ≡ None → b ≡ None → IsErrOf result NotAStore)
+    → HeadsFault contents fault → IsErrOf result fault
+both_are_told result contents a b fault of_a of_b alike closed (inl first) = absurd (not_short a (contents A) of_a first.0)
+both_are_told result contents a b fault of_a of_b alike closed (inr (inl second)) = absurd (not_short b (contents B) of_b second.1)
+both_are_told result contents a b fault of_a of_b alike closed (inr (inr (inl third))) = subst (λ (it : VaultError). IsErrOf result it) (sym third.1) (alike third.0.0 third.0.1 third.0.2)
+both_are_told result contents a b fault of_a of_b alike closed (inr (inr (inr none))) =
+    subst (λ (it : VaultError). IsErrOf result it) (sym none.1) (closed (closed_none a (contents A) of_a (none.0 A)) (closed_none b (contents B) of_b (none.0 B)))
 
 -- an error that a `?` hands on
 pub told_on : {T : Type 0} (error fault : VaultError) (result : Result T VaultError) → IsErrAnd result (λ other. other ≡ error) → error ≡ fault → IsErrOf result fault

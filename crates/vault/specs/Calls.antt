@@ -38,12 +38,13 @@ pub record IsFullWhere {T : Type 0} (halted : Bool) (cause : Type 0) (result : R
 
 -- ---- appends
 
--- Where an append leaves the vault, on every disk: from `Ok` on it ends behind the record. The live side and the generation stay.
+-- Where an append leaves the vault, on every disk: from `Ok` on it ends behind the record. The live side, the generation and the text stay.
 pub record Appended {D T : Type 0} (old new : Vault D) (bytes : List ℕ) (result : Result T VaultError) : Type 0 where
   pub working : OnOk result ((old.halted ≡ false) × (new.halted ≡ false))
   pub moved : OnOk result (new.journal.end ≡ old.journal.end + length bytes)
   pub side : new.journal.side ≡ old.journal.side
   pub generation : new.generation ≡ old.generation
+  pub text : new.text ≡ old.text
 
 -- What an append writes, on an honest disk: its record and a closed gate, over the gate that ended the journal of the live side. The other
 -- file stays as it was, whatever is answered; and where the vault is not halted, it is ready for the next call.
@@ -53,6 +54,14 @@ pub record WritesRecord {D T : Type 0} (files : D → Side → File) (old new : 
   pub ready : new.halted ≡ false → IsReady files new
 
 -- ---- making a store
+
+-- What the vault of a new store is, on every disk.
+pub record IsNew {D : Type 0} (text : List ℕ) (vault : Vault D) : Type 0 where
+  pub working : vault.halted ≡ false
+  pub generation : vault.generation ≡ 1
+  pub side : vault.journal.side ≡ A
+  pub end : vault.journal.end + 1 ≡ length (new_side 1 text empty)
+  pub text_is : vault.text.items ≡ text
 
 -- What a new store is, on an honest disk: its first side in A, without facts, and the closed gate of B; its vault holds nothing, and is
 -- ready for its first call.
@@ -72,11 +81,14 @@ pub record LeavesNonEmpty {D T : Type 0} (files : D → Side → File) (moment :
 
 -- ---- turnovers
 
--- Where a turnover leaves the vault, on every disk: from `Ok` on the other side is live, one generation greater, and after an error what was.
-pub record TurnsOver {D : Type 0} (old new : Vault D) (result : Result ℕ VaultError) : Type 0 where
+-- Where a turnover leaves the vault, on every disk: from `Ok` on the other side is live, one generation greater, and its journal ends at the
+-- last byte of the new side; after an error what was. The text stays.
+pub record TurnsOver {D : Type 0} (old new : Vault D) (image : Image) (result : Result ℕ VaultError) : Type 0 where
   pub working : OnOk result ((old.halted ≡ false) × (new.halted ≡ false))
   pub side : IfOk result (λ generation. (generation ≡ old.generation + 1) × (new.generation ≡ generation) × (new.journal.side ≡ other_side old.journal.side))
+  pub end : IfOk result (λ generation. new.journal.end + 1 ≡ length (new_side generation old.text.items image))
   pub stays : OnErr result ((new.generation ≡ old.generation) × (new.journal.side ≡ old.journal.side))
+  pub text : new.text ≡ old.text
 
 -- What a turnover writes, on an honest disk: the other side anew. The file that was live stays as it was, whatever is answered; and where
 -- the vault is not halted, it is ready for the next call.

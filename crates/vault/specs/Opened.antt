@@ -52,14 +52,6 @@ IsCutShort bytes = Tells Short bytes
 abbrev pub AreOfOneGeneration : Contents → Type 0
 AreOfOneGeneration contents = (generation : ℕ) × HasGeneration (contents A) generation × HasGeneration (contents B) generation
 
--- The first fault of the heads, and where it is told. A is short: of A, at its length. A is not, and B is: of B, at its length. Both
--- have one generation: of A, at 2, where its generation begins.
-abbrev pub HeadsFault : Contents → Side → ℕ → Type 0
-HeadsFault contents side place =
-    (IsCutShort (contents A) × (side ≡ A) × (place ≡ length (contents A)))
-    ⊎ ((IsCutShort (contents A) → ⊥) × IsCutShort (contents B) × (side ≡ B) × (place ≡ length (contents B)))
-    ⊎ (AreOfOneGeneration contents × (side ≡ A) × (place ≡ 2))
-
 -- the files stand for no graph and no facts
 abbrev pub StandsForNothing : Contents → Type 0
 StandsForNothing contents = (g : Graph) (E X : Facts) → Stands contents g E X → ⊥
@@ -67,6 +59,19 @@ StandsForNothing contents = (g : Graph) (E X : Facts) → Stands contents g E X 
 -- no side is open
 abbrev pub NoneIsOpen : Contents → Type 0
 NoneIsOpen contents = (side : Side) → IsOpen (contents side) → ⊥
+
+-- What is told of two heads of which none is ahead. A is short: of A, at its length. A is not, and B is: of B, at its length. Both have one
+-- generation: of A, at 2, where its generation begins. None is open: there is no store.
+abbrev pub HeadsFault : Contents → VaultError → Type 0
+HeadsFault contents error =
+    (IsCutShort (contents A) × (error ≡ Damaged A (length (contents A))))
+    ⊎ ((IsCutShort (contents A) → ⊥) × IsCutShort (contents B) × (error ≡ Damaged B (length (contents B))))
+    ⊎ (AreOfOneGeneration contents × (error ≡ Damaged A 2))
+    ⊎ (NoneIsOpen contents × (error ≡ NotAStore))
+
+-- the error is damage of the side that is ahead, at a place
+abbrev pub IsOfAhead : Contents → VaultError → Type 0
+IsOfAhead contents error = (side : Side) × (place : ℕ) × IsAhead contents side × (error ≡ Damaged side place)
 
 -- ---- what a side gives
 
@@ -101,13 +106,12 @@ pub record IsFound (contents : Contents) (found : Found) : Type 0 where
 
 -- ---- why it is refused
 
--- What a refusal says of the files. `erred` says that a call of the disk answered an error; where none did, the first fault of the
--- heads is told.
+-- What a refusal says of the files. `erred` says that a call of the disk answered an error; where none did, what the heads tell is answered.
+-- And damage is told of the side that is ahead, or it is what the heads tell.
 pub record TellsWhy {T : Type 0} (contents : Contents) (erred : Type 0) (result : Result T VaultError) : Type 0 where
   pub nothing : IfErr result (λ error. SaysNothing error → StandsForNothing contents)
-  pub not_a_store : IfErr result (λ error. error ≡ NotAStore → NoneIsOpen contents)
-  pub damaged : (side : Side) (place : ℕ) → IfErr result (λ error. error ≡ Damaged side place → IsOpen (contents side))
-  pub heads : (side : Side) (place : ℕ) → HeadsFault contents side place → IsErrOf result (Damaged side place) ⊎ erred
+  pub heads : (error : VaultError) → HeadsFault contents error → IsErrOf result error ⊎ erred
+  pub cause : IfErr result (λ error. SaysNothing error → HeadsFault contents error ⊎ IsOfAhead contents error)
 
 -- an error that opening may answer
 abbrev pub IsOfOpening : VaultError → Type 0

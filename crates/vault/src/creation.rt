@@ -8,7 +8,7 @@ ghost use Rattle.graph.specs.Canonical.{canonical};
 ghost use Rattle.graph.specs.Reads.{Reads};
 ghost use Rattle.codec.specs.Spelling.{image_bytes};
 ghost use Rattle.sides.specs.Side.{behind_gate};
-ghost use Rattle.vault.specs.Calls.{IsCreated, LeavesNonEmpty};
+ghost use Rattle.vault.specs.Calls.{IsCreated, IsNew, LeavesNonEmpty};
 ghost use Rattle.vault.specs.Store.{IsCanonical, BComesFirst, disk_of, answer_of, empty, new_side};
 ghost use Rattle.vault.specs.Opened.{OnlyReads};
 ghost use Rattle.vault.specs.declared.error.VaultError.TheVariants.{Device, NoMemory, Exists};
@@ -29,7 +29,7 @@ use std::alloc::{AllocError, Global};
 pub fn create<D: Disk>(alloc: Global, disk: D, text: &[u8]) -> Result<Vault<D>, Refused<D>>
     requires { IsCanonical text.now }
     ensures created { IsTrue D.is_honest → IfOk result (IsCreated D.files text.now) }
-    ensures working { IfOk result (λ vault. vault.halted ≡ false) }
+    ensures new { IfOk result (IsNew text.now) }
 
     // Where A is empty, and nothing of it is on its way to the disk, a crash at any moment leaves A empty, or B with its closed gate.
     ensures begins { IsTrue D.is_honest → D.files disk A ≡ at_rest [] → LeavesOnly D.moment D.left_at disk (disk_of result) BComesFirst }

@@ -32,8 +32,7 @@ pub(crate) fn found_in(alloc: Global, side: Side, bytes: &[u8]) -> Result<Found,
     ensures found { IfOk result (IsFoundIn side bytes.now) }
     ensures sound { IfOk result (λ found. IsSound found.graph found.image found.generation found.journal.end found.text.items) }
     ensures nothing { (generation : ℕ) → HasGeneration bytes.now generation → IfErr result (λ error. SaysNothing error → IsNoSide bytes.now) }
-    ensures not_a_store { (generation : ℕ) → HasGeneration bytes.now generation → IfErr result (λ error. error ≢ NotAStore) }
-    ensures damaged { (here : Side) (place : ℕ) → IfErr result (λ error. error ≡ Damaged here place → side ≡ here) }
+    ensures cause { (generation : ℕ) → HasGeneration bytes.now generation → IfErr result (λ error. SaysNothing error → (place : ℕ) × (error ≡ Damaged side place)) }
     ensures others { IfErr result IsOfOpening }
     ensures device { IsErrOf result Device → ⊥ }
 {

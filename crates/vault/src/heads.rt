@@ -1,11 +1,12 @@
-ghost use Rattle.std.specs.Prelude.{◌≡◌, ◌⊎◌, ◌≤◌, ◌<◌, ◌≢◌, ◌↔◌, ℕ, length, IsTrue, IfOk, IfErr, IsErrAnd, IsErrOf};
+ghost use Rattle.std.specs.Prelude.{◌≡◌, ◌⊎◌, ◌≤◌, ◌<◌, ◌≢◌, ◌↔◌, ℕ, None, length, IsTrue, IfOk, IfErr, IsErrAnd, IsErrOf};
 ghost use Rattle.disk.specs.declared.side.Side.{Side};
 ghost use Rattle.disk.specs.declared.side.Side.TheVariants.{A, B};
 ghost use Rattle.disk.specs.Time.{Contents, HasCause, CountsRefusal, HasErred, HasCauses};
 ghost use Rattle.sides.specs.Reading.{Tells};
 ghost use Rattle.sides.specs.Side.{IsOpen, HasGeneration};
 ghost use Rattle.vault.specs.Store.{SaysNothing};
-ghost use Rattle.vault.specs.Opened.{OnlyReads, IsGenerationOf, IsAhead, IsCutShort, HeadsFault, StandsForNothing, NoneIsOpen, IsOfOpening, contents_of};
+ghost use Rattle.vault.specs.Opened.{OnlyReads, IsGenerationOf, IsAhead, IsCutShort, AreOfOneGeneration, HeadsFault, StandsForNothing, NoneIsOpen, IsOfOpening, contents_of};
+ghost use Rattle.vault.specs.declared.error.VaultError.{VaultError as Cause};
 ghost use Rattle.vault.specs.declared.error.VaultError.TheVariants.{Device, NoMemory, NotAStore, Damaged};
 
 use crate::VaultError;
@@ -19,10 +20,8 @@ const GENERATION: u64 = 2;
 pub(crate) fn live_side<D: Disk>(disk: &mut D) -> Result<Side, VaultError>
     ensures ahead { IsTrue D.is_honest → IfOk result (IsAhead (contents_of (D.files disk.old))) }
     ensures nothing { IsTrue D.is_honest → IfErr result (λ error. SaysNothing error → StandsForNothing (contents_of (D.files disk.old))) }
-    ensures not_a_store { IsTrue D.is_honest → IfErr result (λ error. error ≡ NotAStore → NoneIsOpen (contents_of (D.files disk.old))) }
-    ensures damaged { IsTrue D.is_honest → (here : Side) (place : ℕ) → IfErr result (λ error. error ≡ Damaged here place → IsOpen (D.files disk.old here).content) }
-    ensures heads { IsTrue D.is_honest → (here : Side) (place : ℕ) → HeadsFault (contents_of (D.files disk.old)) here place
-        → IsErrOf result (Damaged here place) ⊎ HasErred D.failures D.refusals disk.old disk.new }
+    ensures heads { IsTrue D.is_honest → (error : Cause) → HeadsFault (contents_of (D.files disk.old)) error → IsErrOf result error ⊎ HasErred D.failures D.refusals disk.old disk.new }
+    ensures cause { IsTrue D.is_honest → IfErr result (λ error. SaysNothing error → HeadsFault (contents_of (D.files disk.old)) error) }
     ensures same { IsTrue D.is_honest → (each : Side) → D.files disk.new each ≡ D.files disk.old each }
     ensures only_reads { IsTrue D.is_honest → OnlyReads D.files D.moment D.left_at disk.old disk.new }
     ensures others { IfErr result IsOfOpening }
@@ -37,8 +36,7 @@ pub(crate) fn live_side<D: Disk>(disk: &mut D) -> Result<Side, VaultError>
 fn generation_of<D: Disk>(disk: &mut D, side: Side) -> Result<Option<u64>, VaultError>
     ensures generation { IsTrue D.is_honest → IfOk result (λ generation. IsGenerationOf generation (D.files disk.old side).content) }
     ensures nothing { IsTrue D.is_honest → IfErr result (λ error. SaysNothing error → StandsForNothing (contents_of (D.files disk.old))) }
-    ensures not_a_store { IfErr result (λ error. error ≢ NotAStore) }
-    ensures damaged { IsTrue D.is_honest → (here : Side) (place : ℕ) → IfErr result (λ error. error ≡ Damaged here place → IsOpen (D.files disk.old here).content) }
+    ensures told { IsTrue D.is_honest → IfErr result (λ error. SaysNothing error → IsCutShort (D.files disk.old side).content × (error ≡ Damaged side (length (D.files disk.old side).content))) }
     ensures short { IsTrue D.is_honest → IfErr result (λ error. HasErred D.failures D.refusals disk.old disk.new ⊎ (IsCutShort (D.files disk.old side).content × (error ≡ Damaged side (length (D.files disk.old side).content)))) }
     ensures same { IsTrue D.is_honest → (each : Side) → D.files disk.new each ≡ D.files disk.old each }
     ensures only_reads { IsTrue D.is_honest → OnlyReads D.files D.moment D.left_at disk.old disk.new }
@@ -74,8 +72,9 @@ fn head_of<D: Disk>(disk: &mut D, side: Side) -> Result<(Gate, u64), DiskError>
 fn ahead(a: Option<u64>, b: Option<u64>) -> Result<Side, VaultError>
     ensures ahead { (contents : Contents) → IsGenerationOf a (contents A) → IsGenerationOf b (contents B) → IfOk result (IsAhead contents) }
     ensures nothing { (contents : Contents) → IsGenerationOf a (contents A) → IsGenerationOf b (contents B) → IfErr result (λ _. StandsForNothing contents) }
-    ensures not_a_store { (contents : Contents) → IsGenerationOf a (contents A) → IsGenerationOf b (contents B) → IfErr result (λ error. error ≡ NotAStore → NoneIsOpen contents) }
-    ensures damaged { (contents : Contents) → IsGenerationOf a (contents A) → IsGenerationOf b (contents B) → (here : Side) (place : ℕ) → IfErr result (λ error. error ≡ Damaged here place → IsOpen (contents here)) }
+    ensures cause { (contents : Contents) → IsGenerationOf a (contents A) → IsGenerationOf b (contents B)
+        → IfErr result (λ error. ((error ≡ NotAStore) × NoneIsOpen contents) ⊎ ((error ≡ Damaged A 2) × AreOfOneGeneration contents)) }
+    ensures closed { a ≡ None → b ≡ None → IsErrOf result NotAStore }
     ensures alike { (contents : Contents) → IsGenerationOf a (contents A) → IsGenerationOf b (contents B)
         → (generation : ℕ) → HasGeneration (contents A) generation → HasGeneration (contents B) generation → IsErrOf result (Damaged A 2) }
     ensures others { IfErr result IsOfOpening }

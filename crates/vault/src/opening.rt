@@ -5,8 +5,9 @@ ghost use Rattle.disk.specs.Time.{Contents, LeavesOnly, MayLeaveNow, HasCause, C
 ghost use Rattle.sides.specs.Image.{facts_in, environment_in};
 ghost use Rattle.sides.specs.Side.{IsOpen};
 ghost use Rattle.vault.specs.Store.{Holds, IsReady, SaysNothing, disk_of_opening, answer_of};
-ghost use Rattle.vault.specs.Opened.{OnlyReads, IsFound, IsSound, HeadsFault, TellsWhy, StandsForNothing, NoneIsOpen, IsOfOpening, contents_of};
-ghost use Rattle.vault.specs.declared.error.VaultError.TheVariants.{Device, NoMemory, NotAStore, Damaged};
+ghost use Rattle.vault.specs.Opened.{OnlyReads, IsFound, IsSound, HeadsFault, IsOfAhead, TellsWhy, StandsForNothing, IsOfOpening, contents_of};
+ghost use Rattle.vault.specs.declared.error.VaultError.{VaultError as Cause};
+ghost use Rattle.vault.specs.declared.error.VaultError.TheVariants.{Device, NoMemory};
 ghost use Rattle.disk.specs.declared.error.DiskError.TheVariants as DiskError;
 
 use crate::found::{Found, found_in};
@@ -86,10 +87,8 @@ fn recover<D: Disk>(alloc: Global, disk: &mut D) -> Result<Found, VaultError>
     ensures sound { IfOk result (λ found. IsSound found.graph found.image found.generation found.journal.end found.text.items) }
     ensures rests { IsTrue D.is_honest → OnOk result ((side : Side) → D.files disk.new side ≡ at_rest (D.files disk.old side).content) }
     ensures nothing { IsTrue D.is_honest → IfErr result (λ error. SaysNothing error → StandsForNothing (contents_of (D.files disk.old))) }
-    ensures not_a_store { IsTrue D.is_honest → IfErr result (λ error. error ≡ NotAStore → NoneIsOpen (contents_of (D.files disk.old))) }
-    ensures damaged { IsTrue D.is_honest → (here : Side) (place : ℕ) → IfErr result (λ error. error ≡ Damaged here place → IsOpen (D.files disk.old here).content) }
-    ensures heads { IsTrue D.is_honest → (here : Side) (place : ℕ) → HeadsFault (contents_of (D.files disk.old)) here place
-        → IsErrOf result (Damaged here place) ⊎ HasErred D.failures D.refusals disk.old disk.new }
+    ensures heads { IsTrue D.is_honest → (error : Cause) → HeadsFault (contents_of (D.files disk.old)) error → IsErrOf result error ⊎ HasErred D.failures D.refusals disk.old disk.new }
+    ensures cause { IsTrue D.is_honest → IfErr result (λ error. SaysNothing error → HeadsFault (contents_of (D.files disk.old)) error ⊎ IsOfAhead (contents_of (D.files disk.old)) error) }
     ensures only_reads { IsTrue D.is_honest → OnlyReads D.files D.moment D.left_at disk.old disk.new }
     ensures others { IfErr result IsOfOpening }
     ensures causes { HasCauses D.failures D.refusals Device NoMemory disk.old disk.new result }
@@ -114,10 +113,8 @@ fn look<D: Disk>(alloc: Global, disk: &mut D) -> Result<Found, VaultError>
     ensures found { IsTrue D.is_honest → IfOk result (IsFound (contents_of (D.files disk.old))) }
     ensures sound { IfOk result (λ found. IsSound found.graph found.image found.generation found.journal.end found.text.items) }
     ensures nothing { IsTrue D.is_honest → IfErr result (λ error. SaysNothing error → StandsForNothing (contents_of (D.files disk.old))) }
-    ensures not_a_store { IsTrue D.is_honest → IfErr result (λ error. error ≡ NotAStore → NoneIsOpen (contents_of (D.files disk.old))) }
-    ensures damaged { IsTrue D.is_honest → (here : Side) (place : ℕ) → IfErr result (λ error. error ≡ Damaged here place → IsOpen (D.files disk.old here).content) }
-    ensures heads { IsTrue D.is_honest → (here : Side) (place : ℕ) → HeadsFault (contents_of (D.files disk.old)) here place
-        → IsErrOf result (Damaged here place) ⊎ HasErred D.failures D.refusals disk.old disk.new }
+    ensures heads { IsTrue D.is_honest → (error : Cause) → HeadsFault (contents_of (D.files disk.old)) error → IsErrOf result error ⊎ HasErred D.failures D.refusals disk.old disk.new }
+    ensures cause { IsTrue D.is_honest → IfErr result (λ error. SaysNothing error → HeadsFault (contents_of (D.files disk.old)) error ⊎ IsOfAhead (contents_of (D.files disk.old)) error) }
     ensures same { IsTrue D.is_honest → (each : Side) → D.files disk.new each ≡ D.files disk.old each }
     ensures only_reads { IsTrue D.is_honest → OnlyReads D.files D.moment D.left_at disk.old disk.new }
     ensures others { IfErr result IsOfOpening }

@@ -43,7 +43,7 @@ impl<D: Disk> Vault<D> {
 
         // What it writes, where it leaves the vault, and why it is refused.
         ensures written { IsTrue D.is_honest → WritesSide D.files self.old self.new image.now result }
-        ensures over { TurnsOver self.old self.new result }
+        ensures over { TurnsOver self.old self.new image.now result }
 
         // The greatest generation is told before memory is asked for.
         ensures last { self.old.halted ≡ false → IsLast self.old.generation → IsErrOf result Full }

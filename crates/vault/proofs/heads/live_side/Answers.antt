@@ -7,7 +7,7 @@ use Rattle.vault.specs.Opened.{IsGenerationOf, StandsForNothing, contents_of}
 use Rattle.vault.proofs.OpenedCalls.{then_reads, same_contents}
 use Rattle.vault.proofs.ErredCalls.{erred_behind, none_refused}
 use Rattle.vault.proofs.OpenedErrors.{handed_on}
-use Rattle.vault.proofs.HeadsFaults.{TellsOne, not_short, a_is_told, b_is_told, one_is_told, told_on}
+use Rattle.vault.proofs.HeadsFaults.{TellsOne, not_short, a_is_told, b_is_told, both_are_told, told_on}
 use Rattle.vault.proofs.heads.live_side.Goals as goal
 
 pub returns-in_err-a-clause-nothing : goal.returns-in_err-a-clause-nothing
@@ -33,56 +33,47 @@ pub returns-clause-only_reads : goal.returns-clause-only_reads
 returns-clause-only_reads g c honest =
     then_reads g.D.Disk.files g.D.Disk.moment g.D.Disk.left_at c.args.disk.now c.generation_of.new.disk c.generation_of-2.new.disk (c.generation_of.ensures.only_reads honest) (c.generation_of-2.ensures.only_reads honest)
 
-pub returns-in_err-a-clause-not_a_store : goal.returns-in_err-a-clause-not_a_store
-returns-in_err-a-clause-not_a_store g c honest = handed_on _ c.in_err-a.field-0.0 c.from_residual.result c.from_residual.ensures.1 (λ is. absurd (c.in_err-a.ensures.not_a_store is))
-
-pub returns-in_err-a-clause-damaged : goal.returns-in_err-a-clause-damaged
-returns-in_err-a-clause-damaged g c honest here place =
-    handed_on _ c.in_err-a.field-0.0 c.from_residual.result c.from_residual.ensures.1 (c.in_err-a.ensures.damaged honest here place)
-
-pub returns-in_err-b-clause-not_a_store : goal.returns-in_err-b-clause-not_a_store
-returns-in_err-b-clause-not_a_store g c honest =
-    handed_on _ c.in_err-b.field-0.0 c.from_residual-in_err-b.result c.from_residual-in_err-b.ensures.1 (λ is. absurd (c.in_err-b.ensures.not_a_store is))
-
-pub returns-in_err-b-clause-damaged : goal.returns-in_err-b-clause-damaged
-returns-in_err-b-clause-damaged g c honest here place =
-    handed_on _ c.in_err-b.field-0.0 c.from_residual-in_err-b.result c.from_residual-in_err-b.ensures.1
-    (λ is. subst (λ (f : File). IsOpen f.content) (c.generation_of.ensures.same honest here) (c.in_err-b.ensures.damaged honest here place is))
-
-pub returns-clause-not_a_store : goal.returns-clause-not_a_store
-returns-clause-not_a_store g c honest =
-    let files = g.D.Disk.files in
-    let b = subst (λ (f : File). IsGenerationOf c.in_ok-b.b f.content) (c.generation_of.ensures.same honest B) (c.in_ok-b.ensures.generation honest) in
-    c.ahead.ensures.not_a_store (contents_of (files c.args.disk.now)) (c.in_ok-a.ensures.generation honest) b
-
-pub returns-clause-damaged : goal.returns-clause-damaged
-returns-clause-damaged g c honest here place =
-    let files = g.D.Disk.files in
-    let b = subst (λ (f : File). IsGenerationOf c.in_ok-b.b f.content) (c.generation_of.ensures.same honest B) (c.in_ok-b.ensures.generation honest) in
-    c.ahead.ensures.damaged (contents_of (files c.args.disk.now)) (c.in_ok-a.ensures.generation honest) b here place
-
 pub returns-in_err-a-clause-heads : goal.returns-in_err-a-clause-heads
-returns-in_err-a-clause-heads g c honest here place fault =
+returns-in_err-a-clause-heads g c honest fault is =
     let contents = contents_of (g.D.Disk.files c.args.disk.now) in
     elim (c.in_err-a.ensures.short honest) [
       | inl erred ↦ inr erred
-      | inr it ↦ inl (told_on c.in_err-a.field-0.0 _ c.from_residual.result c.from_residual.ensures.1 (a_is_told contents here place _ fault it))
+      | inr it ↦ inl (told_on c.in_err-a.field-0.0 fault c.from_residual.result c.from_residual.ensures.1 (a_is_told contents fault _ is it))
     ]
 
 pub returns-in_err-b-clause-heads : goal.returns-in_err-b-clause-heads
-returns-in_err-b-clause-heads g c honest here place fault =
+returns-in_err-b-clause-heads g c honest fault is =
     let contents = contents_of (g.D.Disk.files c.args.disk.now) in
     let same = c.generation_of.ensures.same honest B in
     elim (c.in_err-b.ensures.short honest) [
       | inl erred ↦ inr (erred_behind g.D.Disk.failures g.D.Disk.refusals c.args.disk.now c.generation_of.new.disk c.generation_of-2.new.disk c.in_ok-a.ensures.causes.later
           (none_refused g.D.Disk.failures g.D.Disk.refusals c.args.disk.now c.generation_of.new.disk c.in_ok-a.a c.in_ok-a.ensures.causes) erred)
-      | inr it ↦ inl (told_on c.in_err-b.field-0.0 _ c.from_residual-in_err-b.result c.from_residual-in_err-b.ensures.1
-          (b_is_told contents here place _ (not_short c.in_ok-a.a (contents A) (c.in_ok-a.ensures.generation honest)) fault (subst (λ (f : File). TellsOne B f.content c.in_err-b.field-0.0) same it)))
+      | inr it ↦ inl (told_on c.in_err-b.field-0.0 fault c.from_residual-in_err-b.result c.from_residual-in_err-b.ensures.1
+          (b_is_told contents fault _ (not_short c.in_ok-a.a (contents A) (c.in_ok-a.ensures.generation honest)) is (subst (λ (f : File). TellsOne B f.content c.in_err-b.field-0.0) same it)))
     ]
 
 pub returns-clause-heads : goal.returns-clause-heads
-returns-clause-heads g c honest here place fault =
+returns-clause-heads g c honest fault is =
     let contents = contents_of (g.D.Disk.files c.args.disk.now) in
     let a = c.in_ok-a.ensures.generation honest in
     let b = subst (λ (f : File). IsGenerationOf c.in_ok-b.b f.content) (c.generation_of.ensures.same honest B) (c.in_ok-b.ensures.generation honest) in
-    inl (one_is_told c.ahead.result contents here place (not_short c.in_ok-a.a (contents A) a) (not_short c.in_ok-b.b (contents B) b) (c.ahead.ensures.alike contents a b) fault)
+    inl (both_are_told c.ahead.result contents c.in_ok-a.a c.in_ok-b.b fault a b (c.ahead.ensures.alike contents a b) c.ahead.ensures.closed is)
+
+pub returns-in_err-a-clause-cause : goal.returns-in_err-a-clause-cause
+returns-in_err-a-clause-cause g c honest =
+    handed_on _ c.in_err-a.field-0.0 c.from_residual.result c.from_residual.ensures.1 (λ says. inl (c.in_err-a.ensures.told honest says))
+
+pub returns-in_err-b-clause-cause : goal.returns-in_err-b-clause-cause
+returns-in_err-b-clause-cause g c honest =
+    let contents = contents_of (g.D.Disk.files c.args.disk.now) in
+    let same = c.generation_of.ensures.same honest B in
+    handed_on _ c.in_err-b.field-0.0 c.from_residual-in_err-b.result c.from_residual-in_err-b.ensures.1 (λ says.
+    let it = subst (λ (f : File). TellsOne B f.content c.in_err-b.field-0.0) same (c.in_err-b.ensures.told honest says) in
+    inr (inl (not_short c.in_ok-a.a (contents A) (c.in_ok-a.ensures.generation honest), it.0, it.1)))
+
+pub returns-clause-cause : goal.returns-clause-cause
+returns-clause-cause g c honest =
+    let contents = contents_of (g.D.Disk.files c.args.disk.now) in
+    let a = c.in_ok-a.ensures.generation honest in
+    let b = subst (λ (f : File). IsGenerationOf c.in_ok-b.b f.content) (c.generation_of.ensures.same honest B) (c.in_ok-b.ensures.generation honest) in
+    IfErr-weaker c.ahead.result _ _ (λ error it says. elim it [ inl none ↦ inr (inr (inr (none.1, none.0))) | inr one ↦ inr (inr (inl (one.1, one.0))) ]) (c.ahead.ensures.cause contents a b)

@@ -8,7 +8,6 @@ use Rattle.vault.proofs.OpenedCalls.{then_reads}
 use Rattle.vault.proofs.HeadsFaults.{told_on, same_error}
 use Rattle.vault.proofs.ErredCalls.{ok_is_no_error, none_erred}
 use Rattle.vault.proofs.OpenedErrors.{handed_on}
-use Rattle.vault.proofs.OpenedHeads.{opens}
 use Rattle.vault.proofs.OpenedSides.{ahead_is_none, ahead_is_found}
 use Rattle.vault.proofs.opening.look.Goals as goal
 
@@ -42,46 +41,35 @@ returns-clause-nothing g c honest =
     (subst IsNoSide whole (none says)))
     (c.found_in.ensures.nothing ahead.generation (subst (λ (bytes : List ℕ). HasGeneration bytes ahead.generation) (sym whole) ahead.has))
 
-pub returns-in_err-side-clause-not_a_store : goal.returns-in_err-side-clause-not_a_store
-returns-in_err-side-clause-not_a_store g c honest = handed_on _ c.in_err-side.field-0.0 c.from_residual.result c.from_residual.ensures.1 (c.in_err-side.ensures.not_a_store honest)
-
-pub returns-in_err-side-clause-damaged : goal.returns-in_err-side-clause-damaged
-returns-in_err-side-clause-damaged g c honest here place =
-    handed_on _ c.in_err-side.field-0.0 c.from_residual.result c.from_residual.ensures.1 (c.in_err-side.ensures.damaged honest here place)
-
-pub returns-clause-not_a_store : goal.returns-clause-not_a_store
-returns-clause-not_a_store g c honest =
-    let whole = c.deref.ensures.value ∙ c.in_ok-bytes.ensures.value honest ∙ ap (λ (f : File). f.content) (c.live_side.ensures.same honest c.in_ok-side.side) in
-    let ahead = c.in_ok-side.ensures.ahead honest in
-    IfErr-weaker c.found_in.result _ _ (λ error never is. absurd (never is))
-    (c.found_in.ensures.not_a_store ahead.generation (subst (λ (bytes : List ℕ). HasGeneration bytes ahead.generation) (sym whole) ahead.has))
-
-pub returns-clause-damaged : goal.returns-clause-damaged
-returns-clause-damaged g c honest here place =
-    let files = g.D.Disk.files in
-    let ahead = c.in_ok-side.ensures.ahead honest in
-    IfErr-weaker c.found_in.result _ _
-    (λ error is_here is. subst (λ (s : Side). IsOpen (files c.args.disk.now s).content) (is_here is) (opens (files c.args.disk.now c.in_ok-side.side).content ahead.generation ahead.has).0)
-    (c.found_in.ensures.damaged here place)
-
 pub returns-in_err-side-clause-heads : goal.returns-in_err-side-clause-heads
-returns-in_err-side-clause-heads g c honest here place fault =
-    elim (c.in_err-side.ensures.heads honest here place fault) [
+returns-in_err-side-clause-heads g c honest fault it =
+    elim (c.in_err-side.ensures.heads honest fault it) [
       | inl is ↦ inl (told_on c.in_err-side.field-0.0 _ c.from_residual.result c.from_residual.ensures.1 (same_error {T = Side} c.in_err-side.field-0.0 _ is))
       | inr erred ↦ inr erred
     ]
 
 -- a side was found, so the heads have no fault
 pub returns-in_err-bytes-clause-heads : goal.returns-in_err-bytes-clause-heads
-returns-in_err-bytes-clause-heads g c honest here place fault =
-    elim (c.in_ok-side.ensures.heads honest here place fault) [
+returns-in_err-bytes-clause-heads g c honest fault it =
+    elim (c.in_ok-side.ensures.heads honest fault it) [
       | inl is ↦ absurd (ok_is_no_error c.in_ok-side.side _ is)
       | inr erred ↦ absurd (none_erred g.D.Disk.failures g.D.Disk.refusals c.args.disk.now c.live_side.new.disk c.in_ok-side.side c.in_ok-side.ensures.causes erred)
     ]
 
 pub returns-clause-heads : goal.returns-clause-heads
-returns-clause-heads g c honest here place fault =
-    elim (c.in_ok-side.ensures.heads honest here place fault) [
+returns-clause-heads g c honest fault it =
+    elim (c.in_ok-side.ensures.heads honest fault it) [
       | inl is ↦ absurd (ok_is_no_error c.in_ok-side.side _ is)
       | inr erred ↦ absurd (none_erred g.D.Disk.failures g.D.Disk.refusals c.args.disk.now c.live_side.new.disk c.in_ok-side.side c.in_ok-side.ensures.causes erred)
     ]
+
+pub returns-in_err-side-clause-cause : goal.returns-in_err-side-clause-cause
+returns-in_err-side-clause-cause g c honest =
+    handed_on _ c.in_err-side.field-0.0 c.from_residual.result c.from_residual.ensures.1 (λ says. inl (c.in_err-side.ensures.cause honest says))
+
+pub returns-clause-cause : goal.returns-clause-cause
+returns-clause-cause g c honest =
+    let whole = c.deref.ensures.value ∙ c.in_ok-bytes.ensures.value honest ∙ ap (λ (f : File). f.content) (c.live_side.ensures.same honest c.in_ok-side.side) in
+    let ahead = c.in_ok-side.ensures.ahead honest in
+    IfErr-weaker c.found_in.result _ _ (λ error told says. let at = told says in inr (c.in_ok-side.side, at.0, ahead, at.1))
+    (c.found_in.ensures.cause ahead.generation (subst (λ (bytes : List ℕ). HasGeneration bytes ahead.generation) (sym whole) ahead.has))

@@ -25,4 +25,4 @@ returns-in-Ok-clause-tells g c honest = tells_ok (contents_of (g.D.Disk.files c.
 pub returns-in-Err-clause-tells : goal.returns-in-Err-clause-tells
 returns-in-Err-clause-tells g c honest =
     tells_err {S = Found} (contents_of (g.D.Disk.files c.args.disk)) (HasErred g.D.Disk.failures g.D.Disk.refusals c.args.disk c.recover.new.disk) c.in-Err.error
-    (c.in-Err.ensures.nothing honest) (c.in-Err.ensures.not_a_store honest) (c.in-Err.ensures.damaged honest) (c.in-Err.ensures.heads honest)
+    (c.in-Err.ensures.nothing honest) (c.in-Err.ensures.cause honest) (c.in-Err.ensures.heads honest)
