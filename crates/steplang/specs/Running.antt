@@ -31,7 +31,8 @@ pending_of Nothing = None
 pending_of Over = None
 pending_of Refused = None
 
--- a run may go on with this: with a value just where an item is asked for, and not behind an end
+-- a run may go on with this: with a value where an item is asked for, and with none where nothing is; with anything behind a refusal; and not
+-- behind an end
 abbrev pub IsDue : Awaits → Option ℤ → Type 0
 IsDue Nothing None = ⊤
 IsDue (ValueOf address) (Some value) = ⊤
