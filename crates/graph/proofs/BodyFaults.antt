@@ -64,8 +64,8 @@ module _ (tree : Tree) where
         let more = drop (number + 1) tree.steps.items in
         let bodies : body_faults tree tree.steps.items ≡ here ++ body_faults tree more = sym (ap (body_faults tree) whole) ∙ behind_checked (take number tree.steps.items) them (step ∷ more) so in
         inr ((λ i. slice_get (none i ++ map body_fault (bodies i)) 0)
-            ∙ ap (λ (l : List At). slice_get l 0) (map-append body_fault here (body_faults tree more))
-            ∙ at_front (map body_fault here) (map body_fault (body_faults tree more)) first)
+        ∙ ap (λ (l : List At). slice_get l 0) (map-append body_fault here (body_faults tree more))
+        ∙ at_front (map body_fault here) (map body_fault (body_faults tree more)) first)
       where
         at_front : (front others : List At) → slice_get front 0 ≡ Some (fault.error, fault.position) → slice_get (front ++ others) 0 ≡ Some (fault.error, fault.position)
         at_front [] others first = absurd (cc)

@@ -1,9 +1,9 @@
 -- The collections that a sheet declares: their names, and how many components they have.
-use Rattle.std.proofs.Common.{◌≡◌, ℕ, zero, suc, ◌<◌, ◌≤◌, Bool, List, [], ◌∷◌, length, get_or, Some, refl, sym, ap, subst, ◌∙◌, arith}
+use Rattle.std.proofs.Common.{◌≡◌, ℕ, zero, suc, ◌<◌, ◌≤◌, Bool, List, [], ◌∷◌, length, get_or, Some, refl, ap, arith}
 use Rattle.std.specs.Prelude.{slice_get}
 use Rattle.std.proofs.lemmas.Option.{slice_get_within}
 use Rattle.terms.specs.declared.key.TheConstants.{MAX_COMPONENTS}
-use Rattle.steptree.specs.Names.{Text, place_of, names_declared}
+use Rattle.steptree.specs.Names.{place_of, names_declared}
 use Rattle.steptree.specs.Sheet.{IsAllowed}
 use Rattle.steptree.specs.Nameable.{Collection}
 use Rattle.steptree.specs.Limits.{AreFew}
