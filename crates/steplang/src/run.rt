@@ -22,7 +22,7 @@ pub(crate) enum Stage {
 }
 
 /// The body of an instance while it runs. It stops at each item that the body gets, and goes on with its value. Clauses see
-/// of which step and instance it is, what it has read, and what it waits for.
+/// it as a `Running`: its step, its instance, what it has read, and what it waits for.
 #[derive(Drop)]
 pub struct Run<'a> {
     alloc: Global,
