@@ -17,7 +17,7 @@ pub fn spellings_of_images()
     ensures begins { BeginsNoOther IsImage image_bytes }
 {}
 
-/// A commit has one spelling. Today no commit is spelled but one of a single event, by the bytes of that event.
+/// Bytes spell one commit at most. Today that is a commit of a single event.
 pub fn spellings_of_commits()
     ensures { SpellsOne SpellsCommit }
 {

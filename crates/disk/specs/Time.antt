@@ -62,7 +62,7 @@ CountsRefusal before now (Err Device) = now ≡ before
 CountsRefusal before now (Ok _) = now ≡ before
 
 -- Why a call over a disk answers an error that a call of the disk answered: this one exactly where the device failed, and want of memory
--- wherever a call of the disk was refused for it.
+-- wherever a call of the disk was refused for it. And the count of failures never falls.
 pub record HasCauses {D T E : Type 0} (failures refusals : D → ℕ) (failed no_memory : E) (old new : D) (result : Result T E) : Type 0 where
   pub device : IsErrOf result failed ↔ (failures old < failures new)
   pub refused : refusals new ≢ refusals old → IsErrOf result no_memory

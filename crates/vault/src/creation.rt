@@ -23,8 +23,8 @@ use std::alloc::{AllocError, Global};
 /// Makes a store without facts on two empty files. The text is the canonical text of its graph.
 ///
 /// `Exists` says that a file is not empty. Where one is not, both are left as they are, whatever is answered, and a crash at any
-/// moment of the call leaves what one might have left before it. Where both were empty, nothing is said of
-/// what they hold after an error of the disk, but that A is empty or B has its closed gate. All memory is asked for before the first
+/// moment of the call leaves what one might have left before it. Where both were empty, and nothing of A is on its way to the disk,
+/// nothing is said of what they hold after an error of the disk, but that A is empty or B has its closed gate. All memory is asked for before the first
 /// call of the disk: where the call's own memory was refused, and not the disk's, the disk is as it was.
 pub fn create<D: Disk>(alloc: Global, disk: D, text: &[u8]) -> Result<Vault<D>, Refused<D>>
     requires { IsCanonical text.now }

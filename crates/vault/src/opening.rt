@@ -32,7 +32,7 @@ pub struct Recovered<D: Disk> {
 /// Both files are synced first, so that what was read is what every later crash leaves. Nothing is written, whatever it answers.
 /// `NotAStore` says that no side is open; `Damaged` names an open side, and the place of its first check that failed. The heads come
 /// first: an open side of fewer than ten bytes (A before B, at its length), then both sides of one generation (A, at 2). Where they
-/// have such a fault, it is told, unless a call of the disk answers an error. Then comes the format of the live side (at
+/// have such a fault, or no side is open, that is told, unless a call of the disk answers an error. Then comes the format of the live side (at
 /// 1), its graph's text, its length first (at 10 and 14), its image (at its length's place), and its journal (at the gate of the first
 /// record that is not whole with a gate behind it, is no event, or does not fit, or where the journal's first byte is missing).
 pub fn open<D: Disk>(alloc: Global, disk: D) -> Result<Recovered<D>, Refused<D>>
