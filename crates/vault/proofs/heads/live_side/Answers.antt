@@ -2,7 +2,6 @@ use Rattle.std.proofs.Common.{inl, inr, subst}
 use Rattle.std.proofs.lemmas.Result.{IfErr-weaker}
 use Rattle.disk.specs.declared.side.Side.TheVariants.{A, B}
 use Rattle.disk.specs.File.{File}
-use Rattle.sides.specs.Side.{IsOpen}
 use Rattle.vault.specs.Opened.{IsGenerationOf, StandsForNothing, contents_of}
 use Rattle.vault.proofs.OpenedCalls.{then_reads, same_contents}
 use Rattle.vault.proofs.ErredCalls.{erred_behind, none_refused}
