@@ -1,0 +1,6 @@
+mod Places
+mod Searched
+mod Refused
+mod ByNumber
+mod Waiting
+mod Whole

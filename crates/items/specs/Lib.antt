@@ -1,0 +1,4 @@
+pub mod ByKey
+pub mod Codes
+pub mod Held
+pub mod Shelves
