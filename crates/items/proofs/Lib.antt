@@ -1,6 +1,2 @@
-mod Places
-mod Searched
-mod Refused
-mod ByNumber
 mod Waiting
-mod Whole
+mod Refusals

@@ -2,17 +2,11 @@
 use Rattle.std.specs.Prelude.{◌≡◌, ℕ, ℤ, List, Option, Some, None, refl}
 use Rattle.std.specs.Coded.{Coded, code_by, coded_ℕ, coded_ℤ, coded_list, coded_option, coded×}
 use Rattle.std.specs.FinMap.{code}
-use Rattle.terms.specs.declared.name.Addr.{Addr}
 use Rattle.terms.specs.declared.name.Inst.{Inst}
 use Rattle.terms.specs.declared.producer.Producer.{Producer}
 use Rattle.terms.specs.declared.producer.Producer.TheVariants.{Env, By}
-use Rattle.items.specs.ByKey.{ByKey}
+use Rattle.maps.specs.Codes.{numbered_code}
 use Rattle.items.specs.Held.{Held}
-
-abbrev pub addr_code : Coded Addr
-addr_code =
-    code_by (ℕ × List ℤ) (coded× coded_ℕ (coded_list coded_ℤ)) (λ a. (a.collection.0, a.key))
-    (λ p. record { collection = record { 0 = p.0 }; key = p.1 }) (λ _. refl)
 
 abbrev pub inst_code : Coded Inst
 inst_code =
@@ -34,12 +28,7 @@ same_producer (By instance number) = refl
 abbrev pub producer_code : Coded Producer
 producer_code = code_by (Option (Inst × ℕ)) (coded_option (coded× inst_code coded_ℕ)) by_whom producer_of same_producer
 
-abbrev pub by_key_code : Coded ByKey
-by_key_code =
-    code_by _ (coded× (code (coded_list coded_ℤ) (coded× coded_ℤ producer_code)) coded_ℕ) (λ s. (s.items, s.room))
-    (λ p. record { items = p.0; room = p.1 }) (λ _. refl)
-
 abbrev pub held_code : Coded Held
 held_code =
-    code_by _ (coded× (code addr_code (coded× coded_ℤ producer_code)) (coded× (code addr_code (coded_list inst_code)) (coded_list coded_ℕ)))
-    (λ h. (h.items, (h.waiting, h.room))) (λ p. record { items = p.0; waiting = p.1.0; room = p.1.1 }) (λ _. refl)
+    code_by _ (coded× (numbered_code (coded× coded_ℤ producer_code)) (code (coded× coded_ℕ (coded_list coded_ℤ)) (coded_list inst_code)))
+    (λ h. (h.items, h.waiting)) (λ p. record { items = p.0; waiting = p.1 }) (λ _. refl)

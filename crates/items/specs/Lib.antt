@@ -1,4 +1,2 @@
-pub mod ByKey
 pub mod Codes
 pub mod Held
-pub mod Shelves

@@ -1,7 +1,3 @@
-ghost use Rattle.std.specs.Prelude.{◌≡◌};
-ghost use Rattle.items.specs.declared.error.PutError.TheVariants.{NoMemory};
-
-use std::alloc::{AllocError, AllocFailed};
 use thiserror::Error;
 
 /// Why an item was not put. Nothing has changed.
@@ -13,20 +9,4 @@ pub enum PutError {
     /// A growth was refused.
     #[error("no memory")]
     NoMemory,
-}
-
-impl From<AllocError> for PutError {
-    ghost from_gives = { λ _ error. error ≡ NoMemory };
-
-    fn from(_: AllocError) -> Self {
-        PutError::NoMemory
-    }
-}
-
-impl<T: Drop> From<AllocFailed<T>> for PutError {
-    ghost from_gives = { λ _ error. error ≡ NoMemory };
-
-    fn from(_: AllocFailed<T>) -> Self {
-        PutError::NoMemory
-    }
 }

@@ -1,48 +1,44 @@
-use crate::shelf::{Shelf, empty_shelves};
 use crate::{PutError, Walk};
+use maps::{CollectionMap, InsertError};
 use std::alloc::{AllocError, Global};
 use std::collections::BTreeMap;
 use std::marker::Model;
 use terms::{Addr, Inst, ItemCollection, Producer};
 
-/// The items of a store, and the instances that wait for some.
-///
-/// Each collection has its items in the order of their keys. A `get` is a binary search, and a put of a greater key than
-/// those of its collection moves nothing.
+/// The items of a store, and the instances that wait for some. A `get` is a binary search, and a put of a greater key than those
+/// of its collection moves no item.
 #[derive(Drop)]
 pub struct Items {
-    collections: Vec<Shelf>,
+    items: CollectionMap<(i64, Producer)>,
     waiting: BTreeMap<Addr, Vec<Inst>>,
     alloc: Global,
 }
 
 impl Model for Items {
-    ghost use Rattle.std.specs.Prelude.{◌≤◌, ◌^◌, length, map};
+    ghost use Rattle.std.specs.Prelude.{map};
     ghost use Rattle.std.specs.FinMap.{from_entries};
     ghost use Rattle.items.specs.Codes.{held_code};
-    ghost use Rattle.items.specs.Held.{Held};
-    ghost use Rattle.items.specs.Shelves.{all_from};
+    ghost use Rattle.items.specs.Held.{Held, place};
 
     ghost Value = { Held };
 
     ghost coded = { held_code };
 
-    ghost view = { λ i. record { items = from_entries (all_from 0 i.collections.items); waiting = from_entries (map (λ entry. (entry.0, entry.1.items)) i.waiting.entries); room = map (λ shelf. shelf.room) i.collections.items } };
-
-    ghost invariant = { λ i. length i.collections.items ≤ 2 ^ 16 };
+    ghost view = { λ i. record { items = i.items; waiting = from_entries (map (λ entry. (place entry.0, entry.1.items)) i.waiting.entries) } };
 }
 
 impl Items {
-    ghost use Rattle.std.specs.Prelude.{◌≡◌, ◌<◌, ◌≤◌, ◌^◌, IfOk, IfErr, OnOk, OnErr, replicate};
+    ghost use Rattle.std.specs.Prelude.{◌≡◌, ◌<◌, ◌≤◌, ◌^◌, IfOk, IfErr, OnOk, OnErr, map, replicate};
     ghost use Rattle.std.specs.FinMap.{empty, entries};
+    ghost use Rattle.maps.specs.Numbered.{AddsAt, OnlyMakesRoom};
     ghost use Rattle.items.specs.Held.{
       item_at,
       waiters_at,
       room_for,
+      place,
+      address_at,
       IsOfCollection,
-      AddsItem,
       IsRefused,
-      OnlyMakesRoom,
       with_waiter,
       without_waiters,
     };
@@ -50,10 +46,10 @@ impl Items {
     /// No items, of so many collections.
     pub fn new(alloc: Global, collections: usize) -> Result<Self, AllocError>
         requires { collections ≤ 2 ^ 16 }
-        ensures { IfOk result (λ items. items ≡ record { items = empty; waiting = empty; room = replicate collections 0 }) }
+        ensures { IfOk result (λ held. held ≡ record { items = record { items = empty; room = replicate collections 0 }; waiting = empty }) }
     {
         Ok(Items {
-            collections: empty_shelves(alloc, collections)?,
+            items: CollectionMap::new(alloc, collections)?,
             waiting: BTreeMap::new(alloc),
             alloc,
         })
@@ -63,26 +59,15 @@ impl Items {
     pub fn get(&self, addr: Addr) -> Option<(i64, Producer)>
         ensures { result ≡ item_at self.now addr }
     {
-        self.collections
-            .get(addr.collection.0 as usize)?
-            .get(addr.key)
+        self.items.get(addr.collection.0, addr.key)
     }
 
     /// All items, in the order of their addresses.
     pub fn walk(&self) -> Walk<'_>
-        ensures { result ≡ entries self.now.items }
+        ensures { result ≡ map (λ entry. (address_at entry.0, entry.1)) (entries self.now.items.items) }
     {
-        match self.collections.split_first() {
-            Some((shelf, others)) => Walk {
-                number: 0,
-                items: shelf.items(),
-                collections: others,
-            },
-            None => Walk {
-                number: 0,
-                items: &[],
-                collections: &[],
-            },
+        Walk {
+            entries: self.items.walk(),
         }
     }
 
@@ -90,20 +75,18 @@ impl Items {
     pub fn spare(&self, collection: ItemCollection) -> usize
         ensures { result ≡ room_for self.now collection }
     {
-        match self.collections.get(collection.0 as usize) {
-            Some(shelf) => shelf.room(),
-            None => 0,
-        }
+        self.items.room(collection.0)
     }
 
-    /// Makes room for so many more items of the collection. A refusal changes nothing, and comes only where there was less room.
+    /// Makes room for so many more items of the collection. A refusal comes only where there was less, and changes nothing.
     pub fn make_room(&mut self, collection: ItemCollection, count: usize) -> Result<(), AllocError>
         requires { IsOfCollection self.old collection }
         ensures ok { OnOk result (count ≤ room_for self.new collection) }
-        ensures grows { OnlyMakesRoom self.old self.new collection }
+        ensures grows { OnlyMakesRoom self.old.items self.new.items collection.0 }
+        ensures waiting { self.new.waiting ≡ self.old.waiting }
         ensures refused { OnErr result ((self.new ≡ self.old) × (room_for self.old collection < count)) }
     {
-        self.collections[collection.0 as usize].make_room(count)
+        self.items.make_room(collection.0, count)
     }
 
     /// Puts an item at an address that has none.
@@ -111,11 +94,19 @@ impl Items {
     /// `AlreadyPut` tells the value that is there. `NoMemory` comes only where there is no item and no room. Both change nothing.
     pub fn put(&mut self, addr: Addr, value: i64, producer: Producer) -> Result<(), PutError>
         requires { IsOfCollection self.old addr.collection }
-        ensures ok { OnOk result (AddsItem self.old self.new addr value producer) }
+        ensures ok { OnOk result (AddsAt self.old.items self.new.items (place addr) (value, producer)) }
+        ensures waiting { self.new.waiting ≡ self.old.waiting }
         ensures refused { IfErr result (IsRefused self.old addr) }
         ensures unchanged { OnErr result (self.new ≡ self.old) }
     {
-        self.collections[addr.collection.0 as usize].put(addr.key, (value, producer))
+        match self
+            .items
+            .insert(addr.collection.0, addr.key, (value, producer))
+        {
+            Ok(()) => Ok(()),
+            Err(InsertError::Taken((there, _))) => Err(PutError::AlreadyPut(there)),
+            Err(InsertError::NoMemory) => Err(PutError::NoMemory),
+        }
     }
 
     /// Lets an instance wait at an address, behind those that wait there. A refusal changes nothing.

@@ -9,7 +9,6 @@
 
 mod error;
 mod items;
-mod shelf;
 mod walk;
 
 pub use error::PutError;

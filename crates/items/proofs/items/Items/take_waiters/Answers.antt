@@ -2,13 +2,13 @@ use Rattle.std.proofs.Common.{◌∙◌, [], ap, sym, option_map, Vec}
 use Rattle.std.specs.declared.alloc.Global.{Global}
 use Rattle.std.specs.Option.{unwrap_or}
 use Rattle.terms.specs.declared.name.Inst.{Inst}
-use Rattle.items.proofs.Whole.{waiters_seen, waits_no_more}
+use Rattle.items.proofs.Waiting.{waiters_seen, waits_no_more}
 use Rattle.items.proofs.items.Items.take_waiters.Goals.{in-Some, in-None}
 use Rattle.items.proofs.items.Items.take_waiters.Goals as goal
 
 pub returns-clause-waiters : goal.returns-clause-waiters
 returns-clause-waiters c =
-    let here = waiters_seen c.self.inside.collections.items c.self.inside.waiting.entries c.args.self.now c.args.addr c.self.view_is in
+    let here = waiters_seen c.self.inside.items c.self.inside.waiting.entries c.args.self.now c.args.addr c.self.view_is in
     elim c.match-remove.branch [
       | in-Some w ↦ ap (λ (v : Vec Inst Global). v.items) w.result-is ∙ ap (λ o. unwrap_or (option_map (λ (v : Vec Inst Global). v.items) o) []) (sym w.in-Some.is ∙ c.remove.ensures.value) ∙ sym here
       | in-None w ↦ ap (λ (v : Vec Inst Global). v.items) w.result-is ∙ w.new.ensures.items ∙ ap (λ o. unwrap_or (option_map (λ (v : Vec Inst Global). v.items) o) []) (sym w.in-None.is ∙ c.remove.ensures.value) ∙ sym here
@@ -16,4 +16,4 @@ returns-clause-waiters c =
 
 pub returns-clause-taken : goal.returns-clause-taken
 returns-clause-taken c =
-    waits_no_more c.self.inside.collections.items c.self.inside.waiting.entries c.remove.new.self.entries c.args.self.now c.args.addr c.self.view_is c.remove.ensures.updates.0
+    waits_no_more c.self.inside.items c.self.inside.waiting.entries c.remove.new.self.entries c.args.self.now c.args.addr c.self.view_is c.remove.ensures.updates.0

@@ -1,0 +1,5 @@
+mod Places
+mod Searched
+mod Refused
+mod ByNumber
+mod Whole

@@ -1,0 +1,12 @@
+use Rattle.std.proofs.Common.{◌≡◌, ◌+◌, ◌<◌, ◌^◌, length}
+use Rattle.maps.specs.Numbered.{left_of}
+use Rattle.maps.proofs.walk.WalkIterator.next.Given as goal
+
+-- as much is left as before
+abbrev pub invariant-loop-first : goal.invariant-loop-first
+invariant-loop-first g l =
+    (left_of l.self-inside.number l.self-inside.entries.now l.self-inside.collections.now ≡ left_of l.initial.self-inside.number l.initial.self-inside.entries.now l.initial.self-inside.collections.now)
+    × (l.self-inside.number + length l.self-inside.collections.now < 2 ^ 16)
+
+abbrev pub decreases-loop-first : goal.decreases-loop-first
+decreases-loop-first g l = length l.self-inside.collections.now

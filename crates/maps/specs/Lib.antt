@@ -1,0 +1,5 @@
+pub mod Codes
+pub mod Insertion
+pub mod Keyed
+pub mod Numbered
+pub mod PlaceOrder

@@ -1,0 +1,56 @@
+-- A map from the keys of several collections, each with its number.
+use Rattle.std.specs.Prelude.{◌≡◌, ◌≢◌, ℕ, suc, ℤ, ◌+◌, ◌<◌, ◌≤◌, List, [], ◌∷◌, ◌++◌, map, length, get_or, None}
+use Rattle.std.specs.declared.cmp.Ordering.{Ordering}
+use Rattle.std.specs.Ordering.{nat_cmp, ordering_then}
+use Rattle.std.specs.FinMap.{FinMap, entries, get, insert}
+use Rattle.terms.specs.Key.{key_cmp}
+use Rattle.maps.specs.Keyed.{Keyed}
+
+-- a collection's number, and a key
+abbrev pub Place : Type 0
+Place = ℕ × List ℤ
+
+-- the number decides, and then the key
+abbrev pub place_cmp : Place → Place → Ordering
+place_cmp a b = ordering_then (nat_cmp a.0 b.0) (key_cmp a.1 b.1)
+
+-- the entries by their places, and for each collection, by its number, how many more there is room for
+pub record Numbered (X : Type 0) : Type 0 where
+  pub items : FinMap place_cmp X
+  pub room : List ℕ
+
+-- how many more entries of a collection there is room for
+abbrev pub room_at : {X : Type 0} → Numbered X → ℕ → ℕ
+room_at held number = get_or held.room number 0
+
+-- at the other numbers the room is as it was
+pub record KeepsOtherRoom (old new : List ℕ) (number : ℕ) : Type 0 where
+  pub collections : length new ≡ length old
+  pub others : (other : ℕ) → other ≢ number → get_or new other 0 ≡ get_or old other 0
+
+-- There was no entry at the place, and there is this one: nothing else has changed, but for room of its collection, which is one
+-- less where there was some.
+pub record AddsAt {X : Type 0} (old new : Numbered X) (place : Place) (value : X) : Type 0 where
+  pub absent : get old.items place ≡ None
+  pub items : new.items ≡ insert old.items place value
+  pub lower : 0 < room_at old place.0 → room_at new place.0 + 1 ≡ room_at old place.0
+  pub other_room : KeepsOtherRoom old.room new.room place.0
+
+-- there may be more room for a collection, and nothing else has changed
+pub record OnlyMakesRoom {X : Type 0} (old new : Numbered X) (number : ℕ) : Type 0 where
+  pub items : new.items ≡ old.items
+  pub not_less : room_at old number ≤ room_at new number
+  pub other_room : KeepsOtherRoom old.room new.room number
+
+-- an entry with its place
+abbrev pub placed : {X : Type 0} → ℕ → List ℤ × X → Place × X
+placed number entry = ((number, entry.0), entry.1)
+
+-- the entries of collections, the first of which has this number, in the order of their places
+abbrev pub all_from : {X : Type 0} → ℕ → List (Keyed X) → List (Place × X)
+all_from number [] = []
+all_from number (collection ∷ collections) = map (placed number) (entries collection.items) ++ all_from (suc number) collections
+
+-- what is left of a walk: of the collection with this number these entries, and all of the collections behind it
+abbrev pub left_of : {X : Type 0} → ℕ → List (List ℤ × X) → List (Keyed X) → List (Place × X)
+left_of number entries collections = map (placed number) entries ++ all_from (suc number) collections

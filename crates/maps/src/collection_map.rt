@@ -1,0 +1,112 @@
+ghost use Rattle.std.specs.Prelude.{◌≡◌, IfOk, replicate};
+ghost use Rattle.maps.specs.Keyed.{none};
+
+use crate::{InsertError, KeyMap, Walk};
+use std::alloc::{AllocError, Global};
+use std::marker::Model;
+use terms::Key;
+
+/// A map from places, each the number of a collection and a key, to values. It has a `KeyMap` for each collection.
+#[derive(Drop)]
+pub struct CollectionMap<V> {
+    collections: Vec<KeyMap<V>>,
+}
+
+impl<V> Model for CollectionMap<V> {
+    ghost use Rattle.std.specs.Prelude.{◌≤◌, ◌^◌, length, map};
+    ghost use Rattle.std.specs.FinMap.{from_entries};
+    ghost use Rattle.maps.specs.Codes.{numbered_code};
+    ghost use Rattle.maps.specs.Numbered.{Numbered, all_from};
+
+    ghost Value = { Numbered V };
+
+    ghost coded = { numbered_code V.code };
+
+    ghost view = { λ m. record { items = from_entries (all_from 0 m.collections.items); room = map (λ collection. collection.room) m.collections.items } };
+
+    ghost invariant = { λ m. length m.collections.items ≤ 2 ^ 16 };
+}
+
+impl<V: Copy> CollectionMap<V> {
+    ghost use Rattle.std.specs.Prelude.{◌≡◌, ◌<◌, ◌≤◌, ◌^◌, IfOk, IfErr, IsSome, OnOk, OnErr, length, replicate};
+    ghost use Rattle.std.specs.FinMap.{empty, entries, get, insert};
+    ghost use Rattle.maps.specs.Insertion.{IsRefused};
+    ghost use Rattle.maps.specs.Numbered.{room_at, AddsAt, OnlyMakesRoom};
+
+    /// No entries, of so many collections.
+    pub fn new(alloc: Global, collections: usize) -> Result<Self, AllocError>
+        requires { collections ≤ 2 ^ 16 }
+        ensures { IfOk result (λ m. m ≡ record { items = empty; room = replicate collections 0 }) }
+    {
+        Ok(CollectionMap {
+            collections: empty_maps(alloc, collections)?,
+        })
+    }
+
+    /// The value at the place, if there is one.
+    pub fn get(&self, number: u16, key: Key) -> Option<V>
+        ensures { result ≡ get self.now.items (number, key) }
+    {
+        self.collections.get(number as usize)?.get(key)
+    }
+
+    /// All entries, in the order of their places.
+    pub fn walk(&self) -> Walk<'_, V>
+        ensures { result ≡ entries self.now.items }
+    {
+        match self.collections.split_first() {
+            Some((collection, others)) => Walk {
+                number: 0,
+                entries: collection.entries(),
+                collections: others,
+            },
+            None => Walk {
+                number: 0,
+                entries: &[],
+                collections: &[],
+            },
+        }
+    }
+
+    /// How many more entries of the collection there is room for.
+    pub fn room(&self, number: u16) -> usize
+        ensures { result ≡ room_at self.now number }
+    {
+        match self.collections.get(number as usize) {
+            Some(collection) => collection.room(),
+            None => 0,
+        }
+    }
+
+    /// Makes room for so many more entries of the collection. A refusal comes only where there was less, and changes nothing.
+    pub fn make_room(&mut self, number: u16, count: usize) -> Result<(), AllocError>
+        requires { number < length self.old.room }
+        ensures ok { OnOk result (count ≤ room_at self.new number) }
+        ensures grows { OnlyMakesRoom self.old self.new number }
+        ensures refused { OnErr result ((self.new ≡ self.old) × (room_at self.old number < count)) }
+    {
+        self.collections[number as usize].make_room(count)
+    }
+
+    /// Adds an entry at a place that has none. A refusal changes nothing, and comes for want of memory only where there was no
+    /// room.
+    pub fn insert(&mut self, number: u16, key: Key, value: V) -> Result<(), InsertError<V>>
+        requires { number < length self.old.room }
+        ensures ok { OnOk result (AddsAt self.old self.new (number, key) value) }
+        ensures refused { IfErr result (IsRefused (get self.old.items (number, key)) (room_at self.old number)) }
+        ensures unchanged { OnErr result (self.new ≡ self.old) }
+    {
+        self.collections[number as usize].insert(key, value)
+    }
+}
+
+/// So many empty maps.
+fn empty_maps<V: Copy>(alloc: Global, count: usize) -> Result<Vec<KeyMap<V>>, AllocError>
+    ensures { IfOk result (λ maps. maps.items ≡ replicate count none) }
+{
+    let mut maps = Vec::with_capacity(alloc, count)?;
+    for _map in 0..count {
+        maps.push(KeyMap::new(alloc))?;
+    }
+    Ok(maps)
+}
