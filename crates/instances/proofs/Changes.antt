@@ -1,0 +1,143 @@
+-- The ways in which an instance comes from one state into another.
+use Rattle.std.proofs.Common.{◌≡◌, ◌∙◌, ap, sym, refl, subst, ℕ, ◌+◌, ◌-◌, ◌<◌, ◌≤◌, min, ℤ, Bool, true, false, cond, List, [], ◌∷◌, ◌++◌, length, get_or, Option, Some, None, is_some, swap_remove, Result, Ok, Err, OnOk, is_ok, arith}
+use Rattle.std.specs.Ordering.{eq_by_cmp}
+use Rattle.std.specs.FinMap.{FinMap, entries, get, insert}
+use Rattle.std.proofs.lemmas.List.{length_push}
+use Rattle.terms.specs.Key.{key_cmp}
+use Rattle.maps.specs.Keyed.{Keyed, Adds}
+use Rattle.instances.specs.declared.state.State.{State}
+use Rattle.instances.specs.declared.state.State.TheVariants.{Ready, Running, Waiting, Done}
+use Rattle.instances.specs.OfStep.{OfStep, is_ready, is_running, one_if, times, IsKept, IsWaiting, Moves, AddsInstance}
+use Rattle.instances.proofs.Counted.{one_counts, one_fewer}
+use Rattle.instances.proofs.Kept.{Keys, at_key, kept, as_many, one_more, times_pushed, times_removed, stands}
+
+-- an instance is ready where it stands among the ready ones
+only_ready : (o : Option State) → 1 ≤ one_if is_ready o → o ≡ Some Ready
+only_ready None one = absurd (omega (arith, one))
+only_ready (Some Ready) one = refl
+only_ready (Some Running) one = absurd (omega (arith, one))
+only_ready (Some (Waiting address)) one = absurd (omega (arith, one))
+only_ready (Some Done) one = absurd (omega (arith, one))
+
+no_more : (q key : List ℤ) → at_key q key 0 ≡ 0
+no_more q key = same (eq_by_cmp key_cmp q key)
+  where
+    nothing : ℕ
+    nothing = 0
+
+    same : (b : Bool) → cond b nothing nothing ≡ nothing
+    same true = refl
+    same false = refl
+
+pub waits_not_ready : (o : Option State) → IsWaiting o → (one_if is_ready o ≡ 0) × (one_if is_running o ≡ 0) × (is_some o ≡ true)
+waits_not_ready None is = absurd is
+waits_not_ready (Some Ready) is = absurd is
+waits_not_ready (Some Running) is = absurd is
+waits_not_ready (Some Done) is = absurd is
+waits_not_ready (Some (Waiting address)) is = (refl, refl, refl)
+
+waits_at_some : (o : Option State) → IsWaiting o → (s : State) × (o ≡ Some s) × (is_ready s ≡ false)
+waits_at_some None is = absurd is
+waits_at_some (Some Ready) is = absurd is
+waits_at_some (Some Running) is = absurd is
+waits_at_some (Some Done) is = absurd is
+waits_at_some (Some (Waiting address)) is = (Waiting address, refl, refl)
+
+module _ (states : FinMap key_cmp State) (key : List ℤ) (ready : Keys) (running capacity : ℕ) (is : IsKept states ready running capacity) where
+  -- where one runs, the count is not 0
+  pub one_runs : get states key ≡ Some Running → 1 ≤ running
+  one_runs there = omega (arith, is.counted, one_counts is_running states key Running there refl)
+
+  -- where one is not ready, there is room for it among the ready
+  pub has_room : (s : State) → get states key ≡ Some s → is_ready s ≡ false → length ready < capacity
+  has_room s there other = omega (arith, is.all_listed, one_fewer is_ready states key s there other, is.enough)
+
+  pub waiting_has_room : IsWaiting (get states key) → length ready < capacity
+  waiting_has_room waits = let some = waits_at_some (get states key) waits in has_room some.0 some.1 some.2
+
+  -- it ends, or waits
+  pub stops : (to : State) → get states key ≡ Some Running → is_ready to ≡ false → is_running to ≡ false → IsKept (insert states key to) ready (running - 1) capacity
+  stops to there not_ready not_running =
+      let was = ap (one_if is_ready) there in
+      let now : one_if is_ready (Some to) ≡ 0 = ap (λ b. cond b 1 0) not_ready in
+      let runs = ap (one_if is_running) there in
+      let rests : one_if is_running (Some to) ≡ 0 = ap (λ b. cond b 1 0) not_running in
+      kept states key to ready running capacity is ready (running - 1)
+      (λ q. ap (λ n. times q ready + at_key q key n) (was ∙ sym now))
+      (omega (arith, was, now))
+      (omega (arith, runs, rests, one_runs there))
+      (omega (arith, as_many states key to ready running capacity is (ap is_some there), is.enough))
+
+  -- one that is not ready becomes ready
+  back : (new_running : ℕ) → one_if is_ready (get states key) ≡ 0 → new_running + one_if is_running (get states key) ≡ running → is_some (get states key) ≡ true → IsKept (insert states key Ready) (ready ++ key ∷ []) new_running capacity
+  back new_running was runs there =
+      kept states key Ready ready running capacity is (ready ++ key ∷ []) new_running
+      (λ q. omega (arith, times_pushed q key ready, ap (at_key q key) was, no_more q key))
+      (omega (arith, was, length_push ready key))
+      (omega (arith, runs))
+      (omega (arith, as_many states key Ready ready running capacity is there, is.enough))
+
+  pub comes_back : get states key ≡ Some Running → IsKept (insert states key Ready) (ready ++ key ∷ []) (running - 1) capacity
+  comes_back there = back (running - 1) (ap (one_if is_ready) there) (omega (arith, ap (one_if is_running) there, one_runs there)) (ap is_some there)
+
+  pub wakes : IsWaiting (get states key) → IsKept (insert states key Ready) (ready ++ key ∷ []) running capacity
+  wakes waits = let none = waits_not_ready (get states key) waits in back running none.0 (omega (arith, none.1)) none.2
+
+  -- one that stands among the ready ones runs
+  pub is_one : (at : ℕ) → at < length ready → key ≡ get_or ready at key → get states key ≡ Some Ready
+  is_one at within there = only_ready (get states key) (omega (arith, stands ready at key within there, is.listed key))
+
+  pub starts : (at : ℕ) → at < length ready → key ≡ get_or ready at key → (new : Keys) → new ≡ swap_remove ready at key → length new + 1 ≡ length ready → IsKept (insert states key Running) new (running + 1) capacity
+  starts at within there new news shorter =
+      let state = is_one at within there in
+      let was = ap (one_if is_ready) state in
+      kept states key Running ready running capacity is new (running + 1)
+      (λ q. omega (arith, times_removed q key ready at within there, ap (times q) news, ap (at_key q key) was, no_more q key))
+      (omega (arith, was, shorter))
+      (omega (arith, ap (one_if is_running) state))
+      (omega (arith, as_many states key Running ready running capacity is (ap is_some state), is.enough))
+
+  -- the count has room for one more
+  pub fits : (at : ℕ) → at < length ready → key ≡ get_or ready at key → running + 1 ≤ capacity
+  fits at within there = omega (arith, is.counted, one_fewer is_running states key Ready (is_one at within there) refl, is.enough)
+
+  -- one that was not there is ready
+  pub comes : get states key ≡ None → length (entries states) + 1 ≤ capacity → IsKept (insert states key Ready) (ready ++ key ∷ []) running capacity
+  comes gone enough =
+      kept states key Ready ready running capacity is (ready ++ key ∷ []) running
+      (λ q. omega (arith, times_pushed q key ready, ap (at_key q key) (ap (one_if is_ready) gone), no_more q key))
+      (omega (arith, ap (one_if is_ready) gone, length_push ready key))
+      (omega (arith, ap (one_if is_running) gone))
+      (omega (arith, one_more states key Ready ready running capacity is gone, enough))
+
+-- ---- what is seen of it
+
+abbrev pub seen_of : Keyed State → ℕ → OfStep
+seen_of states capacity = record { states = states.items; room = min states.room (capacity - length (entries states.items)) }
+
+module _ (old new : Keyed State) (capacity : ℕ) (now : OfStep) (key : List ℤ) (is : seen_of old capacity ≡ now) where
+  pub moves : (to : State) (ready : Keys) (running : ℕ) → IsKept old.items ready running capacity → is_some (get old.items key) ≡ true → new ≡ record { items = insert old.items key to; room = old.room } → Moves now (seen_of new capacity) key to
+  moves to ready running kept there news =
+      subst (λ seen. Moves seen (seen_of new capacity) key to) is (record {
+        states = ap (λ s. s.items) news;
+        room = ap (λ s. min s.room (capacity - length (entries s.items))) news ∙ ap (λ n. min old.room (capacity - n)) (as_many old.items key to ready running capacity kept there);
+      })
+
+  -- one more is seen, and room for one less
+  pub adds :
+      (ready : Keys) (running : ℕ) → IsKept old.items ready running capacity → Adds old new key Ready → get now.states key ≡ None → 0 < now.room →
+      AddsInstance now (seen_of new capacity) key Ready × IsKept new.items (ready ++ key ∷ []) running capacity
+  adds ready running kept added gone room =
+      let absent = ap (λ seen. get seen.states key) is ∙ gone in
+      let some : 0 < min old.room (capacity - length (entries old.items)) = subst (λ seen. 0 < seen.room) (sym is) room in
+      let more = ap (λ items. length (entries items)) added.items ∙ one_more old.items key Ready ready running capacity kept absent in (
+        subst (λ seen. AddsInstance seen (seen_of new capacity) key Ready) is (record {
+          states = added.items;
+          room = omega (arith, more, added.lower (omega (arith, some)), some);
+        }),
+        subst (λ items. IsKept items (ready ++ key ∷ []) running capacity) (sym added.items) (comes old.items key ready running capacity kept absent (omega (arith, some))),
+      )
+
+pub when_ok : {T E P : Type 0} (r : Result T E) → OnOk r P → true ≡ is_ok r → P
+when_ok (Ok done) holds ok = holds
+when_ok (Err error) holds ok = absurd (cc)

@@ -1,0 +1,20 @@
+use Rattle.std.proofs.Common.{◌∙◌, ◌-◌, ap, sym, subst, refl, is_some}
+use Rattle.std.specs.FinMap.{get}
+use Rattle.std.specs.Vec.{vec_capacity}
+use Rattle.instances.specs.OfStep.{IsKept}
+use Rattle.instances.specs.declared.state.State.TheVariants.{Done}
+use Rattle.instances.proofs.Changes.{one_runs, stops, moves}
+use Rattle.instances.proofs.step_instances.StepInstances.finish.Goals as goal
+
+pub overflow_sub-self : goal.overflow_sub-self
+overflow_sub-self c = one_runs _ c.args.key _ _ _ c.self.invariant (ap (λ seen. get seen.states c.args.key) c.self.view_is ∙ c.requires)
+
+pub invariant_of-self : goal.invariant_of-self
+invariant_of-self c =
+    subst (λ states. IsKept states c.self.inside.ready.items (c.self.inside.running - 1) (vec_capacity c.self.inside.ready)) (sym (ap (λ s. s.items) c.set.ensures))
+    (stops _ c.args.key _ _ _ c.self.invariant Done (ap (λ seen. get seen.states c.args.key) c.self.view_is ∙ c.requires) refl refl)
+
+pub returns : goal.returns
+returns c =
+    moves c.self.inside.states c.set.new.self (vec_capacity c.self.inside.ready) c.args.self.now c.args.key c.self.view_is Done c.self.inside.ready.items c.self.inside.running c.self.invariant
+    (ap is_some (ap (λ seen. get seen.states c.args.key) c.self.view_is ∙ c.requires)) c.set.ensures

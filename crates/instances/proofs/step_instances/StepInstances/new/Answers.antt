@@ -1,0 +1,5 @@
+use Rattle.instances.proofs.Kept.{kept_none}
+use Rattle.instances.proofs.step_instances.StepInstances.new.Goals as goal
+
+pub invariant_of-result : goal.invariant_of-result
+invariant_of-result c = rw (c.new.ensures, c.new-2.ensures.items, c.new-2.ensures.capacity) kept_none

@@ -1,0 +1,14 @@
+use terms::Addr;
+
+/// The state of a prescribed instance.
+#[derive(Clone, Copy, Debug, PartialEq, Eq)]
+pub enum State {
+    /// It can be claimed.
+    Ready,
+    /// It was claimed, and is neither done nor given back.
+    Running,
+    /// It waits for the item at the address.
+    Waiting(Addr),
+    /// It is done.
+    Done,
+}

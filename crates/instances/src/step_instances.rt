@@ -1,0 +1,159 @@
+use crate::State;
+use maps::KeyMap;
+use std::alloc::{AllocError, Global};
+use std::marker::Model;
+use terms::{Addr, Key};
+
+/// The instances of one step, each with its state. What an instance may go through later takes no memory: there is room for it
+/// from the moment when it was added.
+#[derive(Drop)]
+pub struct StepInstances {
+    states: KeyMap<State>,
+    // The keys of those that are ready, with room for all.
+    ready: Vec<Key>,
+    running: usize,
+}
+
+impl Model for StepInstances {
+    ghost use Rattle.std.specs.Prelude.{◌-◌, length, min};
+    ghost use Rattle.std.specs.FinMap.{entries};
+    ghost use Rattle.std.specs.Vec.{vec_capacity};
+    ghost use Rattle.instances.specs.Codes.{of_step_code};
+    ghost use Rattle.instances.specs.OfStep.{OfStep, IsKept};
+
+    ghost Value = { OfStep };
+
+    ghost coded = { of_step_code };
+
+    ghost view = { λ s. record { states = s.states.items; room = min s.states.room (vec_capacity s.ready - length (entries s.states.items)) } };
+
+    ghost invariant = { λ s. IsKept s.states.items s.ready.items s.running (vec_capacity s.ready) };
+}
+
+impl StepInstances {
+    ghost use Rattle.std.specs.Prelude.{◌≡◌, ◌+◌, ◌<◌, ◌≤◌, IfSome, IsSome, OnOk, OnErr, Some, None};
+    ghost use Rattle.std.specs.FinMap.{empty, get};
+    ghost use Rattle.instances.specs.declared.state.State.TheVariants.{Ready, Running, Waiting, Done};
+    ghost use Rattle.instances.specs.OfStep.{is_ready, is_running, how_many, IsWaiting, Moves, AddsInstance};
+
+    /// No instances.
+    pub fn new(alloc: Global) -> Self
+        ensures { result ≡ record { states = empty; room = 0 } }
+    {
+        StepInstances {
+            states: KeyMap::new(alloc),
+            ready: Vec::new(alloc),
+            running: 0,
+        }
+    }
+
+    /// The state of an instance, if it is prescribed.
+    pub fn state(&self, key: Key) -> Option<State>
+        ensures { result ≡ get self.now.states key }
+    {
+        self.states.get(key)
+    }
+
+    /// How many are ready.
+    pub fn ready(&self) -> usize
+        ensures { result ≡ how_many is_ready self.now.states }
+    {
+        self.ready.len()
+    }
+
+    /// How many run.
+    pub fn running(&self) -> usize
+        ensures { result ≡ how_many is_running self.now.states }
+    {
+        self.running
+    }
+
+    /// How many more instances there is room for.
+    pub fn room(&self) -> usize
+        ensures { result ≡ self.now.room }
+    {
+        self.states
+            .room()
+            .min(self.ready.capacity() - self.states.entries().len())
+    }
+
+    /// Makes room for so many more instances. A refusal comes only where there was less.
+    pub fn make_room(&mut self, count: usize) -> Result<(), AllocError>
+        ensures states { self.new.states ≡ self.old.states }
+        ensures ok { OnOk result (count ≤ self.new.room) }
+        ensures not_less { self.old.room ≤ self.new.room }
+        ensures refused { OnErr result (self.old.room < count) }
+    {
+        if count <= self.room() {
+            return Ok(());
+        }
+        self.states.make_room(count)?;
+        let others = self.states.entries().len() - self.ready.len();
+        self.ready
+            .reserve(others.checked_add(count).ok_or(AllocError)?)
+    }
+
+    /// Adds an instance that can be claimed.
+    pub fn add(&mut self, key: Key)
+        requires absent { get self.old.states key ≡ None }
+        requires room { 0 < self.old.room }
+        ensures { AddsInstance self.old self.new key Ready }
+    {
+        if self.states.insert(key, State::Ready).is_ok() {
+            self.ready.push_reserved(key);
+        }
+    }
+
+    /// Lets one of the ready ones run, by its number among them, and tells its key.
+    pub fn claim(&mut self, at: usize) -> Option<Key>
+        ensures some { at < how_many is_ready self.old.states → IsSome result }
+        ensures none { how_many is_ready self.old.states ≤ at → (result ≡ None) × (self.new ≡ self.old) }
+        ensures claimed { IfSome result (λ key. (get self.old.states key ≡ Some Ready) × Moves self.old self.new key Running) }
+    {
+        if at < self.ready.len() {
+            let key = self.ready.swap_remove(at);
+            self.states.set(key, State::Running);
+            self.running += 1;
+            Some(key)
+        } else {
+            None
+        }
+    }
+
+    /// Ends an instance that runs.
+    pub fn finish(&mut self, key: Key)
+        requires { get self.old.states key ≡ Some Running }
+        ensures { Moves self.old self.new key Done }
+    {
+        self.states.set(key, State::Done);
+        self.running -= 1;
+    }
+
+    /// Lets an instance that runs wait at an address.
+    pub fn park(&mut self, key: Key, addr: Addr)
+        requires { get self.old.states key ≡ Some Running }
+        ensures { Moves self.old self.new key (Waiting addr) }
+    {
+        self.states.set(key, State::Waiting(addr));
+        self.running -= 1;
+    }
+
+    /// Gives an instance that runs back.
+    pub fn release(&mut self, key: Key)
+        requires { get self.old.states key ≡ Some Running }
+        ensures { Moves self.old self.new key Ready }
+    {
+        self.states.set(key, State::Ready);
+        self.ready.push_reserved(key);
+        self.running -= 1;
+    }
+
+    /// Makes an instance ready that waits.
+    pub fn wake(&mut self, key: Key)
+        requires { IsWaiting (get self.old.states key) }
+        ensures { Moves self.old self.new key Ready }
+    {
+        self.states.set(key, State::Ready);
+        self.ready.push_reserved(key);
+    }
+}
