@@ -32,7 +32,7 @@ impl Model for StepInstances {
 
 impl StepInstances {
     ghost use Rattle.std.specs.Prelude.{◌≡◌, ◌+◌, ◌<◌, ◌≤◌, IfSome, IsSome, OnOk, OnErr, Some, None};
-    ghost use Rattle.std.specs.FinMap.{empty, get};
+    ghost use Rattle.std.specs.FinMap.{empty, entries, get};
     ghost use Rattle.instances.specs.declared.state.State.TheVariants.{Ready, Running, Waiting, Done};
     ghost use Rattle.instances.specs.OfStep.{is_ready, is_running, how_many, IsWaiting, Moves, AddsInstance};
 
@@ -52,6 +52,13 @@ impl StepInstances {
         ensures { result ≡ get self.now.states key }
     {
         self.states.get(key)
+    }
+
+    /// The instances with their states, in the order of their keys.
+    pub fn entries(&self) -> &[(Key, State)]
+        ensures { result.now ≡ entries self.now.states }
+    {
+        self.states.entries()
     }
 
     /// How many are ready.

@@ -5,10 +5,11 @@
 //! - `run NAME`: instances of a graph's steps, with the values of what they get (`bodies`)
 //! - `event`, `image`, `short event`, `short image`: bytes that spell one (`codecs`)
 //! - `rising KIND`: values that rise (`orders`)
+//! - `items`: calls on a map of items (`item_calls`)
 //! - `first`: bytes that begin with a record (`journals`)
 //! - `store NUMBERS`: a story of a store on a memory disk, once for each number (`stories`)
 use crate::names::Names;
-use crate::{bodies, bytes, codecs, graphs, journals, orders, stories, texts};
+use crate::{bodies, bytes, codecs, graphs, item_calls, journals, orders, stories, texts};
 use std::alloc::{AllocError, Global};
 
 /// What a command answers to its input.
@@ -35,6 +36,7 @@ pub(crate) fn answer(
         },
         "store" => stories::answer(alloc, names, rest, input),
         "rising" => orders::answer(alloc, names, rest, input),
+        "items" => item_calls::answer(alloc, input),
         _ => answer_bytes(alloc, names, command, input),
     }
 }

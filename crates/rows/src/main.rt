@@ -11,6 +11,7 @@ mod codecs;
 mod commands;
 mod disks;
 mod graphs;
+mod item_calls;
 mod journals;
 mod laws;
 mod names;

@@ -36,7 +36,8 @@ fn tell_tag(out: &mut String, tag: &Tag) -> Result<(), AllocError> {
     out.push_str(">")
 }
 
-fn tell_instance(out: &mut String, instance: &Inst) -> Result<(), AllocError> {
+/// An instance.
+pub(crate) fn tell_instance(out: &mut String, instance: &Inst) -> Result<(), AllocError> {
     write!(out, "({}", instance.collection.0)?;
     tell_key(out, &instance.key)?;
     out.push_str(")")
@@ -87,7 +88,8 @@ fn tell_puts(out: &mut String, puts: &[Put]) -> Result<(), AllocError> {
     Ok(())
 }
 
-fn tell_item(out: &mut String, item: &(Addr, i64, Producer)) -> Result<(), AllocError> {
+/// An item, and who put it.
+pub(crate) fn tell_item(out: &mut String, item: &(Addr, i64, Producer)) -> Result<(), AllocError> {
     tell_put(out, &Put::Item(item.0, item.1))?;
     match item.2 {
         Producer::Env => out.push_str(" by env"),
@@ -99,8 +101,8 @@ fn tell_item(out: &mut String, item: &(Addr, i64, Producer)) -> Result<(), Alloc
     }
 }
 
-// What stands before an element of a list: nothing, or what parts it from those before.
-fn part(out: &mut String) -> Result<(), AllocError> {
+/// What stands before an element of a list: nothing, or what parts it from those before.
+pub(crate) fn part(out: &mut String) -> Result<(), AllocError> {
     if !out.is_empty() {
         out.push_str(", ")?;
     }
