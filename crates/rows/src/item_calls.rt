@@ -15,7 +15,7 @@ const COLLECTIONS: u16 = 3;
 #[derive(Drop)]
 struct Three {
     items: Items,
-    ghost collections: { length items.room ≡ 3 },
+    ghost collections: { length items.items.room ≡ 3 },
 }
 
 /// What the calls answer.
