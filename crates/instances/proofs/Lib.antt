@@ -1,3 +1,7 @@
 mod Counted
 mod Kept
 mod Changes
+mod Moved
+mod Stepwise
+mod Prescribing
+mod Growing

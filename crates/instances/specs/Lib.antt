@@ -1,2 +1,4 @@
 pub mod Codes
+pub mod Known
+pub mod KnownCodes
 pub mod OfStep

@@ -89,6 +89,7 @@ impl StepInstances {
         ensures states { self.new.states ≡ self.old.states }
         ensures ok { OnOk result (count ≤ self.new.room) }
         ensures not_less { self.old.room ≤ self.new.room }
+        ensures enough { count ≤ self.old.room → self.new ≡ self.old }
         ensures refused { OnErr result (self.old.room < count) }
     {
         if count <= self.room() {

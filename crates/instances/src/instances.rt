@@ -1,0 +1,253 @@
+ghost use Rattle.std.specs.Prelude.{◌≡◌, ◌<◌, ℕ, IfOk, OnErr, OnOk, map};
+ghost use Rattle.instances.specs.Known.{AllCanTake, AllGrown, AllHaveRoom, fresh_step, least, with_instance};
+
+use crate::step::Step;
+use crate::{State, StepInstances, TagWalk, Task};
+use maps::CollectionMap;
+use std::alloc::{AllocError, Global};
+use std::marker::Model;
+use terms::{Addr, Inst, StepCollection, Tag, TagCollection};
+
+/// The tags that are there, each with whether the environment put it, and the instances that they prescribe.
+#[derive(Drop)]
+pub struct Instances {
+    tags: CollectionMap<bool>,
+    steps: Vec<Step>,
+}
+
+impl Model for Instances {
+    ghost use Rattle.std.specs.Prelude.{◌≤◌, ◌^◌, length};
+    ghost use Rattle.instances.specs.KnownCodes.{known_code};
+    ghost use Rattle.instances.specs.Known.{Known, ArePrescribed};
+
+    ghost Value = { Known };
+
+    ghost coded = { known_code };
+
+    ghost view = { λ i. record { tags = i.tags; steps = i.steps.items } };
+
+    ghost invariant = { λ i. (length i.steps.items ≤ 2 ^ 16) × ArePrescribed i.tags i.steps.items };
+}
+
+impl Instances {
+    ghost use Rattle.std.specs.Prelude.{◌≡◌, ◌-◌, ◌^◌, ◌==◌, ◌&&◌, ◌<◌, ◌≤◌, IfOk, IfSome, IsSome, None, OnErr, OnOk, Some, length, map, min};
+    ghost use Rattle.std.specs.FinMap.{entries};
+    ghost use Rattle.instances.specs.declared.state.State.TheVariants.{Ready, Running, Waiting, Done};
+    ghost use Rattle.instances.specs.OfStep.{is_ready, is_running, IsWaiting};
+    ghost use Rattle.instances.specs.Known.{fresh, mark_of, tag_at, room_for, state_at, total, MovesOne, OnlyMakesRoom, Prescribes};
+
+    /// No tags, of so many collections, and no instances of the steps that these collections prescribe, a step each.
+    pub fn new(
+        alloc: Global,
+        tags: usize,
+        prescribers: &[TagCollection],
+    ) -> Result<Self, AllocError>
+        requires tags { tags ≤ 2 ^ 16 }
+        requires steps { length prescribers.now ≤ 2 ^ 16 }
+        ensures { IfOk result (λ known. known ≡ fresh tags prescribers.now) }
+    {
+        let tags = CollectionMap::new(alloc, tags)?;
+        let steps = fresh_steps(alloc, prescribers)?;
+        Ok(Instances { tags, steps })
+    }
+
+    /// The tags that are there, each with whether the environment put it, in order.
+    pub fn tags(&self) -> TagWalk<'_>
+        ensures { result ≡ map (λ entry. (tag_at entry.0, entry.1)) (entries self.now.tags.items) }
+    {
+        TagWalk {
+            entries: self.tags.walk(),
+        }
+    }
+
+    /// How many more tags of the collection there is room for, with all that they prescribe.
+    pub fn spare(&self, collection: TagCollection) -> usize
+        ensures { result ≡ room_for self.now collection }
+    {
+        let mut room = self.tags.room(collection.0);
+        for number in 0..self.steps.len() {
+            room = self.steps[number].least(collection, room);
+        }
+        room
+    }
+
+    /// Makes room for so many more tags of the collection, with all that they prescribe. A refusal comes only where there was less.
+    pub fn make_room(&mut self, collection: TagCollection, count: usize) -> Result<(), AllocError>
+        requires { collection.0 < length self.old.tags.room }
+        ensures ok { OnOk result (count ≤ room_for self.new collection) }
+        ensures grows { OnlyMakesRoom self.old self.new collection }
+        ensures refused { OnErr result (room_for self.old collection < count) }
+    {
+        self.tags.make_room(collection.0, count)?;
+        make_all_room(&mut self.steps, collection, count)
+    }
+
+    /// How many are ready, or the greatest `usize` where they are more.
+    pub fn ready(&self) -> usize
+        ensures { result ≡ min (total is_ready self.now) (2 ^ 64 - 1) }
+    {
+        let mut ready = 0usize;
+        for number in 0..self.steps.len() {
+            ready = ready.saturating_add(self.steps[number].instances.ready());
+        }
+        ready
+    }
+
+    /// How many run, or the greatest `usize` where they are more.
+    pub fn running(&self) -> usize
+        ensures { result ≡ min (total is_running self.now) (2 ^ 64 - 1) }
+    {
+        let mut running = 0usize;
+        for number in 0..self.steps.len() {
+            running = running.saturating_add(self.steps[number].instances.running());
+        }
+        running
+    }
+
+    /// Whether none is ready and none runs.
+    pub fn is_quiet(&self) -> bool
+        ensures { result ≡ ((total is_ready self.now == 0) && (total is_running self.now == 0)) }
+    {
+        self.ready() == 0 && self.running() == 0
+    }
+
+    /// Whether the environment put a tag, if it is there.
+    pub fn mark(&self, tag: Tag) -> Option<bool>
+        ensures { result ≡ mark_of self.now tag }
+    {
+        self.tags.get(tag.collection.0, tag.key)
+    }
+
+    /// The state of an instance, if it is prescribed.
+    pub fn state(&self, inst: Inst) -> Option<State>
+        ensures { result ≡ state_at self.now inst }
+    {
+        self.steps
+            .get(inst.collection.0 as usize)?
+            .instances
+            .state(inst.key)
+    }
+
+    /// Puts a tag that is not there, and with it the instances that it prescribes, ready. There is room for them.
+    pub fn prescribe(&mut self, tag: Tag, by_environment: bool)
+        requires absent { mark_of self.old tag ≡ None }
+        requires room { 0 < room_for self.old tag.collection }
+        ensures { Prescribes self.old self.new tag by_environment }
+    {
+        if self
+            .tags
+            .insert(tag.collection.0, tag.key, by_environment)
+            .is_ok()
+        {
+            prescribe_all(&mut self.steps, tag);
+        }
+    }
+
+    /// Lets one of the ready ones run, by its number among them.
+    pub fn claim(&mut self, at: usize) -> Option<Task>
+        ensures some { at < total is_ready self.old → IsSome result }
+        ensures none { total is_ready self.old ≤ at → (result ≡ None) × (self.new ≡ self.old) }
+        ensures claimed { IfSome result (λ task. (state_at self.old task ≡ Some Ready) × MovesOne self.old self.new task Running) }
+    {
+        let mut left = at;
+        for number in 0..self.steps.len() {
+            let ready = self.steps[number].instances.ready();
+            if left < ready {
+                let key = self.steps[number].instances.claim(left)?;
+                let collection = StepCollection(number as u16);
+                return Some(Task {
+                    inst: Inst { collection, key },
+                });
+            }
+            left -= ready;
+        }
+        None
+    }
+
+    /// Ends the instance of a task.
+    pub fn finish(&mut self, task: Task)
+        requires { state_at self.old task ≡ Some Running }
+        ensures { MovesOne self.old self.new task Done }
+    {
+        let inst = task.into_inst();
+        self.steps[inst.collection.0 as usize]
+            .instances
+            .finish(inst.key);
+    }
+
+    /// Lets the instance of a task wait at an address.
+    pub fn park(&mut self, task: Task, addr: Addr)
+        requires { state_at self.old task ≡ Some Running }
+        ensures { MovesOne self.old self.new task (Waiting addr) }
+    {
+        let inst = task.into_inst();
+        self.steps[inst.collection.0 as usize]
+            .instances
+            .park(inst.key, addr);
+    }
+
+    /// Gives the instance of a task back.
+    pub fn release(&mut self, task: Task)
+        requires { state_at self.old task ≡ Some Running }
+        ensures { MovesOne self.old self.new task Ready }
+    {
+        let inst = task.into_inst();
+        self.steps[inst.collection.0 as usize]
+            .instances
+            .release(inst.key);
+    }
+
+    /// Makes an instance ready that waits.
+    pub fn wake(&mut self, inst: Inst)
+        requires { IsWaiting (state_at self.old inst) }
+        ensures { MovesOne self.old self.new inst Ready }
+    {
+        self.steps[inst.collection.0 as usize]
+            .instances
+            .wake(inst.key);
+    }
+}
+
+// Adds to each step the instance that a tag prescribes.
+fn prescribe_all(steps: &mut Vec<Step>, tag: Tag)
+    requires { AllCanTake tag steps.old.items }
+    ensures { steps.new.items ≡ map (with_instance tag) steps.old.items }
+{
+    for number in 0..steps.len() {
+        let name = tag;
+        steps[number].prescribe(name);
+    }
+}
+
+// A step without instances for each collection.
+fn fresh_steps(alloc: Global, prescribers: &[TagCollection]) -> Result<Vec<Step>, AllocError>
+    ensures { IfOk result (λ steps. steps.items ≡ map fresh_step prescribers.now) }
+{
+    let mut steps = Vec::with_capacity(alloc, prescribers.len())?;
+    for number in 0..prescribers.len() {
+        let prescriber = prescribers[number];
+        let instances = StepInstances::new(alloc);
+        steps.push(Step {
+            prescriber,
+            instances,
+        })?;
+    }
+    Ok(steps)
+}
+
+// Makes room for so many more instances in each step that a collection prescribes.
+fn make_all_room(
+    steps: &mut Vec<Step>,
+    collection: TagCollection,
+    count: usize,
+) -> Result<(), AllocError>
+    ensures ok { OnOk result (AllHaveRoom collection.0 count steps.new.items) }
+    ensures grows { AllGrown collection.0 steps.old.items steps.new.items }
+    ensures refused { OnErr result ((room : ℕ) → least collection.0 room steps.old.items < count) }
+{
+    for number in 0..steps.len() {
+        let prescriber = collection;
+        steps[number].make_room(prescriber, count)?;
+    }
+    Ok(())
+}

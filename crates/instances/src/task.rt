@@ -1,0 +1,34 @@
+use std::marker::Model;
+use terms::Inst;
+
+/// An instance that was claimed. It is spent by ending it, by parking it or by giving it back.
+pub struct Task {
+    pub(crate) inst: Inst,
+}
+
+impl Model for Task {
+    ghost use Rattle.terms.specs.declared.name.Inst.{Inst as Instance};
+
+    ghost Value = { Instance };
+
+    ghost view = { λ t. t.inst };
+}
+
+impl Task {
+    ghost use Rattle.std.specs.Prelude.{◌≡◌};
+
+    /// Its instance.
+    pub fn inst(&self) -> Inst
+        ensures { result ≡ self.now }
+    {
+        self.inst
+    }
+
+    /// Spends it.
+    pub(crate) fn into_inst(self) -> Inst
+        ensures { result ≡ self }
+    {
+        let Task { inst } = self;
+        inst
+    }
+}
