@@ -110,6 +110,15 @@ module _ (states : FinMap key_cmp State) (key : List ℤ) (ready : Keys) (runnin
       (omega (arith, ap (one_if is_running) gone))
       (omega (arith, one_more states key Ready ready running capacity is gone, enough))
 
+  -- one that was not there is done
+  pub comes_done : get states key ≡ None → length (entries states) + 1 ≤ capacity → IsKept (insert states key Done) ready running capacity
+  comes_done gone enough =
+      kept states key Done ready running capacity is ready running
+      (λ q. ap (λ n. times q ready + at_key q key n) (ap (one_if is_ready) gone))
+      (omega (arith, ap (one_if is_ready) gone))
+      (omega (arith, ap (one_if is_running) gone))
+      (omega (arith, one_more states key Done ready running capacity is gone, enough))
+
 -- ---- what is seen of it
 
 abbrev pub seen_of : Keyed State → ℕ → OfStep
@@ -125,18 +134,29 @@ module _ (old new : Keyed State) (capacity : ℕ) (now : OfStep) (key : List ℤ
 
   -- one more is seen, and room for one less
   pub adds :
-      (ready : Keys) (running : ℕ) → IsKept old.items ready running capacity → Adds old new key Ready → get now.states key ≡ None → 0 < now.room →
-      AddsInstance now (seen_of new capacity) key Ready × IsKept new.items (ready ++ key ∷ []) running capacity
-  adds ready running kept added gone room =
+      (state : State) (ready : Keys) (running : ℕ) → IsKept old.items ready running capacity → Adds old new key state → get now.states key ≡ None → 0 < now.room →
+      AddsInstance now (seen_of new capacity) key state × (get old.items key ≡ None) × (length (entries old.items) + 1 ≤ capacity)
+  adds state ready running kept added gone room =
       let absent = ap (λ seen. get seen.states key) is ∙ gone in
       let some : 0 < min old.room (capacity - length (entries old.items)) = subst (λ seen. 0 < seen.room) (sym is) room in
-      let more = ap (λ items. length (entries items)) added.items ∙ one_more old.items key Ready ready running capacity kept absent in (
-        subst (λ seen. AddsInstance seen (seen_of new capacity) key Ready) is (record {
+      let more = ap (λ items. length (entries items)) added.items ∙ one_more old.items key state ready running capacity kept absent in (
+        subst (λ seen. AddsInstance seen (seen_of new capacity) key state) is (record {
           states = added.items;
           room = omega (arith, more, added.lower (omega (arith, some)), some);
         }),
-        subst (λ items. IsKept items (ready ++ key ∷ []) running capacity) (sym added.items) (comes old.items key ready running capacity kept absent (omega (arith, some))),
+        absent,
+        omega (arith, some),
       )
+
+  pub adds_ready : (ready : Keys) (running : ℕ) → IsKept old.items ready running capacity → Adds old new key Ready → get now.states key ≡ None → 0 < now.room → IsKept new.items (ready ++ key ∷ []) running capacity
+  adds_ready ready running kept added gone room =
+      let found = adds Ready ready running kept added gone room in
+      subst (λ items. IsKept items (ready ++ key ∷ []) running capacity) (sym added.items) (comes old.items key ready running capacity kept found.1 found.2)
+
+  pub adds_done : (ready : Keys) (running : ℕ) → IsKept old.items ready running capacity → Adds old new key Done → get now.states key ≡ None → 0 < now.room → IsKept new.items ready running capacity
+  adds_done ready running kept added gone room =
+      let found = adds Done ready running kept added gone room in
+      subst (λ items. IsKept items ready running capacity) (sym added.items) (comes_done old.items key ready running capacity kept found.1 found.2)
 
 pub when_ok : {T E P : Type 0} (r : Result T E) → OnOk r P → true ≡ is_ok r → P
 when_ok (Ok done) holds ok = holds

@@ -1,5 +1,5 @@
 -- How many entries of a map pass a test, before and after a write.
-use Rattle.std.proofs.Common.{◌≡◌, ◌∙◌, ap, sym, refl, subst, ℕ, suc, ◌+◌, ◌≤◌, ℤ, T, Bool, true, false, cond, ◌&&◌, List, [], ◌∷◌, length, sum_by, Some, None, arith}
+use Rattle.std.proofs.Common.{◌≡◌, ◌∙◌, ap, sym, refl, subst, ℕ, suc, ◌+◌, ◌≤◌, ℤ, T, Bool, true, false, cond, List, [], ◌∷◌, length, sum_by, Some, None, arith}
 use Rattle.std.specs.Option.{unwrap_or}
 use Rattle.std.specs.declared.cmp.Ordering.{Ordering}
 use Rattle.std.specs.declared.cmp.Ordering.TheVariants.{Less, Equal, Greater}
@@ -11,22 +11,10 @@ use Rattle.terms.specs.Key.{key_cmp}
 use Rattle.maps.specs.PlaceOrder.{keys_total}
 use Rattle.instances.specs.declared.state.State.{State}
 use Rattle.instances.specs.OfStep.{how_many, one_if}
+use Rattle.instances.proofs.Below.{first, second, less}
 
-abbrev Entry : Type 0
+abbrev pub Entry : Type 0
 Entry = List ℤ × State
-
-second : (a b : Bool) → T (a && b) → T b
-second true b both = both
-second false b both = absurd both
-
-first : (a b : Bool) → T (a && b) → T a
-first true b both = tt
-first false b both = both
-
-less : (r : Ordering) → T (is_lt r) → r ≡ Less
-less Less is = refl
-less Equal is = absurd is
-less Greater is = absurd is
 
 -- a key below all others is not found
 absent : (k : List ℤ) (x : List ℤ) (es : List Entry) → key_cmp k x ≡ Less → T (below_all key_cmp x es) → find key_cmp k es ≡ None
@@ -35,10 +23,10 @@ absent k x (e ∷ es) lower below =
     ap (λ r. cond (is_eq r) (Some e.1) (find key_cmp k es)) (keys_total.trans k x e.0 lower (less _ (first _ _ below)))
     ∙ absent k x es lower (second (is_lt (key_cmp x e.0)) _ below)
 
-abbrev weight : (State → Bool) → Entry → ℕ
+abbrev pub weight : (State → Bool) → Entry → ℕ
 weight test e = cond (test e.1) 1 0
 
-abbrev number : Bool → ℕ
+abbrev pub number : Bool → ℕ
 number b = cond b 1 0
 
 -- the first of a list is counted by itself

@@ -122,6 +122,7 @@ makes_room collection tags new_tags olds news room grown = record {
   tags = room.items;
   states = λ instance. state_kept collection.0 olds news instance.collection.0 instance.key grown;
   prescribers = λ number. prescriber_kept collection.0 olds news number grown;
+  tag_collections = room.other_room.collections;
   not_less = least_not_less collection.0 (room_at tags collection.0) (room_at new_tags collection.0) olds news room.not_less grown;
   other_room = λ other differs. ap (λ r. least other.0 r news) (room.other_room.others other.0 differs) ∙ least_of_others collection.0 other.0 (room_at tags other.0) olds news differs grown;
 }

@@ -1,3 +1,4 @@
+mod Below
 mod Counted
 mod Kept
 mod Changes
@@ -5,3 +6,8 @@ mod Moved
 mod Stepwise
 mod Prescribing
 mod Growing
+mod Among
+mod Together
+mod Quiet
+mod Order
+mod Picked

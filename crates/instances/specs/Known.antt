@@ -1,17 +1,18 @@
 -- The tags that are there, and the instances that they prescribe.
-use Rattle.std.specs.Prelude.{◌≡◌, ◌≢◌, ℕ, ℤ, ◌+◌, ◌-◌, ◌==◌, ◌<◌, ◌≤◌, min, Bool, false, cond, ◌&&◌, List, [], ◌∷◌, map, replicate, slice_get, Option, Some, None, is_some, ⊤}
-use Rattle.std.specs.List.{sum_by}
+use Rattle.std.specs.Prelude.{◌≡◌, ◌≢◌, ℕ, suc, ℤ, ◌+◌, ◌-◌, ◌==◌, ◌<◌, ◌≤◌, min, Bool, false, cond, ◌&&◌, List, [], ◌∷◌, map, replicate, length, slice_get, Option, Some, None, is_some, ⊤}
+use Rattle.std.specs.List.{list_any, sum_by}
 use Rattle.std.specs.Ordering.{eq_by_cmp}
 use Rattle.std.specs.FinMap.{empty, get, insert}
 use Rattle.terms.specs.Key.{key_cmp}
+use Rattle.terms.specs.Name.{inst_cmp}
 use Rattle.terms.specs.declared.name.Inst.{Inst}
 use Rattle.terms.specs.declared.name.Tag.{Tag}
 use Rattle.terms.specs.declared.name.TagCollection.{TagCollection}
 use Rattle.maps.specs.Numbered.{Numbered, Place, AddsAt, room_at}
 use Rattle.instances.specs.declared.state.State.{State}
-use Rattle.instances.specs.declared.state.State.TheVariants.{Ready}
+use Rattle.instances.specs.declared.state.State.TheVariants.{Ready, Done}
 use Rattle.instances.specs.declared.step.Step.{Step}
-use Rattle.instances.specs.OfStep.{how_many}
+use Rattle.instances.specs.OfStep.{how_many, is_ready, is_running}
 
 -- each tag that is there, with whether the environment put it; and for each step, by its number, the tag collection that
 -- prescribes it, with its instances
@@ -57,6 +58,10 @@ is_prescribed_by known name instance = prescribed_in (prescriber_at known instan
 abbrev pub total : (State → Bool) → Known → ℕ
 total test known = sum_by (λ step. how_many test step.instances.states) known.steps
 
+-- no instance is ready, and none runs
+abbrev pub NoneIsActive : Known → Type 0
+NoneIsActive known = (instance : Inst) (state : State) → state_at known instance ≡ Some state → (is_ready state ≡ false) × (is_running state ≡ false)
+
 -- the least of a number and the room of each step that a tag collection prescribes
 abbrev pub least : ℕ → ℕ → List Step → ℕ
 least collection room [] = room
@@ -78,14 +83,18 @@ pub record MovesOne (old new : Known) (instance : Inst) (to : State) : Type 0 wh
   pub prescribers : (number : ℕ) → prescriber_at new number ≡ prescriber_at old number
   pub room : (collection : TagCollection) → room_for new collection ≡ room_for old collection
 
--- a tag comes, and with it, ready, the instances that it prescribes; nothing else changes, but for room of its collection, which is
--- one less
-pub record Prescribes (old new : Known) (name : Tag) (mark : Bool) : Type 0 where
+-- a tag comes, and with it the instances that it prescribes, each in its first state; nothing else changes, but for room of its
+-- collection, which is one less
+pub record Prescribes (old new : Known) (name : Tag) (mark : Bool) (first : Inst → State) : Type 0 where
   pub tags : AddsAt old.tags new.tags (tag_place name) mark
-  pub states : (instance : Inst) → state_at new instance ≡ cond (is_prescribed_by old name instance) (Some Ready) (state_at old instance)
+  pub states : (instance : Inst) → state_at new instance ≡ cond (is_prescribed_by old name instance) (Some (first instance)) (state_at old instance)
   pub prescribers : (number : ℕ) → prescriber_at new number ≡ prescriber_at old number
   pub room : room_for new name.collection + 1 ≡ room_for old name.collection
   pub other_room : (collection : TagCollection) → collection.0 ≢ name.collection.0 → room_for new collection ≡ room_for old collection
+
+-- an instance begins as done, if it is among those that ended, else as ready
+abbrev pub first_state : List Inst → Inst → State
+first_state ended instance = cond (list_any (eq_by_cmp inst_cmp instance) ended) Done Ready
 
 -- a step without instances
 abbrev pub fresh_step : TagCollection → Step
@@ -100,6 +109,7 @@ pub record OnlyMakesRoom (old new : Known) (collection : TagCollection) : Type 0
   pub tags : new.tags.items ≡ old.tags.items
   pub states : (instance : Inst) → state_at new instance ≡ state_at old instance
   pub prescribers : (number : ℕ) → prescriber_at new number ≡ prescriber_at old number
+  pub tag_collections : length new.tags.room ≡ length old.tags.room
   pub not_less : room_for old collection ≤ room_for new collection
   pub other_room : (other : TagCollection) → other.0 ≢ collection.0 → room_for new other ≡ room_for old other
 
@@ -127,12 +137,21 @@ AllHaveRoom collection count (step ∷ steps) = (step.prescriber.0 ≡ collectio
 abbrev pub CanTake : Tag → Step → Type 0
 CanTake name step = step.prescriber.0 ≡ name.collection.0 → (get step.instances.states name.key ≡ None) × (0 < step.instances.room)
 
--- the step with the instance that the tag prescribes
-abbrev pub with_instance : Tag → Step → Step
-with_instance name step =
+-- the instance of the step with this number, by its key
+abbrev pub instance_at : ℕ → List ℤ → Inst
+instance_at number key = record { collection = record { 0 = number }; key = key }
+
+-- the step that has this number, with the instance that the tag prescribes in its first state
+abbrev pub with_instance : Tag → (Inst → State) → ℕ → Step → Step
+with_instance name first number step =
     cond (step.prescriber.0 == name.collection.0)
-    (record { prescriber = step.prescriber; instances = record { states = insert step.instances.states name.key Ready; room = step.instances.room - 1 } })
+    (record { prescriber = step.prescriber; instances = record { states = insert step.instances.states name.key (first (instance_at number name.key)); room = step.instances.room - 1 } })
     step
+
+-- a list with each element changed by its number, the first of which is this one
+abbrev pub changed_from : {X : Type 0} → (ℕ → X → X) → ℕ → List X → List X
+changed_from change number [] = []
+changed_from change number (x ∷ xs) = change number x ∷ changed_from change (suc number) xs
 
 -- each step can take it
 abbrev pub AllCanTake : Tag → List Step → Type 0

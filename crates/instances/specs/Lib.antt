@@ -1,4 +1,7 @@
+pub mod AllInstances
 pub mod Codes
 pub mod Known
 pub mod KnownCodes
+pub mod Listed
 pub mod OfStep
+pub mod There

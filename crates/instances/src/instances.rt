@@ -1,8 +1,10 @@
-ghost use Rattle.std.specs.Prelude.{◌≡◌, ◌<◌, ℕ, IfOk, OnErr, OnOk, map};
-ghost use Rattle.instances.specs.Known.{AllCanTake, AllGrown, AllHaveRoom, fresh_step, least, with_instance};
+ghost use Rattle.std.specs.Prelude.{◌≡◌, ◌<◌, ◌≤◌, ◌^◌, ℕ, IfOk, OnErr, OnOk, length, map};
+ghost use Rattle.std.specs.List.Sorted.{IsSorted};
+ghost use Rattle.terms.specs.Name.{inst_cmp};
+ghost use Rattle.instances.specs.Known.{AllCanTake, AllGrown, AllHaveRoom, changed_from, first_state, fresh_step, least, with_instance};
 
 use crate::step::Step;
-use crate::{State, StepInstances, TagWalk, Task};
+use crate::{InstanceWalk, State, StepInstances, TagWalk, Task, listing};
 use maps::CollectionMap;
 use std::alloc::{AllocError, Global};
 use std::marker::Model;
@@ -11,7 +13,7 @@ use terms::{Addr, Inst, StepCollection, Tag, TagCollection};
 /// The tags that are there, each with whether the environment put it, and the instances that they prescribe.
 #[derive(Drop)]
 pub struct Instances {
-    tags: CollectionMap<bool>,
+    pub(crate) tags: CollectionMap<bool>,
     steps: Vec<Step>,
 }
 
@@ -30,11 +32,16 @@ impl Model for Instances {
 }
 
 impl Instances {
-    ghost use Rattle.std.specs.Prelude.{◌≡◌, ◌-◌, ◌^◌, ◌==◌, ◌&&◌, ◌<◌, ◌≤◌, IfOk, IfSome, IsSome, None, OnErr, OnOk, Some, length, map, min};
-    ghost use Rattle.std.specs.FinMap.{entries};
+    ghost use Rattle.std.specs.Prelude.{◌≡◌, ◌-◌, ◌^◌, ◌==◌, ◌&&◌, ◌<◌, ◌≤◌, ◌↔◌, IfOk, IfSome, IsSome, IsTrue, None, OnErr, OnOk, Some, T, length, map, min};
+    ghost use Rattle.std.specs.FinMap.{entries, find, is_sorted};
     ghost use Rattle.instances.specs.declared.state.State.TheVariants.{Ready, Running, Waiting, Done};
     ghost use Rattle.instances.specs.OfStep.{is_ready, is_running, IsWaiting};
-    ghost use Rattle.instances.specs.Known.{fresh, mark_of, tag_at, room_for, state_at, total, MovesOne, OnlyMakesRoom, Prescribes};
+    ghost use Rattle.std.specs.List.Sorted.{IsSorted};
+    ghost use Rattle.terms.specs.Name.{inst_cmp};
+    ghost use Rattle.terms.specs.declared.name.Inst.{Inst as Instance};
+    ghost use Rattle.instances.specs.AllInstances.{all_instances};
+    ghost use Rattle.instances.specs.Listed.{AreTheWaiting, AreTheDone};
+    ghost use Rattle.instances.specs.Known.{first_state, fresh, mark_of, tag_at, room_for, state_at, total, MovesOne, NoneIsActive, OnlyMakesRoom, Prescribes};
 
     /// No tags, of so many collections, and no instances of the steps that these collections prescribe, a step each.
     pub fn new(
@@ -58,6 +65,40 @@ impl Instances {
         TagWalk {
             entries: self.tags.walk(),
         }
+    }
+
+    /// All instances, each with its state, by step and then by key.
+    pub fn walk(&self) -> InstanceWalk<'_>
+        ensures walk { result ≡ all_instances self.now }
+        ensures rises { T (is_sorted inst_cmp (all_instances self.now)) }
+        ensures states { (instance : Instance) → find inst_cmp instance (all_instances self.now) ≡ state_at self.now instance }
+    {
+        match self.steps.split_first() {
+            Some((step, others)) => InstanceWalk {
+                number: 0,
+                entries: step.instances.entries(),
+                steps: others,
+            },
+            None => InstanceWalk {
+                number: 0,
+                entries: &[],
+                steps: &[],
+            },
+        }
+    }
+
+    /// The instances that wait, each with its address, by step and then by key.
+    pub fn blocked(&self, alloc: Global) -> Result<Vec<(Inst, Addr)>, AllocError>
+        ensures { IfOk result (λ list. AreTheWaiting self.now list.items) }
+    {
+        listing::waiting(self.walk(), alloc)
+    }
+
+    /// The instances that are done, by step and then by key.
+    pub fn done(&self, alloc: Global) -> Result<Vec<Inst>, AllocError>
+        ensures { IfOk result (λ list. AreTheDone self.now list.items) }
+    {
+        listing::done(self.walk(), alloc)
     }
 
     /// How many more tags of the collection there is room for, with all that they prescribe.
@@ -106,7 +147,8 @@ impl Instances {
 
     /// Whether none is ready and none runs.
     pub fn is_quiet(&self) -> bool
-        ensures { result ≡ ((total is_ready self.now == 0) && (total is_running self.now == 0)) }
+        ensures counts { result ≡ ((total is_ready self.now == 0) && (total is_running self.now == 0)) }
+        ensures none { IsTrue result ↔ NoneIsActive self.now }
     {
         self.ready() == 0 && self.running() == 0
     }
@@ -132,14 +174,25 @@ impl Instances {
     pub fn prescribe(&mut self, tag: Tag, by_environment: bool)
         requires absent { mark_of self.old tag ≡ None }
         requires room { 0 < room_for self.old tag.collection }
-        ensures { Prescribes self.old self.new tag by_environment }
+        ensures { Prescribes self.old self.new tag by_environment (λ _. Ready) }
+    {
+        self.restore(tag, by_environment, &[]);
+    }
+
+    /// Puts a tag that is not there, and with it the instances that it prescribes: done, if they are among `ended`, else ready.
+    /// There is room for them. So the tags and the instances of a store are put that was closed before.
+    pub fn restore(&mut self, tag: Tag, by_environment: bool, ended: &[Inst])
+        requires absent { mark_of self.old tag ≡ None }
+        requires room { 0 < room_for self.old tag.collection }
+        requires rising { IsSorted inst_cmp ended.now }
+        ensures { Prescribes self.old self.new tag by_environment (first_state ended.now) }
     {
         if self
             .tags
             .insert(tag.collection.0, tag.key, by_environment)
             .is_ok()
         {
-            prescribe_all(&mut self.steps, tag);
+            prescribe_all(&mut self.steps, tag, ended);
         }
     }
 
@@ -208,14 +261,16 @@ impl Instances {
     }
 }
 
-// Adds to each step the instance that a tag prescribes.
-fn prescribe_all(steps: &mut Vec<Step>, tag: Tag)
-    requires { AllCanTake tag steps.old.items }
-    ensures { steps.new.items ≡ map (with_instance tag) steps.old.items }
+// Adds to each step the instance that a tag prescribes, done if it is among those that ended.
+fn prescribe_all(steps: &mut Vec<Step>, tag: Tag, ended: &[Inst])
+    requires few { length steps.old.items ≤ 2 ^ 16 }
+    requires take { AllCanTake tag steps.old.items }
+    requires rising { IsSorted inst_cmp ended.now }
+    ensures { steps.new.items ≡ changed_from (with_instance tag (first_state ended.now)) 0 steps.old.items }
 {
     for number in 0..steps.len() {
         let name = tag;
-        steps[number].prescribe(name);
+        steps[number].prescribe(name, number as u16, ended);
     }
 }
 

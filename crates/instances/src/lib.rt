@@ -5,16 +5,22 @@
 //! A `Task` is seen as its instance.
 //!
 //! The layer above stands on `prescribe`, which brings exactly the instances of a new tag, on `claim`, and on `finish`, `park`,
-//! `release` and `wake`, each of which moves one instance and changes nothing else.
+//! `release` and `wake`, each of which moves one instance and changes nothing else. `restore` brings those of a store that was
+//! closed before, and `walk` gives all with their states.
 #![tactic(auto)]
 
+mod ended;
+mod instance_walk;
 mod instances;
+mod listing;
+mod prescribed;
 mod state;
 mod step;
 mod step_instances;
 mod tag_walk;
 mod task;
 
+pub use instance_walk::InstanceWalk;
 pub use instances::Instances;
 pub use state::State;
 pub use step_instances::StepInstances;

@@ -1,6 +1,7 @@
 use crate::StepInstances;
+use crate::ended::is_among;
 use std::alloc::AllocError;
-use terms::{Tag, TagCollection};
+use terms::{Inst, StepCollection, Tag, TagCollection};
 
 /// The instances of a step, and the tag collection that prescribes them.
 #[derive(Drop)]
@@ -11,15 +12,22 @@ pub(crate) struct Step {
 
 impl Step {
     ghost use Rattle.std.specs.Prelude.{◌≡◌, ◌==◌, ◌<◌, ◌≤◌, OnErr, OnOk, cond, min};
-    ghost use Rattle.instances.specs.Known.{CanTake, GrownStep, with_instance};
+    ghost use Rattle.std.specs.List.Sorted.{IsSorted};
+    ghost use Rattle.terms.specs.Name.{inst_cmp};
+    ghost use Rattle.instances.specs.Known.{CanTake, GrownStep, first_state, with_instance};
 
-    /// Adds the instance that a tag prescribes, if it prescribes one of this step.
-    pub(crate) fn prescribe(&mut self, tag: Tag)
-        requires { CanTake tag self.old }
-        ensures { self.new ≡ with_instance tag self.old }
+    /// Adds the instance that a tag prescribes, if it prescribes one of this step, which has this number. The instance is done, if
+    /// it is among those that ended.
+    pub(crate) fn prescribe(&mut self, tag: Tag, number: u16, ended: &[Inst])
+        requires takes { CanTake tag self.old }
+        requires rising { IsSorted inst_cmp ended.now }
+        ensures { self.new ≡ with_instance tag (first_state ended.now) number self.old }
     {
         if self.prescriber == tag.collection {
-            self.instances.add(tag.key);
+            let collection = StepCollection(number);
+            let key = tag.key;
+            let is_done = is_among(ended, Inst { collection, key });
+            self.instances.add(tag.key, is_done);
         }
     }
 

@@ -31,7 +31,7 @@ impl Model for StepInstances {
 }
 
 impl StepInstances {
-    ghost use Rattle.std.specs.Prelude.{◌≡◌, ◌+◌, ◌<◌, ◌≤◌, IfSome, IsSome, OnOk, OnErr, Some, None};
+    ghost use Rattle.std.specs.Prelude.{◌≡◌, ◌+◌, ◌<◌, ◌≤◌, IfSome, IsSome, OnOk, OnErr, Some, None, cond};
     ghost use Rattle.std.specs.FinMap.{empty, entries, get};
     ghost use Rattle.instances.specs.declared.state.State.TheVariants.{Ready, Running, Waiting, Done};
     ghost use Rattle.instances.specs.OfStep.{is_ready, is_running, how_many, IsWaiting, Moves, AddsInstance};
@@ -101,8 +101,21 @@ impl StepInstances {
             .reserve(others.checked_add(count).ok_or(AllocError)?)
     }
 
-    /// Adds an instance that can be claimed.
-    pub fn add(&mut self, key: Key)
+    /// Adds an instance that can be claimed, or one that is done.
+    pub fn add(&mut self, key: Key, is_done: bool)
+        requires absent { get self.old.states key ≡ None }
+        requires room { 0 < self.old.room }
+        ensures { AddsInstance self.old self.new key (cond is_done Done Ready) }
+    {
+        if is_done {
+            self.add_done(key);
+        } else {
+            self.add_ready(key);
+        }
+    }
+
+    // Adds an instance that can be claimed.
+    fn add_ready(&mut self, key: Key)
         requires absent { get self.old.states key ≡ None }
         requires room { 0 < self.old.room }
         ensures { AddsInstance self.old self.new key Ready }
@@ -110,6 +123,15 @@ impl StepInstances {
         if self.states.insert(key, State::Ready).is_ok() {
             self.ready.push_reserved(key);
         }
+    }
+
+    // Adds an instance that is done. The room for it among the ready ones is kept, as for all others.
+    fn add_done(&mut self, key: Key)
+        requires absent { get self.old.states key ≡ None }
+        requires room { 0 < self.old.room }
+        ensures { AddsInstance self.old self.new key Done }
+    {
+        let _added = self.states.insert(key, State::Done);
     }
 
     /// Lets one of the ready ones run, by its number among them, and tells its key.

@@ -1,0 +1,12 @@
+use Rattle.std.proofs.Common.{◌≡◌, ◌+◌, ◌<◌, ◌^◌, length}
+use Rattle.instances.specs.AllInstances.{left_of}
+use Rattle.instances.proofs.instance_walk.InstanceWalkIterator.next.Given as goal
+
+-- as much is left as before
+abbrev pub invariant-loop-first : goal.invariant-loop-first
+invariant-loop-first l =
+    (left_of l.self-inside.number l.self-inside.entries.now l.self-inside.steps.now ≡ left_of l.initial.self-inside.number l.initial.self-inside.entries.now l.initial.self-inside.steps.now)
+    × (l.self-inside.number + length l.self-inside.steps.now < 2 ^ 16)
+
+abbrev pub decreases-loop-first : goal.decreases-loop-first
+decreases-loop-first l = length l.self-inside.steps.now

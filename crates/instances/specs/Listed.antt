@@ -1,0 +1,38 @@
+-- The lists that are made of all instances: of those that wait, and of those that are done.
+use Rattle.std.specs.Prelude.{◌≡◌, ◌↔◌, T, true, List, Option, Some, None}
+use Rattle.std.specs.List.{list_any}
+use Rattle.std.specs.List.Sorted.{IsStrictlySortedBy}
+use Rattle.std.specs.Ordering.{eq_by_cmp}
+use Rattle.std.specs.FinMap.{find, is_sorted}
+use Rattle.terms.specs.Name.{inst_cmp}
+use Rattle.terms.specs.declared.name.Addr.{Addr}
+use Rattle.terms.specs.declared.name.Inst.{Inst}
+use Rattle.instances.specs.declared.state.State.{State}
+use Rattle.instances.specs.declared.state.State.TheVariants.{Ready, Running, Waiting, Done}
+use Rattle.instances.specs.Known.{Known, state_at}
+
+-- the instances that wait, each with its address, in order
+pub record AreTheWaiting (known : Known) (list : List (Inst × Addr)) : Type 0 where
+  pub rises : T (is_sorted inst_cmp list)
+  pub each : (instance : Inst) (address : Addr) → (find inst_cmp instance list ≡ Some address) ↔ (state_at known instance ≡ Some (Waiting address))
+
+-- the instances that are done, in order
+pub record AreTheDone (known : Known) (list : List Inst) : Type 0 where
+  pub rises : IsStrictlySortedBy inst_cmp list
+  pub each : (instance : Inst) → (list_any (eq_by_cmp inst_cmp instance) list ≡ true) ↔ (state_at known instance ≡ Some Done)
+
+-- ---- what a walk's entry gives to such a list
+
+-- an instance that waits, with its address
+abbrev pub if_waiting : Inst → State → Option (Inst × Addr)
+if_waiting instance Ready = None
+if_waiting instance Running = None
+if_waiting instance (Waiting address) = Some (instance, address)
+if_waiting instance Done = None
+
+-- an instance that is done
+abbrev pub if_done : Inst → State → Option Inst
+if_done instance Ready = None
+if_done instance Running = None
+if_done instance (Waiting address) = None
+if_done instance Done = Some instance
