@@ -1,18 +1,18 @@
--- What holds of the facts of a list, and of two lists one behind the other.
-use Rattle.std.proofs.Common.{◌≡◌, ◌⊎◌, Bool, true, false, ◌||◌, List, [], ◌∷◌, ◌++◌, inl, inr, refl, sym, subst, ◌∙◌}
+-- What holds of the facts of a list, and of what is in one of two sets.
+use Rattle.std.proofs.Common.{◌≡◌, ◌⊎◌, Bool, true, false, ◌||◌, List, [], ◌∷◌, inl, inr, refl, sym, subst}
 use Rattle.std.specs.List.{AllByRecursion}
 use Rattle.std.proofs.lemmas.Bool.{false≢true}
 use Rattle.terms.specs.Facts.{Fact}
-use Rattle.terms.specs.Sets.{Facts, is_fact, among, OneFact, AmongBoth}
+use Rattle.terms.specs.Sets.{Facts, is_fact, among, OneFact}
 
-either : (a b : Bool) → (a || b) ≡ true → (a ≡ true) ⊎ (b ≡ true)
+pub either : (a b : Bool) → (a || b) ≡ true → (a ≡ true) ⊎ (b ≡ true)
 either true b holds = inl refl
 either false b holds = inr holds
 
-or_left : (a b : Bool) → a ≡ true → (a || b) ≡ true
+pub or_left : (a b : Bool) → a ≡ true → (a || b) ≡ true
 or_left a b holds = cc
 
-or_right : (a b : Bool) → b ≡ true → (a || b) ≡ true
+pub or_right : (a b : Bool) → b ≡ true → (a || b) ≡ true
 or_right true b holds = refl
 or_right false b holds = holds
 
@@ -29,20 +29,3 @@ module _ (told : OneFact) where
   each_among P [] all fact there = absurd (false≢true there)
   each_among P (first ∷ rest) all fact there =
       elim (either (is_fact first fact) (among rest fact) there) [ inl same ↦ subst P ((told first fact).1 same) all.0 | inr later ↦ each_among P rest all.1 fact later ]
-
-module _ (both : AmongBoth) (one two : List Fact) where
-  pub in_one : Within (among one) (among (one ++ two))
-  in_one fact holds = both one two fact ∙ or_left (among one fact) (among two fact) holds
-
-  pub in_two : Within (among two) (among (one ++ two))
-  in_two fact holds = both one two fact ∙ or_right (among one fact) (among two fact) holds
-
-  -- what follows from each of the two
-  pub by_both : {A : Type 0} (fact : Fact) → (among one fact ≡ true → A) → (among two fact ≡ true → A) → among (one ++ two) fact ≡ true → A
-  by_both {A} fact first second there = elim (either (among one fact) (among two fact) (sym (both one two fact) ∙ there)) [ inl it ↦ first it | inr it ↦ second it ]
-
-  pub in_neither : (fact : Fact) → among one fact ≡ false → among two fact ≡ false → among (one ++ two) fact ≡ false
-  in_neither fact first second = both one two fact ∙ neither (among one fact) (among two fact) first second
-    where
-      neither : (a b : Bool) → a ≡ false → b ≡ false → (a || b) ≡ false
-      neither a b no_ none = cc

@@ -1,5 +1,5 @@
 -- What events that fit leave fits.
-use Rattle.std.proofs.Common.{◌≡◌, ℕ, suc, true, false, List, [], ◌∷◌, ◌++◌, refl, sym, subst, ◌∙◌}
+use Rattle.std.proofs.Common.{◌≡◌, ℕ, suc, Bool, true, false, ◌||◌, inl, inr, List, [], ◌∷◌, ◌++◌, refl, sym, subst, ◌∙◌}
 use Rattle.std.specs.List.{AllByRecursion}
 use Rattle.std.proofs.lemmas.Bool.{false≢true}
 use Rattle.std.proofs.lemmas.List.{append_assoc, append-nil}
@@ -11,10 +11,10 @@ use Rattle.terms.specs.declared.put.Put.TheVariants as put
 use Rattle.terms.specs.declared.event.Event.{Event}
 use Rattle.terms.specs.declared.event.Event.TheVariants.{EnvItem, EnvTag, Done, Stopped}
 use Rattle.terms.specs.Facts.{Fact, tag, item, done, bad, facts, environment, event_facts, environment_facts, put_facts}
-use Rattle.terms.specs.Sets.{Facts, among, OneFact, AmongBoth}
+use Rattle.terms.specs.Sets.{Facts, with_facts, among, OneFact, AmongBoth}
 use Rattle.graph.specs.Graph.{Graph, EnvironmentMayPutItem, EnvironmentMayPutTag}
 use Rattle.graph.specs.Fits.{IsPrescribed, AddressIsOf, TagIsOf, InstanceIsOf, PutIsOf, MayEnd, Fits, AllFit, FactIsOf, IsOfEnvironment, FitsState}
-use Rattle.graph.proofs.Among.{Within, the_first, each_among, in_one, in_two, by_both, in_neither}
+use Rattle.graph.proofs.Among.{Within, either, or_left, or_right, the_first, each_among}
 
 -- what the graph and the facts before it say of a fact that an event states
 abbrev IsStated : Graph → Facts → Event → Fact → Type 0
@@ -91,57 +91,60 @@ one_stop event i j k l one two = (instances, kinds)
 stop_ends_none : (event : Event) (instance : Inst) (kind : FaultKind) → event ≡ Stopped instance kind → among (event_facts event) (done instance) ≡ false
 stop_ends_none event instance kind same = subst (λ (it : Event). among (event_facts it) (done instance) ≡ false) (sym same) refl
 
+-- what follows from each of a set and of what comes to it
+by_each : {A : Type 0} (X : Facts) (more : List Fact) (fact : Fact) → (X fact ≡ true → A) → (among more fact ≡ true → A) → with_facts X more fact ≡ true → A
+by_each {A} X more fact first second there = elim (either (X fact) (among more fact) there) [ inl it ↦ first it | inr it ↦ second it ]
+
+module _ (told : OneFact) (g : Graph) (E X : Facts) (event : Event) (state : FitsState g E X) (fits : Fits g X event) where
+  abbrev Y : Facts
+  Y = with_facts X (event_facts event)
+
+  old : Within X Y
+  old fact there = or_left (X fact) (among (event_facts event) fact) there
+
+  new : Within (among (event_facts event)) Y
+  new fact there = or_right (X fact) (among (event_facts event) fact) there
+
+  not_before : {A : Type 0} (instance : Inst) (kind : FaultKind) → X (bad instance kind) ≡ true → A
+  not_before instance kind there = absurd (false≢true (sym (fits.working instance kind) ∙ there))
+
+  by_event : {A : Type 0} (fact : Fact) → (X fact ≡ true → A) → (IsStated g X event fact → A) → Y fact ≡ true → A
+  by_event fact first second = by_each X (event_facts event) fact first (λ it. second (stated told g X event fits fact it))
+
+  by_given : {A : Type 0} (fact : Fact) → (E fact ≡ true → A) → (IsGiven g event fact → A) → with_facts E (environment_facts event) fact ≡ true → A
+  by_given fact first second = by_each E (environment_facts event) fact first (λ it. second (given_by told g X event fits fact it))
+
+  pub state_keeps : FitsState g (with_facts E (environment_facts event)) Y
+  state_keeps = record {
+    part = λ fact. by_given fact (λ it. old fact (state.part fact it)) (λ it. new fact (given_is_stated g event fact it));
+    of_environment = λ fact. by_given fact (state.of_environment fact) (given_is_of_environment g event fact);
+    items = λ address value. by_event (item address value Env)
+        (λ it. or_left (E (item address value Env)) (among (environment_facts event) (item address value Env)) (state.items address value it))
+        (λ it. or_right (E (item address value Env)) (among (environment_facts event) (item address value Env)) it.1);
+    of_graph = λ fact. by_event fact (state.of_graph fact) (stated_is_of g X event fact);
+    environment_items = λ address value. by_event (item address value Env) (state.environment_items address value) (λ it. it.0);
+    environment_tags = λ name. by_given (tag name) (state.environment_tags name) (λ it. it.0);
+    done_are_prescribed = λ instance there. prescribed_within g X Y old instance (by_event (done instance) (state.done_are_prescribed instance) (λ it. it.1) there);
+    producers_are_done = λ address value instance number. by_event (item address value (By instance number))
+        (λ it. old (done instance) (state.producers_are_done address value instance number it))
+        (λ it. new (done instance) it.1);
+    fault = λ instance kind. by_event (bad instance kind) (not_before instance kind)
+        (λ it. (prescribed_within g X Y old instance it.0.prescribed, neither (X (done instance)) (among (event_facts event) (done instance)) it.0.not_done (stop_ends_none event instance kind it.1)));
+    one_fault = λ i j k l one two. by_event (bad i k) (not_before i k)
+        (λ it. by_event (bad j l) (not_before j l) (λ other. one_stop event i j k l it.1 other.1) two) one;
+  }
+    where
+      neither : (a b : Bool) → a ≡ false → b ≡ false → (a || b) ≡ false
+      neither a b no_ none = cc
+
 module _ (told : OneFact) (both : AmongBoth) (g : Graph) where
-  module _ (given before : List Fact) (event : Event) (state : FitsState g (among given) (among before)) (fits : Fits g (among before) event) where
-    abbrev X : Facts
-    X = among before
-
-    abbrev Y : Facts
-    Y = among (before ++ event_facts event)
-
-    old : Within X Y
-    old = in_one both before (event_facts event)
-
-    new : Within (among (event_facts event)) Y
-    new = in_two both before (event_facts event)
-
-    not_before : {A : Type 0} (instance : Inst) (kind : FaultKind) → X (bad instance kind) ≡ true → A
-    not_before instance kind there = absurd (false≢true (sym (fits.working instance kind) ∙ there))
-
-    its : (fact : Fact) → among (event_facts event) fact ≡ true → IsStated g X event fact
-    its = stated told g X event fits
-
-    its_given : (fact : Fact) → among (environment_facts event) fact ≡ true → IsGiven g event fact
-    its_given = given_by told g X event fits
-
-    by_event : {A : Type 0} (fact : Fact) → (X fact ≡ true → A) → (IsStated g X event fact → A) → Y fact ≡ true → A
-    by_event fact first second = by_both both before (event_facts event) fact first (λ it. second (its fact it))
-
-    by_given : {A : Type 0} (fact : Fact) → (among given fact ≡ true → A) → (IsGiven g event fact → A) → among (given ++ environment_facts event) fact ≡ true → A
-    by_given fact first second = by_both both given (environment_facts event) fact first (λ it. second (its_given fact it))
-
-    pub fit_keeps : FitsState g (among (given ++ environment_facts event)) Y
-    fit_keeps = record {
-      part = λ fact. by_given fact (λ it. old fact (state.part fact it)) (λ it. new fact (given_is_stated g event fact it));
-      of_environment = λ fact. by_given fact (state.of_environment fact) (given_is_of_environment g event fact);
-      items = λ address value. by_event (item address value Env)
-          (λ it. in_one both given (environment_facts event) (item address value Env) (state.items address value it))
-          (λ it. in_two both given (environment_facts event) (item address value Env) it.1);
-      of_graph = λ fact. by_event fact (state.of_graph fact) (stated_is_of g X event fact);
-      environment_items = λ address value. by_event (item address value Env) (state.environment_items address value) (λ it. it.0);
-      environment_tags = λ name. by_given (tag name) (state.environment_tags name) (λ it. it.0);
-      done_are_prescribed = λ instance there. prescribed_within g X Y old instance (by_event (done instance) (state.done_are_prescribed instance) (λ it. it.1) there);
-      producers_are_done = λ address value instance number. by_event (item address value (By instance number))
-          (λ it. old (done instance) (state.producers_are_done address value instance number it))
-          (λ it. new (done instance) it.1);
-      fault = λ instance kind. by_event (bad instance kind) (not_before instance kind)
-          (λ it. (
-            prescribed_within g X Y old instance it.0.prescribed,
-            in_neither both before (event_facts event) (done instance) it.0.not_done (stop_ends_none event instance kind it.1),
-          ));
-      one_fault = λ i j k l one two. by_event (bad i k) (not_before i k)
-          (λ it. by_event (bad j l) (not_before j l) (λ other. one_stop event i j k l it.1 other.1) two) one;
-    }
+  -- the same of lists
+  pub fit_keeps : (given before : List Fact) (event : Event) → FitsState g (among given) (among before) → Fits g (among before) event
+      → FitsState g (among (given ++ environment_facts event)) (among (before ++ event_facts event))
+  fit_keeps given before event state fits =
+      subst (λ (X : Facts). FitsState g X (among (before ++ event_facts event))) (λ i fact. sym (both given (environment_facts event) fact) i)
+      (subst (λ (X : Facts). FitsState g (with_facts (among given) (environment_facts event)) X) (λ i fact. sym (both before (event_facts event) fact) i)
+      (state_keeps told g (among given) (among before) event state fits))
 
   pub all_fit_keep : (given before : List Fact) (events : List Event) → FitsState g (among given) (among before) → AllFit g before events
       → FitsState g (among (given ++ environment events)) (among (before ++ facts events))

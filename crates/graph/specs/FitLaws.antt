@@ -2,7 +2,7 @@
 use Rattle.std.specs.Prelude.{◌≡◌, ◌↔◌, List, ◌++◌}
 use Rattle.terms.specs.declared.event.Event.{Event}
 use Rattle.terms.specs.Facts.{Fact, facts, environment, event_facts, environment_facts}
-use Rattle.terms.specs.Sets.{Facts, among}
+use Rattle.terms.specs.Sets.{Facts, among, with_facts}
 use Rattle.graph.specs.Graph.{Graph}
 use Rattle.graph.specs.Fits.{Fits, AllFit, FitsState}
 
@@ -11,6 +11,10 @@ abbrev pub SameSet : Facts → Facts → Type 0
 SameSet X Y = (fact : Fact) → X fact ≡ Y fact
 
 -- what an event that fits leaves fits
+abbrev pub StateKeeps : Type 0
+StateKeeps = (g : Graph) (E X : Facts) (event : Event) → FitsState g E X → Fits g X event → FitsState g (with_facts E (environment_facts event)) (with_facts X (event_facts event))
+
+-- the same of lists of facts
 abbrev pub FitKeeps : Type 0
 FitKeeps = (g : Graph) (given before : List Fact) (event : Event) → FitsState g (among given) (among before) → Fits g (among before) event
     → FitsState g (among (given ++ environment_facts event)) (among (before ++ event_facts event))

@@ -1,5 +1,5 @@
 //! The laws between texts and graphs, and of what fits a graph. Each is a contract, with nothing to run.
-ghost use Rattle.graph.specs.FitLaws.{FitKeeps, AllFitKeep, AllFitInParts, StateAsSet, EventAsSet, EventsAsSet};
+ghost use Rattle.graph.specs.FitLaws.{StateKeeps, FitKeeps, AllFitKeep, AllFitInParts, StateAsSet, EventAsSet, EventsAsSet};
 ghost use Rattle.std.specs.Prelude.{◌≡◌};
 ghost use Rattle.graph.specs.Prescribed.{PrescribesListed};
 ghost use Rattle.graph.specs.Textual.{CanonicalReads, OneGraph, OneReading, ReadsTextual, ReadsWithoutFault};
@@ -36,6 +36,7 @@ pub fn one_reading()
 /// What events that fit leave fits, and events fit one after another where those of each part do. How facts are listed plays no
 /// part in it.
 pub fn fitting()
+    ensures state_keeps { StateKeeps }
     ensures keeps { FitKeeps }
     ensures all_keep { AllFitKeep }
     ensures parts { AllFitInParts }

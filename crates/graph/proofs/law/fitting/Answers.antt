@@ -1,6 +1,9 @@
-use Rattle.graph.proofs.FitKept.{fit_keeps, all_fit_keep}
+use Rattle.graph.proofs.FitKept.{state_keeps, fit_keeps, all_fit_keep}
 use Rattle.graph.proofs.FitsInParts.{in_parts, state_as_set, event_as_set, events_as_set}
 use Rattle.graph.proofs.law.fitting.Goals as goal
+
+pub returns-clause-state_keeps : goal.returns-clause-state_keeps
+returns-clause-state_keeps c = state_keeps c.facts_are_told_apart.ensures.one
 
 pub returns-clause-keeps : goal.returns-clause-keeps
 returns-clause-keeps c = fit_keeps c.facts_are_told_apart.ensures.one c.facts_are_told_apart.ensures.among
