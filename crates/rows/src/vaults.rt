@@ -2,8 +2,8 @@
 ghost use Rattle.std.specs.Prelude.{◌≡◌, true, false, IfOk};
 ghost use Rattle.std.proofs.Props.{props};
 ghost use Rattle.codec.specs.Spelling.{HasFewPuts};
+ghost use Rattle.codec.specs.Image.{IsListed};
 ghost use Rattle.disk.specs.MemDisk.{files_of};
-ghost use Rattle.sides.specs.Image.{IsListed};
 ghost use Rattle.vault.specs.Store.{IsCanonical, IsReady};
 
 use crate::bytes::bytes_of;

@@ -7,13 +7,13 @@ use Rattle.terms.specs.Facts.{Fact, facts, environment}
 use Rattle.terms.specs.Sets.{Facts, among}
 use Rattle.codec.specs.declared.image.Image.{Image}
 use Rattle.codec.specs.Spelling.{image_bytes, IsImage}
+use Rattle.codec.specs.Image.{image_facts, image_environment, facts_in, environment_in}
 use Rattle.journal.specs.Records.{StandsFor, IsShort}
 use Rattle.graph.specs.Graph.{Graph}
 use Rattle.graph.specs.Canonical.{canonical}
 use Rattle.graph.specs.Reads.{Reads}
 use Rattle.graph.specs.Fits.{FitsState}
 use Rattle.graph.specs.FitLaws.{SameSet, AllFitKeep, StateAsSet}
-use Rattle.sides.specs.Image.{image_facts, image_environment, facts_in, environment_in}
 use Rattle.sides.specs.Side.{behind_gate, IsSide, end_of}
 
 abbrev relisted : (bytes : List ℕ) (g : Graph) (n : ℕ) (E F X Y : Facts) → SameSet E F → SameSet X Y → IsSide bytes g n E X → IsSide bytes g n F Y

@@ -14,9 +14,9 @@ use Rattle.terms.specs.Facts.{Fact, tag, item, done, bad}
 use Rattle.terms.specs.Sets.{Facts, is_fact, among, OneFact, AmongBoth}
 use Rattle.codec.specs.declared.image.Image.{Image}
 use Rattle.codec.specs.Entries.{Item, MarkedTag}
+use Rattle.codec.specs.Image.{fault_facts, image_facts, facts_in, environment_item, environment_tag, image_environment, environment_in}
 use Rattle.graph.specs.Graph.{Graph, EnvironmentMayPutTag}
 use Rattle.graph.specs.Fits.{AddressIsOf, TagIsOf, FactIsOf, IsOfEnvironment, FitsState}
-use Rattle.sides.specs.Image.{fault_facts, image_facts, facts_in, environment_item, environment_tag, image_environment, environment_in}
 use Rattle.sides.specs.Looks.{ItemFits, TagFits, InstanceFits, FaultFits, InstancesFit, PutsFit}
 use Rattle.sides.proofs.ListedFacts.{item_fact, tag_fact, all_of_both, all_facts, of_each, each_of, or_false, in_fault, in_items, in_tags, in_done, in_parts, items_of, tags_of, done_of, put_in_items, put_in_tags, put_in_parts}
 

@@ -12,12 +12,12 @@ use Rattle.terms.specs.Sets.{Facts, among, with_facts, AmongBoth}
 use Rattle.codec.specs.declared.image.Image.{Image}
 use Rattle.codec.specs.Commits.{commit_bytes, IsCommit}
 use Rattle.codec.specs.Spelling.{image_bytes}
+use Rattle.codec.specs.Image.{image_facts, image_environment}
 use Rattle.journal.specs.Records.{StandsFor, record_of, records}
 use Rattle.graph.specs.Graph.{Graph}
 use Rattle.graph.specs.Canonical.{canonical}
 use Rattle.graph.specs.Fits.{AllFit}
 use Rattle.graph.specs.FitLaws.{SameSet, AllFitInParts}
-use Rattle.sides.specs.Image.{image_facts, image_environment}
 use Rattle.sides.specs.Side.{FORMAT, counted, behind_gate, IsSide, start_of, end_of, facts_of}
 
 -- a side up to its journal

@@ -13,7 +13,7 @@ use Rattle.terms.specs.Name.{inst_cmp}
 use Rattle.terms.specs.Sets.{is_fact, among, OneFact, AmongBoth}
 use Rattle.codec.specs.declared.image.Image.{Image}
 use Rattle.codec.specs.Entries.{Item, MarkedTag}
-use Rattle.sides.specs.Image.{fault_facts, image_facts, image_environment}
+use Rattle.codec.specs.Image.{fault_facts, image_facts, image_environment}
 use Rattle.sides.specs.Growth.{AlsoHas, Grows}
 use Rattle.sides.proofs.Grown.{behind, from_between, asked_back, held_already, unchanged, grows_on}
 use Rattle.sides.proofs.ListedFacts.{item_fact, tag_fact}

@@ -14,8 +14,9 @@ use Rattle.terms.specs.Same.{is_same, same_itself, same_address}
 use Rattle.terms.specs.Sets.{is_fact, among, OneFact, AmongBoth}
 use Rattle.codec.specs.Entries.{MarkedTag}
 use Rattle.codec.specs.Spelling.{HasPutNumber, IsNumbered}
+use Rattle.codec.specs.Image.{fault_facts, facts_in, environment_item, environment_tag}
 use Rattle.graph.specs.Fits.{IsAbsent}
-use Rattle.sides.specs.Image.{fault_facts, named, listed, facts_in, environment_item, environment_tag}
+use Rattle.sides.specs.Image.{named, listed}
 use Rattle.sides.specs.Growth.{Grows}
 use Rattle.sides.proofs.Grown.{before, behind}
 use Rattle.sides.proofs.ListedFacts.{item_fact, tag_fact, items_of}

@@ -12,7 +12,7 @@ use Rattle.terms.specs.Name.{tag_cmp}
 use Rattle.terms.specs.Sets.{among, OneFact, AmongBoth}
 use Rattle.codec.specs.Entries.{Item, MarkedTag}
 use Rattle.codec.specs.declared.image.Image.{Image}
-use Rattle.sides.specs.Image.{fault_facts, image_facts, image_environment, facts_in, environment_item, environment_tag}
+use Rattle.codec.specs.Image.{fault_facts, image_facts, image_environment, facts_in, environment_item, environment_tag}
 use Rattle.sides.specs.Growth.{Grows}
 use Rattle.sides.proofs.Grown.{before, behind, asked_back, held_already, unchanged}
 use Rattle.sides.proofs.ListedFacts.{item_fact, tag_fact, tags_of}

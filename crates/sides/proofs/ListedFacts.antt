@@ -17,7 +17,7 @@ use Rattle.terms.specs.Name.{tag_cmp, inst_cmp}
 use Rattle.terms.specs.Sets.{is_fact, among, OneFact, AmongBoth}
 use Rattle.codec.specs.declared.image.Image.{Image}
 use Rattle.codec.specs.Entries.{Item, MarkedTag}
-use Rattle.sides.specs.Image.{fault_facts, facts_in, environment_item, environment_tag, environment_in}
+use Rattle.codec.specs.Image.{fault_facts, facts_in, environment_item, environment_tag, environment_in}
 
 -- the facts of items, of tags, and of done instances
 abbrev pub item_fact : Item → Fact

@@ -22,7 +22,8 @@ use Rattle.terms.specs.declared.producer.Producer.{Producer}
 use Rattle.terms.specs.Name.{addr_cmp, tag_cmp, inst_cmp}
 use Rattle.codec.specs.Entries.{Item, MarkedTag, item_cmp, Rises}
 use Rattle.codec.specs.Spelling.{HasPutNumber}
-use Rattle.sides.specs.Image.{named, listed, IsListed}
+use Rattle.codec.specs.Image.{IsListed}
+use Rattle.sides.specs.Image.{named, listed}
 
 module _ {X : Type 0} (cmp : X → X → Ordering) where
   pub rest_rises : (x : X) (xs : List X) → Rises cmp (x ∷ xs) → Rises cmp xs

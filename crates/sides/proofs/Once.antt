@@ -11,12 +11,12 @@ use Rattle.terms.specs.Sets.{Facts, among}
 use Rattle.codec.specs.Commits.{commit_bytes, IsCommit, SpellsCommit}
 use Rattle.codec.specs.Laws.{SpellsOne}
 use Rattle.codec.specs.Spelling.{image_bytes, SpellsImage}
+use Rattle.codec.specs.Image.{image_facts, image_environment}
 use Rattle.journal.specs.Records.{StandsFor, records}
 use Rattle.graph.specs.Graph.{Graph}
 use Rattle.graph.specs.Canonical.{canonical}
 use Rattle.graph.specs.Reads.{Reads}
 use Rattle.graph.specs.Textual.{OneReading}
-use Rattle.sides.specs.Image.{image_facts, image_environment}
 use Rattle.sides.specs.Side.{FORMAT, counted, behind_gate, HasGeneration, IsSide, SameSide, end_of}
 
 -- two strings with fronts of one length

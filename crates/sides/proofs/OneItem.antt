@@ -12,8 +12,8 @@ use Rattle.terms.specs.Name.{addr_cmp}
 use Rattle.terms.specs.Sets.{is_fact, among, OneFact, AmongBoth}
 use Rattle.codec.specs.declared.image.Image.{Image}
 use Rattle.codec.specs.Entries.{Item, item_cmp, Rises}
+use Rattle.codec.specs.Image.{facts_in, IsListed}
 use Rattle.graph.specs.Fits.{HasOneItemEach}
-use Rattle.sides.specs.Image.{facts_in, IsListed}
 use Rattle.sides.proofs.ListedFacts.{item_fact, items_of}
 use Rattle.sides.proofs.Listing.{first_is_least, rest_rises}
 

@@ -9,13 +9,13 @@ use Rattle.codec.specs.declared.image.Image.{Image}
 use Rattle.codec.specs.Commits.{commit_bytes}
 use Rattle.codec.specs.Laws.{SpellsOne}
 use Rattle.codec.specs.Spelling.{image_bytes, SpellsImage}
+use Rattle.codec.specs.Image.{image_facts, image_environment, facts_in, environment_in}
 use Rattle.journal.specs.Records.{StandsFor}
 use Rattle.graph.specs.Graph.{Graph}
 use Rattle.graph.specs.Canonical.{canonical}
 use Rattle.graph.specs.Reads.{Reads}
 use Rattle.graph.specs.Fits.{AllFit, FitsState}
 use Rattle.graph.specs.Textual.{OneReading}
-use Rattle.sides.specs.Image.{image_facts, image_environment, facts_in, environment_in}
 use Rattle.sides.specs.Side.{FORMAT, counted, behind_gate, HasGeneration, IsSide, end_of}
 use Rattle.sides.specs.Reading.{IsCountedAt, HasNoneAt, IsTextOf, IsImageOf, AreCommits, IsReplayed}
 use Rattle.sides.proofs.Once.{parts_of, counted_once}

@@ -12,12 +12,12 @@ use Rattle.codec.specs.declared.image.Image.{Image}
 use Rattle.codec.specs.Commits.{commit_bytes, IsCommit, SpellsCommit}
 use Rattle.codec.specs.Laws.{SpellsOne}
 use Rattle.codec.specs.Spelling.{SpellsEvent}
+use Rattle.codec.specs.Image.{image_facts, image_environment, facts_in, environment_in}
 use Rattle.journal.specs.Records.{StandsFor, IsShort, record_of, records}
 use Rattle.journal.specs.WholeRecords.{BeginsWith, BeginsWithNone, LeadsTo, BeginWithFirst, OneInFront, ClosedBeginsNone}
 use Rattle.graph.specs.Graph.{Graph}
 use Rattle.graph.specs.Fits.{Fits, AllFit}
 use Rattle.graph.specs.FitLaws.{AllFitInParts, EventsAsSet}
-use Rattle.sides.specs.Image.{image_facts, image_environment, facts_in, environment_in}
 use Rattle.sides.specs.Growth.{IsGrownBy, Grows}
 use Rattle.sides.specs.Reading.{AreCommits, IsReplayed}
 use Rattle.sides.specs.Replaying.{IsTaken, IsRefused, IsTakenTo}

@@ -10,9 +10,9 @@ use Rattle.terms.specs.Facts.{Fact, put_fact, put_facts}
 use Rattle.terms.specs.Sets.{is_fact, among, OneFact, AmongBoth}
 use Rattle.codec.specs.declared.image.Image.{Image}
 use Rattle.codec.specs.Spelling.{HasPutNumber}
+use Rattle.codec.specs.Image.{image_facts, image_environment, facts_in}
 use Rattle.graph.specs.Graph.{Graph}
 use Rattle.graph.specs.Fits.{AreNew, PutIsOf}
-use Rattle.sides.specs.Image.{image_facts, image_environment, facts_in}
 use Rattle.sides.specs.Growth.{AlsoHas, Grows, PutFits}
 use Rattle.sides.proofs.Grown.{joined, unchanged}
 use Rattle.sides.proofs.PutsInTurn.{with_fact, FitInTurn, in_turn}

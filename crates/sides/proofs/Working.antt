@@ -7,9 +7,9 @@ use Rattle.terms.specs.declared.name.Inst.{Inst}
 use Rattle.terms.specs.Facts.{bad}
 use Rattle.terms.specs.Sets.{is_fact, among, OneFact, AmongBoth}
 use Rattle.codec.specs.declared.image.Image.{Image}
+use Rattle.codec.specs.Image.{fault_facts, facts_in}
 use Rattle.graph.specs.Graph.{Graph}
 use Rattle.graph.specs.Fits.{FitsAs, Fits}
-use Rattle.sides.specs.Image.{fault_facts, facts_in}
 use Rattle.sides.proofs.ListedFacts.{faults_of}
 
 none_at_fault : (fault : Option (Inst × FaultKind)) → is_some fault ≡ false → (instance : Inst) (kind : FaultKind) → among (fault_facts fault) (bad instance kind) ≡ false

@@ -6,9 +6,9 @@ use Rattle.terms.specs.declared.put.Put.TheVariants as put
 use Rattle.terms.specs.Facts.{Fact, event_facts, environment_facts}
 use Rattle.terms.specs.Sets.{Facts, among}
 use Rattle.codec.specs.declared.image.Image.{Image}
+use Rattle.codec.specs.Image.{image_facts, image_environment}
 use Rattle.graph.specs.Graph.{Graph}
 use Rattle.graph.specs.Fits.{IsAbsent, PutIsOf}
-use Rattle.sides.specs.Image.{image_facts, image_environment}
 
 -- as sets, the new list is the old one with these facts
 pub record AlsoHas (stated old new : List Fact) : Type 0 where

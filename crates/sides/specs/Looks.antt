@@ -10,9 +10,9 @@ use Rattle.terms.specs.declared.producer.Producer.TheVariants.{Env, By}
 use Rattle.terms.specs.Facts.{done}
 use Rattle.terms.specs.Sets.{Facts}
 use Rattle.codec.specs.declared.image.Image.{Image}
+use Rattle.codec.specs.Image.{facts_in}
 use Rattle.graph.specs.Graph.{Graph, EnvironmentMayPutItem, EnvironmentMayPutTag}
 use Rattle.graph.specs.Fits.{AddressIsOf, TagIsOf, InstanceIsOf, IsPrescribed}
-use Rattle.sides.specs.Image.{facts_in}
 
 -- an item of the environment is one that it may put; the producer of another is done
 abbrev pub ItemFits : Graph → Facts → Addr → Producer → Type 0

@@ -7,6 +7,7 @@ use Rattle.terms.specs.Sets.{among}
 use Rattle.codec.specs.declared.image.Image.{Image}
 use Rattle.codec.specs.Commits.{commit_bytes, IsCommit}
 use Rattle.codec.specs.Spelling.{SpellsImage, HasPutNumber}
+use Rattle.codec.specs.Image.{image_facts, image_environment, facts_in, environment_in}
 use Rattle.journal.specs.Records.{StandsFor, records}
 use Rattle.graph.specs.Graph.{Graph}
 use Rattle.graph.specs.Canonical.{canonical}
@@ -15,7 +16,6 @@ use Rattle.graph.specs.Fits.{AllFit, FitsState}
 use Rattle.sides.specs.declared.gate.Gate.{Gate}
 use Rattle.sides.specs.declared.gate.Gate.TheVariants.{Closed, Short, Open}
 use Rattle.sides.specs.declared.reading.Standing.{Standing}
-use Rattle.sides.specs.Image.{image_facts, image_environment, facts_in, environment_in}
 use Rattle.sides.specs.Side.{counted, IsOpen, HasGeneration, IsSide, end_of}
 
 -- what the first ten bytes of a file, or all of fewer, tell of its side

@@ -7,12 +7,12 @@ use Rattle.terms.specs.Sets.{among}
 use Rattle.codec.specs.declared.image.Image.{Image}
 use Rattle.codec.specs.Commits.{commit_bytes, IsCommit, SpellsCommit}
 use Rattle.codec.specs.Spelling.{HasPutNumber}
+use Rattle.codec.specs.Image.{image_facts, image_environment, facts_in, environment_in}
 use Rattle.journal.specs.WholeRecords.{LeadsTo}
 use Rattle.graph.specs.Graph.{Graph}
 use Rattle.graph.specs.Fits.{AllFit}
 use Rattle.sides.specs.declared.replay.Replay.{Replay}
 use Rattle.sides.specs.declared.replay.Replay.TheVariants.{Ended, Broken}
-use Rattle.sides.specs.Image.{image_facts, image_environment, facts_in, environment_in}
 use Rattle.sides.specs.Growth.{Grows}
 use Rattle.sides.specs.Reading.{AreCommits, IsReplayed}
 

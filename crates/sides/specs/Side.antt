@@ -8,12 +8,12 @@ use Rattle.terms.specs.Sets.{Facts, among}
 use Rattle.codec.specs.declared.image.Image.{Image}
 use Rattle.codec.specs.Commits.{commit_bytes, IsCommit}
 use Rattle.codec.specs.Spelling.{image_bytes, IsImage}
+use Rattle.codec.specs.Image.{image_facts, image_environment}
 use Rattle.journal.specs.Records.{StandsFor, records}
 use Rattle.graph.specs.Graph.{Graph}
 use Rattle.graph.specs.Canonical.{canonical}
 use Rattle.graph.specs.Reads.{Reads}
 use Rattle.graph.specs.Fits.{FitsState, AllFit}
-use Rattle.sides.specs.Image.{image_facts, image_environment}
 
 -- the byte of the format
 abbrev pub FORMAT : ℕ

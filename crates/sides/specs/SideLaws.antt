@@ -6,13 +6,13 @@ use Rattle.terms.specs.Sets.{Facts, with_facts}
 use Rattle.codec.specs.declared.image.Image.{Image}
 use Rattle.codec.specs.Commits.{commit_bytes, IsCommit}
 use Rattle.codec.specs.Spelling.{image_bytes, IsImage}
+use Rattle.codec.specs.Image.{facts_in, environment_in, IsListed}
 use Rattle.journal.specs.Records.{StandsFor, record_of}
 use Rattle.graph.specs.Graph.{Graph}
 use Rattle.graph.specs.Canonical.{canonical}
 use Rattle.graph.specs.Reads.{Reads}
 use Rattle.graph.specs.Fits.{AllFit, FitsState, HasOneItemEach}
 use Rattle.graph.specs.FitLaws.{SameSet}
-use Rattle.sides.specs.Image.{facts_in, environment_in, IsListed}
 use Rattle.sides.specs.Side.{behind_gate, IsSide, start_of, end_of, facts_of}
 
 -- from where its journal begins on, a side's bytes are a journal of its commits

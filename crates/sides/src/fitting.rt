@@ -1,8 +1,8 @@
 ghost use Rattle.std.specs.Prelude.{◌≡◌, ◌↔◌, IsTrue};
 ghost use Rattle.std.specs.List.{AllByRecursion};
 ghost use Rattle.terms.specs.Facts.{tag, done};
+ghost use Rattle.codec.specs.Image.{facts_in, environment_in};
 ghost use Rattle.graph.specs.Fits.{IsPrescribed, FitsState};
-ghost use Rattle.sides.specs.Image.{facts_in, environment_in};
 ghost use Rattle.sides.specs.Looks.{ItemFits, TagFits, InstanceFits, FaultFits, InstancesFit, PutsFit};
 
 use crate::Holdings;

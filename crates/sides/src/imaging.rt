@@ -5,7 +5,8 @@ ghost use Rattle.std.specs.Map.{keys_of};
 ghost use Rattle.terms.specs.Name.{addr_cmp, tag_cmp, inst_cmp};
 ghost use Rattle.codec.specs.Entries.{item_cmp, marked_cmp, Rises};
 ghost use Rattle.codec.specs.Spelling.{HasPutNumber};
-ghost use Rattle.sides.specs.Image.{named, IsListed};
+ghost use Rattle.codec.specs.Image.{IsListed};
+ghost use Rattle.sides.specs.Image.{named};
 
 use crate::Holdings;
 use codec::{Image, Instances, Items, Tags};

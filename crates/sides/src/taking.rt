@@ -2,9 +2,9 @@ ghost use Rattle.std.specs.Prelude.{◌≡◌, ◌↔◌, ◌≤◌, ◌<◌, Is
 ghost use Rattle.std.specs.List.{AllByRecursion};
 ghost use Rattle.terms.specs.Facts.{tag, item, done, bad, put_fact, put_facts};
 ghost use Rattle.codec.specs.Spelling.{HasPutNumber, IsNumbered, HasFewPuts};
+ghost use Rattle.codec.specs.Image.{facts_in, environment_item, environment_tag};
 ghost use Rattle.terms.specs.declared.put.TheConstants.{MOST_PUTS};
 ghost use Rattle.graph.specs.Fits.{Fits, FitsAs, MayEnd, AreNew, IsAbsent, PutIsOf};
-ghost use Rattle.sides.specs.Image.{facts_in, environment_item, environment_tag};
 ghost use Rattle.sides.specs.Growth.{Grows, IsGrownBy, PutFits};
 
 use crate::Holdings;

@@ -3,7 +3,7 @@
 #![tactic(auto)]
 
 ghost use Rattle.std.specs.Prelude.{IfOk};
-ghost use Rattle.sides.specs.Image.{IsListed};
+ghost use Rattle.codec.specs.Image.{IsListed};
 
 mod files;
 mod filling;

@@ -4,9 +4,9 @@ use Rattle.disk.specs.declared.side.Side.{Side}
 use Rattle.disk.specs.declared.side.Side.TheVariants.{A, B}
 use Rattle.disk.specs.Time.{Contents}
 use Rattle.terms.specs.Sets.{Facts}
+use Rattle.codec.specs.Image.{facts_in, environment_in}
 use Rattle.graph.specs.Graph.{Graph}
 use Rattle.sides.specs.Side.{IsSide, IsOpen, HasGeneration, StandsWithGeneration, OneGeneration, end_of}
-use Rattle.sides.specs.Image.{facts_in, environment_in}
 use Rattle.vault.specs.declared.found.Found.{Found}
 use Rattle.vault.specs.Stands.{IsLive, IsBehind, other_side}
 use Rattle.vault.specs.Opened.{IsAhead, StandsForNothing, IsFoundIn, IsFound, IsNoSide}

@@ -8,10 +8,10 @@ use Rattle.terms.specs.Sets.{Facts}
 use Rattle.graph.specs.Graph.{Graph}
 use Rattle.graph.specs.Canonical.{canonical}
 use Rattle.codec.specs.declared.image.Image.{Image}
+use Rattle.codec.specs.Image.{facts_in, environment_in, IsListed}
 use Rattle.graph.specs.Fits.{FitsState, HasOneItemEach}
 use Rattle.sides.specs.declared.gate.Gate.TheVariants.{Short}
 use Rattle.sides.specs.Reading.{Tells}
-use Rattle.sides.specs.Image.{facts_in, environment_in, IsListed}
 use Rattle.sides.specs.Side.{IsSide, IsOpen, HasGeneration, end_of}
 use Rattle.vault.specs.declared.found.Found.{Found}
 use Rattle.vault.specs.declared.error.VaultError.{VaultError}

@@ -9,11 +9,11 @@ use Rattle.terms.specs.Facts.{Fact, facts, environment}
 use Rattle.terms.specs.Sets.{Facts, among, with_facts}
 use Rattle.codec.specs.declared.image.Image.{Image}
 use Rattle.codec.specs.Spelling.{image_bytes}
+use Rattle.codec.specs.Image.{facts_in, environment_in}
 use Rattle.journal.specs.declared.journal.TheConstants.{LIMIT}
 use Rattle.graph.specs.Graph.{Graph}
 use Rattle.graph.specs.Canonical.{canonical}
 use Rattle.graph.specs.Reads.{Reads}
-use Rattle.sides.specs.Image.{facts_in, environment_in}
 use Rattle.sides.specs.Side.{behind_gate, end_of}
 use Rattle.vault.specs.declared.vault.Vault.{Vault}
 use Rattle.vault.specs.declared.refused.Refused.{Refused}

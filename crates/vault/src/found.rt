@@ -1,9 +1,9 @@
 ghost use Rattle.std.specs.Prelude.{◌≡◌, ◌≢◌, ℕ, List, IfOk, IfErr, IsErrOf};
 ghost use Rattle.std.specs.List.{AllByRecursion};
 ghost use Rattle.codec.specs.Spelling.{HasPutNumber};
+ghost use Rattle.codec.specs.Image.{IsListed};
 ghost use Rattle.disk.specs.declared.side.Side.{Side};
 ghost use Rattle.sides.specs.Reading.{IsRead};
-ghost use Rattle.sides.specs.Image.{IsListed};
 ghost use Rattle.sides.specs.Side.{HasGeneration};
 ghost use Rattle.vault.specs.Store.{SaysNothing};
 ghost use Rattle.vault.specs.Opened.{IsFoundIn, IsNoSide, IsOfOpening, IsSound};

@@ -2,13 +2,13 @@ ghost use Rattle.std.specs.Prelude.{◌≡◌, ◌≢◌, ◌⊎◌, ◌≤◌, 
 ghost use Rattle.disk.specs.declared.side.Side.{Side};
 ghost use Rattle.disk.specs.File.{at_rest};
 ghost use Rattle.disk.specs.Time.{Contents, LeavesOnly, MayLeaveNow, HasCause, CountsRefusal, HasErred, HasCauses};
-ghost use Rattle.sides.specs.Image.{facts_in, environment_in};
 ghost use Rattle.sides.specs.Side.{IsOpen};
 ghost use Rattle.vault.specs.Store.{Holds, IsReady, SaysNothing, disk_of_opening, answer_of};
 ghost use Rattle.vault.specs.Opened.{OnlyReads, IsFound, IsSound, HeadsFault, IsOfAhead, TellsWhy, StandsForNothing, IsOfOpening, contents_of};
 ghost use Rattle.vault.specs.declared.error.VaultError.{VaultError as Cause};
 ghost use Rattle.vault.specs.declared.error.VaultError.TheVariants.{Device, NoMemory};
 ghost use Rattle.disk.specs.declared.error.DiskError.TheVariants as DiskError;
+ghost use Rattle.codec.specs.Image.{facts_in, environment_in};
 
 use crate::found::{Found, found_in};
 use crate::heads::live_side;

@@ -2,9 +2,9 @@ ghost use Rattle.std.specs.Prelude.{◌≡◌, ◌≢◌, ◌<◌, ◌+◌, ◌�
 ghost use Rattle.disk.specs.Time.{LeavesOnly};
 ghost use Rattle.terms.specs.Sets.{Facts};
 ghost use Rattle.codec.specs.Spelling.{IsImage, image_bytes};
+ghost use Rattle.codec.specs.Image.{IsListed};
 ghost use Rattle.graph.specs.Graph.{Graph};
 ghost use Rattle.journal.specs.declared.journal.TheConstants.{LIMIT};
-ghost use Rattle.sides.specs.Image.{IsListed};
 ghost use Rattle.sides.specs.Side.{behind_gate};
 ghost use Rattle.vault.specs.Calls.{Halts, TurnsOver, WritesSide, IsFullWhere};
 ghost use Rattle.vault.specs.Stands.{Stands, other_side};

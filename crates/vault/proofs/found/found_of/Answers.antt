@@ -1,6 +1,6 @@
 use Rattle.std.proofs.Common.{◌≡◌, sym, subst, ◌∙◌}
 use Rattle.codec.specs.declared.image.Image.{Image}
-use Rattle.sides.specs.Image.{facts_in, environment_in}
+use Rattle.codec.specs.Image.{facts_in, environment_in}
 use Rattle.sides.specs.Side.{IsSide, end_of}
 use Rattle.vault.proofs.found.found_of.Goals as goal
 

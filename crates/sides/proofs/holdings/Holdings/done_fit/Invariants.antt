@@ -1,6 +1,6 @@
 use Rattle.std.proofs.Common.{◌↔◌}
 use Rattle.std.specs.List.{AllByRecursion}
-use Rattle.sides.specs.Image.{facts_in}
+use Rattle.codec.specs.Image.{facts_in}
 use Rattle.sides.specs.Looks.{InstanceFits}
 use Rattle.sides.proofs.holdings.Holdings.done_fit.Given as goal
 

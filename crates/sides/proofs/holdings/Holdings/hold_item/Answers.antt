@@ -5,8 +5,8 @@ use Rattle.std.specs.List.{AllByRecursion}
 use Rattle.terms.specs.Name.{addr_cmp}
 use Rattle.codec.specs.declared.image.Image.{Image}
 use Rattle.codec.specs.Spelling.{HasPutNumber}
+use Rattle.codec.specs.Image.{facts_in}
 use Rattle.graph.specs.Fits.{IsAbsent}
-use Rattle.sides.specs.Image.{facts_in}
 use Rattle.sides.proofs.Grown.{grows_from}
 use Rattle.sides.proofs.HeldItems.{free_is_absent, item_held, item_numbered}
 use Rattle.sides.proofs.holdings.Holdings.hold_item.Goals as goal

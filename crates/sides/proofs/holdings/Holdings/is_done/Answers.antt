@@ -1,7 +1,8 @@
 use Rattle.std.proofs.Common.{sym, ap, ◌∙◌}
 use Rattle.terms.specs.Facts.{done}
 use Rattle.codec.specs.declared.image.Image.{Image}
-use Rattle.sides.specs.Image.{listed, facts_in}
+use Rattle.codec.specs.Image.{facts_in}
+use Rattle.sides.specs.Image.{listed}
 use Rattle.sides.proofs.ListedFacts.{done_of, done_by_name}
 use Rattle.sides.proofs.holdings.Holdings.is_done.Goals as goal
 

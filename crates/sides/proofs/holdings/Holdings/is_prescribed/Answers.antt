@@ -1,5 +1,5 @@
 use Rattle.std.proofs.Common.{sym, ◌∙◌}
-use Rattle.sides.specs.Image.{facts_in}
+use Rattle.codec.specs.Image.{facts_in}
 use Rattle.sides.proofs.Prescribers.{prescribed_by}
 use Rattle.sides.proofs.holdings.Holdings.is_prescribed.Goals as goal
 

@@ -1,6 +1,7 @@
 use Rattle.std.proofs.Common.{map, ◌↔◌}
 use Rattle.std.specs.List.{AllByRecursion}
-use Rattle.sides.specs.Image.{named, facts_in}
+use Rattle.codec.specs.Image.{facts_in}
+use Rattle.sides.specs.Image.{named}
 use Rattle.sides.specs.Looks.{ItemFits}
 use Rattle.sides.proofs.holdings.Holdings.items_fit.Given as goal
 
