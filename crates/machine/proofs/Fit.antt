@@ -45,12 +45,12 @@ module _ (keeps : KeepsAtAnyReads) (g : Graph) (is_graph : IsGraph g) where
   puts_are_of step [] allowed = tt
   puts_are_of step (one ∷ puts) allowed = (put_is_of step one allowed.0, puts_are_of step puts allowed.1)
 
-  given_are_of : (X : Facts) (instance : Inst) (puts : List Put) → BodyGives g X instance puts → AllByRecursion (PutIsOf g) puts
+  pub given_are_of : (X : Facts) (instance : Inst) (puts : List Put) → BodyGives g X instance puts → AllByRecursion (PutIsOf g) puts
   given_are_of X instance puts gives =
       let it = is_graph.steps instance.collection.0 gives.step gives.is_step in
       puts_are_of gives.step puts (keeps (sheet_of g gives.step) gives.step.body instance.key gives.means.reads (Gives puts) it.keeps gives.means.along).1
 
-  event_fits : (X : Facts) (event : Event) → TagsAreOf g X → IsLegal g X event → Fits g X event
+  pub event_fits : (X : Facts) (event : Event) → TagsAreOf g X → IsLegal g X event → Fits g X event
   event_fits X (EnvItem address value) tags legal = record { working = legal.working; event_fits = legal.event_is_legal }
   event_fits X (EnvTag name) tags legal = record { working = legal.working; event_fits = legal.event_is_legal }
   event_fits X (Done instance puts) tags legal =

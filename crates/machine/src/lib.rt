@@ -1,16 +1,41 @@
-//! What a graph means, and that no legal order of its steps leaves that meaning.
+//! What a graph means, that no legal order of its steps leaves that meaning, and the state of a store in memory.
 //!
 //! `Meaning` of `specs/Meaning.antt` is the least set of facts that a graph has on an environment; `AreLegal` of
 //! `specs/Legal.antt` tells which events may be committed one after another. The layers above stand on the laws of `laws`.
+//!
+//! `Machine` is seen as its graph and what it holds: the sets `facts` and `environment`, and the state of each instance. It looks
+//! whether an event is legal (`may_put_item`, `may_end`), makes room (`make_room`), and takes it (`take_item`, `take_end`); what it
+//! keeps is told by `is_kept`.
 #![tactic(auto)]
 
+mod absence;
+mod creation;
+mod distinct;
+mod end;
+mod ends;
 mod examples;
+mod growth;
+mod keeping;
 mod laws;
+mod looks;
+mod machine;
+mod memory;
+mod promise;
+mod reads;
+mod refusal;
 mod states;
+mod status;
+mod taking;
+mod waking;
+mod working;
 
+pub use end::End;
 pub use examples::{fibonacci_numbers, item_put_twice, meant_and_not_reached, refused_examples};
+pub use keeping::given_are_of_graph;
 pub use laws::{
     each_instance_can_go_on, legal_events_fit, legal_lists_go_on, one_end, quiet_is_meaning,
     stays_within, stopped_is_not_clean,
 };
+pub use machine::Machine;
+pub use refusal::Refusal;
 pub use states::{reached_and_quiet, reached_goes_on, reached_within, unfinished_wait};

@@ -1,0 +1,143 @@
+-- What comes to a store, and then more.
+use Rattle.std.proofs.Common.{◌≡◌, ◌≢◌, ◌⊎◌, ◌∙◌, ap, sym, refl, subst, inl, inr, ℕ, suc, ℤ, ◌+◌, ◌<◌, ◌≤◌, Bool, true, false, ◌||◌, List, [], ◌∷◌, ◌++◌, length, Option, Some, None, IsSome, arith}
+use Rattle.std.proofs.lemmas.Bool.{false≢true}
+use Rattle.std.proofs.lemmas.List.{append_assoc}
+use Rattle.terms.specs.declared.name.Addr.{Addr}
+use Rattle.terms.specs.declared.name.Inst.{Inst}
+use Rattle.terms.specs.declared.producer.Producer.{Producer}
+use Rattle.terms.specs.declared.put.Put.{Put}
+use Rattle.terms.specs.declared.put.Put.TheVariants as put
+use Rattle.terms.specs.declared.producer.Producer.TheVariants.{By}
+use Rattle.terms.specs.Facts.{Fact, tag, item, done, bad, put_fact}
+use Rattle.terms.specs.Sets.{Facts, with_facts, is_fact, among, OneFact}
+use Rattle.graph.specs.Fits.{addresses, IsIn, IsAbsent}
+use Rattle.items.specs.Held.{item_at}
+use Rattle.instances.specs.declared.state.State.{State}
+use Rattle.instances.specs.declared.state.State.TheVariants.{Ready, Running, Waiting, Done}
+use Rattle.instances.specs.Known.{state_at}
+use Rattle.machine.specs.declared.memory.Memory.{Memory}
+use Rattle.machine.specs.Memory.{is_item, facts_of, environment_of, AreListed, GoesOn, Grows}
+use Rattle.machine.specs.Coming.{fact_of, CanTake, CanTakeAll}
+use Rattle.machine.proofs.Coming.{or_false, is_itself, the_item}
+use Rattle.machine.proofs.Tagging.{unmoved}
+
+-- nothing comes
+pub grows_none : (m : Memory) → AreListed m → Grows m m [] [] 0
+grows_none m listed = record {
+  facts = λ fact. sym (or_false (facts_of m fact));
+  environment = λ fact. sym (or_false (environment_of m fact));
+  states = λ i. unmoved m (state_at m.instances i) (λ a. listed.absent i a);
+  item_collections = refl;
+  tag_collections = refl;
+  prescribers = λ n. refl;
+  listed = listed;
+  item_room = λ c. omega arith;
+  tag_room = λ c. omega arith;
+}
+
+pub either_way : (a b c : Bool) → ((a || (b || false)) || c) ≡ (a || (b || c))
+either_way true b c = refl
+either_way false true c = refl
+either_way false false c = refl
+
+module _ (told : OneFact) (old mid new : Memory) where
+  -- an item that is there stays
+  stays_there : ((fact : Fact) → facts_of mid fact ≡ true → facts_of new fact ≡ true) → (a : Addr) → IsSome (item_at mid.items a) → IsSome (item_at new.items a)
+  stays_there within a there = at (item_at mid.items a) refl there
+    where
+      at : (o : Option (ℤ × Producer)) → item_at mid.items a ≡ o → IsSome o → IsSome (item_at new.items a)
+      at None is some = absurd (false≢true some)
+      at (Some it) is some =
+          subst IsSome (sym (the_item told a (item_at new.items a) it.0 it.1 (within (item a it.0 it.1) (ap (λ o. is_item o it.0 it.1) is ∙ is_itself told a it.0 it.1)))) refl
+
+  goes_both : ((a : Addr) → IsSome (item_at mid.items a) → IsSome (item_at new.items a)) → (from through to : Option State) → GoesOn mid from through → GoesOn new through to → GoesOn new from to
+  goes_both kept None through to (inl none) more = subst (λ s. GoesOn new s to) none more
+  goes_both kept None through to (inr ready) more = inr (subst (λ s. GoesOn new s to) ready more)
+  goes_both kept (Some Ready) through to same more = subst (λ s. GoesOn new s to) same more
+  goes_both kept (Some Running) through to same more = subst (λ s. GoesOn new s to) same more
+  goes_both kept (Some Done) through to same more = subst (λ s. GoesOn new s to) same more
+  goes_both kept (Some (Waiting a)) through to (inl waits) more = subst (λ s. GoesOn new s to) waits.1 more
+  goes_both kept (Some (Waiting a)) through to (inr wakes) more = inr (kept a wakes.0, subst (λ s. GoesOn new s to) wakes.1 more)
+
+  -- one fact comes, and then others that the environment did not put
+  pub grows_more : (first : Fact) (more given : List Fact) (n : ℕ) → Grows old mid (first ∷ []) given 1 → Grows mid new more [] n → Grows old new (first ∷ more) given (suc n)
+  grows_more first more given n one rest = record {
+    facts = λ fact. rest.facts fact ∙ ap (λ b. b || among more fact) (one.facts fact) ∙ either_way (facts_of old fact) (is_fact first fact) (among more fact);
+    environment = λ fact. rest.environment fact ∙ or_false (environment_of mid fact) ∙ one.environment fact;
+    states = λ i. goes_both (stays_there (λ fact there. rest.facts fact ∙ or_left (facts_of mid fact) (among more fact) there))
+        (state_at old.instances i) (state_at mid.instances i) (state_at new.instances i) (one.states i) (rest.states i);
+    item_collections = rest.item_collections ∙ one.item_collections;
+    tag_collections = rest.tag_collections ∙ one.tag_collections;
+    prescribers = λ n. rest.prescribers n ∙ one.prescribers n;
+    listed = rest.listed;
+    item_room = λ c. omega (arith, one.item_room c, rest.item_room c);
+    tag_room = λ c. omega (arith, one.tag_room c, rest.tag_room c);
+  }
+    where
+      or_left : (a b : Bool) → a ≡ true → (a || b) ≡ true
+      or_left true b is = refl
+      or_left false b is = absurd (false≢true is)
+
+-- ---- what can be taken still
+
+pub in_later : (a : Addr) (first : Put) (others : List Put) → IsIn a (addresses others) → IsIn a (addresses (first ∷ others))
+in_later a (put.Item b value) others is = (b ∷ is.0, is.1, ap (λ (list : List Addr). b ∷ list) is.2)
+in_later a (put.Tag name) others is = is
+
+module _ (told : OneFact) (old new : Memory) (by : Producer) (one : Put) (given : List Fact) (grows : Grows old new (fact_of by one ∷ []) given 1) where
+  its_address : (address : Addr) (value : ℤ) (producer : Producer) → fact_of by one ≡ item address value producer → IsIn address (addresses (one ∷ []))
+  its_address address value producer is = at one is
+    where
+      same : (b : Addr) (w : ℤ) (q : Producer) → item b w q ≡ item address value producer → b ≡ address
+      same b w q is = cc
+
+      at : (p : Put) → fact_of by p ≡ item address value producer → IsIn address (addresses (p ∷ []))
+      at (put.Item b w) is = ([], [], ap (λ (a : Addr). a ∷ []) (same b w by is))
+      at (put.Tag name) is = absurd (other is)
+        where
+          other : tag name ≡ item address value producer → ⊥
+          other is = cc
+
+  stays_absent : (address : Addr) → (IsIn address (addresses (one ∷ [])) → ⊥) → IsAbsent (facts_of old) address → IsAbsent (facts_of new) address
+  stays_absent address other absent value producer =
+      grows.facts (item address value producer) ∙ ap (λ b. b || (is_fact (fact_of by one) (item address value producer) || false)) (absent value producer)
+      ∙ at (is_fact (fact_of by one) (item address value producer)) refl
+    where
+      at : (b : Bool) → is_fact (fact_of by one) (item address value producer) ≡ b → (is_fact (fact_of by one) (item address value producer) || false) ≡ false
+      at true is = absurd (other (its_address address value producer ((told (fact_of by one) (item address value producer)).1 is)))
+      at false is = ap (λ b. b || false) is
+
+  one_stays : (n : ℕ) (next : Put) → ((address : Addr) → IsIn address (addresses (one ∷ [])) → IsIn address (addresses (next ∷ [])) → ⊥) → CanTake old (suc n) next → CanTake new n next
+  one_stays n (put.Item address value) apart can = (
+    stays_absent address (λ is. apart address is ([], [], refl)) can.0,
+    subst (λ (length : ℕ). address.collection.0 < length) (sym grows.item_collections) can.1,
+    omega (arith, can.2, grows.item_room address.collection),
+  )
+  one_stays n (put.Tag name) apart can = omega (arith, can, grows.tag_room name.collection)
+
+  -- behind one put the others can be taken as before, with room for one less
+  pub all_stay : (n : ℕ) (puts : List Put) → ((address : Addr) → IsIn address (addresses (one ∷ [])) → IsIn address (addresses puts) → ⊥) → CanTakeAll old (suc n) puts → CanTakeAll new n puts
+  all_stay n [] apart can = tt
+  all_stay n (next ∷ puts) apart can = (
+    one_stays n next (λ address here there. apart address here (first_of next address there)) can.0,
+    can.1,
+    all_stay n puts (λ address here there. apart address here (in_later address next puts there)) can.2,
+  )
+    where
+      first_of : (next : Put) (address : Addr) → IsIn address (addresses (next ∷ [])) → IsIn address (addresses (next ∷ puts))
+      first_of (put.Item b value) address is = (is.0, is.1 ++ addresses puts, ap (λ (list : List Addr). list ++ addresses puts) is.2 ∙ append_assoc is.0 (address ∷ is.1) (addresses puts))
+      first_of (put.Tag name) address is = absurd (nowhere is.0 is.2)
+        where
+          nowhere : (before : List Addr) → [] ≡ before ++ address ∷ is.1 → ⊥
+          nowhere [] none = cc
+          nowhere (b ∷ before) none = cc
+
+-- what a put states is what it states by its instance
+pub fact_is : (i : Inst) (n : ℕ) (one : Put) → put_fact i n one ≡ fact_of (By i n) one
+fact_is i n (put.Item address value) = refl
+fact_is i n (put.Tag name) = refl
+
+-- with room for more there is room for one
+pub can_take_one : (m : Memory) (n : ℕ) (one : Put) → CanTake m (suc n) one → CanTake m 1 one
+can_take_one m n (put.Item address value) can = (can.0, can.1, omega (arith, can.2))
+can_take_one m n (put.Tag name) can = omega (arith, can)

@@ -1,0 +1,145 @@
+-- An instance that runs comes to wait, or one that is ready runs.
+use Rattle.std.proofs.Common.{◌≡◌, ◌≢◌, ◌∙◌, ap, sym, refl, subst, inl, inr, ℕ, ◌<◌, ◌≤◌, Bool, true, false, cond, ◌||◌, List, [], ◌∷◌, ◌++◌, length, Option, Some, None, IsSome, IfSome, is_some, ℤ, arith}
+use Rattle.std.proofs.lemmas.Bool.{false≢true, cases_lt}
+use Rattle.std.proofs.lemmas.List.Folds.{list_any-append}
+use Rattle.std.specs.Option.{unwrap_or}
+use Rattle.std.specs.FinMap.{IsAntisymmetric, get, insert, get-insert}
+use Rattle.std.specs.Cmp.{IsTotalOrder}
+use Rattle.std.specs.Ordering.{eq_by_cmp}
+use Rattle.terms.specs.declared.name.Addr.{Addr}
+use Rattle.terms.specs.declared.name.Inst.{Inst}
+use Rattle.terms.specs.declared.fault.FaultKind.{FaultKind}
+use Rattle.terms.specs.declared.producer.Producer.{Producer}
+use Rattle.terms.specs.Name.{inst_cmp}
+use Rattle.terms.specs.Same.{is_same, same_itself, same_address}
+use Rattle.maps.specs.Numbered.{Numbered}
+use Rattle.maps.specs.PlaceOrder.{places_total}
+use Rattle.graph.specs.Graph.{Graph}
+use Rattle.items.specs.Held.{Held, place, item_at, waiters_at, with_waiter}
+use Rattle.instances.specs.declared.state.State.{State}
+use Rattle.instances.specs.declared.state.State.TheVariants.{Ready, Running, Waiting, Done}
+use Rattle.instances.specs.Known.{Known, MovesOne, state_at}
+use Rattle.machine.specs.declared.memory.Memory.{Memory}
+use Rattle.machine.specs.Legal.{Needs}
+use Rattle.machine.specs.Memory.{is_item, is_fault, facts_of, waits_at, IsOnceEach, AreListed, IsOf}
+use Rattle.machine.specs.Waking.{is_one_of}
+use Rattle.machine.proofs.Coming.{or_false}
+use Rattle.machine.proofs.Woken.{one_instance, itself}
+use Rattle.machine.proofs.Moved.{by_instance, facts_stay, environment_stays}
+use Rattle.machine.specs.Machine.{Moves}
+use Rattle.graph.specs.Fits.{HasNoFault}
+use Rattle.machine.proofs.Worked.{moved_is_of, moves_of, same_is_of}
+
+-- who waits at an address where one more came to wait
+waiters_after : (held : Held) (a : Addr) (i : Inst) (b : Addr) → waiters_at (with_waiter held a i) b ≡ cond (is_same b a) (waiters_at held a ++ i ∷ []) (waiters_at held b)
+waiters_after held a i b =
+    ap (λ (o : Option (List Inst)). unwrap_or o []) (get-insert places_total held.waiting (place a) (waiters_at held a ++ i ∷ []) (place b)) ∙ at (is_same b a)
+  where
+    at : (s : Bool) → unwrap_or (cond s (Some (waiters_at held a ++ i ∷ [])) (get held.waiting (place b))) [] ≡ cond s (waiters_at held a ++ i ∷ []) (waiters_at held b)
+    at true = refl
+    at false = refl
+
+pub no_item : (o : Option (ℤ × Producer)) → is_some o ≡ false → o ≡ None
+no_item None is = refl
+no_item (Some it) is = absurd (false≢true (sym is))
+
+neither : (a b : Bool) → (a || b) ≡ false → (a ≡ false) × (b ≡ false)
+neither true b none = absurd (false≢true (sym none))
+neither false b none = (refl, none)
+
+once_more : (total : IsTotalOrder inst_cmp) (tie : IsAntisymmetric inst_cmp) (list : List Inst) (i : Inst) → IsOnceEach list → is_one_of i list ≡ false → IsOnceEach (list ++ i ∷ [])
+once_more total tie [] i once absent = (refl, tt)
+once_more total tie (first ∷ others) i once absent =
+    let apart = neither (eq_by_cmp inst_cmp i first) (is_one_of i others) absent in
+    (list_any-append (eq_by_cmp inst_cmp first) others (i ∷ []) ∙ ap (λ b. b || (eq_by_cmp inst_cmp first i || false)) once.0 ∙ or_false (eq_by_cmp inst_cmp first i) ∙ other apart.0, once_more total tie others i once.1 apart.1)
+  where
+    other : eq_by_cmp inst_cmp i first ≡ false → eq_by_cmp inst_cmp first i ≡ false
+    other apart = at (eq_by_cmp inst_cmp first i) refl
+      where
+        at : (b : Bool) → eq_by_cmp inst_cmp first i ≡ b → b ≡ false
+        at true is = absurd (false≢true (sym apart ∙ ap (eq_by_cmp inst_cmp i) (one_instance total tie first i is) ∙ itself total tie i))
+        at false is = refl
+
+module _ (total : IsTotalOrder inst_cmp) (tie : IsAntisymmetric inst_cmp) (old new : Memory) (i : Inst) (a : Addr)
+    (was : state_at old.instances i ≡ Some Running) (moves : MovesOne old.instances new.instances i (Waiting a)) (items : new.items ≡ with_waiter old.items a i) (fault : new.fault ≡ old.fault)
+    (none : item_at old.items a ≡ None) (listed : AreListed old) where
+  items_same : (b : Addr) → item_at new.items b ≡ item_at old.items b
+  items_same b = ap (λ (h : Held). item_at h b) items
+
+  runs_not : (b : Addr) → waits_at b (state_at old.instances i) ≡ false
+  runs_not b = ap (waits_at b) was
+
+  or_true : (b : Bool) → (b || true) ≡ true
+  or_true true = refl
+  or_true false = refl
+
+  parked_listed : AreListed new
+  parked_listed = record {
+    listed = λ j b. ap (λ (h : Held). is_one_of j (waiters_at h b)) items ∙ ap (is_one_of j) (waiters_after old.items a i b) ∙ at j b (is_same b a) refl;
+    once = λ b. subst (λ (h : Held). IsOnceEach (waiters_at h b)) (sym items) (subst IsOnceEach (sym (waiters_after old.items a i b)) (few b (is_same b a)));
+    absent = λ j b is. items_same b ∙ by_instance total tie old new i Running (Waiting a) was moves j (λ s. s ≡ Some (Waiting b) → item_at old.items b ≡ None)
+        (λ one waits. ap (item_at old.items) (sym (its_address waits)) ∙ none) (λ other waits. listed.absent j b waits) is;
+  }
+    where
+      its_address : {b : Addr} → Some (Waiting a) ≡ Some (Waiting b) → a ≡ b
+      its_address is = cc
+
+      few : (b : Addr) (s : Bool) → IsOnceEach (cond s (waiters_at old.items a ++ i ∷ []) (waiters_at old.items b))
+      few b true = once_more total tie (waiters_at old.items a) i (listed.once a) (listed.listed i a ∙ runs_not a)
+      few b false = listed.once b
+
+      at : (j : Inst) (b : Addr) (s : Bool) → is_same b a ≡ s → is_one_of j (cond s (waiters_at old.items a ++ i ∷ []) (waiters_at old.items b)) ≡ waits_at b (state_at new.instances j)
+      at j b true is =
+          list_any-append (eq_by_cmp inst_cmp j) (waiters_at old.items a) (i ∷ [])
+          ∙ by_instance total tie old new i Running (Waiting a) was moves j (λ s. (is_one_of j (waiters_at old.items a) || (eq_by_cmp inst_cmp j i || false)) ≡ waits_at b s)
+          (λ one. ap (λ c. is_one_of j (waiters_at old.items a) || (c || false)) (ap (λ (k : Inst). eq_by_cmp inst_cmp k i) one ∙ itself total tie i) ∙ or_true (is_one_of j (waiters_at old.items a)) ∙ sym is)
+          (λ other. ap (λ c. is_one_of j (waiters_at old.items a) || (c || false)) (apart j other) ∙ or_false (is_one_of j (waiters_at old.items a)) ∙ listed.listed j a
+          ∙ ap (λ (x : Addr). waits_at x (state_at old.instances j)) (sym (same_address b a is)))
+        where
+          apart : (j : Inst) → j ≢ i → eq_by_cmp inst_cmp j i ≡ false
+          apart j other = test (eq_by_cmp inst_cmp j i) refl
+            where
+              test : (c : Bool) → eq_by_cmp inst_cmp j i ≡ c → c ≡ false
+              test true is = absurd (other (one_instance total tie j i is))
+              test false is = refl
+      at j b false is =
+          by_instance total tie old new i Running (Waiting a) was moves j (λ s. is_one_of j (waiters_at old.items b) ≡ waits_at b s)
+          (λ one. listed.listed j b ∙ ap (waits_at b) (ap (state_at old.instances) one ∙ was) ∙ sym is)
+          (λ other. listed.listed j b)
+
+  pub parked_is_of : (g : Graph) → IsOf g old → Needs g (facts_of old) i a → IsOf g new
+  parked_is_of g is needs =
+      same_is_of g old new is (facts_stay total tie old new i Running (Waiting a) was moves items_same fault refl) (environment_stays total tie old new i Running (Waiting a) was moves items_same fault)
+      (ap (λ (h : Held). length h.items.room) items) (ap (λ (t : Numbered Bool). length t.room) moves.tags) moves.prescribers
+      (λ j b. by_instance total tie old new i Running (Waiting a) was moves j (λ s. s ≡ Some (Waiting b) → Needs g (facts_of old) j b)
+      (λ one waits. subst (λ (x : Addr). Needs g (facts_of old) j x) (its_address waits) (subst (λ (k : Inst). Needs g (facts_of old) k a) (sym one) needs)) (λ other waits. is.needs j b waits))
+      parked_listed
+    where
+      its_address : {b : Addr} → Some (Waiting a) ≡ Some (Waiting b) → a ≡ b
+      its_address is = cc
+
+-- a claim leaves what a store holds
+pub claimed_is_of : (total : IsTotalOrder inst_cmp) (tie : IsAntisymmetric inst_cmp) (g : Graph) (old new : Memory) (ready at : ℕ) (result : Option Inst) → new.items ≡ old.items → new.fault ≡ old.fault
+    → (at < ready → IsSome result) → (ready ≤ at → (result ≡ None) × (new.instances ≡ old.instances))
+    → IfSome result (λ task. (state_at old.instances task ≡ Some Ready) × MovesOne old.instances new.instances task Running) → IsOf g old → IsOf g new
+claimed_is_of total tie g old new ready at (Some task) items fault some none claimed is = moved_is_of total tie old new task Ready Running claimed.0 claimed.1 items fault g is refl (λ a. refl) (λ a. refl)
+claimed_is_of total tie g old new ready at None items fault some none claimed is =
+    subst (IsOf g) (sym same) is
+  where
+    past : ready ≤ at
+    past = elim (cases_lt at ready) [ inl less ↦ absurd (false≢true (some less)) | inr more ↦ more ]
+
+    same : new ≡ old
+    same j = record { items = items j; instances = (none past).1 j; fault = fault j }
+
+pub without_fault : (fault : Option (Inst × FaultKind)) → is_some fault ≡ false → (i : Inst) (kind : FaultKind) → is_fault fault i kind ≡ false
+without_fault None is i kind = refl
+without_fault (Some there) is i kind = absurd (false≢true (sym is))
+
+-- what a claim tells
+pub claim_tells : (total : IsTotalOrder inst_cmp) (tie : IsAntisymmetric inst_cmp) (g : Graph) (old new : Memory) (result : Option Inst) → new.items ≡ old.items → new.fault ≡ old.fault → HasNoFault (facts_of old)
+    → IfSome result (λ task. (state_at old.instances task ≡ Some Ready) × MovesOne old.instances new.instances task Running)
+    → IfSome result (λ task. HasNoFault (facts_of old) × (state_at old.instances task ≡ Some Ready) × Moves (record { graph = g; memory = old }) (record { graph = g; memory = new }) task Running)
+claim_tells total tie g old new None items fault working claimed = tt
+claim_tells total tie g old new (Some task) items fault working claimed =
+    (working, claimed.0, moves_of total tie old new task Ready Running claimed.0 claimed.1 items fault g refl)

@@ -1,0 +1,142 @@
+-- What a store holds where only room comes.
+use Rattle.std.proofs.Common.{◌≡◌, ◌≢◌, ◌∙◌, ap, sym, refl, subst, ℕ, zero, suc, ℤ, ◌==◌, ◌<◌, ◌≤◌, ◌⊎◌, inl, inr, Bool, true, false, List, [], ◌∷◌, length, drop, slice_get, get_or, Option, Some, None, is_some, arith}
+use Rattle.std.proofs.lemmas.Bool.{false≢true}
+use Rattle.std.specs.Cmp.{unsigned_Decides}
+use Rattle.std.specs.List.{AllByRecursion}
+use Rattle.std.specs.Option.{unwrap_or}
+use Rattle.std.specs.FinMap.{get, FinMap}
+use Rattle.terms.specs.declared.name.Addr.{Addr}
+use Rattle.terms.specs.declared.name.Tag.{Tag}
+use Rattle.terms.specs.declared.name.Inst.{Inst}
+use Rattle.terms.specs.declared.name.ItemCollection.{ItemCollection}
+use Rattle.terms.specs.declared.name.TagCollection.{TagCollection}
+use Rattle.terms.specs.declared.fault.FaultKind.{FaultKind}
+use Rattle.terms.specs.declared.producer.Producer.{Producer}
+use Rattle.terms.specs.declared.producer.Producer.TheVariants.{Env, By}
+use Rattle.terms.specs.declared.put.Put.{Put}
+use Rattle.terms.specs.declared.put.Put.TheVariants as put
+use Rattle.terms.specs.Facts.{Fact, tag, item, done, bad}
+use Rattle.maps.specs.Numbered.{Place, place_cmp, OnlyMakesRoom as MapMakesRoom}
+use Rattle.graph.specs.Graph.{Graph}
+use Rattle.items.specs.Held.{Held, place, item_at, waiters_at}
+use Rattle.items.specs.Held as items
+use Rattle.instances.specs.Known.{Known, mark_of, tag_place, state_at, prescriber_at}
+use Rattle.instances.specs.Known as instances
+use Rattle.instances.specs.declared.state.State.TheVariants.{Waiting}
+use Rattle.machine.specs.declared.memory.Memory.{Memory}
+use Rattle.machine.specs.Machine.{Machine, HasRoomFor, OnlyMakesRoom}
+use Rattle.machine.specs.Memory.{is_item, is_done, is_fault, waits_at, facts_of, environment_of, AreListed, IsOf, IsOnceEach}
+use Rattle.machine.specs.Room.{GivesRoom}
+use Rattle.machine.specs.Waking.{is_one_of}
+use Rattle.machine.proofs.Worked.{same_is_of}
+
+module _ (old new : Memory) (same_items : (a : Addr) → item_at new.items a ≡ item_at old.items a) (marks : (name : Tag) → mark_of new.instances name ≡ mark_of old.instances name)
+    (states : (i : Inst) → state_at new.instances i ≡ state_at old.instances i) (fault : new.fault ≡ old.fault) where
+  same_facts : (fact : Fact) → facts_of new fact ≡ facts_of old fact
+  same_facts (tag name) = ap is_some (marks name)
+  same_facts (item a v by) = ap (λ (o : Option (ℤ × Producer)). is_item o v by) (same_items a)
+  same_facts (done i) = ap is_done (states i)
+  same_facts (bad i kind) = ap (λ (f : Option (Inst × FaultKind)). is_fault f i kind) fault
+
+  same_environment : (fact : Fact) → environment_of new fact ≡ environment_of old fact
+  same_environment (tag name) = ap (λ (o : Option Bool). unwrap_or o false) (marks name)
+  same_environment (item a v Env) = ap (λ (o : Option (ℤ × Producer)). is_item o v Env) (same_items a)
+  same_environment (item a v (By i n)) = refl
+  same_environment (done i) = refl
+  same_environment (bad i kind) = refl
+
+  only_room : (g : Graph) → OnlyMakesRoom (record { graph = g; memory = old }) (record { graph = g; memory = new })
+  only_room g = record { graph = refl; facts = same_facts; environment = same_environment; states = states }
+
+  same_listed : ((a : Addr) → waiters_at new.items a ≡ waiters_at old.items a) → AreListed old → AreListed new
+  same_listed waiters listed = record {
+    listed = λ i a. ap (is_one_of i) (waiters a) ∙ listed.listed i a ∙ ap (waits_at a) (sym (states i));
+    once = λ a. subst IsOnceEach (sym (waiters a)) (listed.once a);
+    absent = λ i a here. same_items a ∙ listed.absent i a (sym (states i) ∙ here);
+  }
+
+  still_is_of : (g : Graph) → IsOf g old → ((a : Addr) → waiters_at new.items a ≡ waiters_at old.items a) → length new.items.items.room ≡ length old.items.items.room
+      → length new.instances.tags.room ≡ length old.instances.tags.room → ((number : ℕ) → prescriber_at new.instances number ≡ prescriber_at old.instances number) → IsOf g new
+  still_is_of g is waiters item_rooms tag_rooms prescribers =
+      same_is_of g old new is same_facts same_environment item_rooms tag_rooms prescribers (λ i a here. is.needs i a (sym (states i) ∙ here)) (same_listed waiters is.listed)
+
+-- where there is not less at one number, and as much at the others
+not_less_at : (k n : ℕ) (old new : ℕ → ℕ) → old n ≤ new n → (k ≢ n → new k ≡ old k) → old k ≤ new k
+not_less_at k n old new here others = at (k == n) refl
+  where
+    at : (b : Bool) → (k == n) ≡ b → old k ≤ new k
+    at true is = subst (λ (j : ℕ). old j ≤ new j) (sym ((unsigned_Decides k n).0 is)) here
+    at false is = (let same = others (λ one. false≢true (sym is ∙ (unsigned_Decides k n).1 one)) in omega (arith, same))
+
+-- ---- items
+
+module _ (old : Memory) (held : Held) (collection : ItemCollection) (grows : MapMakesRoom old.items.items held.items collection.0) (waiting : held.waiting ≡ old.items.waiting) where
+  abbrev pub with_items : Memory
+  with_items = record { items = held; instances = old.instances; fault = old.fault }
+
+  items_stay : (a : Addr) → item_at held a ≡ item_at old.items a
+  items_stay a = ap (λ (m : FinMap place_cmp (ℤ × Producer)). get m (place a)) grows.items
+
+  pub items_is_of : (g : Graph) → IsOf g old → IsOf g with_items
+  items_is_of g is =
+      still_is_of old with_items items_stay (λ name. refl) (λ i. refl) refl g is
+      (λ a. ap (λ (w : FinMap place_cmp (List Inst)). unwrap_or (get w (place a)) []) waiting) grows.other_room.collections refl (λ n. refl)
+
+  pub items_give_room : (g : Graph) → GivesRoom (record { graph = g; memory = old }) (record { graph = g; memory = with_items })
+  items_give_room g = record {
+    only = only_room old with_items items_stay (λ name. refl) (λ i. refl) refl g;
+    item_room = λ c. not_less_at c.0 collection.0 (λ k. get_or old.items.items.room k 0) (λ k. get_or held.items.room k 0) grows.not_less (grows.other_room.others c.0);
+    tag_room = λ c. omega arith;
+  }
+
+-- ---- tags
+
+module _ (old : Memory) (known : Known) (collection : TagCollection) (grows : instances.OnlyMakesRoom old.instances known collection) where
+  abbrev pub with_tags : Memory
+  with_tags = record { items = old.items; instances = known; fault = old.fault }
+
+  marks_stay : (name : Tag) → mark_of known name ≡ mark_of old.instances name
+  marks_stay name = ap (λ (m : FinMap place_cmp Bool). get m (tag_place name)) grows.tags
+
+  pub tags_is_of : (g : Graph) → IsOf g old → IsOf g with_tags
+  tags_is_of g is =
+      still_is_of old with_tags (λ a. refl) marks_stay grows.states refl g is (λ a. refl) refl grows.tag_collections grows.prescribers
+
+  pub tags_give_room : (g : Graph) → GivesRoom (record { graph = g; memory = old }) (record { graph = g; memory = with_tags })
+  tags_give_room g = record {
+    only = only_room old with_tags (λ a. refl) marks_stay grows.states refl g;
+    item_room = λ c. omega arith;
+    tag_room = λ c. not_less_at c.0 collection.0 (λ (k : ℕ). instances.room_for old.instances (record { 0 = k })) (λ (k : ℕ). instances.room_for known (record { 0 = k })) grows.not_less (grows.other_room c);
+  }
+
+-- ---- one behind the other
+
+pub no_room : (m : Machine) → GivesRoom m m
+no_room m = record {
+  only = record { graph = refl; facts = λ fact. refl; environment = λ fact. refl; states = λ i. refl };
+  item_room = λ c. omega arith;
+  tag_room = λ c. omega arith;
+}
+
+pub more_room : (old mid new : Machine) → GivesRoom old mid → GivesRoom mid new → GivesRoom old new
+more_room old mid new first then_more = record {
+  only = record {
+    graph = then_more.only.graph ∙ first.only.graph;
+    facts = λ fact. then_more.only.facts fact ∙ first.only.facts fact;
+    environment = λ fact. then_more.only.environment fact ∙ first.only.environment fact;
+    states = λ i. then_more.only.states i ∙ first.only.states i;
+  };
+  item_room = λ c. (let one = first.item_room c in let two = then_more.item_room c in omega (arith, one, two));
+  tag_room = λ c. (let one = first.tag_room c in let two = then_more.tag_room c in omega (arith, one, two));
+}
+
+-- what had room has it still
+pub room_stays : (old new : Machine) → GivesRoom old new → (count : ℕ) (one : Put) → HasRoomFor old count one → HasRoomFor new count one
+room_stays old new gives count (put.Item address value) has = (let more = gives.item_room address.collection in omega (arith, has, more))
+room_stays old new gives count (put.Tag name) has = (let more = gives.tag_room name.collection in omega (arith, has, more))
+
+-- what holds of each holds at a number
+pub all_at : (P : Put → Type 0) (n : ℕ) (puts : List Put) (one : Put) → AllByRecursion P puts → n < length puts → one ≡ get_or puts n one → P one
+all_at P n [] one all within is = absurd (omega (arith, within))
+all_at P zero (first ∷ rest) one all within is = subst P (sym is) all.0
+all_at P (suc n) (first ∷ rest) one all within is = all_at P n rest one all.1 (omega (arith, within)) is

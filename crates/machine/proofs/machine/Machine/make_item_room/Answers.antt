@@ -1,0 +1,6 @@
+use Rattle.std.proofs.Common.{refl}
+use Rattle.machine.proofs.Roomier.{items_is_of}
+use Rattle.machine.proofs.machine.Machine.make_item_room.Goals as goal
+
+pub invariant_of-self : goal.invariant_of-self
+invariant_of-self c = (items_is_of c.self.inside.memory c.make_room.new.self c.args.collection c.make_room.ensures.grows c.make_room.ensures.waiting c.self.inside.graph.value c.self.invariant.0, c.self.invariant.1)

@@ -1,0 +1,66 @@
+use Rattle.std.proofs.Common.{◌≡◌, ◌∙◌, Some, ap, sym, subst, refl, true, cond, is_some, None}
+use Rattle.terms.specs.declared.name.Inst.{Inst}
+use Rattle.graph.specs.Fits.{IsAbsent}
+use Rattle.items.specs.Held.{Held, item_at, with_waiter}
+use Rattle.instances.specs.declared.state.State.{State}
+use Rattle.instances.specs.declared.state.State.TheVariants.{Ready, Running, Waiting}
+use Rattle.machine.specs.declared.memory.Memory.{Memory}
+use Rattle.machine.specs.Legal.{Needs}
+use Rattle.machine.specs.Memory.{is_item}
+use Rattle.machine.specs.Machine.{Machine, Moves, facts, state_of}
+use Rattle.machine.proofs.Worked.{moved_is_of, moves_of}
+use Rattle.machine.proofs.Parked.{no_item, parked_is_of}
+use Rattle.machine.proofs.machine.Machine.park.Goals as goal
+
+pub invariant_of-self : goal.invariant_of-self
+invariant_of-self c =
+    let old = c.self.inside.memory in
+    let new : Memory = record { items = old.items; instances = c.release.new.self; fault = old.fault } in
+    let was = subst (λ (m : Machine). state_of m c.args.task ≡ Some Running) (sym c.self.view_is) c.requires.running in
+    (moved_is_of c.orders_are_total.ensures.instances c.orders_are_total.ensures.instances_tie old new c.args.task Running Ready was c.release.ensures refl refl c.self.inside.graph.value c.self.invariant.0 refl (λ a. refl) (λ a. refl), c.self.invariant.1)
+
+pub returns-then-is_some-clause-ok : goal.returns-then-is_some-clause-ok
+returns-then-is_some-clause-ok c =
+    let old = c.self.inside.memory in
+    let g = c.self.inside.graph.value in
+    let new : Memory = record { items = old.items; instances = c.release.new.self; fault = old.fault } in
+    let was = subst (λ (m : Machine). state_of m c.args.task ≡ Some Running) (sym c.self.view_is) c.requires.running in
+    let there : is_some (item_at old.items c.args.addr) ≡ true = ap is_some (sym c.get.ensures) ∙ sym c.if-is_some.ensures in
+    subst (λ (m : Machine). Moves m (record { graph = g; memory = new }) c.args.task (cond (is_some (item_at m.memory.items c.args.addr)) Ready (Waiting c.args.addr))) c.self.view_is
+    (subst (λ b. Moves (record { graph = g; memory = old }) (record { graph = g; memory = new }) c.args.task (cond b Ready (Waiting c.args.addr))) (sym there)
+    (moves_of c.orders_are_total.ensures.instances c.orders_are_total.ensures.instances_tie old new c.args.task Running Ready was c.release.ensures refl refl g refl))
+
+pub invariant_of-self-in-Ok : goal.invariant_of-self-in-Ok
+invariant_of-self-in-Ok c =
+    let old = c.self.inside.memory in
+    let g = c.self.inside.graph.value in
+    let new : Memory = record { items = c.wait_on.new.self; instances = c.park.new.self; fault = old.fault } in
+    let was = subst (λ (m : Machine). state_of m c.args.task ≡ Some Running) (sym c.self.view_is) c.requires.running in
+    let needs = subst (λ (m : Machine). IsAbsent (facts m) c.args.addr → Needs m.graph (facts m) c.args.task c.args.addr) (sym c.self.view_is) c.requires.needs in
+    let none : item_at old.items c.args.addr ≡ None = sym c.get.ensures ∙ no_item c.get.result (sym c.if-is_some.ensures) in (
+      parked_is_of c.orders_are_total.ensures.instances c.orders_are_total.ensures.instances_tie old new c.args.task c.args.addr was c.park.ensures
+          (c.in-Ok.ensures.ok ∙ ap (with_waiter old.items c.args.addr) c.inst.ensures) refl none c.self.invariant.0.listed g c.self.invariant.0 (needs (λ value by. ap (λ o. is_item o value by) none)),
+      c.self.invariant.1,
+    )
+
+pub invariant_of-self-in-Err : goal.invariant_of-self-in-Err
+invariant_of-self-in-Err c =
+    let old = c.self.inside.memory in
+    let new : Memory = record { items = c.wait_on.new.self; instances = c.release-in-Err.new.self; fault = old.fault } in
+    let was = subst (λ (m : Machine). state_of m c.args.task ≡ Some Running) (sym c.self.view_is) c.requires.running in (
+      moved_is_of c.orders_are_total.ensures.instances c.orders_are_total.ensures.instances_tie old new c.args.task Running Ready was c.release-in-Err.ensures
+          c.in-Err.ensures.refused refl c.self.inside.graph.value c.self.invariant.0 refl (λ a. refl) (λ a. refl),
+      c.self.invariant.1,
+    )
+
+pub returns-in-Err-clause-refused : goal.returns-in-Err-clause-refused
+returns-in-Err-clause-refused c =
+    let old = c.self.inside.memory in
+    let g = c.self.inside.graph.value in
+    let new : Memory = record { items = c.wait_on.new.self; instances = c.release-in-Err.new.self; fault = old.fault } in
+    let was = subst (λ (m : Machine). state_of m c.args.task ≡ Some Running) (sym c.self.view_is) c.requires.running in
+    let none : item_at old.items c.args.addr ≡ None = sym c.get.ensures ∙ no_item c.get.result (sym c.if-is_some.ensures) in
+    subst (λ (m : Machine). IsAbsent (facts m) c.args.addr × Moves m (record { graph = g; memory = new }) c.args.task Ready) c.self.view_is (
+      λ value by. ap (λ o. is_item o value by) none,
+      moves_of c.orders_are_total.ensures.instances c.orders_are_total.ensures.instances_tie old new c.args.task Running Ready was c.release-in-Err.ensures c.in-Err.ensures.refused refl g refl,
+    )

@@ -1,0 +1,12 @@
+use Rattle.std.proofs.Common.{◌≡◌, ◌∙◌, sym, ap, subst, true, ℤ, rules}
+use Rattle.items.specs.Held.{item_at}
+use Rattle.machine.specs.Machine.{Machine}
+use Rattle.machine.specs.Memory.{is_item}
+use Rattle.machine.proofs.Coming.{item_is_there}
+use Rattle.machine.proofs.machine.Machine.value_at.Goals as goal
+
+pub returns-in-Some : goal.returns-in-Some
+returns-in-Some c =
+    let there = subst (λ (m : Machine). is_item (item_at m.memory.items c.args.addr) c.in-Some.value c.in-Some.field-0-1 ≡ true) c.self.view_is
+    (item_is_there c.facts_are_told_apart.ensures.one c.args.addr (item_at c.self.inside.memory.items c.args.addr) c.in-Some.value c.in-Some.field-0-1 (sym c.get.ensures ∙ c.in-Some.is)) in
+    (c.in-Some.field-0-1, search (rules, there))

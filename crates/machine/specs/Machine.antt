@@ -1,0 +1,175 @@
+-- The state of a store in memory: its graph and what it holds; what each call makes of it, and why one is refused.
+use Rattle.std.specs.Prelude.{◌≡◌, ◌≢◌, ◌⊎◌, ⊤, ℕ, ℤ, ◌<◌, ◌≤◌, true, false, List, [], ◌∷◌, length, get_or, slice_get, Option, Some, None, IsSome}
+use Rattle.std.specs.List.{AllByRecursion}
+use Rattle.terms.specs.declared.name.Addr.{Addr}
+use Rattle.terms.specs.declared.name.Tag.{Tag}
+use Rattle.terms.specs.declared.name.Inst.{Inst}
+use Rattle.terms.specs.declared.fault.FaultKind.{FaultKind}
+use Rattle.terms.specs.declared.fault.FaultKind.TheVariants.{DoublePut}
+use Rattle.terms.specs.declared.producer.Producer.{Producer}
+use Rattle.terms.specs.declared.put.Put.{Put}
+use Rattle.terms.specs.declared.put.Put.TheVariants as put
+use Rattle.terms.specs.declared.event.Event.{Event}
+use Rattle.terms.specs.declared.event.Event.TheVariants as event
+use Rattle.terms.specs.Facts.{Fact, tag, item, bad, event_facts, environment_facts}
+use Rattle.terms.specs.Sets.{Facts, with_facts}
+use Rattle.steptree.specs.Nameable.{Collection}
+use Rattle.graph.specs.Graph.{Graph, EnvironmentMayPutItem, EnvironmentMayPutTag}
+use Rattle.graph.specs.Fits.{HasNoFault, IsAbsent, AddressIsOf, TagIsOf}
+use Rattle.items.specs.Held as items
+use Rattle.instances.specs.declared.state.State.{State}
+use Rattle.instances.specs.declared.state.State.TheVariants.{Ready, Running, Waiting, Done}
+use Rattle.instances.specs.OfStep.{is_ready, is_running}
+use Rattle.instances.specs.Known.{state_at, total}
+use Rattle.instances.specs.Known as instances
+use Rattle.machine.specs.declared.memory.Memory.{Memory}
+use Rattle.machine.specs.declared.refusal.Refusal.{Refusal}
+use Rattle.machine.specs.declared.refusal.Refusal.TheVariants.{NoSuchCollection, NotFromEnvironment, WrongArity, AlreadyPut, Stopped, Repeat}
+use Rattle.machine.specs.declared.end.End.{End}
+use Rattle.machine.specs.declared.end.End.TheVariants as end
+use Rattle.machine.specs.Memory.{facts_of, environment_of, GoesOn}
+
+pub record Machine : Type 0 where
+  pub graph : Graph
+  pub memory : Memory
+
+-- the facts that the store has, and those that the environment put
+abbrev pub facts : Machine → Facts
+facts m = facts_of m.memory
+
+abbrev pub environment : Machine → Facts
+environment m = environment_of m.memory
+
+-- the state of an instance, if it is prescribed
+abbrev pub state_of : Machine → Inst → Option State
+state_of m instance = state_at m.memory.instances instance
+
+-- how many instances are ready, and how many run
+abbrev pub ready_count : Machine → ℕ
+ready_count m = total is_ready m.memory.instances
+
+abbrev pub running_count : Machine → ℕ
+running_count m = total is_running m.memory.instances
+
+-- ---- changes
+
+-- the event ends this instance
+abbrev pub Ends : Event → Inst → Type 0
+Ends (event.EnvItem address value) instance = ⊥
+Ends (event.EnvTag name) instance = ⊥
+Ends (event.Done ended puts) instance = ended ≡ instance
+Ends (event.Stopped ended kind) instance = ended ≡ instance
+
+-- an instance that a fault ends is ready again
+abbrev pub GivesBack : Machine → Event → Type 0
+GivesBack new (event.EnvItem address value) = ⊤
+GivesBack new (event.EnvTag name) = ⊤
+GivesBack new (event.Done ended puts) = ⊤
+GivesBack new (event.Stopped ended kind) = state_of new ended ≡ Some Ready
+
+-- The event is taken: its facts come, and of them the environment put its own. Other instances go on: those that wait for an item that came
+-- are ready, and those that tags prescribe.
+pub record Takes (old new : Machine) (event : Event) : Type 0 where
+  pub graph : new.graph ≡ old.graph
+  pub facts : (fact : Fact) → facts new fact ≡ with_facts (facts old) (event_facts event) fact
+  pub environment : (fact : Fact) → environment new fact ≡ with_facts (environment old) (environment_facts event) fact
+  pub states : (instance : Inst) → (Ends event instance → ⊥) → GoesOn new.memory (state_of old instance) (state_of new instance)
+  pub given_back : GivesBack new event
+
+-- one instance comes into a state, and no fact changes, nor another instance
+pub record Moves (old new : Machine) (instance : Inst) (to : State) : Type 0 where
+  pub graph : new.graph ≡ old.graph
+  pub facts : (fact : Fact) → facts new fact ≡ facts old fact
+  pub environment : (fact : Fact) → environment new fact ≡ environment old fact
+  pub here : state_of new instance ≡ Some to
+  pub others : (other : Inst) → other ≢ instance → state_of new other ≡ state_of old other
+
+-- ---- room
+
+-- the collection of the put has room for so many
+abbrev pub HasRoomFor : Machine → ℕ → Put → Type 0
+HasRoomFor m count (put.Item address value) = count ≤ items.room_for m.memory.items address.collection
+HasRoomFor m count (put.Tag name) = count ≤ instances.room_for m.memory.instances name.collection
+
+-- there is room for all puts of the list
+abbrev pub HasRoom : Machine → List Put → Type 0
+HasRoom m puts = AllByRecursion (HasRoomFor m (length puts)) puts
+
+-- more room, and else nothing changes
+pub record OnlyMakesRoom (old new : Machine) : Type 0 where
+  pub graph : new.graph ≡ old.graph
+  pub facts : (fact : Fact) → facts new fact ≡ facts old fact
+  pub environment : (fact : Fact) → environment new fact ≡ environment old fact
+  pub states : (instance : Inst) → state_of new instance ≡ state_of old instance
+
+-- ---- refusals
+
+-- there is a collection with this number, and its keys have another number of components
+abbrev pub HasOther : List Collection → ℕ → ℕ → Type 0
+HasOther collections number components = (collection : Collection) × (slice_get collections number ≡ Some collection) × (collection.components ≢ components)
+
+-- why there may be no second item: there is one, with this value
+abbrev pub RefusesSecond : Machine → Addr → Refusal → Type 0
+RefusesSecond m address (AlreadyPut value) = (by : Producer) × (facts m (item address value by) ≡ true)
+RefusesSecond m address NoSuchCollection = ⊥
+RefusesSecond m address WrongArity = ⊥
+RefusesSecond m address NotFromEnvironment = ⊥
+RefusesSecond m address (Stopped instance kind) = ⊥
+RefusesSecond m address Repeat = ⊥
+
+-- why the environment may not put an item: the first of these that is so
+abbrev pub RefusesItem : Machine → Addr → Refusal → Type 0
+RefusesItem m address NoSuchCollection = slice_get m.graph.items address.collection.0 ≡ None
+RefusesItem m address WrongArity = HasOther m.graph.items address.collection.0 (length address.key)
+RefusesItem m address NotFromEnvironment = AddressIsOf m.graph address × (get_or m.graph.environment_item_puts address.collection.0 false ≡ false)
+RefusesItem m address (Stopped instance kind) = EnvironmentMayPutItem m.graph address × (facts m (bad instance kind) ≡ true)
+RefusesItem m address (AlreadyPut value) = EnvironmentMayPutItem m.graph address × HasNoFault (facts m) × ((by : Producer) × (facts m (item address value by) ≡ true))
+RefusesItem m address Repeat = ⊥
+
+-- why it may not put a tag
+abbrev pub RefusesTag : Machine → Tag → Refusal → Type 0
+RefusesTag m name NoSuchCollection = slice_get m.graph.tags name.collection.0 ≡ None
+RefusesTag m name WrongArity = HasOther m.graph.tags name.collection.0 (length name.key)
+RefusesTag m name NotFromEnvironment = TagIsOf m.graph name × (get_or m.graph.environment_tag_puts name.collection.0 false ≡ false)
+RefusesTag m name (Stopped instance kind) = EnvironmentMayPutTag m.graph name × (facts m (bad instance kind) ≡ true)
+RefusesTag m name Repeat = EnvironmentMayPutTag m.graph name × HasNoFault (facts m) × (facts m (tag name) ≡ true)
+RefusesTag m name (AlreadyPut value) = ⊥
+
+-- why an instance may not end: the store has a fault
+abbrev pub RefusesEnd : Machine → Refusal → Type 0
+RefusesEnd m (Stopped instance kind) = facts m (bad instance kind) ≡ true
+RefusesEnd m NoSuchCollection = ⊥
+RefusesEnd m WrongArity = ⊥
+RefusesEnd m NotFromEnvironment = ⊥
+RefusesEnd m (AlreadyPut value) = ⊥
+RefusesEnd m Repeat = ⊥
+
+-- the event by which an instance ends whose body gave these puts
+abbrev pub event_of : End → Inst → List Put → Event
+event_of end.Done instance puts = event.Done instance puts
+event_of end.DoublePut instance puts = event.Stopped instance DoublePut
+
+-- ---- reads
+
+-- this is what is at the address: the value of an item there, or none where there is no item
+abbrev pub IsValueAt : Facts → Addr → Option ℤ → Type 0
+IsValueAt X address None = IsAbsent X address
+IsValueAt X address (Some value) = (by : Producer) × (X (item address value by) ≡ true)
+
+-- why a step may not read an item: the first of these that is so
+abbrev pub RefusesRead : Machine → Addr → Refusal → Type 0
+RefusesRead m address NoSuchCollection = slice_get m.graph.items address.collection.0 ≡ None
+RefusesRead m address WrongArity = HasOther m.graph.items address.collection.0 (length address.key)
+RefusesRead m address NotFromEnvironment = ⊥
+RefusesRead m address (Stopped instance kind) = ⊥
+RefusesRead m address (AlreadyPut value) = ⊥
+RefusesRead m address Repeat = ⊥
+
+-- why the environment may not get one
+abbrev pub RefusesGet : Machine → Addr → Refusal → Type 0
+RefusesGet m address NoSuchCollection = slice_get m.graph.items address.collection.0 ≡ None
+RefusesGet m address WrongArity = HasOther m.graph.items address.collection.0 (length address.key)
+RefusesGet m address NotFromEnvironment = AddressIsOf m.graph address × (get_or m.graph.environment_gets address.collection.0 false ≡ false)
+RefusesGet m address (Stopped instance kind) = ⊥
+RefusesGet m address (AlreadyPut value) = ⊥
+RefusesGet m address Repeat = ⊥

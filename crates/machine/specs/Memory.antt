@@ -1,0 +1,134 @@
+-- What a store holds in memory, as sets of facts, and what each change makes of them.
+use Rattle.std.specs.Prelude.{◌≡◌, ◌≢◌, ◌⊎◌, ⊤, ℕ, ℤ, ◌+◌, ◌<◌, ◌≤◌, Bool, true, false, ◌&&◌, ◌==◌, List, [], ◌∷◌, length, slice_get, Option, Some, None, IsSome, is_some}
+use Rattle.std.specs.Option.{option_map, unwrap_or}
+use Rattle.std.specs.Ordering.{is_eq, int_eq}
+use Rattle.terms.specs.declared.name.Addr.{Addr}
+use Rattle.terms.specs.declared.name.Inst.{Inst}
+use Rattle.terms.specs.declared.name.ItemCollection.{ItemCollection}
+use Rattle.terms.specs.declared.name.TagCollection.{TagCollection}
+use Rattle.terms.specs.declared.fault.FaultKind.{FaultKind}
+use Rattle.terms.specs.declared.producer.Producer.{Producer}
+use Rattle.terms.specs.declared.producer.Producer.TheVariants.{Env, By}
+use Rattle.terms.specs.declared.put.TheConstants.{MOST_PUTS}
+use Rattle.terms.specs.Fault.{fault_number}
+use Rattle.terms.specs.Name.{inst_cmp}
+use Rattle.terms.specs.Put.{producer_cmp}
+use Rattle.terms.specs.Same.{is_same}
+use Rattle.terms.specs.declared.event.Event.{Event}
+use Rattle.terms.specs.Facts.{Fact, tag, item, done, bad, event_facts, environment_facts}
+use Rattle.terms.specs.Sets.{Facts, with_facts}
+use Rattle.graph.specs.Graph.{Graph, Step, IsGraph}
+use Rattle.graph.specs.Fits.{FitsState}
+use Rattle.items.specs.Held.{item_at, waiters_at}
+use Rattle.items.specs.Held as items
+use Rattle.instances.specs.declared.state.State.{State}
+use Rattle.instances.specs.declared.state.State.TheVariants.{Ready, Running, Waiting, Done}
+use Rattle.instances.specs.Known.{mark_of, state_at, prescriber_at}
+use Rattle.instances.specs.Known as instances
+use Rattle.machine.specs.declared.memory.Memory.{Memory}
+use Rattle.machine.specs.Legal.{Needs}
+use Rattle.machine.specs.Waking.{is_one_of}
+
+-- ---- the facts
+
+-- it is an item of this value by this producer
+abbrev pub is_item : Option (ℤ × Producer) → ℤ → Producer → Bool
+is_item None value by = false
+is_item (Some there) value by = int_eq there.0 value && is_eq (producer_cmp there.1 by)
+
+abbrev pub is_done : Option State → Bool
+is_done None = false
+is_done (Some Ready) = false
+is_done (Some Running) = false
+is_done (Some (Waiting address)) = false
+is_done (Some Done) = true
+
+-- it is the fault of this instance, of this kind
+abbrev pub is_fault : Option (Inst × FaultKind) → Inst → FaultKind → Bool
+is_fault None instance kind = false
+is_fault (Some there) instance kind = is_eq (inst_cmp there.0 instance) && (fault_number there.1 == fault_number kind)
+
+-- all that the store has
+abbrev pub facts_of : Memory → Facts
+facts_of m (tag name) = is_some (mark_of m.instances name)
+facts_of m (item address value by) = is_item (item_at m.items address) value by
+facts_of m (done instance) = is_done (state_at m.instances instance)
+facts_of m (bad instance kind) = is_fault m.fault instance kind
+
+-- what of it the environment put: the marked tags, and the items of its own
+abbrev pub environment_of : Memory → Facts
+environment_of m (tag name) = unwrap_or (mark_of m.instances name) false
+environment_of m (item address value Env) = is_item (item_at m.items address) value Env
+environment_of m (item address value (By instance number)) = false
+environment_of m (done instance) = false
+environment_of m (bad instance kind) = false
+
+-- ---- what is kept
+
+-- whether the instance waits at the address
+abbrev pub waits_at : Addr → Option State → Bool
+waits_at address None = false
+waits_at address (Some Ready) = false
+waits_at address (Some Running) = false
+waits_at address (Some (Waiting other)) = is_same address other
+waits_at address (Some Done) = false
+
+-- each instance stands in the list once
+abbrev pub IsOnceEach : List Inst → Type 0
+IsOnceEach [] = ⊤
+IsOnceEach (first ∷ others) = (is_one_of first others ≡ false) × IsOnceEach others
+
+-- those that wait at an address are listed there, each once, and no others; and the item is not there
+pub record AreListed (m : Memory) : Type 0 where
+  pub listed : (instance : Inst) (address : Addr) → is_one_of instance (waiters_at m.items address) ≡ waits_at address (state_at m.instances instance)
+  pub once : (address : Addr) → IsOnceEach (waiters_at m.items address)
+  pub absent : (instance : Inst) (address : Addr) → state_at m.instances instance ≡ Some (Waiting address) → item_at m.items address ≡ None
+
+-- the number of the tag collection that prescribes a step
+abbrev pub prescriber_of : Graph → ℕ → Option ℕ
+prescriber_of g number = option_map (λ (step : Step). step.prescriber) (slice_get g.steps number)
+
+-- What a store of this graph holds: its facts fit the graph, with one item an address; each collection of the graph is there, and each
+-- step with what prescribes it; each instance that waits needs the item, which is not there, and is listed.
+pub record IsOf (g : Graph) (m : Memory) : Type 0 where
+  pub graph : IsGraph g
+  pub fits : FitsState g (environment_of m) (facts_of m)
+  pub item_collections : length m.items.items.room ≡ length g.items
+  pub tag_collections : length m.instances.tags.room ≡ length g.tags
+  pub prescribers : (number : ℕ) → prescriber_at m.instances number ≡ prescriber_of g number
+  pub needs : (instance : Inst) (address : Addr) → state_at m.instances instance ≡ Some (Waiting address) → Needs g (facts_of m) instance address
+  pub listed : AreListed m
+  pub numbered : (address : Addr) (value : ℤ) (instance : Inst) (number : ℕ) → facts_of m (item address value (By instance number)) ≡ true → number < MOST_PUTS
+
+-- ---- what changes
+
+-- How the state of an instance goes on where facts come: one that was not prescribed may be ready; one that waits becomes ready where the
+-- item is there, and only there; the others stay.
+abbrev pub GoesOn : Memory → Option State → Option State → Type 0
+GoesOn new None to = (to ≡ None) ⊎ (to ≡ Some Ready)
+GoesOn new (Some (Waiting address)) to = ((item_at new.items address ≡ None) × (to ≡ Some (Waiting address))) ⊎ (IsSome (item_at new.items address) × (to ≡ Some Ready))
+GoesOn new (Some Ready) to = to ≡ Some Ready
+GoesOn new (Some Running) to = to ≡ Some Running
+GoesOn new (Some Done) to = to ≡ Some Done
+
+-- These facts come, and of them the environment put some. The room of each collection is less by so many at most.
+pub record Grows (old new : Memory) (more given : List Fact) (count : ℕ) : Type 0 where
+  pub facts : (fact : Fact) → facts_of new fact ≡ with_facts (facts_of old) more fact
+  pub environment : (fact : Fact) → environment_of new fact ≡ with_facts (environment_of old) given fact
+  pub states : (instance : Inst) → GoesOn new (state_at old.instances instance) (state_at new.instances instance)
+  pub item_collections : length new.items.items.room ≡ length old.items.items.room
+  pub tag_collections : length new.instances.tags.room ≡ length old.instances.tags.room
+  pub prescribers : (number : ℕ) → prescriber_at new.instances number ≡ prescriber_at old.instances number
+  pub listed : AreListed new
+  pub item_room : (collection : ItemCollection) → items.room_for old.items collection ≤ items.room_for new.items collection + count
+  pub tag_room : (collection : TagCollection) → instances.room_for old.instances collection ≤ instances.room_for new.instances collection + count
+
+-- the event comes: its facts, and of them those of the environment; no instance begins to wait by it
+pub record Comes (old new : Memory) (event : Event) : Type 0 where
+  pub facts : (fact : Fact) → facts_of new fact ≡ with_facts (facts_of old) (event_facts event) fact
+  pub environment : (fact : Fact) → environment_of new fact ≡ with_facts (environment_of old) (environment_facts event) fact
+  pub waited : (instance : Inst) (address : Addr) → state_at new.instances instance ≡ Some (Waiting address) → state_at old.instances instance ≡ Some (Waiting address)
+  pub item_collections : length new.items.items.room ≡ length old.items.items.room
+  pub tag_collections : length new.instances.tags.room ≡ length old.instances.tags.room
+  pub prescribers : (number : ℕ) → prescriber_at new.instances number ≡ prescriber_at old.instances number
+  pub listed : AreListed new

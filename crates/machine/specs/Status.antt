@@ -1,0 +1,25 @@
+-- What a store tells of itself: its fault, whether anything is left to do, and which instances wait for which items.
+use Rattle.std.specs.Prelude.{◌≡◌, ◌↔◌, T, true, List, Option, Some}
+use Rattle.std.specs.FinMap.{find, is_sorted}
+use Rattle.terms.specs.Name.{inst_cmp}
+use Rattle.terms.specs.declared.name.Addr.{Addr}
+use Rattle.terms.specs.declared.name.Inst.{Inst}
+use Rattle.terms.specs.declared.fault.FaultKind.{FaultKind}
+use Rattle.terms.specs.Facts.{bad}
+use Rattle.instances.specs.declared.state.State.TheVariants.{Ready, Running, Waiting}
+use Rattle.machine.specs.State.{Waits}
+use Rattle.machine.specs.Machine.{Machine, facts, state_of}
+
+-- it is the instance at fault with the kind of its fault, if the store has a fault
+abbrev pub TellsFault : Machine → Option (Inst × FaultKind) → Type 0
+TellsFault m result = (instance : Inst) (kind : FaultKind) → (facts m (bad instance kind) ≡ true) ↔ (result ≡ Some (instance, kind))
+
+-- no instance is ready, and none runs
+abbrev pub NoneIsActive : Machine → Type 0
+NoneIsActive m = (instance : Inst) → (state_of m instance ≡ Some Ready → ⊥) × (state_of m instance ≡ Some Running → ⊥)
+
+-- the instances that wait, each with the address of the item that it needs, in order
+pub record AreBlocked (m : Machine) (list : List (Inst × Addr)) : Type 0 where
+  pub rises : T (is_sorted inst_cmp list)
+  pub each : (instance : Inst) (address : Addr) → (find inst_cmp instance list ≡ Some address) ↔ (state_of m instance ≡ Some (Waiting address))
+  pub waits : (instance : Inst) (address : Addr) → find inst_cmp instance list ≡ Some address → Waits m.graph (facts m) instance address

@@ -1,0 +1,59 @@
+use crate::Machine;
+use std::alloc::AllocError;
+use terms::{ItemCollection, Put, TagCollection};
+
+impl Machine {
+    ghost use Rattle.std.specs.Prelude.{◌≡◌, ◌<◌, ◌≤◌, OnErr, OnOk, length};
+    ghost use Rattle.std.specs.List.{AllByRecursion};
+    ghost use Rattle.graph.specs.Fits.{PutIsOf};
+    ghost use Rattle.items.specs.Held.{room_for};
+    ghost use Rattle.instances.specs.Known.{room_for as tags_for};
+    ghost use Rattle.machine.specs.Machine.{HasRoom, HasRoomFor};
+    ghost use Rattle.machine.specs.Room.{GivesRoom};
+
+    /// Makes room for all that these puts bring. A refusal comes only where there was less.
+    pub fn make_room(&mut self, puts: &[Put]) -> Result<(), AllocError>
+        requires { AllByRecursion (PutIsOf self.old.graph) puts.now }
+        ensures ok { OnOk result (HasRoom self.new puts.now) }
+        ensures grows { GivesRoom self.old self.new }
+        ensures refused { OnErr result (HasRoom self.old puts.now → ⊥) }
+    {
+        for number in 0..puts.len() {
+            self.make_room_for(puts[number], puts.len())?;
+        }
+        Ok(())
+    }
+
+    // Makes room for so many puts to the collection of this one.
+    fn make_room_for(&mut self, put: Put, count: usize) -> Result<(), AllocError>
+        requires { PutIsOf self.old.graph put }
+        ensures ok { OnOk result (HasRoomFor self.new count put) }
+        ensures grows { GivesRoom self.old self.new }
+        ensures refused { OnErr result (HasRoomFor self.old count put → ⊥) }
+    {
+        match put {
+            Put::Item(addr, _) => self.make_item_room(addr.collection, count),
+            Put::Tag(tag) => self.make_tag_room(tag.collection, count),
+        }
+    }
+
+    // Makes room for so many items of a collection.
+    fn make_item_room(&mut self, collection: ItemCollection, count: usize) -> Result<(), AllocError>
+        requires { collection.0 < length self.old.graph.items }
+        ensures ok { OnOk result (count ≤ room_for self.new.memory.items collection) }
+        ensures grows { GivesRoom self.old self.new }
+        ensures refused { OnErr result (room_for self.old.memory.items collection < count) }
+    {
+        self.memory.items.make_room(collection, count)
+    }
+
+    // Makes room for so many tags of a collection, with all that they prescribe.
+    fn make_tag_room(&mut self, collection: TagCollection, count: usize) -> Result<(), AllocError>
+        requires { collection.0 < length self.old.graph.tags }
+        ensures ok { OnOk result (count ≤ tags_for self.new.memory.instances collection) }
+        ensures grows { GivesRoom self.old self.new }
+        ensures refused { OnErr result (tags_for self.old.memory.instances collection < count) }
+    {
+        self.memory.instances.make_room(collection, count)
+    }
+}

@@ -1,0 +1,94 @@
+ghost use Rattle.std.specs.Prelude.{◌≡◌};
+ghost use Rattle.machine.specs.Producers.{is_environment as by_environment};
+
+use crate::waking::wake_all;
+use instances::Instances;
+use items::Items;
+use terms::{Addr, FaultKind, Inst, Producer, Put, Tag, facts_are_told_apart, orders_are_total};
+
+/// What a store holds: its items, its tags with the instances that they prescribe, and the fault, if there is one.
+#[derive(Drop)]
+pub(crate) struct Memory {
+    pub(crate) items: Items,
+    pub(crate) instances: Instances,
+    pub(crate) fault: Option<(Inst, FaultKind)>,
+}
+
+impl Memory {
+    ghost use Rattle.std.specs.Prelude.{◌≡◌, ◌<◌, ◌≤◌, [], ◌∷◌, length};
+    ghost use Rattle.terms.specs.declared.put.TheConstants.{MOST_PUTS};
+    ghost use Rattle.terms.specs.declared.put.Put.TheVariants.{Item, Tag as Name};
+    ghost use Rattle.terms.specs.Facts.{item, tag as name, put_facts};
+    ghost use Rattle.graph.specs.Fits.{IsAbsent};
+    ghost use Rattle.items.specs.Held.{IsOfCollection, room_for};
+    ghost use Rattle.instances.specs.Known.{room_for as tags_for};
+    ghost use Rattle.machine.specs.Memory.{AreListed, Grows, facts_of};
+    ghost use Rattle.machine.specs.Coming.{CanTake, CanTakeAll, IsNewTo, fact_of, given_by};
+
+    /// Puts what an instance put, one put behind the other.
+    pub(crate) fn put_all(&mut self, instance: Inst, puts: &[Put])
+        requires listed { AreListed self.old }
+        requires new { CanTakeAll self.old (length puts.now) puts.now }
+        requires few { length puts.now ≤ MOST_PUTS }
+        ensures { Grows self.old self.new (put_facts instance 0 puts.now) [] (length puts.now) }
+    {
+        facts_are_told_apart();
+        for number in 0..puts.len() {
+            let producer = instance;
+            self.put(Producer::By(producer, number as u32), puts[number]);
+        }
+    }
+
+    /// Puts an item that is not there, or a tag. A tag that is there stays as it is.
+    pub(crate) fn put(&mut self, producer: Producer, put: Put)
+        requires listed { AreListed self.old }
+        requires room { CanTake self.old 1 put }
+        requires new { IsNewTo self.old producer put }
+        ensures { Grows self.old self.new (fact_of producer put ∷ []) (given_by producer put) 1 }
+    {
+        match put {
+            Put::Item(addr, value) => self.put_item(addr, value, producer),
+            Put::Tag(tag) => self.put_tag(tag, producer),
+        }
+    }
+
+    // Puts an item that is not there, and makes those ready that wait for it.
+    fn put_item(&mut self, addr: Addr, value: i64, producer: Producer)
+        requires listed { AreListed self.old }
+        requires absent { IsAbsent (facts_of self.old) addr }
+        requires collection { IsOfCollection self.old.items addr.collection }
+        requires room { 0 < room_for self.old.items addr.collection }
+        ensures { Grows self.old self.new (item addr value producer ∷ []) (given_by producer (Item addr value)) 1 }
+    {
+        facts_are_told_apart();
+        orders_are_total();
+        let place = addr;
+        let waiters = self.items.take_waiters(place);
+        wake_all(&mut self.instances, &waiters);
+        let _ = self.items.put(addr, value, producer);
+    }
+
+    // Puts a tag, if it is not there.
+    fn put_tag(&mut self, tag: Tag, producer: Producer)
+        requires listed { AreListed self.old }
+        requires room { 0 < tags_for self.old.instances tag.collection }
+        requires new { IsNewTo self.old producer (Name tag) }
+        ensures { Grows self.old self.new (name tag ∷ []) (given_by producer (Name tag)) 1 }
+    {
+        self.instances.are_there_together();
+        let name = tag;
+        if self.instances.mark(name).is_none() {
+            self.instances.prescribe(tag, is_environment(&producer));
+        }
+    }
+}
+
+// Whether the environment is the producer.
+fn is_environment(producer: &Producer) -> bool
+    ensures { result ≡ by_environment producer.now }
+{
+    match producer {
+        Producer::Env => true,
+        Producer::By(_, _) => false,
+    }
+}

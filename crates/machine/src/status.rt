@@ -1,0 +1,53 @@
+use crate::Machine;
+use std::alloc::{AllocError, Global};
+use terms::{Addr, FaultKind, Inst, facts_are_told_apart, orders_are_total};
+
+impl Machine {
+    ghost use Rattle.std.specs.Prelude.{◌≡◌, ◌↔◌, ◌-◌, ◌^◌, IfOk, IsTrue, min};
+    ghost use Rattle.graph.specs.Fits.{HasNoFault};
+    ghost use Rattle.machine.specs.Legal.{IsQuiet};
+    ghost use Rattle.machine.specs.Machine.{facts, ready_count, running_count};
+    ghost use Rattle.machine.specs.Status.{AreBlocked, NoneIsActive, TellsFault};
+
+    /// The instance at fault, if there is one.
+    pub fn fault(&self) -> Option<(Inst, FaultKind)>
+        ensures { TellsFault self.now result }
+    {
+        facts_are_told_apart();
+        self.memory.fault
+    }
+
+    /// Whether no instance is ready, none runs, and there is no fault: then nothing is left to do.
+    pub fn is_quiet(&self) -> bool
+        ensures exact { IsTrue result ↔ (HasNoFault (facts self.now) × NoneIsActive self.now) }
+        ensures quiet { IsTrue result → IsQuiet self.now.graph (facts self.now) }
+    {
+        facts_are_told_apart();
+        orders_are_total();
+        self.memory.instances.are_there_together();
+        self.memory.fault.is_none() && self.memory.instances.is_quiet()
+    }
+
+    /// How many instances are ready, or the greatest `usize` where they are more.
+    pub fn ready(&self) -> usize
+        ensures { result ≡ min (ready_count self.now) (2 ^ 64 - 1) }
+    {
+        self.memory.instances.ready()
+    }
+
+    /// How many instances run, or the greatest `usize` where they are more.
+    pub fn running(&self) -> usize
+        ensures { result ≡ min (running_count self.now) (2 ^ 64 - 1) }
+    {
+        self.memory.instances.running()
+    }
+
+    /// The instances that wait, each with the address of the item that it needs, by step and then by key.
+    pub fn blocked(&self, alloc: Global) -> Result<Vec<(Inst, Addr)>, AllocError>
+        ensures { IfOk result (λ list. AreBlocked self.now list.items) }
+    {
+        orders_are_total();
+        self.memory.instances.are_there_together();
+        self.memory.instances.blocked(alloc)
+    }
+}

@@ -1,0 +1,16 @@
+ghost use Rattle.machine.specs.Waking.{EachWaits, Wakes};
+
+use instances::Instances;
+use terms::{Inst, orders_are_total};
+
+/// Makes those ready that waited.
+pub(crate) fn wake_all(instances: &mut Instances, waiters: &[Inst])
+    requires { EachWaits instances.old waiters.now }
+    ensures { Wakes instances.old instances.new waiters.now }
+{
+    orders_are_total();
+    for number in 0..waiters.len() {
+        let waiter = waiters[number];
+        instances.wake(waiter);
+    }
+}

@@ -1,0 +1,66 @@
+use crate::Machine;
+use instances::Task;
+use std::alloc::AllocError;
+use terms::{Addr, facts_are_told_apart, orders_are_total};
+
+impl Machine {
+    ghost use Rattle.std.specs.Prelude.{◌≡◌, ◌==◌, ◌<◌, ◌≤◌, IfSome, IsSome, OnErr, OnOk, None, Some, cond, is_some};
+    ghost use Rattle.instances.specs.declared.state.State.TheVariants.{Ready, Running, Waiting};
+    ghost use Rattle.items.specs.Held.{item_at};
+    ghost use Rattle.graph.specs.Fits.{IsAbsent, HasNoFault};
+    ghost use Rattle.machine.specs.Legal.{Needs};
+    ghost use Rattle.machine.specs.Machine.{Moves, facts, ready_count, state_of};
+
+    /// Lets one of the ready instances run, by its number among them. None where the number is not below theirs, and none in a store
+    /// that a fault stopped.
+    pub fn claim(&mut self, at: usize) -> Option<Task>
+        ensures some { at < ready_count self.old → HasNoFault (facts self.old) → IsSome result }
+        ensures below { IfSome result (λ task. at < ready_count self.old) }
+        ensures claimed { IfSome result (λ task. HasNoFault (facts self.old) × (state_of self.old task ≡ Some Ready) × Moves self.old self.new task Running) }
+        ensures none { result ≡ None → self.new ≡ self.old }
+    {
+        facts_are_told_apart();
+        orders_are_total();
+        if self.memory.fault.is_some() {
+            return None;
+        }
+        self.memory.instances.claim(at)
+    }
+
+    /// Lets the instance of a task wait for an item, unless it is there by now: then it is ready.
+    ///
+    /// Where a growth is refused it is ready.
+    pub fn park(&mut self, task: Task, addr: Addr) -> Result<(), AllocError>
+        requires running { state_of self.old task ≡ Some Running }
+        requires needs { IsAbsent (facts self.old) addr → Needs self.old.graph (facts self.old) task addr }
+        ensures ok { OnOk result (Moves self.old self.new task (cond (is_some (item_at self.old.memory.items addr)) Ready (Waiting addr))) }
+        ensures refused { OnErr result (IsAbsent (facts self.old) addr × Moves self.old self.new task Ready) }
+    {
+        orders_are_total();
+        let place = addr;
+        if self.memory.items.get(place).is_some() {
+            self.memory.instances.release(task);
+            return Ok(());
+        }
+        let waited = addr;
+        match self.memory.items.wait_on(waited, task.inst()) {
+            Ok(()) => {
+                self.memory.instances.park(task, addr);
+                Ok(())
+            }
+            Err(error) => {
+                self.memory.instances.release(task);
+                Err(error)
+            }
+        }
+    }
+
+    /// Gives the instance of a task back: it is ready.
+    pub fn release(&mut self, task: Task)
+        requires { state_of self.old task ≡ Some Running }
+        ensures { Moves self.old self.new task Ready }
+    {
+        orders_are_total();
+        self.memory.instances.release(task);
+    }
+}
