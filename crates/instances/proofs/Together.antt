@@ -1,7 +1,6 @@
 -- Instances and tags are there together.
 use Rattle.std.proofs.Common.{◌≡◌, ◌∙◌, ap, sym, refl, subst, ℕ, zero, suc, ℤ, ◌==◌, Bool, true, false, ◌&&◌, List, Option, Some, None, is_some, slice_get}
 use mathlib.Core.Bool.{false≢true}
-
 use Rattle.std.specs.Ordering.{eq_by_cmp, is_eq}
 use Rattle.std.specs.Cmp.{Equal-is, unsigned_Decides}
 use Rattle.std.specs.FinMap.{get}
@@ -48,7 +47,7 @@ module _ (tags : Numbered Bool) (steps : List Step) (prescribed : ArePrescribed 
       at (Some step) here = (
         record { collection = step.prescriber; key = instance.key },
         ap (λ (o : Option Step). prescribed_in (prescriber_in o) (record { collection = step.prescriber; key = instance.key }) instance.key) here
-        ∙ and_both (step.prescriber.0 == step.prescriber.0) (eq_by_cmp key_cmp instance.key instance.key) ((unsigned_Decides step.prescriber.0 step.prescriber.0).1 refl) (ap is_eq (tied_itself keys_total instance.key)),
+            ∙ and_both (step.prescriber.0 == step.prescriber.0) (eq_by_cmp key_cmp instance.key instance.key) ((unsigned_Decides step.prescriber.0 step.prescriber.0).1 refl) (ap is_eq (tied_itself keys_total instance.key)),
       )
 
   pub are_there : AreThereTogether known
