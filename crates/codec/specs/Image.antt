@@ -1,5 +1,5 @@
 -- What an image says: facts, and which of them the environment put.
-use Rattle.std.specs.Prelude.{ℤ, true, false, List, [], ◌∷◌, ◌++◌, map, Option, Some, None}
+use Rattle.std.specs.Prelude.{◌≡◌, ℤ, true, false, List, [], ◌∷◌, ◌++◌, map, Option, Some, None}
 use Rattle.std.specs.List.{flat_map, AllByRecursion}
 use Rattle.terms.specs.declared.name.Addr.{Addr}
 use Rattle.terms.specs.declared.name.Inst.{Inst}
@@ -47,3 +47,8 @@ pub record IsListed (image : Image) : Type 0 where
   pub tags_rise : Rises marked_cmp image.tags
   pub done_rise : Rises inst_cmp image.done
   pub numbered : AllByRecursion HasPutNumber image.items
+
+-- the image has the facts X, of which the environment put E
+pub record Lists (image : Image) (E X : Facts) : Type 0 where
+  pub facts : (fact : Fact) → facts_in image fact ≡ X fact
+  pub environment : (fact : Fact) → environment_in image fact ≡ E fact

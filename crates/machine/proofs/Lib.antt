@@ -1,4 +1,5 @@
 pub mod Absent
+pub mod AlongItems
 pub mod Beginning
 pub mod Coming
 pub mod DistinctCounted
@@ -9,6 +10,7 @@ pub mod GoesOn
 pub mod Growing
 pub mod Grown
 pub mod Kept
+pub mod Left
 pub mod MixedRow
 pub mod Moved
 pub mod Parked

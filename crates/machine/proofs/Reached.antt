@@ -11,7 +11,7 @@ use Rattle.terms.specs.declared.event.Event.TheVariants.{Done, Stopped}
 use Rattle.terms.specs.Facts.{Fact, tag, item, done, bad, facts, environment, event_facts, FactsGoOn, EnvironmentGoesOn}
 use Rattle.terms.specs.Sets.{Facts, among, with_facts, stated, put_by_environment, OneFact, AmongBoth}
 use Rattle.steptree.specs.Run.{Read}
-use Rattle.steptree.specs.Bodies.{Asks}
+use Rattle.steptree.specs.Bodies.{Ending, Asks}
 use Rattle.steptree.specs.Laws.{LookUpEndsOnce, LookUpEnds}
 use Rattle.graph.specs.Graph.{Graph, BodyMeans}
 use Rattle.graph.specs.Fits.{IsPrescribed, HasNoFault, HasOneItemEach}
@@ -20,6 +20,7 @@ use Rattle.machine.specs.Legal.{IsLegal, AreLegal, Needs, IsBlocked, IsQuiet}
 use Rattle.machine.specs.State.{IsReached, AreLegalFrom, IsMeaning, Waits, items_meant, IsUnfinished}
 use Rattle.machine.proofs.Sets.{not_both, same_truth}
 use Rattle.machine.proofs.Within.{kept_from_nothing, stays_within, goes_on}
+use Rattle.machine.proofs.Grown.{one_ending}
 use Rattle.machine.proofs.Quiet.{quiet_is_meaning, quiet_is_clean}
 use Rattle.machine.proofs.GoesOn.{can_go_on}
 
@@ -121,6 +122,12 @@ module _ (told : OneFact) (both : AmongBoth) where
     pub reached_stopped_or_quiet : (g : Graph) (E X Y : Facts) (instance : Inst) (kind : FaultKind) → IsReached g E X → X (bad instance kind) ≡ true → IsReached g E Y → IsQuiet g Y → ⊥
     reached_stopped_or_quiet g E X Y instance kind one fault two quiet =
         not_both (Y (bad instance kind)) (((reached_is_meaning g E Y two quiet).0 (bad instance kind)).1 (reached_is_within g E X one (bad instance kind) fault)) (quiet.no_fault instance kind)
+
+    -- over the items of what is reached a body ends in one way
+    pub reached_one_ending : (g : Graph) (E X : Facts) → IsReached g E X → (instance : Inst) (one two : Ending) → BodyMeans g instance (items X) one → BodyMeans g instance (items X) two → one ≡ two
+    reached_one_ending g E X it instance one two =
+        subst (λ (F : Facts). BodyMeans g instance (items F) one → BodyMeans g instance (items F) two → one ≡ two) (stated_is g E X it)
+        (one_ending told (facts it.events) (kept_from_nothing told both g it.events it.legal).one_item once g instance one two)
 
     -- ---- what waits
 

@@ -10,6 +10,8 @@ pub mod Memory
 pub mod Mixed
 pub mod Producers
 pub mod Promise
+pub mod Restored
+pub mod Results
 pub mod Room
 pub mod State
 pub mod StateLaws

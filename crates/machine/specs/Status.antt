@@ -6,9 +6,11 @@ use Rattle.terms.specs.declared.name.Addr.{Addr}
 use Rattle.terms.specs.declared.name.Inst.{Inst}
 use Rattle.terms.specs.declared.fault.FaultKind.{FaultKind}
 use Rattle.terms.specs.Facts.{bad}
+use Rattle.graph.specs.Fits.{HasNoFault}
 use Rattle.instances.specs.declared.state.State.TheVariants.{Ready, Running, Waiting}
-use Rattle.machine.specs.State.{Waits}
-use Rattle.machine.specs.Machine.{Machine, facts, state_of}
+use Rattle.machine.specs.Meaning.{IsClean}
+use Rattle.machine.specs.State.{IsReached, IsMeaning, Waits, IsUnfinished}
+use Rattle.machine.specs.Machine.{Machine, facts, environment, state_of}
 
 -- it is the instance at fault with the kind of its fault, if the store has a fault
 abbrev pub TellsFault : Machine → Option (Inst × FaultKind) → Type 0
@@ -18,8 +20,17 @@ TellsFault m result = (instance : Inst) (kind : FaultKind) → (facts m (bad ins
 abbrev pub NoneIsActive : Machine → Type 0
 NoneIsActive m = (instance : Inst) → (state_of m instance ≡ Some Ready → ⊥) × (state_of m instance ≡ Some Running → ⊥)
 
+-- where its facts are reached, they are the meaning of the graph on what the environment put, and that is clean
+abbrev pub IsAllOfMeaning : Machine → Type 0
+IsAllOfMeaning m = IsReached m.graph (environment m) (facts m) → IsMeaning m.graph (environment m) (facts m) × IsClean m.graph (environment m)
+
 -- the instances that wait, each with the address of the item that it needs, in order
 pub record AreBlocked (m : Machine) (list : List (Inst × Addr)) : Type 0 where
   pub rises : T (is_sorted inst_cmp list)
   pub each : (instance : Inst) (address : Addr) → (find inst_cmp instance list ≡ Some address) ↔ (state_of m instance ≡ Some (Waiting address))
   pub waits : (instance : Inst) (address : Addr) → find inst_cmp instance list ≡ Some address → Waits m.graph (facts m) instance address
+
+-- where nothing is left to do, and the facts are reached, they are those that the meaning leaves unfinished, each with the item that it needs
+abbrev pub AreUnfinished : Machine → List (Inst × Addr) → Type 0
+AreUnfinished m list = HasNoFault (facts m) → NoneIsActive m → IsReached m.graph (environment m) (facts m)
+    → (instance : Inst) (address : Addr) → (find inst_cmp instance list ≡ Some address) ↔ IsUnfinished m.graph (environment m) instance address

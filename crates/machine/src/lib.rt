@@ -23,6 +23,7 @@ mod memory;
 mod promise;
 mod reads;
 mod refusal;
+mod results;
 mod states;
 mod status;
 mod taking;
@@ -38,4 +39,5 @@ pub use laws::{
 };
 pub use machine::Machine;
 pub use refusal::Refusal;
+pub use results::results_are_meant;
 pub use states::{reached_and_quiet, reached_goes_on, reached_within, unfinished_wait};

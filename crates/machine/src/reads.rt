@@ -1,11 +1,20 @@
 use crate::{Machine, Refusal};
+use graph::Graph;
+use std::sync::Arc;
 use terms::{Addr, facts_are_told_apart};
 
 impl Machine {
-    ghost use Rattle.std.specs.Prelude.{IfErr, IfOk, OnOk};
+    ghost use Rattle.std.specs.Prelude.{◌≡◌, IfErr, IfOk, OnOk};
     ghost use Rattle.graph.specs.Fits.{AddressIsOf};
     ghost use Rattle.graph.specs.Graph.{EnvironmentMayGet};
     ghost use Rattle.machine.specs.Machine.{IsValueAt, RefusesGet, RefusesRead, facts};
+
+    /// The graph.
+    pub fn graph(&self) -> &Arc<Graph>
+        ensures { result.now.value ≡ self.now.graph }
+    {
+        &self.graph
+    }
 
     /// The value at an address, as the environment gets it; none where no item is there.
     pub fn get(&self, addr: Addr) -> Result<Option<i64>, Refusal>

@@ -1,5 +1,7 @@
 use crate::Machine;
+use crate::states::{reached_and_quiet, unfinished_wait};
 use std::alloc::{AllocError, Global};
+use steptree::ends_once;
 use terms::{Addr, FaultKind, Inst, facts_are_told_apart, orders_are_total};
 
 impl Machine {
@@ -7,7 +9,7 @@ impl Machine {
     ghost use Rattle.graph.specs.Fits.{HasNoFault};
     ghost use Rattle.machine.specs.Legal.{IsQuiet};
     ghost use Rattle.machine.specs.Machine.{facts, ready_count, running_count};
-    ghost use Rattle.machine.specs.Status.{AreBlocked, NoneIsActive, TellsFault};
+    ghost use Rattle.machine.specs.Status.{AreBlocked, AreUnfinished, IsAllOfMeaning, NoneIsActive, TellsFault};
 
     /// The instance at fault, if there is one.
     pub fn fault(&self) -> Option<(Inst, FaultKind)>
@@ -21,9 +23,11 @@ impl Machine {
     pub fn is_quiet(&self) -> bool
         ensures exact { IsTrue result ↔ (HasNoFault (facts self.now) × NoneIsActive self.now) }
         ensures quiet { IsTrue result → IsQuiet self.now.graph (facts self.now) }
+        ensures meaning { IsTrue result → IsAllOfMeaning self.now }
     {
         facts_are_told_apart();
         orders_are_total();
+        reached_and_quiet();
         self.memory.instances.are_there_together();
         self.memory.fault.is_none() && self.memory.instances.is_quiet()
     }
@@ -44,9 +48,13 @@ impl Machine {
 
     /// The instances that wait, each with the address of the item that it needs, by step and then by key.
     pub fn blocked(&self, alloc: Global) -> Result<Vec<(Inst, Addr)>, AllocError>
-        ensures { IfOk result (λ list. AreBlocked self.now list.items) }
+        ensures blocked { IfOk result (λ list. AreBlocked self.now list.items) }
+        ensures unfinished { IfOk result (λ list. AreUnfinished self.now list.items) }
     {
+        facts_are_told_apart();
         orders_are_total();
+        ends_once();
+        unfinished_wait();
         self.memory.instances.are_there_together();
         self.memory.instances.blocked(alloc)
     }

@@ -6,14 +6,14 @@ use Rattle.disk.specs.Time.{Contents}
 use Rattle.terms.specs.Sets.{Facts}
 use Rattle.codec.specs.declared.image.Image.{Image}
 use Rattle.codec.specs.Spelling.{IsImage, image_bytes}
-use Rattle.codec.specs.Image.{facts_in, environment_in}
+use Rattle.codec.specs.Image.{facts_in, environment_in, Lists}
 use Rattle.graph.specs.Graph.{Graph}
 use Rattle.graph.specs.Canonical.{canonical}
 use Rattle.graph.specs.FitLaws.{StateAsSet}
 use Rattle.sides.specs.Side.{IsSide, StandsWithGeneration, behind_gate, end_of}
 use Rattle.sides.specs.SideLaws.{SideAsSet, SideFits, BeginsSide}
 use Rattle.vault.specs.Stands.{IsBehind, IsLive, Stands, other_side}
-use Rattle.vault.specs.Store.{Lists, new_side}
+use Rattle.vault.specs.Store.{new_side}
 use Rattle.vault.specs.Turned.{MayTurn}
 use Rattle.vault.proofs.GatesBytes.{not_open}
 

@@ -10,6 +10,7 @@ use Rattle.disk.specs.Settled.{settled_only}
 use Rattle.terms.specs.Sets.{Facts}
 use Rattle.codec.specs.declared.image.Image.{Image}
 use Rattle.codec.specs.Spelling.{IsImage, image_bytes}
+use Rattle.codec.specs.Image.{Lists}
 use Rattle.graph.specs.Graph.{Graph}
 use Rattle.graph.specs.Canonical.{canonical}
 use Rattle.graph.specs.FitLaws.{StateAsSet}
@@ -17,7 +18,7 @@ use Rattle.sides.specs.Side.{IsSide, StandsWithGeneration, behind_gate, end_of}
 use Rattle.sides.specs.SideLaws.{SideAsSet, SideFits, BeginsSide}
 use Rattle.vault.specs.declared.vault.Vault.{Vault}
 use Rattle.vault.specs.Stands.{IsBehind, Stands, other_side}
-use Rattle.vault.specs.Store.{Holds, Lists, new_side}
+use Rattle.vault.specs.Store.{Holds, new_side}
 use Rattle.vault.specs.Turned.{Rests, MayTurn}
 use Rattle.vault.proofs.TurnedSides.{not_other, behind_next, behind_other, turned_side, passing}
 

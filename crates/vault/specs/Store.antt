@@ -5,11 +5,10 @@ use Rattle.disk.specs.declared.side.Side.TheVariants.{A, B}
 use Rattle.disk.specs.File.{File, at_rest}
 use Rattle.disk.specs.Time.{Contents}
 use Rattle.terms.specs.Commits.{Commit}
-use Rattle.terms.specs.Facts.{Fact, facts, environment}
+use Rattle.terms.specs.Facts.{facts, environment}
 use Rattle.terms.specs.Sets.{Facts, among, with_facts}
 use Rattle.codec.specs.declared.image.Image.{Image}
 use Rattle.codec.specs.Spelling.{image_bytes}
-use Rattle.codec.specs.Image.{facts_in, environment_in}
 use Rattle.journal.specs.declared.journal.TheConstants.{LIMIT}
 use Rattle.graph.specs.Graph.{Graph}
 use Rattle.graph.specs.Canonical.{canonical}
@@ -27,11 +26,6 @@ use Rattle.vault.specs.Stands.{Stands, IsLive}
 -- nothing, as a set
 abbrev pub nothing : Facts
 nothing = among []
-
--- the image has the facts X, of which the environment put E
-pub record Lists (image : Image) (E X : Facts) : Type 0 where
-  pub facts : (fact : Fact) → facts_in image fact ≡ X fact
-  pub environment : (fact : Fact) → environment_in image fact ≡ E fact
 
 -- ---- what a vault keeps
 

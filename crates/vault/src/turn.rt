@@ -2,14 +2,14 @@ ghost use Rattle.std.specs.Prelude.{◌≡◌, ◌≢◌, ◌<◌, ◌+◌, ◌�
 ghost use Rattle.disk.specs.Time.{LeavesOnly};
 ghost use Rattle.terms.specs.Sets.{Facts};
 ghost use Rattle.codec.specs.Spelling.{IsImage, image_bytes};
-ghost use Rattle.codec.specs.Image.{IsListed};
+ghost use Rattle.codec.specs.Image.{IsListed, Lists};
 ghost use Rattle.graph.specs.Graph.{Graph};
 ghost use Rattle.journal.specs.declared.journal.TheConstants.{LIMIT};
 ghost use Rattle.sides.specs.Side.{behind_gate};
 ghost use Rattle.vault.specs.Calls.{Halts, TurnsOver, WritesSide, IsFullWhere};
 ghost use Rattle.vault.specs.Stands.{Stands, other_side};
 ghost use Rattle.vault.specs.Opened.{contents_of};
-ghost use Rattle.vault.specs.Store.{Holds, HasGates, IsReady, IsLast, IsTooLong, Lists};
+ghost use Rattle.vault.specs.Store.{Holds, HasGates, IsReady, IsLast, IsTooLong};
 ghost use Rattle.vault.specs.declared.error.VaultError.TheVariants.{NoMemory, Full};
 
 use crate::gates::{other, write_side};
