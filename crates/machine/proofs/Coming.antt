@@ -24,7 +24,7 @@ use Rattle.instances.specs.declared.state.State.{State}
 use Rattle.instances.specs.declared.state.State.TheVariants.{Ready, Running, Waiting, Done}
 use Rattle.instances.specs.Known.{Known, mark_of, state_at}
 use Rattle.machine.specs.declared.memory.Memory.{Memory}
-use Rattle.machine.specs.Memory.{is_item, is_done, is_fault, IsOnceEach, facts_of, environment_of, waits_at, AreListed, GoesOn, Grows}
+use Rattle.machine.specs.Memory.{is_item, is_done, is_fault, IsOnceEach, facts_of, environment_of, waits_at, AreListed, MovesOn, Grows}
 use Rattle.machine.specs.Waking.{is_one_of, Wakes}
 use Rattle.machine.specs.Coming.{fact_of, given_by}
 
@@ -117,7 +117,7 @@ taken_at old new address taken b =
 -- ---- states
 
 -- one that waits still has waited, and the item is not there
-pub still_waits : (new : Memory) (from to : Option State) (address : Addr) → GoesOn new from to → to ≡ Some (Waiting address) → (from ≡ Some (Waiting address)) × (item_at new.items address ≡ None)
+pub still_waits : (new : Memory) (from to : Option State) (address : Addr) → MovesOn new from to → to ≡ Some (Waiting address) → (from ≡ Some (Waiting address)) × (item_at new.items address ≡ None)
 still_waits new None to address (inl none) is = absurd (cc)
 still_waits new None to address (inr ready) is = absurd (cc)
 still_waits new (Some Ready) to address goes is = absurd (cc)
@@ -151,7 +151,7 @@ module _ (a : Addr) where
       at false = refl
 
   pub goes_on : (new : Memory) (old : Addr → Option (ℤ × Producer)) (it : ℤ × Producer) → ((b : Addr) → item_at new.items b ≡ cond (is_same b a) (Some it) (old b))
-      → (state : Option State) → ((b : Addr) → state ≡ Some (Waiting b) → old b ≡ None) → GoesOn new state (woken state)
+      → (state : Option State) → ((b : Addr) → state ≡ Some (Waiting b) → old b ≡ None) → MovesOn new state (woken state)
   goes_on new old it items None absent = inl refl
   goes_on new old it items (Some Ready) absent = refl
   goes_on new old it items (Some Running) absent = refl
@@ -236,9 +236,9 @@ module _ (told : OneFact) (old new : Memory) (a : Addr) (value : ℤ) (by : Prod
     given (By j m) is (done i) = refl
     given (By j m) is (bad i kind) = refl
 
-    goes : (i : Inst) → GoesOn new (state_at old.instances i) (state_at new.instances i)
+    goes : (i : Inst) → MovesOn new (state_at old.instances i) (state_at new.instances i)
     goes i =
-        subst (GoesOn new (state_at old.instances i)) (sym (states i))
+        subst (MovesOn new (state_at old.instances i)) (sym (states i))
         (goes_on a new (item_at old.items) (value, by) items (state_at old.instances i) (λ b is. listed.absent i b is))
 
     still_listed : AreListed new

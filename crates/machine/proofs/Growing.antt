@@ -16,7 +16,7 @@ use Rattle.instances.specs.declared.state.State.{State}
 use Rattle.instances.specs.declared.state.State.TheVariants.{Ready, Running, Waiting, Done}
 use Rattle.instances.specs.Known.{state_at}
 use Rattle.machine.specs.declared.memory.Memory.{Memory}
-use Rattle.machine.specs.Memory.{is_item, facts_of, environment_of, AreListed, GoesOn, Grows}
+use Rattle.machine.specs.Memory.{is_item, facts_of, environment_of, AreListed, MovesOn, Grows}
 use Rattle.machine.specs.Coming.{fact_of, CanTake, CanTakeAll}
 use Rattle.machine.proofs.Coming.{or_false, is_itself, the_item}
 use Rattle.machine.proofs.Tagging.{unmoved}
@@ -50,14 +50,14 @@ module _ (told : OneFact) (old mid new : Memory) where
       at (Some it) is some =
           subst IsSome (sym (the_item told a (item_at new.items a) it.0 it.1 (within (item a it.0 it.1) (ap (λ o. is_item o it.0 it.1) is ∙ is_itself told a it.0 it.1)))) refl
 
-  goes_both : ((a : Addr) → IsSome (item_at mid.items a) → IsSome (item_at new.items a)) → (from through to : Option State) → GoesOn mid from through → GoesOn new through to → GoesOn new from to
-  goes_both kept None through to (inl none) more = subst (λ s. GoesOn new s to) none more
-  goes_both kept None through to (inr ready) more = inr (subst (λ s. GoesOn new s to) ready more)
-  goes_both kept (Some Ready) through to same more = subst (λ s. GoesOn new s to) same more
-  goes_both kept (Some Running) through to same more = subst (λ s. GoesOn new s to) same more
-  goes_both kept (Some Done) through to same more = subst (λ s. GoesOn new s to) same more
-  goes_both kept (Some (Waiting a)) through to (inl waits) more = subst (λ s. GoesOn new s to) waits.1 more
-  goes_both kept (Some (Waiting a)) through to (inr wakes) more = inr (kept a wakes.0, subst (λ s. GoesOn new s to) wakes.1 more)
+  goes_both : ((a : Addr) → IsSome (item_at mid.items a) → IsSome (item_at new.items a)) → (from through to : Option State) → MovesOn mid from through → MovesOn new through to → MovesOn new from to
+  goes_both kept None through to (inl none) more = subst (λ s. MovesOn new s to) none more
+  goes_both kept None through to (inr ready) more = inr (subst (λ s. MovesOn new s to) ready more)
+  goes_both kept (Some Ready) through to same more = subst (λ s. MovesOn new s to) same more
+  goes_both kept (Some Running) through to same more = subst (λ s. MovesOn new s to) same more
+  goes_both kept (Some Done) through to same more = subst (λ s. MovesOn new s to) same more
+  goes_both kept (Some (Waiting a)) through to (inl waits) more = subst (λ s. MovesOn new s to) waits.1 more
+  goes_both kept (Some (Waiting a)) through to (inr wakes) more = inr (kept a wakes.0, subst (λ s. MovesOn new s to) wakes.1 more)
 
   -- one fact comes, and then others that the environment did not put
   pub grows_more : (first : Fact) (more given : List Fact) (n : ℕ) → Grows old mid (first ∷ []) given 1 → Grows mid new more [] n → Grows old new (first ∷ more) given (suc n)

@@ -24,6 +24,7 @@ pub mod Rows
 pub mod Sets
 pub mod Tagging
 pub mod Taken
+pub mod TakenEvent
 pub mod Told
 pub mod Unfinished
 pub mod Within

@@ -15,7 +15,7 @@ use Rattle.terms.specs.Same.{is_same, same_itself, same_address}
 use Rattle.maps.specs.Numbered.{Numbered}
 use Rattle.maps.specs.PlaceOrder.{places_total}
 use Rattle.graph.specs.Graph.{Graph}
-use Rattle.items.specs.Held.{Held, place, item_at, waiters_at, with_waiter}
+use Rattle.items.specs.Held.{Held, place, item_at, room_for, waiters_at, with_waiter}
 use Rattle.instances.specs.declared.state.State.{State}
 use Rattle.instances.specs.declared.state.State.TheVariants.{Ready, Running, Waiting, Done}
 use Rattle.instances.specs.Known.{Known, MovesOne, state_at}
@@ -106,6 +106,17 @@ module _ (total : IsTotalOrder inst_cmp) (tie : IsAntisymmetric inst_cmp) (old n
           by_instance total tie old new i Running (Waiting a) was moves j (λ s. is_one_of j (waiters_at old.items b) ≡ waits_at b s)
           (λ one. listed.listed j b ∙ ap (waits_at b) (ap (state_at old.instances) one ∙ was) ∙ sym is)
           (λ other. listed.listed j b)
+
+  pub parked_moves : (g : Graph) → Moves (record { graph = g; memory = old }) (record { graph = g; memory = new }) i (Waiting a)
+  parked_moves g = record {
+    graph = refl;
+    facts = facts_stay total tie old new i Running (Waiting a) was moves items_same fault refl;
+    environment = environment_stays total tie old new i Running (Waiting a) was moves items_same fault;
+    here = moves.here;
+    others = moves.others;
+    item_room = λ c. ap (λ (h : Held). room_for h c) items;
+    tag_room = moves.room;
+  }
 
   pub parked_is_of : (g : Graph) → IsOf g old → Needs g (facts_of old) i a → IsOf g new
   parked_is_of g is needs =

@@ -24,7 +24,7 @@ use Rattle.instances.specs.Known.{Known, mark_of, tag_place, state_at, prescribe
 use Rattle.instances.specs.Known as instances
 use Rattle.instances.specs.declared.state.State.TheVariants.{Waiting}
 use Rattle.machine.specs.declared.memory.Memory.{Memory}
-use Rattle.machine.specs.Machine.{Machine, HasRoomFor, OnlyMakesRoom}
+use Rattle.machine.specs.Machine.{Machine, HasRoomFor, item_room, tag_room}
 use Rattle.machine.specs.Memory.{is_item, is_done, is_fault, waits_at, facts_of, environment_of, AreListed, IsOf, IsOnceEach}
 use Rattle.machine.specs.Room.{GivesRoom}
 use Rattle.machine.specs.Waking.{is_one_of}
@@ -45,8 +45,11 @@ module _ (old new : Memory) (same_items : (a : Addr) → item_at new.items a ≡
   same_environment (done i) = refl
   same_environment (bad i kind) = refl
 
-  only_room : (g : Graph) → OnlyMakesRoom (record { graph = g; memory = old }) (record { graph = g; memory = new })
-  only_room g = record { graph = refl; facts = same_facts; environment = same_environment; states = states }
+  only_room : (g : Graph)
+      → ((c : ItemCollection) → item_room (record { graph = g; memory = old }) c ≤ item_room (record { graph = g; memory = new }) c)
+      → ((c : TagCollection) → tag_room (record { graph = g; memory = old }) c ≤ tag_room (record { graph = g; memory = new }) c)
+      → GivesRoom (record { graph = g; memory = old }) (record { graph = g; memory = new })
+  only_room g items_more tags_more = record { graph = refl; facts = same_facts; environment = same_environment; states = states; item_room = items_more; tag_room = tags_more }
 
   same_listed : ((a : Addr) → waiters_at new.items a ≡ waiters_at old.items a) → AreListed old → AreListed new
   same_listed waiters listed = record {
@@ -83,11 +86,9 @@ module _ (old : Memory) (held : Held) (collection : ItemCollection) (grows : Map
       (λ a. ap (λ (w : FinMap place_cmp (List Inst)). unwrap_or (get w (place a)) []) waiting) grows.other_room.collections refl (λ n. refl)
 
   pub items_give_room : (g : Graph) → GivesRoom (record { graph = g; memory = old }) (record { graph = g; memory = with_items })
-  items_give_room g = record {
-    only = only_room old with_items items_stay (λ name. refl) (λ i. refl) refl g;
-    item_room = λ c. not_less_at c.0 collection.0 (λ k. get_or old.items.items.room k 0) (λ k. get_or held.items.room k 0) grows.not_less (grows.other_room.others c.0);
-    tag_room = λ c. omega arith;
-  }
+  items_give_room g = only_room old with_items items_stay (λ name. refl) (λ i. refl) refl g
+      (λ c. not_less_at c.0 collection.0 (λ k. get_or old.items.items.room k 0) (λ k. get_or held.items.room k 0) grows.not_less (grows.other_room.others c.0))
+      (λ c. omega arith)
 
 -- ---- tags
 
@@ -103,29 +104,28 @@ module _ (old : Memory) (known : Known) (collection : TagCollection) (grows : in
       still_is_of old with_tags (λ a. refl) marks_stay grows.states refl g is (λ a. refl) refl grows.tag_collections grows.prescribers
 
   pub tags_give_room : (g : Graph) → GivesRoom (record { graph = g; memory = old }) (record { graph = g; memory = with_tags })
-  tags_give_room g = record {
-    only = only_room old with_tags (λ a. refl) marks_stay grows.states refl g;
-    item_room = λ c. omega arith;
-    tag_room = λ c. not_less_at c.0 collection.0 (λ (k : ℕ). instances.room_for old.instances (record { 0 = k })) (λ (k : ℕ). instances.room_for known (record { 0 = k })) grows.not_less (grows.other_room c);
-  }
+  tags_give_room g = only_room old with_tags (λ a. refl) marks_stay grows.states refl g
+      (λ c. omega arith)
+      (λ c. not_less_at c.0 collection.0 (λ (k : ℕ). instances.room_for old.instances (record { 0 = k })) (λ (k : ℕ). instances.room_for known (record { 0 = k })) grows.not_less (grows.other_room c))
 
 -- ---- one behind the other
 
 pub no_room : (m : Machine) → GivesRoom m m
 no_room m = record {
-  only = record { graph = refl; facts = λ fact. refl; environment = λ fact. refl; states = λ i. refl };
+  graph = refl;
+  facts = λ fact. refl;
+  environment = λ fact. refl;
+  states = λ i. refl;
   item_room = λ c. omega arith;
   tag_room = λ c. omega arith;
 }
 
 pub more_room : (old mid new : Machine) → GivesRoom old mid → GivesRoom mid new → GivesRoom old new
 more_room old mid new first then_more = record {
-  only = record {
-    graph = then_more.only.graph ∙ first.only.graph;
-    facts = λ fact. then_more.only.facts fact ∙ first.only.facts fact;
-    environment = λ fact. then_more.only.environment fact ∙ first.only.environment fact;
-    states = λ i. then_more.only.states i ∙ first.only.states i;
-  };
+  graph = then_more.graph ∙ first.graph;
+  facts = λ fact. then_more.facts fact ∙ first.facts fact;
+  environment = λ fact. then_more.environment fact ∙ first.environment fact;
+  states = λ i. then_more.states i ∙ first.states i;
   item_room = λ c. (let one = first.item_room c in let two = then_more.item_room c in omega (arith, one, two));
   tag_room = λ c. (let one = first.tag_room c in let two = then_more.tag_room c in omega (arith, one, two));
 }

@@ -23,7 +23,7 @@ use Rattle.instances.specs.declared.state.State.{State}
 use Rattle.instances.specs.declared.state.State.TheVariants.{Ready, Running, Waiting, Done}
 use Rattle.instances.specs.Known.{Known, Prescribes, mark_of, state_at, tag_place, is_prescribed_by, room_for}
 use Rattle.machine.specs.declared.memory.Memory.{Memory}
-use Rattle.machine.specs.Memory.{is_item, is_done, is_fault, IsOnceEach, facts_of, environment_of, waits_at, AreListed, GoesOn, Grows}
+use Rattle.machine.specs.Memory.{is_item, is_done, is_fault, IsOnceEach, facts_of, environment_of, waits_at, AreListed, MovesOn, Grows}
 use Rattle.machine.specs.Coming.{IsNewTo, given_by}
 use Rattle.machine.specs.Waking.{is_one_of}
 use Rattle.machine.proofs.Coming.{or_false, same_number, itself_number, still_waits}
@@ -51,7 +51,7 @@ there_already X name other there = at (same_tag name other) refl
         is_there = ap X (sym (one_tag name other is)) ∙ there
     at false is = sym (ap (λ b. X other || (b || false)) is ∙ or_false (X other))
 
-pub unmoved : (m : Memory) (state : Option State) → ((b : Addr) → state ≡ Some (Waiting b) → item_at m.items b ≡ None) → GoesOn m state state
+pub unmoved : (m : Memory) (state : Option State) → ((b : Addr) → state ≡ Some (Waiting b) → item_at m.items b ≡ None) → MovesOn m state state
 unmoved m None absent = inl refl
 unmoved m (Some Ready) absent = refl
 unmoved m (Some Running) absent = refl
@@ -147,10 +147,10 @@ module _ (old new : Memory) (name : Tag) (mark : Bool) (listed : AreListed old) 
   given Env is other_is (bad i kind) = refl
   given (By j m) is other_is (bad i kind) = refl
 
-  goes : (i : Inst) → GoesOn new (state_at old.instances i) (state_at new.instances i)
-  goes i = after i (GoesOn new (state_at old.instances i))
+  goes : (i : Inst) → MovesOn new (state_at old.instances i) (state_at new.instances i)
+  goes i = after i (MovesOn new (state_at old.instances i))
       (unmoved new (state_at old.instances i) (λ b is. ap (λ (h : Held). item_at h b) items ∙ listed.absent i b is))
-      (λ none. subst (λ s. GoesOn new s (Some Ready)) (sym none) (inr refl))
+      (λ none. subst (λ s. MovesOn new s (Some Ready)) (sym none) (inr refl))
 
   still_listed : AreListed new
   still_listed = record {

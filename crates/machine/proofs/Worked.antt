@@ -18,13 +18,13 @@ use Rattle.terms.specs.Sets.{Facts, with_facts, is_fact, among, OneFact}
 use Rattle.maps.specs.Numbered.{Numbered}
 use Rattle.graph.specs.Graph.{Graph}
 use Rattle.graph.specs.Fits.{FitsState, HasNoFault}
-use Rattle.items.specs.Held.{Held, item_at}
+use Rattle.items.specs.Held.{Held, item_at, room_for}
 use Rattle.instances.specs.declared.state.State.{State}
 use Rattle.instances.specs.declared.state.State.TheVariants.{Ready, Running, Waiting, Done}
 use Rattle.instances.specs.Known.{Known, MovesOne, mark_of, state_at, prescriber_at}
 use Rattle.machine.specs.declared.memory.Memory.{Memory}
 use Rattle.machine.specs.Legal.{Needs}
-use Rattle.machine.specs.Memory.{is_item, is_done, is_fault, waits_at, facts_of, environment_of, AreListed, IsOf, GoesOn, Grows, Comes}
+use Rattle.machine.specs.Memory.{is_item, is_done, is_fault, waits_at, facts_of, environment_of, AreListed, IsOf, MovesOn, Grows, Comes}
 use Rattle.machine.specs.Machine.{Moves}
 use Rattle.machine.proofs.Coming.{or_false, still_waits}
 use Rattle.machine.proofs.Growing.{either_way}
@@ -90,7 +90,15 @@ module _ (total : IsTotalOrder inst_cmp) (tie : IsAntisymmetric inst_cmp) (old n
       (λ j a waits. is.needs j a (waited wakes j a waits)) (still_listed total tie old new i from to was moves items awake wakes is.listed)
 
   pub moves_of : (g : Graph) → is_done (Some from) ≡ is_done (Some to) → Moves (record { graph = g; memory = old }) (record { graph = g; memory = new }) i to
-  moves_of g as_done = record { graph = refl; facts = facts_same as_done; environment = environment_same; here = moves.here; others = moves.others }
+  moves_of g as_done = record {
+    graph = refl;
+    facts = facts_same as_done;
+    environment = environment_same;
+    here = moves.here;
+    others = moves.others;
+    item_room = λ c. ap (λ (h : Held). room_for h c) items;
+    tag_room = moves.room;
+  }
 
 module _ (total : IsTotalOrder inst_cmp) (tie : IsAntisymmetric inst_cmp) (old mid new : Memory) (i : Inst)
     (was : state_at old.instances i ≡ Some Running) (moves : MovesOne old.instances mid.instances i Done) (items : mid.items ≡ old.items) (fault : mid.fault ≡ old.fault) (listed : AreListed old) where
@@ -166,6 +174,6 @@ module _ (told : OneFact) where
       its = fault_comes old mid new i kind working (facts_same total tie old mid i Running Ready was moves items refl refl) (environment_same total tie old mid i Running Ready was moves items refl) refl refl refl stopped
 
 -- one whose state stays goes on
-pub stays_on : (old new : Memory) → AreListed old → new.items ≡ old.items → (j : Inst) → state_at new.instances j ≡ state_at old.instances j → GoesOn new (state_at old.instances j) (state_at new.instances j)
+pub stays_on : (old new : Memory) → AreListed old → new.items ≡ old.items → (j : Inst) → state_at new.instances j ≡ state_at old.instances j → MovesOn new (state_at old.instances j) (state_at new.instances j)
 stays_on old new listed items j same =
-    subst (GoesOn new (state_at old.instances j)) (sym same) (unmoved new (state_at old.instances j) (λ a is. ap (λ (h : Held). item_at h a) items ∙ listed.absent j a is))
+    subst (MovesOn new (state_at old.instances j)) (sym same) (unmoved new (state_at old.instances j) (λ a is. ap (λ (h : Held). item_at h a) items ∙ listed.absent j a is))

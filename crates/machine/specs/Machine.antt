@@ -1,9 +1,11 @@
 -- The state of a store in memory: its graph and what it holds; what each call makes of it, and why one is refused.
-use Rattle.std.specs.Prelude.{◌≡◌, ◌≢◌, ◌⊎◌, ⊤, ℕ, ℤ, ◌<◌, ◌≤◌, true, false, List, [], ◌∷◌, length, get_or, slice_get, Option, Some, None, IsSome}
+use Rattle.std.specs.Prelude.{◌≡◌, ◌≢◌, ◌⊎◌, ⊤, ℕ, ℤ, ◌+◌, ◌<◌, ◌≤◌, true, false, List, [], ◌∷◌, length, get_or, slice_get, Option, Some, None, IsSome}
 use Rattle.std.specs.List.{AllByRecursion}
 use Rattle.terms.specs.declared.name.Addr.{Addr}
 use Rattle.terms.specs.declared.name.Tag.{Tag}
 use Rattle.terms.specs.declared.name.Inst.{Inst}
+use Rattle.terms.specs.declared.name.ItemCollection.{ItemCollection}
+use Rattle.terms.specs.declared.name.TagCollection.{TagCollection}
 use Rattle.terms.specs.declared.fault.FaultKind.{FaultKind}
 use Rattle.terms.specs.declared.fault.FaultKind.TheVariants.{DoublePut}
 use Rattle.terms.specs.declared.producer.Producer.{Producer}
@@ -16,7 +18,7 @@ use Rattle.terms.specs.Sets.{Facts, with_facts}
 use Rattle.steptree.specs.Nameable.{Collection}
 use Rattle.graph.specs.Graph.{Graph, EnvironmentMayPutItem, EnvironmentMayPutTag}
 use Rattle.graph.specs.Fits.{HasNoFault, IsAbsent, AddressIsOf, TagIsOf}
-use Rattle.items.specs.Held as items
+use Rattle.items.specs.Held as items_held
 use Rattle.instances.specs.declared.state.State.{State}
 use Rattle.instances.specs.declared.state.State.TheVariants.{Ready, Running, Waiting, Done}
 use Rattle.instances.specs.OfStep.{is_ready, is_running}
@@ -27,7 +29,8 @@ use Rattle.machine.specs.declared.refusal.Refusal.{Refusal}
 use Rattle.machine.specs.declared.refusal.Refusal.TheVariants.{NoSuchCollection, NotFromEnvironment, WrongArity, AlreadyPut, Stopped, Repeat}
 use Rattle.machine.specs.declared.end.End.{End}
 use Rattle.machine.specs.declared.end.End.TheVariants as end
-use Rattle.machine.specs.Memory.{facts_of, environment_of, GoesOn}
+use Rattle.machine.specs.Meaning.{items}
+use Rattle.machine.specs.Memory.{facts_of, environment_of}
 
 pub record Machine : Type 0 where
   pub graph : Graph
@@ -51,6 +54,13 @@ ready_count m = total is_ready m.memory.instances
 abbrev pub running_count : Machine → ℕ
 running_count m = total is_running m.memory.instances
 
+-- for how many more items of a collection there is room, and for how many more tags of one, with all that they prescribe
+abbrev pub item_room : Machine → ItemCollection → ℕ
+item_room m collection = items_held.room_for m.memory.items collection
+
+abbrev pub tag_room : Machine → TagCollection → ℕ
+tag_room m collection = instances.room_for m.memory.instances collection
+
 -- ---- changes
 
 -- the event ends this instance
@@ -60,6 +70,26 @@ Ends (event.EnvTag name) instance = ⊥
 Ends (event.Done ended puts) instance = ended ≡ instance
 Ends (event.Stopped ended kind) instance = ended ≡ instance
 
+-- how many puts the event has
+abbrev pub count_of : Event → ℕ
+count_of (event.EnvItem address value) = 1
+count_of (event.EnvTag name) = 1
+count_of (event.Done ended puts) = length puts
+count_of (event.Stopped ended kind) = 0
+
+-- some item is at the address
+abbrev pub IsThere : Facts → Addr → Type 0
+IsThere X address = (value : ℤ) × items X address value
+
+-- How the state of an instance goes on where facts come, and are X then. One that waits is ready where its item is there, and only there. One
+-- that had no state has none, or is ready. The others stay.
+abbrev pub GoesOn : Facts → Option State → Option State → Type 0
+GoesOn X None to = (to ≡ None) ⊎ (to ≡ Some Ready)
+GoesOn X (Some (Waiting address)) to = (IsAbsent X address × (to ≡ Some (Waiting address))) ⊎ (IsThere X address × (to ≡ Some Ready))
+GoesOn X (Some Ready) to = to ≡ Some Ready
+GoesOn X (Some Running) to = to ≡ Some Running
+GoesOn X (Some Done) to = to ≡ Some Done
+
 -- an instance that a fault ends is ready again
 abbrev pub GivesBack : Machine → Event → Type 0
 GivesBack new (event.EnvItem address value) = ⊤
@@ -67,40 +97,41 @@ GivesBack new (event.EnvTag name) = ⊤
 GivesBack new (event.Done ended puts) = ⊤
 GivesBack new (event.Stopped ended kind) = state_of new ended ≡ Some Ready
 
--- The event is taken: its facts come, and of them the environment put its own. Other instances go on: those that wait for an item that came
--- are ready, and those that tags prescribe.
+-- The event is taken: its facts come, and of them the environment put its own. Other instances go on. Of each room there is less by as many as
+-- the event has puts, at most.
 pub record Takes (old new : Machine) (event : Event) : Type 0 where
   pub graph : new.graph ≡ old.graph
   pub facts : (fact : Fact) → facts new fact ≡ with_facts (facts old) (event_facts event) fact
   pub environment : (fact : Fact) → environment new fact ≡ with_facts (environment old) (environment_facts event) fact
-  pub states : (instance : Inst) → (Ends event instance → ⊥) → GoesOn new.memory (state_of old instance) (state_of new instance)
+  pub states : (instance : Inst) → (Ends event instance → ⊥) → GoesOn (facts_of new.memory) (state_of old instance) (state_of new instance)
   pub given_back : GivesBack new event
+  pub item_room : (collection : ItemCollection) → item_room old collection ≤ item_room new collection + count_of event
+  pub tag_room : (collection : TagCollection) → tag_room old collection ≤ tag_room new collection + count_of event
 
--- one instance comes into a state, and no fact changes, nor another instance
+-- one instance comes into a state, and no fact changes, nor another instance, nor any room
 pub record Moves (old new : Machine) (instance : Inst) (to : State) : Type 0 where
   pub graph : new.graph ≡ old.graph
   pub facts : (fact : Fact) → facts new fact ≡ facts old fact
   pub environment : (fact : Fact) → environment new fact ≡ environment old fact
   pub here : state_of new instance ≡ Some to
   pub others : (other : Inst) → other ≢ instance → state_of new other ≡ state_of old other
+  pub item_room : (collection : ItemCollection) → item_room new collection ≡ item_room old collection
+  pub tag_room : (collection : TagCollection) → tag_room new collection ≡ tag_room old collection
+
+-- where the item is there by now, the instance is ready, else it waits
+abbrev pub LooksAgain : Machine → Machine → Inst → Addr → Type 0
+LooksAgain old new instance address = (IsAbsent (facts old) address × Moves old new instance (Waiting address)) ⊎ (IsThere (facts old) address × Moves old new instance Ready)
 
 -- ---- room
 
 -- the collection of the put has room for so many
 abbrev pub HasRoomFor : Machine → ℕ → Put → Type 0
-HasRoomFor m count (put.Item address value) = count ≤ items.room_for m.memory.items address.collection
-HasRoomFor m count (put.Tag name) = count ≤ instances.room_for m.memory.instances name.collection
+HasRoomFor m count (put.Item address value) = count ≤ item_room m address.collection
+HasRoomFor m count (put.Tag name) = count ≤ tag_room m name.collection
 
 -- there is room for all puts of the list
 abbrev pub HasRoom : Machine → List Put → Type 0
 HasRoom m puts = AllByRecursion (HasRoomFor m (length puts)) puts
-
--- more room, and else nothing changes
-pub record OnlyMakesRoom (old new : Machine) : Type 0 where
-  pub graph : new.graph ≡ old.graph
-  pub facts : (fact : Fact) → facts new fact ≡ facts old fact
-  pub environment : (fact : Fact) → environment new fact ≡ environment old fact
-  pub states : (instance : Inst) → state_of new instance ≡ state_of old instance
 
 -- ---- refusals
 
@@ -110,7 +141,7 @@ HasOther collections number components = (collection : Collection) × (slice_get
 
 -- why there may be no second item: there is one, with this value
 abbrev pub RefusesSecond : Machine → Addr → Refusal → Type 0
-RefusesSecond m address (AlreadyPut value) = (by : Producer) × (facts m (item address value by) ≡ true)
+RefusesSecond m address (AlreadyPut value) = items (facts m) address value
 RefusesSecond m address NoSuchCollection = ⊥
 RefusesSecond m address WrongArity = ⊥
 RefusesSecond m address NotFromEnvironment = ⊥
@@ -123,7 +154,7 @@ RefusesItem m address NoSuchCollection = slice_get m.graph.items address.collect
 RefusesItem m address WrongArity = HasOther m.graph.items address.collection.0 (length address.key)
 RefusesItem m address NotFromEnvironment = AddressIsOf m.graph address × (get_or m.graph.environment_item_puts address.collection.0 false ≡ false)
 RefusesItem m address (Stopped instance kind) = EnvironmentMayPutItem m.graph address × (facts m (bad instance kind) ≡ true)
-RefusesItem m address (AlreadyPut value) = EnvironmentMayPutItem m.graph address × HasNoFault (facts m) × ((by : Producer) × (facts m (item address value by) ≡ true))
+RefusesItem m address (AlreadyPut value) = EnvironmentMayPutItem m.graph address × HasNoFault (facts m) × items (facts m) address value
 RefusesItem m address Repeat = ⊥
 
 -- why it may not put a tag
@@ -154,7 +185,7 @@ event_of end.DoublePut instance puts = event.Stopped instance DoublePut
 -- this is what is at the address: the value of an item there, or none where there is no item
 abbrev pub IsValueAt : Facts → Addr → Option ℤ → Type 0
 IsValueAt X address None = IsAbsent X address
-IsValueAt X address (Some value) = (by : Producer) × (X (item address value by) ≡ true)
+IsValueAt X address (Some value) = items X address value
 
 -- why a step may not read an item: the first of these that is so
 abbrev pub RefusesRead : Machine → Addr → Refusal → Type 0

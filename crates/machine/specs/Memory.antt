@@ -102,20 +102,20 @@ pub record IsOf (g : Graph) (m : Memory) : Type 0 where
 
 -- ---- what changes
 
--- How the state of an instance goes on where facts come: one that was not prescribed may be ready; one that waits becomes ready where the
+-- How the state of an instance moves on, by the items that are held then: one that had none may be ready; one that waits is ready where its
 -- item is there, and only there; the others stay.
-abbrev pub GoesOn : Memory → Option State → Option State → Type 0
-GoesOn new None to = (to ≡ None) ⊎ (to ≡ Some Ready)
-GoesOn new (Some (Waiting address)) to = ((item_at new.items address ≡ None) × (to ≡ Some (Waiting address))) ⊎ (IsSome (item_at new.items address) × (to ≡ Some Ready))
-GoesOn new (Some Ready) to = to ≡ Some Ready
-GoesOn new (Some Running) to = to ≡ Some Running
-GoesOn new (Some Done) to = to ≡ Some Done
+abbrev pub MovesOn : Memory → Option State → Option State → Type 0
+MovesOn new None to = (to ≡ None) ⊎ (to ≡ Some Ready)
+MovesOn new (Some (Waiting address)) to = ((item_at new.items address ≡ None) × (to ≡ Some (Waiting address))) ⊎ (IsSome (item_at new.items address) × (to ≡ Some Ready))
+MovesOn new (Some Ready) to = to ≡ Some Ready
+MovesOn new (Some Running) to = to ≡ Some Running
+MovesOn new (Some Done) to = to ≡ Some Done
 
 -- These facts come, and of them the environment put some. The room of each collection is less by so many at most.
 pub record Grows (old new : Memory) (more given : List Fact) (count : ℕ) : Type 0 where
   pub facts : (fact : Fact) → facts_of new fact ≡ with_facts (facts_of old) more fact
   pub environment : (fact : Fact) → environment_of new fact ≡ with_facts (environment_of old) given fact
-  pub states : (instance : Inst) → GoesOn new (state_at old.instances instance) (state_at new.instances instance)
+  pub states : (instance : Inst) → MovesOn new (state_at old.instances instance) (state_at new.instances instance)
   pub item_collections : length new.items.items.room ≡ length old.items.items.room
   pub tag_collections : length new.instances.tags.room ≡ length old.instances.tags.room
   pub prescribers : (number : ℕ) → prescriber_at new.instances number ≡ prescriber_at old.instances number

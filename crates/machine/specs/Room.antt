@@ -1,12 +1,15 @@
 -- How room comes: nothing changes but that there may be more of it, in any collection.
-use Rattle.std.specs.Prelude.{◌≤◌}
+use Rattle.std.specs.Prelude.{◌≡◌, ◌≤◌}
+use Rattle.terms.specs.declared.name.Inst.{Inst}
 use Rattle.terms.specs.declared.name.ItemCollection.{ItemCollection}
 use Rattle.terms.specs.declared.name.TagCollection.{TagCollection}
-use Rattle.items.specs.Held as items
-use Rattle.instances.specs.Known as instances
-use Rattle.machine.specs.Machine.{Machine, OnlyMakesRoom}
+use Rattle.terms.specs.Facts.{Fact}
+use Rattle.machine.specs.Machine.{Machine, environment, facts, item_room, state_of, tag_room}
 
 pub record GivesRoom (old new : Machine) : Type 0 where
-  pub only : OnlyMakesRoom old new
-  pub item_room : (collection : ItemCollection) → items.room_for old.memory.items collection ≤ items.room_for new.memory.items collection
-  pub tag_room : (collection : TagCollection) → instances.room_for old.memory.instances collection ≤ instances.room_for new.memory.instances collection
+  pub graph : new.graph ≡ old.graph
+  pub facts : (fact : Fact) → facts new fact ≡ facts old fact
+  pub environment : (fact : Fact) → environment new fact ≡ environment old fact
+  pub states : (instance : Inst) → state_of new instance ≡ state_of old instance
+  pub item_room : (collection : ItemCollection) → item_room old collection ≤ item_room new collection
+  pub tag_room : (collection : TagCollection) → tag_room old collection ≤ tag_room new collection

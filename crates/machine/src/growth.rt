@@ -6,9 +6,7 @@ impl Machine {
     ghost use Rattle.std.specs.Prelude.{◌≡◌, ◌<◌, ◌≤◌, OnErr, OnOk, length};
     ghost use Rattle.std.specs.List.{AllByRecursion};
     ghost use Rattle.graph.specs.Fits.{PutIsOf};
-    ghost use Rattle.items.specs.Held.{room_for};
-    ghost use Rattle.instances.specs.Known.{room_for as tags_for};
-    ghost use Rattle.machine.specs.Machine.{HasRoom, HasRoomFor};
+    ghost use Rattle.machine.specs.Machine.{HasRoom, HasRoomFor, item_room, tag_room};
     ghost use Rattle.machine.specs.Room.{GivesRoom};
 
     /// Makes room for all that these puts bring. A refusal comes only where there was less.
@@ -40,9 +38,9 @@ impl Machine {
     // Makes room for so many items of a collection.
     fn make_item_room(&mut self, collection: ItemCollection, count: usize) -> Result<(), AllocError>
         requires { collection.0 < length self.old.graph.items }
-        ensures ok { OnOk result (count ≤ room_for self.new.memory.items collection) }
+        ensures ok { OnOk result (count ≤ item_room self.new collection) }
         ensures grows { GivesRoom self.old self.new }
-        ensures refused { OnErr result (room_for self.old.memory.items collection < count) }
+        ensures refused { OnErr result (item_room self.old collection < count) }
     {
         self.memory.items.make_room(collection, count)
     }
@@ -50,9 +48,9 @@ impl Machine {
     // Makes room for so many tags of a collection, with all that they prescribe.
     fn make_tag_room(&mut self, collection: TagCollection, count: usize) -> Result<(), AllocError>
         requires { collection.0 < length self.old.graph.tags }
-        ensures ok { OnOk result (count ≤ tags_for self.new.memory.instances collection) }
+        ensures ok { OnOk result (count ≤ tag_room self.new collection) }
         ensures grows { GivesRoom self.old self.new }
-        ensures refused { OnErr result (tags_for self.old.memory.instances collection < count) }
+        ensures refused { OnErr result (tag_room self.old collection < count) }
     {
         self.memory.instances.make_room(collection, count)
     }

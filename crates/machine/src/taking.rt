@@ -18,6 +18,7 @@ impl Machine {
         ensures { Takes self.old self.new (EnvItem addr value) }
     {
         taking_keeps();
+        facts_are_told_apart();
         self.memory.put(Producer::Env, Put::Item(addr, value));
     }
 
@@ -28,6 +29,7 @@ impl Machine {
         ensures { Takes self.old self.new (EnvTag tag) }
     {
         taking_keeps();
+        facts_are_told_apart();
         self.memory.put(Producer::Env, Put::Tag(tag));
     }
 
@@ -40,6 +42,7 @@ impl Machine {
     {
         taking_keeps();
         given_are_of_graph();
+        facts_are_told_apart();
         orders_are_total();
         let instance = task.inst();
         self.memory.instances.finish(task);

@@ -5,11 +5,10 @@ use terms::{Addr, facts_are_told_apart, orders_are_total};
 
 impl Machine {
     ghost use Rattle.std.specs.Prelude.{◌≡◌, ◌==◌, ◌<◌, ◌≤◌, IfSome, IsSome, OnErr, OnOk, None, Some, cond, is_some};
-    ghost use Rattle.instances.specs.declared.state.State.TheVariants.{Ready, Running, Waiting};
-    ghost use Rattle.items.specs.Held.{item_at};
+    ghost use Rattle.instances.specs.declared.state.State.TheVariants.{Ready, Running};
     ghost use Rattle.graph.specs.Fits.{IsAbsent, HasNoFault};
     ghost use Rattle.machine.specs.Legal.{Needs};
-    ghost use Rattle.machine.specs.Machine.{Moves, facts, ready_count, state_of};
+    ghost use Rattle.machine.specs.Machine.{LooksAgain, Moves, facts, ready_count, state_of};
 
     /// Lets one of the ready instances run, by its number among them. None where the number is not below theirs, and none in a store
     /// that a fault stopped.
@@ -33,9 +32,10 @@ impl Machine {
     pub fn park(&mut self, task: Task, addr: Addr) -> Result<(), AllocError>
         requires running { state_of self.old task ≡ Some Running }
         requires needs { IsAbsent (facts self.old) addr → Needs self.old.graph (facts self.old) task addr }
-        ensures ok { OnOk result (Moves self.old self.new task (cond (is_some (item_at self.old.memory.items addr)) Ready (Waiting addr))) }
+        ensures ok { OnOk result (LooksAgain self.old self.new task addr) }
         ensures refused { OnErr result (IsAbsent (facts self.old) addr × Moves self.old self.new task Ready) }
     {
+        facts_are_told_apart();
         orders_are_total();
         let place = addr;
         if self.memory.items.get(place).is_some() {

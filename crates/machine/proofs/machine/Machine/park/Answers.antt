@@ -1,4 +1,4 @@
-use Rattle.std.proofs.Common.{◌≡◌, ◌∙◌, Some, ap, sym, subst, refl, true, cond, is_some, None}
+use Rattle.std.proofs.Common.{◌≡◌, ◌∙◌, Some, ap, sym, subst, refl, true, is_some, None, inl, inr}
 use Rattle.terms.specs.declared.name.Inst.{Inst}
 use Rattle.graph.specs.Fits.{IsAbsent}
 use Rattle.items.specs.Held.{Held, item_at, with_waiter}
@@ -7,9 +7,10 @@ use Rattle.instances.specs.declared.state.State.TheVariants.{Ready, Running, Wai
 use Rattle.machine.specs.declared.memory.Memory.{Memory}
 use Rattle.machine.specs.Legal.{Needs}
 use Rattle.machine.specs.Memory.{is_item}
-use Rattle.machine.specs.Machine.{Machine, Moves, facts, state_of}
+use Rattle.machine.specs.Machine.{LooksAgain, Machine, Moves, facts, state_of}
 use Rattle.machine.proofs.Worked.{moved_is_of, moves_of}
-use Rattle.machine.proofs.Parked.{no_item, parked_is_of}
+use Rattle.machine.proofs.Parked.{no_item, parked_is_of, parked_moves}
+use Rattle.machine.proofs.TakenEvent.{absent_of, there_of}
 use Rattle.machine.proofs.machine.Machine.park.Goals as goal
 
 pub invariant_of-self : goal.invariant_of-self
@@ -26,9 +27,11 @@ returns-then-is_some-clause-ok c =
     let new : Memory = record { items = old.items; instances = c.release.new.self; fault = old.fault } in
     let was = subst (λ (m : Machine). state_of m c.args.task ≡ Some Running) (sym c.self.view_is) c.requires.running in
     let there : is_some (item_at old.items c.args.addr) ≡ true = ap is_some (sym c.get.ensures) ∙ sym c.if-is_some.ensures in
-    subst (λ (m : Machine). Moves m (record { graph = g; memory = new }) c.args.task (cond (is_some (item_at m.memory.items c.args.addr)) Ready (Waiting c.args.addr))) c.self.view_is
-    (subst (λ b. Moves (record { graph = g; memory = old }) (record { graph = g; memory = new }) c.args.task (cond b Ready (Waiting c.args.addr))) (sym there)
-    (moves_of c.orders_are_total.ensures.instances c.orders_are_total.ensures.instances_tie old new c.args.task Running Ready was c.release.ensures refl refl g refl))
+    subst (λ (m : Machine). LooksAgain m (record { graph = g; memory = new }) c.args.task c.args.addr) c.self.view_is
+    (inr (
+      there_of c.facts_are_told_apart.ensures.one old c.args.addr there,
+      moves_of c.orders_are_total.ensures.instances c.orders_are_total.ensures.instances_tie old new c.args.task Running Ready was c.release.ensures refl refl g refl,
+    ))
 
 pub invariant_of-self-in-Ok : goal.invariant_of-self-in-Ok
 invariant_of-self-in-Ok c =
@@ -42,6 +45,20 @@ invariant_of-self-in-Ok c =
           (c.in-Ok.ensures.ok ∙ ap (with_waiter old.items c.args.addr) c.inst.ensures) refl none c.self.invariant.0.listed g c.self.invariant.0 (needs (λ value by. ap (λ o. is_item o value by) none)),
       c.self.invariant.1,
     )
+
+pub returns-in-Ok-clause-ok : goal.returns-in-Ok-clause-ok
+returns-in-Ok-clause-ok c =
+    let old = c.self.inside.memory in
+    let g = c.self.inside.graph.value in
+    let new : Memory = record { items = c.wait_on.new.self; instances = c.park.new.self; fault = old.fault } in
+    let was = subst (λ (m : Machine). state_of m c.args.task ≡ Some Running) (sym c.self.view_is) c.requires.running in
+    let none : item_at old.items c.args.addr ≡ None = sym c.get.ensures ∙ no_item c.get.result (sym c.if-is_some.ensures) in
+    subst (λ (m : Machine). LooksAgain m (record { graph = g; memory = new }) c.args.task c.args.addr) c.self.view_is
+    (inl (
+      absent_of old c.args.addr none,
+      parked_moves c.orders_are_total.ensures.instances c.orders_are_total.ensures.instances_tie old new c.args.task c.args.addr was c.park.ensures
+          (c.in-Ok.ensures.ok ∙ ap (with_waiter old.items c.args.addr) c.inst.ensures) refl none c.self.invariant.0.listed g,
+    ))
 
 pub invariant_of-self-in-Err : goal.invariant_of-self-in-Err
 invariant_of-self-in-Err c =

@@ -1,13 +1,15 @@
-use Rattle.std.proofs.Common.{◌≡◌, ◌∙◌, ◌≤◌, Some, List, [], length, ap, sym, subst, refl}
+use Rattle.std.proofs.Common.{◌≡◌, ◌∙◌, ℕ, ◌+◌, ◌≤◌, Some, List, [], length, ap, sym, subst, refl}
 use Rattle.terms.specs.declared.event.Event.TheVariants.{Done}
 use Rattle.terms.specs.declared.name.Inst.{Inst}
 use Rattle.terms.specs.Facts.{put_facts}
 use Rattle.instances.specs.declared.state.State.TheVariants.{Running}
+use Rattle.instances.specs.Known.{room_for, state_at}
 use Rattle.machine.specs.declared.memory.Memory.{Memory}
 use Rattle.machine.specs.Legal.{IsLegal}
-use Rattle.machine.specs.Memory.{GoesOn, Grows}
+use Rattle.machine.specs.Memory.{MovesOn, Grows}
 use Rattle.machine.specs.Machine.{Machine, HasRoom, Takes, facts, state_of}
 use Rattle.machine.proofs.Ending.{can_take_all, with_room}
+use Rattle.machine.proofs.TakenEvent.{takes}
 use Rattle.machine.proofs.Worked.{ended_listed, end_comes}
 use Rattle.machine.proofs.machine.Machine.take_end.Goals as goal
 
@@ -60,10 +62,7 @@ returns c =
     let was = subst (λ (m : Machine). state_of m c.args.task ≡ Some Running) (sym c.self.view_is) c.requires.running in
     let grows = subst (λ (i : Inst). Grows mid new (put_facts i 0 puts) [] (length puts)) c.inst-instance.ensures c.put_all.ensures in
     let comes = end_comes c.orders_are_total.ensures.instances c.orders_are_total.ensures.instances_tie old mid new c.args.task was c.finish.ensures refl refl c.self.invariant.0.listed puts (length puts) grows in
-    subst (λ (m : Machine). Takes m (record { graph = c.self.inside.graph.value; memory = new }) (Done c.args.task puts)) c.self.view_is (record {
-      graph = refl;
-      facts = comes.facts;
-      environment = comes.environment;
-      states = λ i other. subst (λ s. GoesOn new s (state_of (record { graph = c.self.inside.graph.value; memory = new }) i)) (c.finish.ensures.others i (λ same. other (sym same))) (grows.states i);
-      given_back = tt;
-    })
+    subst (λ (m : Machine). Takes m (record { graph = c.self.inside.graph.value; memory = new }) (Done c.args.task puts)) c.self.view_is
+    (takes c.facts_are_told_apart.ensures.one c.self.inside.graph.value old new (Done c.args.task puts) comes
+    (λ i other. subst (λ s. MovesOn new s (state_at new.instances i)) (c.finish.ensures.others i (λ same. other (sym same))) (grows.states i))
+    tt grows.item_room (λ k. subst (λ (n : ℕ). n ≤ room_for new.instances k + length puts) (c.finish.ensures.room k) (grows.tag_room k)))

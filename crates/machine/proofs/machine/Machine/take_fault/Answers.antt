@@ -1,4 +1,4 @@
-use Rattle.std.proofs.Common.{◌≡◌, ◌∙◌, Some, [], length, ap, sym, subst, refl}
+use Rattle.std.proofs.Common.{◌≡◌, ◌∙◌, Some, [], length, ap, sym, subst, refl, arith}
 use Rattle.maps.specs.Numbered.{Numbered}
 use Rattle.terms.specs.declared.event.Event.TheVariants.{Stopped}
 use Rattle.terms.specs.declared.name.Inst.{Inst}
@@ -7,6 +7,7 @@ use Rattle.machine.specs.declared.memory.Memory.{Memory}
 use Rattle.machine.specs.Legal.{IsLegal}
 use Rattle.machine.specs.Memory.{Comes}
 use Rattle.machine.specs.Machine.{Machine, Takes, facts, state_of}
+use Rattle.machine.proofs.TakenEvent.{takes}
 use Rattle.machine.proofs.Worked.{stop_comes, stays_on}
 use Rattle.machine.proofs.machine.Machine.take_fault.Goals as goal
 
@@ -30,10 +31,7 @@ returns c =
     let legal = subst (λ (m : Machine). IsLegal m.graph (facts m) (Stopped c.args.task c.args.kind)) (sym c.self.view_is) c.requires.legal in
     let comes = stop_comes c.facts_are_told_apart.ensures.one c.orders_are_total.ensures.instances c.orders_are_total.ensures.instances_tie old new c.args.task c.args.kind was c.release.ensures refl
     (ap (λ (i : Inst). Some (i, c.args.kind)) c.inst.ensures) legal.working c.self.invariant.0.listed in
-    subst (λ (m : Machine). Takes m (record { graph = c.self.inside.graph.value; memory = new }) (Stopped c.args.task c.args.kind)) c.self.view_is (record {
-      graph = refl;
-      facts = comes.facts;
-      environment = comes.environment;
-      states = λ i other. stays_on old new c.self.invariant.0.listed refl i (c.release.ensures.others i (λ same. other (sym same)));
-      given_back = c.release.ensures.here;
-    })
+    subst (λ (m : Machine). Takes m (record { graph = c.self.inside.graph.value; memory = new }) (Stopped c.args.task c.args.kind)) c.self.view_is
+    (takes c.facts_are_told_apart.ensures.one c.self.inside.graph.value old new (Stopped c.args.task c.args.kind) comes
+    (λ i other. stays_on old new c.self.invariant.0.listed refl i (c.release.ensures.others i (λ same. other (sym same))))
+    c.release.ensures.here (λ k. omega arith) (λ k. (let same = c.release.ensures.room k in omega (arith, same))))
