@@ -6,8 +6,9 @@ use instances::{State, Task};
 use terms::{FaultKind, Put, facts_are_told_apart};
 
 impl Machine {
-    ghost use Rattle.std.specs.Prelude.{◌≡◌, ◌↔◌, ◌≤◌, IfErr, IfOk, IsTrue, MatchBool, OnOk, Some, length};
+    ghost use Rattle.std.specs.Prelude.{◌≡◌, ◌↔◌, ◌≤◌, IfErr, IfOk, IsTrue, MatchBool, OnErr, OnOk, Some, length};
     ghost use Rattle.terms.specs.declared.put.TheConstants.{MOST_PUTS};
+    ghost use Rattle.terms.specs.declared.event.Event.{Event};
     ghost use Rattle.terms.specs.declared.event.Event.TheVariants.{Stopped};
     ghost use Rattle.instances.specs.declared.state.State.TheVariants.{Running};
     ghost use Rattle.graph.specs.Fits.{AreNew};
@@ -30,6 +31,7 @@ impl Machine {
         requires running { state_of self.old task.now ≡ Some Running }
         requires gives { BodyGives self.old.graph (facts self.old) task.now puts.now }
         ensures legal { IfOk result (λ end. IsLegal self.old.graph (facts self.old) (event_of end task.now puts.now)) }
+        ensures illegal { OnErr result ((event : Event) → IsLegal self.old.graph (facts self.old) event → ⊥) }
         ensures refused { IfErr result (RefusesEnd self.old) }
         ensures same { self.new ≡ self.old }
     {
@@ -43,11 +45,12 @@ impl Machine {
         }
     }
 
-    /// Whether an instance may come to be at fault whose body is, over items that are here. Where the store has a fault it may not.
+    /// Whether the fault of a body is legal, over items that are here. Where the store has a fault already it is not, nor is any event.
     pub fn may_stop(&self, task: &Task, kind: FaultKind) -> Result<(), Refusal>
         requires running { state_of self.now task.now ≡ Some Running }
         requires faults { BodyFaults self.now.graph (facts self.now) task.now kind }
         ensures legal { OnOk result (IsLegal self.now.graph (facts self.now) (Stopped task.now kind)) }
+        ensures illegal { OnErr result ((event : Event) → IsLegal self.now.graph (facts self.now) event → ⊥) }
         ensures refused { IfErr result (RefusesEnd self.now) }
     {
         self.memory.instances.are_there_together();

@@ -2,7 +2,7 @@ use crate::{Machine, Refusal};
 use terms::{Addr, Tag, facts_are_told_apart};
 
 impl Machine {
-    ghost use Rattle.std.specs.Prelude.{◌≡◌, ℤ, IfErr, OnOk};
+    ghost use Rattle.std.specs.Prelude.{◌≡◌, ℤ, IfErr, OnErr, OnOk};
     ghost use Rattle.terms.specs.declared.event.Event.TheVariants.{EnvItem, EnvTag};
     ghost use Rattle.graph.specs.Fits.{HasNoFault, IsAbsent};
     ghost use Rattle.machine.specs.Legal.{IsLegal};
@@ -11,6 +11,7 @@ impl Machine {
     /// Whether the environment may put an item at an address, and if not, why.
     pub fn may_put_item(&self, addr: Addr) -> Result<(), Refusal>
         ensures legal { OnOk result ((value : ℤ) → IsLegal self.now.graph (facts self.now) (EnvItem addr value)) }
+        ensures illegal { OnErr result ((value : ℤ) → IsLegal self.now.graph (facts self.now) (EnvItem addr value) → ⊥) }
         ensures refused { IfErr result (RefusesItem self.now addr) }
     {
         let Some(components) = self.graph.item_components(addr.collection) else {
@@ -29,6 +30,7 @@ impl Machine {
     /// Whether the environment may put a tag, and if not, why.
     pub fn may_put_tag(&self, tag: Tag) -> Result<(), Refusal>
         ensures legal { OnOk result (IsLegal self.now.graph (facts self.now) (EnvTag tag)) }
+        ensures illegal { OnErr result (IsLegal self.now.graph (facts self.now) (EnvTag tag) → ⊥) }
         ensures refused { IfErr result (RefusesTag self.now tag) }
     {
         let Some(components) = self.graph.tag_components(tag.collection) else {
