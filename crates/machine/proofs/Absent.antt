@@ -1,14 +1,13 @@
 -- Which items of a list of puts are there.
-use Rattle.std.proofs.Common.{◌≡◌, ◌⊎◌, ◌∙◌, ap, sym, refl, subst, inl, inr, ℤ, Bool, true, false, List, [], ◌∷◌, ◌++◌, Option, Some, None, is_some, not, MatchBool}
+use Rattle.std.proofs.Common.{◌≡◌, ◌⊎◌, ◌∙◌, ap, sym, refl, inl, inr, ℤ, Bool, true, false, List, [], ◌∷◌, ◌++◌, Option, Some, None, is_some, not, MatchBool}
 use Rattle.std.proofs.lemmas.Bool.{false≢true}
 use Rattle.terms.specs.declared.name.Addr.{Addr}
 use Rattle.terms.specs.declared.producer.Producer.{Producer}
 use Rattle.terms.specs.declared.name.Tag.{Tag}
 use Rattle.terms.specs.declared.put.Put.{Put}
 use Rattle.terms.specs.declared.put.Put.TheVariants as put
-use Rattle.terms.specs.Facts.{item}
-use Rattle.terms.specs.Sets.{Facts, OneFact}
-use Rattle.graph.specs.Fits.{addresses, IsIn, IsTwiceIn, IsAbsent, AreNew}
+use Rattle.terms.specs.Sets.{OneFact}
+use Rattle.graph.specs.Fits.{addresses, IsIn, IsTwiceIn, AreNew}
 use Rattle.items.specs.Held.{Held, item_at}
 use Rattle.machine.specs.declared.memory.Memory.{Memory}
 use Rattle.machine.specs.Memory.{is_item, facts_of}

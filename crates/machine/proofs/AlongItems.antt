@@ -1,7 +1,6 @@
 -- Reads of items that are there.
-use Rattle.std.proofs.Common.{◌≡◌, true, List, [], ◌∷◌}
-use Rattle.terms.specs.Facts.{Fact, item}
-use Rattle.terms.specs.Sets.{Facts}
+use Rattle.std.proofs.Common.{[], ◌∷◌}
+use Rattle.terms.specs.Facts.{item}
 use Rattle.machine.specs.Results.{ReadsStay}
 
 pub reads_stay : ReadsStay

@@ -1,10 +1,10 @@
 -- What one item, or one tag, makes of the facts of a store.
-use Rattle.std.proofs.Common.{◌≡◌, ◌≢◌, ◌⊎◌, ◌∙◌, ap, sym, refl, subst, inl, inr, ℕ, zero, suc, ℤ, ◌+◌, ◌==◌, ◌<◌, ◌≤◌, Bool, true, false, cond, ◌&&◌, ◌||◌, List, [], ◌∷◌, length, Option, Some, None, IsSome, is_some, arith}
+use Rattle.std.proofs.Common.{◌≡◌, ◌⊎◌, ◌∙◌, ap, sym, refl, subst, inl, inr, ℕ, ℤ, ◌+◌, ◌==◌, ◌<◌, ◌≤◌, Bool, true, false, cond, ◌&&◌, ◌||◌, List, [], ◌∷◌, length, Option, Some, None, IsSome, is_some, arith}
 use Rattle.std.proofs.lemmas.Bool.{false≢true}
 use Rattle.std.specs.Cmp.{unsigned_Decides}
 use Rattle.std.specs.Option.{unwrap_or}
-use Rattle.std.specs.Ordering.{is_eq, int_eq}
-use Rattle.std.specs.FinMap.{get, insert, remove, get-insert, get-remove}
+use Rattle.std.specs.Ordering.{int_eq}
+use Rattle.std.specs.FinMap.{get, remove, get-insert, get-remove}
 use Rattle.terms.specs.declared.name.Addr.{Addr}
 use Rattle.terms.specs.declared.name.Tag.{Tag}
 use Rattle.terms.specs.declared.name.ItemCollection.{ItemCollection}
@@ -12,21 +12,20 @@ use Rattle.terms.specs.declared.name.Inst.{Inst}
 use Rattle.terms.specs.declared.producer.Producer.{Producer}
 use Rattle.terms.specs.declared.producer.Producer.TheVariants.{Env, By}
 use Rattle.terms.specs.declared.put.Put.TheVariants as put
-use Rattle.terms.specs.Name.{tag_cmp}
 use Rattle.terms.specs.Same.{is_same, same_itself, same_address}
 use Rattle.terms.specs.Facts.{Fact, tag, item, done, bad}
-use Rattle.terms.specs.Sets.{Facts, with_facts, is_fact, among, OneFact}
+use Rattle.terms.specs.Sets.{with_facts, is_fact, OneFact}
 use Rattle.maps.specs.Numbered.{Numbered, AddsAt, room_at}
 use Rattle.maps.specs.PlaceOrder.{places_total}
 use Rattle.graph.specs.Fits.{IsAbsent}
 use Rattle.items.specs.Held.{Held, place, item_at, waiters_at, room_for}
 use Rattle.instances.specs.declared.state.State.{State}
 use Rattle.instances.specs.declared.state.State.TheVariants.{Ready, Running, Waiting, Done}
-use Rattle.instances.specs.Known.{Known, mark_of, state_at}
+use Rattle.instances.specs.Known.{mark_of, state_at}
 use Rattle.machine.specs.declared.memory.Memory.{Memory}
 use Rattle.machine.specs.Memory.{is_item, is_done, is_fault, IsOnceEach, facts_of, environment_of, waits_at, AreListed, MovesOn, Grows}
 use Rattle.machine.specs.Waking.{is_one_of, Wakes}
-use Rattle.machine.specs.Coming.{fact_of, given_by}
+use Rattle.machine.specs.Coming.{given_by}
 
 and_right : (a b : Bool) → (a && b) ≡ true → b ≡ true
 and_right true b both = both

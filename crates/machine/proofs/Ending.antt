@@ -1,12 +1,10 @@
 -- Puts that are new, and for which there is room, can be taken.
-use Rattle.std.proofs.Common.{◌≡◌, ◌∙◌, ap, sym, refl, subst, ℕ, zero, suc, ◌<◌, ◌≤◌, List, [], ◌∷◌, ◌++◌, length, slice_get, Some, None, arith}
+use Rattle.std.proofs.Common.{◌≡◌, ap, sym, refl, subst, ℕ, zero, suc, ◌<◌, ◌≤◌, List, [], ◌∷◌, ◌++◌, length, slice_get, Some, arith}
 use Rattle.std.specs.List.{AllByRecursion}
-use Rattle.std.proofs.lemmas.List.{append_assoc}
 use Rattle.terms.specs.declared.name.Addr.{Addr}
 use Rattle.terms.specs.declared.name.TagCollection.{TagCollection}
 use Rattle.terms.specs.declared.put.Put.{Put}
 use Rattle.terms.specs.declared.put.Put.TheVariants as put
-use Rattle.steptree.specs.Nameable.{Collection}
 use Rattle.graph.specs.Graph.{Graph}
 use Rattle.graph.specs.Fits.{addresses, IsIn, IsTwiceIn, IsAbsent, PutIsOf}
 use Rattle.items.specs.Held.{Held}

@@ -1,5 +1,5 @@
 -- What comes to a store, and then more.
-use Rattle.std.proofs.Common.{◌≡◌, ◌≢◌, ◌⊎◌, ◌∙◌, ap, sym, refl, subst, inl, inr, ℕ, suc, ℤ, ◌+◌, ◌<◌, ◌≤◌, Bool, true, false, ◌||◌, List, [], ◌∷◌, ◌++◌, length, Option, Some, None, IsSome, arith}
+use Rattle.std.proofs.Common.{◌≡◌, ◌∙◌, ap, sym, refl, subst, inl, inr, ℕ, suc, ℤ, ◌<◌, Bool, true, false, ◌||◌, List, [], ◌∷◌, ◌++◌, Option, Some, None, IsSome, arith}
 use Rattle.std.proofs.lemmas.Bool.{false≢true}
 use Rattle.std.proofs.lemmas.List.{append_assoc}
 use Rattle.terms.specs.declared.name.Addr.{Addr}
@@ -8,8 +8,8 @@ use Rattle.terms.specs.declared.producer.Producer.{Producer}
 use Rattle.terms.specs.declared.put.Put.{Put}
 use Rattle.terms.specs.declared.put.Put.TheVariants as put
 use Rattle.terms.specs.declared.producer.Producer.TheVariants.{By}
-use Rattle.terms.specs.Facts.{Fact, tag, item, done, bad, put_fact}
-use Rattle.terms.specs.Sets.{Facts, with_facts, is_fact, among, OneFact}
+use Rattle.terms.specs.Facts.{Fact, tag, item, put_fact}
+use Rattle.terms.specs.Sets.{is_fact, among, OneFact}
 use Rattle.graph.specs.Fits.{addresses, IsIn, IsAbsent}
 use Rattle.items.specs.Held.{item_at}
 use Rattle.instances.specs.declared.state.State.{State}

@@ -1,17 +1,15 @@
 -- Where nothing is left to do, the instances that wait are those that the meaning leaves unfinished.
-use Rattle.std.proofs.Common.{◌≡◌, ◌↔◌, ◌∙◌, ap, sym, refl, false, true, List, Option, Some, None, is_some}
+use Rattle.std.proofs.Common.{◌≡◌, ◌∙◌, ap, sym, refl, List, Option, Some, None, is_some}
 use Rattle.std.proofs.lemmas.Bool.{false≢true}
 use Rattle.std.specs.Cmp.{IsTotalOrder}
-use Rattle.std.specs.FinMap.{IsAntisymmetric, find}
+use Rattle.std.specs.FinMap.{IsAntisymmetric}
 use Rattle.terms.specs.Key.{key_cmp}
-use Rattle.terms.specs.Name.{inst_cmp}
 use Rattle.terms.specs.declared.name.Addr.{Addr}
 use Rattle.terms.specs.declared.name.Inst.{Inst}
 use Rattle.terms.specs.Sets.{OneFact, AmongBoth}
 use Rattle.steptree.specs.Bodies.{Asks}
 use Rattle.steptree.specs.Laws.{LookUpEndsOnce}
 use Rattle.graph.specs.Graph.{Graph}
-use Rattle.graph.specs.Fits.{HasNoFault}
 use Rattle.instances.specs.declared.state.State.{State}
 use Rattle.instances.specs.declared.state.State.TheVariants.{Ready, Running, Waiting, Done}
 use Rattle.instances.specs.Known.{state_at}
@@ -19,7 +17,7 @@ use Rattle.instances.specs.Listed.{AreTheWaiting}
 use Rattle.instances.specs.There.{AreThereTogether}
 use Rattle.machine.specs.declared.memory.Memory.{Memory}
 use Rattle.machine.specs.Memory.{is_done, environment_of, facts_of, IsOf}
-use Rattle.machine.specs.State.{IsReached, Waits, IsUnfinished}
+use Rattle.machine.specs.State.{IsReached, Waits}
 use Rattle.machine.specs.StateLaws.{QuietWaits}
 use Rattle.machine.specs.Status.{AreUnfinished, NoneIsActive}
 use Rattle.machine.proofs.Reached.{reached_one_ending}

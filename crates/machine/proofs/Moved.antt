@@ -1,5 +1,5 @@
 -- One instance comes into another state.
-use Rattle.std.proofs.Common.{◌≡◌, ◌≢◌, ◌∙◌, ap, sym, refl, subst, inl, inr, ℕ, ℤ, ◌+◌, ◌≤◌, Bool, true, false, ◌||◌, List, [], ◌∷◌, length, Option, Some, None, is_some, arith}
+use Rattle.std.proofs.Common.{◌≡◌, ◌≢◌, ◌∙◌, ap, sym, refl, subst, Bool, true, false, ◌||◌, [], ◌∷◌, Option, Some, None, is_some}
 use Rattle.std.proofs.lemmas.Bool.{false≢true}
 use Rattle.std.specs.Option.{unwrap_or}
 use Rattle.std.specs.FinMap.{IsAntisymmetric, get}
@@ -12,12 +12,12 @@ use Rattle.terms.specs.declared.producer.Producer.TheVariants.{Env, By}
 use Rattle.terms.specs.Name.{inst_cmp}
 use Rattle.terms.specs.Same.{same_itself}
 use Rattle.terms.specs.Facts.{Fact, tag, item, done, bad}
-use Rattle.terms.specs.Sets.{Facts, with_facts, is_fact, among}
+use Rattle.terms.specs.Sets.{with_facts}
 use Rattle.maps.specs.Numbered.{Numbered}
 use Rattle.items.specs.Held.{Held, item_at, waiters_at}
 use Rattle.instances.specs.declared.state.State.{State}
 use Rattle.instances.specs.declared.state.State.TheVariants.{Ready, Running, Waiting, Done}
-use Rattle.instances.specs.Known.{Known, MovesOne, mark_of, state_at}
+use Rattle.instances.specs.Known.{MovesOne, mark_of, state_at}
 use Rattle.machine.specs.declared.memory.Memory.{Memory}
 use Rattle.machine.specs.Memory.{is_item, is_done, is_fault, facts_of, environment_of, waits_at, IsOnceEach, AreListed}
 use Rattle.machine.specs.Waking.{is_one_of}

@@ -1,9 +1,9 @@
 -- An instance that runs comes to wait, or one that is ready runs.
-use Rattle.std.proofs.Common.{◌≡◌, ◌≢◌, ◌∙◌, ap, sym, refl, subst, inl, inr, ℕ, ◌<◌, ◌≤◌, Bool, true, false, cond, ◌||◌, List, [], ◌∷◌, ◌++◌, length, Option, Some, None, IsSome, IfSome, is_some, ℤ, arith}
+use Rattle.std.proofs.Common.{◌≡◌, ◌≢◌, ◌∙◌, ap, sym, refl, subst, inl, inr, ℕ, ◌<◌, ◌≤◌, Bool, true, false, cond, ◌||◌, List, [], ◌∷◌, ◌++◌, length, Option, Some, None, IsSome, IfSome, is_some, ℤ}
 use Rattle.std.proofs.lemmas.Bool.{false≢true, cases_lt}
 use Rattle.std.proofs.lemmas.List.Folds.{list_any-append}
 use Rattle.std.specs.Option.{unwrap_or}
-use Rattle.std.specs.FinMap.{IsAntisymmetric, get, insert, get-insert}
+use Rattle.std.specs.FinMap.{IsAntisymmetric, get, get-insert}
 use Rattle.std.specs.Cmp.{IsTotalOrder}
 use Rattle.std.specs.Ordering.{eq_by_cmp}
 use Rattle.terms.specs.declared.name.Addr.{Addr}
@@ -11,17 +11,16 @@ use Rattle.terms.specs.declared.name.Inst.{Inst}
 use Rattle.terms.specs.declared.fault.FaultKind.{FaultKind}
 use Rattle.terms.specs.declared.producer.Producer.{Producer}
 use Rattle.terms.specs.Name.{inst_cmp}
-use Rattle.terms.specs.Same.{is_same, same_itself, same_address}
+use Rattle.terms.specs.Same.{is_same, same_address}
 use Rattle.maps.specs.Numbered.{Numbered}
 use Rattle.maps.specs.PlaceOrder.{places_total}
 use Rattle.graph.specs.Graph.{Graph}
 use Rattle.items.specs.Held.{Held, place, item_at, room_for, waiters_at, with_waiter}
-use Rattle.instances.specs.declared.state.State.{State}
-use Rattle.instances.specs.declared.state.State.TheVariants.{Ready, Running, Waiting, Done}
-use Rattle.instances.specs.Known.{Known, MovesOne, state_at}
+use Rattle.instances.specs.declared.state.State.TheVariants.{Ready, Running, Waiting}
+use Rattle.instances.specs.Known.{MovesOne, state_at}
 use Rattle.machine.specs.declared.memory.Memory.{Memory}
 use Rattle.machine.specs.Legal.{Needs}
-use Rattle.machine.specs.Memory.{is_item, is_fault, facts_of, waits_at, IsOnceEach, AreListed, IsOf}
+use Rattle.machine.specs.Memory.{is_fault, facts_of, waits_at, IsOnceEach, AreListed, IsOf}
 use Rattle.machine.specs.Waking.{is_one_of}
 use Rattle.machine.proofs.Coming.{or_false}
 use Rattle.machine.proofs.Woken.{one_instance, itself}

@@ -1,5 +1,5 @@
 -- What a store holds where only room comes.
-use Rattle.std.proofs.Common.{◌≡◌, ◌≢◌, ◌∙◌, ap, sym, refl, subst, ℕ, zero, suc, ℤ, ◌==◌, ◌<◌, ◌≤◌, ◌⊎◌, inl, inr, Bool, true, false, List, [], ◌∷◌, length, drop, slice_get, get_or, Option, Some, None, is_some, arith}
+use Rattle.std.proofs.Common.{◌≡◌, ◌≢◌, ◌∙◌, ap, sym, refl, subst, ℕ, zero, suc, ℤ, ◌==◌, ◌<◌, ◌≤◌, Bool, true, false, List, [], ◌∷◌, length, get_or, Option, is_some, arith}
 use Rattle.std.proofs.lemmas.Bool.{false≢true}
 use Rattle.std.specs.Cmp.{unsigned_Decides}
 use Rattle.std.specs.List.{AllByRecursion}
@@ -16,13 +16,11 @@ use Rattle.terms.specs.declared.producer.Producer.TheVariants.{Env, By}
 use Rattle.terms.specs.declared.put.Put.{Put}
 use Rattle.terms.specs.declared.put.Put.TheVariants as put
 use Rattle.terms.specs.Facts.{Fact, tag, item, done, bad}
-use Rattle.maps.specs.Numbered.{Place, place_cmp, OnlyMakesRoom as MapMakesRoom}
+use Rattle.maps.specs.Numbered.{place_cmp, OnlyMakesRoom as MapMakesRoom}
 use Rattle.graph.specs.Graph.{Graph}
 use Rattle.items.specs.Held.{Held, place, item_at, waiters_at}
-use Rattle.items.specs.Held as items
 use Rattle.instances.specs.Known.{Known, mark_of, tag_place, state_at, prescriber_at}
 use Rattle.instances.specs.Known as instances
-use Rattle.instances.specs.declared.state.State.TheVariants.{Waiting}
 use Rattle.machine.specs.declared.memory.Memory.{Memory}
 use Rattle.machine.specs.Machine.{Machine, HasRoomFor, item_room, tag_room}
 use Rattle.machine.specs.Memory.{is_item, is_done, is_fault, waits_at, facts_of, environment_of, AreListed, IsOf, IsOnceEach}

@@ -1,10 +1,10 @@
 -- What a tag makes of the facts of a store.
-use Rattle.std.proofs.Common.{◌≡◌, ◌≢◌, ◌⊎◌, ◌∙◌, ap, sym, refl, subst, inl, inr, ℕ, zero, suc, ℤ, ◌+◌, ◌==◌, ◌<◌, ◌≤◌, Bool, true, false, cond, ◌&&◌, ◌||◌, List, [], ◌∷◌, length, Option, Some, None, IsSome, is_some, arith}
+use Rattle.std.proofs.Common.{◌≡◌, ◌∙◌, ap, sym, refl, subst, inl, inr, ℕ, ◌+◌, ◌==◌, ◌≤◌, Bool, true, false, cond, ◌||◌, [], ◌∷◌, length, Option, Some, None, is_some, arith}
 use Rattle.std.proofs.lemmas.Bool.{false≢true}
 use Rattle.std.specs.Option.{unwrap_or}
-use Rattle.std.specs.Ordering.{is_eq, eq_by_cmp}
+use Rattle.std.specs.Ordering.{is_eq}
 use Rattle.std.specs.Cmp.{Equal-is, eq_by_cmp_equiv}
-use Rattle.std.specs.FinMap.{get, insert, get-insert}
+use Rattle.std.specs.FinMap.{get, get-insert}
 use Rattle.terms.specs.declared.name.Addr.{Addr}
 use Rattle.terms.specs.declared.name.Tag.{Tag}
 use Rattle.terms.specs.declared.name.Inst.{Inst}
@@ -14,14 +14,13 @@ use Rattle.terms.specs.declared.producer.Producer.TheVariants.{Env, By}
 use Rattle.terms.specs.declared.put.Put.TheVariants as put
 use Rattle.terms.specs.Name.{tag_cmp}
 use Rattle.terms.specs.Facts.{Fact, tag, item, done, bad}
-use Rattle.terms.specs.Sets.{Facts, with_facts, is_fact, among}
-use Rattle.maps.specs.Numbered.{Numbered, AddsAt, Place, place_cmp}
+use Rattle.terms.specs.Sets.{with_facts}
 use Rattle.maps.specs.PlaceOrder.{places_total, same_places}
 use Rattle.items.specs.Held.{Held, item_at, waiters_at}
 use Rattle.items.specs.Held.{room_for as items_for}
 use Rattle.instances.specs.declared.state.State.{State}
 use Rattle.instances.specs.declared.state.State.TheVariants.{Ready, Running, Waiting, Done}
-use Rattle.instances.specs.Known.{Known, Prescribes, mark_of, state_at, tag_place, is_prescribed_by, room_for}
+use Rattle.instances.specs.Known.{Prescribes, mark_of, state_at, tag_place, is_prescribed_by, room_for}
 use Rattle.machine.specs.declared.memory.Memory.{Memory}
 use Rattle.machine.specs.Memory.{is_item, is_done, is_fault, IsOnceEach, facts_of, environment_of, waits_at, AreListed, MovesOn, Grows}
 use Rattle.machine.specs.Coming.{IsNewTo, given_by}

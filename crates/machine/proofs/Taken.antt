@@ -1,10 +1,8 @@
 -- What a legal event leaves of what a store holds is what a store may hold.
-use Rattle.std.proofs.Common.{◌≡◌, ◌∙◌, ap, sym, refl, subst, inl, inr, ℕ, zero, suc, ◌+◌, ◌<◌, ◌≤◌, ℤ, Bool, true, false, ◌||◌, List, [], ◌∷◌, length, Option, Some, None, arith}
+use Rattle.std.proofs.Common.{◌≡◌, ◌∙◌, ap, sym, refl, subst, ℕ, suc, ◌+◌, ◌<◌, ℤ, Bool, true, false, ◌||◌, List, [], ◌∷◌, length, arith}
 use Rattle.std.proofs.lemmas.Bool.{false≢true}
 use Rattle.terms.specs.declared.name.Addr.{Addr}
 use Rattle.terms.specs.declared.name.Inst.{Inst}
-use Rattle.terms.specs.declared.name.Tag.{Tag}
-use Rattle.terms.specs.declared.fault.FaultKind.{FaultKind}
 use Rattle.terms.specs.declared.producer.Producer.{Producer}
 use Rattle.terms.specs.declared.producer.Producer.TheVariants.{Env, By}
 use Rattle.terms.specs.declared.put.Put.{Put}
@@ -12,12 +10,12 @@ use Rattle.terms.specs.declared.put.TheConstants.{MOST_PUTS}
 use Rattle.terms.specs.declared.put.Put.TheVariants as put
 use Rattle.terms.specs.declared.event.Event.{Event}
 use Rattle.terms.specs.declared.event.Event.TheVariants.{EnvItem, EnvTag, Done, Stopped}
-use Rattle.terms.specs.Facts.{Fact, tag, item, done, bad, event_facts, environment_facts, put_facts}
+use Rattle.terms.specs.Facts.{Fact, tag, item, event_facts, environment_facts, put_facts}
 use Rattle.terms.specs.Sets.{Facts, with_facts, is_fact, among, OneFact}
 use Rattle.steptree.specs.Sheet.{KeepsAtAnyReads}
 use Rattle.steptree.specs.Laws.{FewPuts}
-use Rattle.graph.specs.Graph.{Graph, IsGraph}
-use Rattle.graph.specs.Fits.{Fits, FitsState}
+use Rattle.graph.specs.Graph.{Graph}
+use Rattle.graph.specs.Fits.{FitsState}
 use Rattle.graph.specs.FitLaws.{StateKeeps}
 use Rattle.machine.specs.declared.memory.Memory.{Memory}
 use Rattle.machine.specs.Legal.{IsLegal}

@@ -1,5 +1,5 @@
 -- An event is taken, in the words of what a store holds.
-use Rattle.std.proofs.Common.{◌≡◌, ◌≢◌, ◌∙◌, ap, sym, refl, inl, inr, ℤ, ◌+◌, ◌≤◌, true, Option, Some, None, IsSome}
+use Rattle.std.proofs.Common.{◌≡◌, ap, refl, inl, inr, ℤ, ◌+◌, ◌≤◌, Option, Some, None, IsSome}
 use Rattle.std.proofs.lemmas.Bool.{false≢true}
 use Rattle.terms.specs.declared.name.Addr.{Addr}
 use Rattle.terms.specs.declared.name.Inst.{Inst}
@@ -7,7 +7,6 @@ use Rattle.terms.specs.declared.name.ItemCollection.{ItemCollection}
 use Rattle.terms.specs.declared.name.TagCollection.{TagCollection}
 use Rattle.terms.specs.declared.event.Event.{Event}
 use Rattle.terms.specs.declared.producer.Producer.{Producer}
-use Rattle.terms.specs.Facts.{item}
 use Rattle.terms.specs.Sets.{OneFact}
 use Rattle.graph.specs.Graph.{Graph}
 use Rattle.graph.specs.Fits.{IsAbsent}
@@ -16,7 +15,7 @@ use Rattle.instances.specs.declared.state.State.{State}
 use Rattle.instances.specs.declared.state.State.TheVariants.{Ready, Running, Waiting, Done}
 use Rattle.instances.specs.Known.{state_at}
 use Rattle.machine.specs.declared.memory.Memory.{Memory}
-use Rattle.machine.specs.Machine.{Machine, Ends, GivesBack, GoesOn, IsThere, Takes, count_of, item_room, tag_room}
+use Rattle.machine.specs.Machine.{Ends, GivesBack, GoesOn, IsThere, Takes, count_of, item_room, tag_room}
 use Rattle.machine.specs.Memory.{is_item, facts_of, Comes, MovesOn}
 use Rattle.machine.proofs.Coming.{item_is_there}
 

@@ -1,18 +1,17 @@
 -- What a store tells of itself, from what it keeps.
-use Rattle.std.proofs.Common.{Result, Ok, Err, IfOk, ◌≡◌, ◌↔◌, ◌⊎◌, ◌∙◌, ap, sym, refl, subst, inl, inr, ℕ, ℤ, ◌==◌, Bool, true, false, ◌&&◌, List, Option, Some, None, is_some, slice_get, length}
+use Rattle.std.proofs.Common.{Result, Ok, Err, IfOk, ◌≡◌, ◌↔◌, ◌⊎◌, ◌∙◌, ap, sym, refl, subst, inl, inr, ℕ, ℤ, ◌==◌, Bool, true, false, ◌&&◌, List, Option, Some, None, is_some}
 use Rattle.std.proofs.lemmas.Bool.{false≢true}
-use Rattle.std.specs.Cmp.{IsTotalOrder, Equal-is, unsigned_Decides}
-use Rattle.std.specs.FinMap.{IsAntisymmetric, find}
+use Rattle.std.specs.Cmp.{IsTotalOrder, unsigned_Decides}
+use Rattle.std.specs.FinMap.{IsAntisymmetric}
 use Rattle.std.specs.Option.{option_map}
 use Rattle.std.specs.Ordering.{eq_by_cmp, is_eq}
 use Rattle.std.proofs.lemmas.Cmp.{tied_itself}
 use Rattle.terms.specs.Key.{key_cmp}
-use Rattle.terms.specs.Name.{inst_cmp}
 use Rattle.terms.specs.declared.name.Addr.{Addr}
 use Rattle.terms.specs.declared.name.Inst.{Inst}
 use Rattle.terms.specs.declared.name.Tag.{Tag}
 use Rattle.terms.specs.declared.fault.FaultKind.{FaultKind}
-use Rattle.terms.specs.Facts.{Fact, tag, done, bad}
+use Rattle.terms.specs.Facts.{done, bad}
 use Rattle.terms.specs.Sets.{OneFact}
 use Rattle.graph.specs.Graph.{Graph, Step, Prescribes}
 use Rattle.graph.specs.Fits.{HasNoFault, IsPrescribed}
@@ -24,9 +23,9 @@ use Rattle.instances.specs.Listed.{AreTheWaiting}
 use Rattle.instances.specs.There.{AreThereTogether}
 use Rattle.machine.specs.declared.memory.Memory.{Memory}
 use Rattle.machine.specs.Legal.{IsQuiet, IsBlocked}
-use Rattle.machine.specs.Machine.{Machine, facts, state_of}
-use Rattle.machine.specs.Memory.{is_done, is_fault, facts_of, prescriber_of, IsOf}
+use Rattle.machine.specs.Memory.{is_done, is_fault, facts_of, IsOf}
 use Rattle.machine.specs.Status.{AreBlocked, NoneIsActive}
+use Rattle.machine.proofs.Unfinished.{by_graph}
 
 -- ---- faults
 
@@ -47,10 +46,6 @@ module _ (told : OneFact) where
 
 -- ---- what prescribes
 
-both : (a b : Bool) → (a && b) ≡ true → (a ≡ true) × (b ≡ true)
-both true b is = (refl, is)
-both false b is = absurd (false≢true is)
-
 and_both : (a b : Bool) → a ≡ true → b ≡ true → (a && b) ≡ true
 and_both true b one two = two
 and_both false b one two = one
@@ -63,26 +58,12 @@ module _ (total : IsTotalOrder key_cmp) (tie : IsAntisymmetric key_cmp) (g : Gra
       ∙ and_both (it.step.prescriber == name.collection.0) (eq_by_cmp key_cmp i.key name.key) ((unsigned_Decides it.step.prescriber name.collection.0).1 it.prescriber)
       (subst (λ (k : List ℤ). eq_by_cmp key_cmp i.key k ≡ true) (sym it.key) (ap is_eq (tied_itself total i.key)))
 
-  of_graph : (name : Tag) (i : Inst) → is_prescribed_by m.instances name i ≡ true → Prescribes g name i
-  of_graph name i by = at (slice_get g.steps i.collection.0) refl (ap (λ (o : Option ℕ). prescribed_in o name i.key) (sym (is.prescribers i.collection.0)) ∙ by)
-    where
-      at : (o : Option Step) → slice_get g.steps i.collection.0 ≡ o → prescribed_in (option_map (λ (s : Step). s.prescriber) (slice_get g.steps i.collection.0)) name i.key ≡ true → Prescribes g name i
-      at None here by = absurd (false≢true (ap (λ (o : Option Step). prescribed_in (option_map (λ (s : Step). s.prescriber) o) name i.key) (sym here) ∙ by))
-      at (Some step) here by =
-          let parts = both (step.prescriber == name.collection.0) (eq_by_cmp key_cmp i.key name.key) (ap (λ (o : Option Step). prescribed_in (option_map (λ (s : Step). s.prescriber) o) name i.key) (sym here) ∙ by) in
-          record {
-            step = step;
-            is_step = here;
-            prescriber = (unsigned_Decides step.prescriber name.collection.0).0 parts.0;
-            key = sym (tie i.key name.key ((Equal-is (key_cmp i.key name.key)).0 parts.1));
-          }
-
   module _ (there : AreThereTogether m.instances) where
     -- an instance that is there is prescribed
     pub prescribed : (i : Inst) (s : State) → state_at m.instances i ≡ Some s → IsPrescribed g (facts_of m) i
     prescribed i s here =
         let by = there.prescribed i (ap is_some here) in
-        (by.0, sym (there.together by.0 i by.1) ∙ ap is_some here, of_graph by.0 i by.1)
+        (by.0, sym (there.together by.0 i by.1) ∙ ap is_some here, by_graph g m is by.0 i by.1)
 
     -- where no instance is ready, none runs and none is at fault, the store is quiet
     pub quiet : HasNoFault (facts_of m) → NoneIsActive (record { graph = g; memory = m }) → IsQuiet g (facts_of m)
@@ -115,17 +96,6 @@ none_of g m idle i Ready here = absurd ((idle i).0 here)
 none_of g m idle i Running here = absurd ((idle i).1 here)
 none_of g m idle i (Waiting address) here = (refl, refl)
 none_of g m idle i Done here = (refl, refl)
-
--- no fact is a fault exactly where none is kept
-pub no_fault : (told : OneFact) (m : Memory) → HasNoFault (facts_of m) → m.fault ≡ None
-no_fault told m none = at m.fault (λ i kind. none i kind)
-  where
-    at : (fault : Option (Inst × FaultKind)) → ((i : Inst) (kind : FaultKind) → is_fault fault i kind ≡ false) → fault ≡ None
-    at None none = refl
-    at (Some there) none = absurd (false≢true (sym (none there.0 there.1) ∙ (told (bad there.0 there.1) (bad there.0 there.1)).0))
-
-pub no_fault_kept : (m : Memory) → m.fault ≡ None → HasNoFault (facts_of m)
-no_fault_kept m none i kind = ap (λ (f : Option (Inst × FaultKind)). is_fault f i kind) none
 
 -- what follows of a value that is there
 pub if_ok : {X E : Type 0} (P Q : X → Type 0) (result : Result X E) → ((x : X) → P x → Q x) → IfOk result P → IfOk result Q

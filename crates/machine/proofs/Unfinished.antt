@@ -1,18 +1,17 @@
 -- An instance that runs is prescribed, and not done.
-use Rattle.std.proofs.Common.{◌≡◌, ◌∙◌, ap, sym, refl, subst, ℕ, ℤ, Bool, true, false, ◌&&◌, ◌==◌, List, Option, Some, None, Result, Ok, Err, OnOk, option_map, is_some, slice_get}
+use Rattle.std.proofs.Common.{◌≡◌, ◌∙◌, ap, sym, refl, Bool, true, false, ◌&&◌, ◌==◌, Option, Some, None, Result, Ok, Err, OnOk, option_map, is_some, slice_get}
 use Rattle.std.proofs.lemmas.Bool.{false≢true}
 use Rattle.std.specs.Ordering.{eq_by_cmp}
 use Rattle.std.specs.Cmp.{Equal-is}
 use Rattle.terms.specs.Key.{key_cmp}
 use Rattle.terms.specs.declared.name.Inst.{Inst}
 use Rattle.terms.specs.declared.name.Tag.{Tag}
-use Rattle.terms.specs.Facts.{tag, done}
+use Rattle.terms.specs.Facts.{done}
 use Rattle.maps.specs.PlaceOrder.{same_key}
 use Rattle.graph.specs.Graph.{Graph, Step, Prescribes}
 use Rattle.graph.specs.Fits.{IsPrescribed}
-use Rattle.instances.specs.declared.state.State.{State}
 use Rattle.instances.specs.declared.state.State.TheVariants.{Running}
-use Rattle.instances.specs.Known.{state_at, prescriber_at, prescribed_in, is_prescribed_by}
+use Rattle.instances.specs.Known.{state_at, prescribed_in, is_prescribed_by}
 use Rattle.instances.specs.There.{AreThereTogether}
 use Rattle.machine.specs.declared.memory.Memory.{Memory}
 use Rattle.machine.specs.Memory.{is_done, facts_of, prescriber_of, IsOf}

@@ -1,26 +1,18 @@
 -- One change of what a store holds, before the changes are put together.
-use Rattle.std.specs.Prelude.{◌≡◌, ◌≢◌, ⊤, ℕ, ℤ, ◌<◌, ◌≤◌, true, false, cond, Bool, List, [], ◌∷◌, length, Option, Some, None}
-use Rattle.std.specs.List.{list_any}
-use Rattle.std.specs.FinMap.{remove}
-use Rattle.std.specs.Ordering.{eq_by_cmp}
+use Rattle.std.specs.Prelude.{◌≡◌, ⊤, ℕ, ◌≤◌, false, List, [], ◌∷◌}
 use Rattle.terms.specs.declared.name.Addr.{Addr}
-use Rattle.terms.specs.declared.name.Inst.{Inst}
-use Rattle.terms.specs.declared.name.TagCollection.{TagCollection}
 use Rattle.terms.specs.declared.producer.Producer.{Producer}
 use Rattle.terms.specs.declared.producer.Producer.TheVariants.{Env, By}
 use Rattle.terms.specs.declared.put.Put.{Put}
 use Rattle.terms.specs.declared.put.Put.TheVariants as put
-use Rattle.terms.specs.Name.{inst_cmp}
 use Rattle.terms.specs.Facts.{Fact, tag, item}
 use Rattle.graph.specs.Fits.{IsAbsent, addresses, IsIn}
 use Rattle.items.specs.Held.{Held, IsOfCollection}
 use Rattle.items.specs.Held as items
-use Rattle.instances.specs.declared.state.State.TheVariants.{Ready}
-use Rattle.instances.specs.OfStep.{IsWaiting}
 use Rattle.instances.specs.Known.{Known, state_at, prescriber_at}
 use Rattle.instances.specs.Known as instances
 use Rattle.machine.specs.declared.memory.Memory.{Memory}
-use Rattle.machine.specs.Memory.{facts_of, AreListed}
+use Rattle.machine.specs.Memory.{facts_of}
 
 -- what a put by this producer states
 abbrev pub fact_of : Producer → Put → Fact

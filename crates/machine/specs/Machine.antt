@@ -1,19 +1,17 @@
 -- The state of a store in memory: its graph and what it holds; what each call makes of it, and why one is refused.
-use Rattle.std.specs.Prelude.{◌≡◌, ◌≢◌, ◌⊎◌, ⊤, ℕ, ℤ, ◌+◌, ◌<◌, ◌≤◌, true, false, List, [], ◌∷◌, length, get_or, slice_get, Option, Some, None, IsSome}
+use Rattle.std.specs.Prelude.{◌≡◌, ◌≢◌, ◌⊎◌, ⊤, ℕ, ℤ, ◌+◌, ◌≤◌, true, false, List, length, get_or, slice_get, Option, Some, None}
 use Rattle.std.specs.List.{AllByRecursion}
 use Rattle.terms.specs.declared.name.Addr.{Addr}
 use Rattle.terms.specs.declared.name.Tag.{Tag}
 use Rattle.terms.specs.declared.name.Inst.{Inst}
 use Rattle.terms.specs.declared.name.ItemCollection.{ItemCollection}
 use Rattle.terms.specs.declared.name.TagCollection.{TagCollection}
-use Rattle.terms.specs.declared.fault.FaultKind.{FaultKind}
 use Rattle.terms.specs.declared.fault.FaultKind.TheVariants.{DoublePut}
-use Rattle.terms.specs.declared.producer.Producer.{Producer}
 use Rattle.terms.specs.declared.put.Put.{Put}
 use Rattle.terms.specs.declared.put.Put.TheVariants as put
 use Rattle.terms.specs.declared.event.Event.{Event}
 use Rattle.terms.specs.declared.event.Event.TheVariants as event
-use Rattle.terms.specs.Facts.{Fact, tag, item, bad, event_facts, environment_facts}
+use Rattle.terms.specs.Facts.{Fact, tag, bad, event_facts, environment_facts}
 use Rattle.terms.specs.Sets.{Facts, with_facts}
 use Rattle.steptree.specs.Nameable.{Collection}
 use Rattle.graph.specs.Graph.{Graph, EnvironmentMayPutItem, EnvironmentMayPutTag}

@@ -2,7 +2,6 @@
 use Rattle.std.specs.Prelude.{◌≤◌, List, length}
 use Rattle.std.specs.List.{AllByRecursion}
 use Rattle.terms.specs.declared.event.Event.{Event}
-use Rattle.terms.specs.declared.event.Event.TheVariants.{Done}
 use Rattle.terms.specs.declared.name.Inst.{Inst}
 use Rattle.terms.specs.declared.put.Put.{Put}
 use Rattle.terms.specs.declared.put.TheConstants.{MOST_PUTS}
@@ -14,6 +13,7 @@ use Rattle.machine.specs.Meaning.{BodyGives}
 use Rattle.machine.specs.Memory.{facts_of, IsOf, Comes}
 use Rattle.terms.specs.Sets.{Facts}
 
+-- what a store may hold, and a legal event comes to it, is what it may hold
 abbrev pub TakingKeeps : Type 0
 TakingKeeps = (g : Graph) (old new : Memory) (event : Event) → IsOf g old → IsLegal g (facts_of old) event → Comes old new event → IsOf g new
 

@@ -16,7 +16,7 @@ pub struct Machine {
 }
 
 impl Drop for Machine {
-    // By hand, so that it is one call wherever a machine goes.
+    // Written out, so that letting a machine go is one call in the proofs of its callers.
     fn drop(self) {
         let Machine {
             graph: _,

@@ -1,7 +1,7 @@
 use terms::{FaultKind, Inst};
 use thiserror::Error;
 
-/// Why an event may not come. Where several causes apply the first of them is told, in this order.
+/// Why an event may not come, or an item may not be got. Where several causes apply the first of them is told, in this order.
 #[derive(Clone, Copy, Debug, PartialEq, Eq, Error)]
 pub enum Refusal {
     /// No collection of the graph has this number.

@@ -1,4 +1,4 @@
-use Rattle.std.proofs.Common.{◌≡◌, ◌∙◌, ap, List, map}
+use Rattle.std.proofs.Common.{◌∙◌, ap, List, map}
 use Rattle.terms.specs.declared.name.TagCollection.{TagCollection}
 use Rattle.machine.proofs.Beginning.{one_more}
 use Rattle.machine.proofs.creation.prescribers_of.Goals as goal

@@ -1,5 +1,4 @@
-use Rattle.std.proofs.Common.{◌≡◌, ◌∙◌, ◌+◌, ◌<◌, ap, sym, refl, subst, suc, [], ◌∷◌, List, drop, length, arith}
-use Rattle.terms.specs.declared.name.Inst.{Inst}
+use Rattle.std.proofs.Common.{◌≡◌, ◌+◌, sym, subst, suc, drop, arith}
 use Rattle.instances.specs.Known.{Known}
 use Rattle.machine.specs.Waking.{EachWaits, Wakes}
 use Rattle.machine.proofs.Woken.{left_at, left_none, wakes_none, wakes_more, still_wait}

@@ -1,4 +1,4 @@
-use Rattle.std.proofs.Common.{◌≡◌, sym, subst, MatchBool}
+use Rattle.std.proofs.Common.{sym, subst, MatchBool}
 use Rattle.graph.specs.Fits.{AreNew}
 use Rattle.machine.specs.Legal.{Conflicts}
 use Rattle.machine.specs.Machine.{Machine, facts}

@@ -1,4 +1,4 @@
-use Rattle.std.proofs.Common.{subst, IfOk, List, Vec}
+use Rattle.std.proofs.Common.{subst, IfOk, Vec}
 use Rattle.std.specs.declared.alloc.Global.{Global}
 use Rattle.terms.specs.declared.name.Addr.{Addr}
 use Rattle.terms.specs.declared.name.Inst.{Inst}

@@ -1,4 +1,4 @@
-use Rattle.std.proofs.Common.{◌≡◌, ◌∙◌, Some, None, IfSome, ap, sym, subst, refl, is_some, false}
+use Rattle.std.proofs.Common.{◌≡◌, ◌∙◌, Some, IfSome, ap, sym, subst, refl, is_some}
 use Rattle.graph.specs.Fits.{HasNoFault}
 use Rattle.terms.specs.declared.name.Inst.{Inst}
 use Rattle.instances.specs.OfStep.{is_ready}
@@ -6,7 +6,6 @@ use Rattle.instances.specs.Known.{total}
 use Rattle.instances.specs.declared.state.State.TheVariants.{Ready, Running}
 use Rattle.machine.specs.declared.memory.Memory.{Memory}
 use Rattle.machine.specs.Machine.{Machine, Moves, facts, state_of}
-use Rattle.machine.specs.Memory.{is_fault}
 use Rattle.machine.proofs.Worked.{no_fault_there}
 use Rattle.machine.proofs.Parked.{claimed_is_of, claim_tells, without_fault}
 use Rattle.machine.proofs.machine.Machine.claim.Goals as goal

@@ -1,5 +1,4 @@
-use Rattle.std.proofs.Common.{◌≡◌, ◌∙◌, sym, ap, subst, true, ℤ, rules}
-use Rattle.terms.specs.declared.producer.Producer.{Producer}
+use Rattle.std.proofs.Common.{◌≡◌, ◌∙◌, sym, subst, true, rules}
 use Rattle.items.specs.Held.{item_at}
 use Rattle.machine.specs.Machine.{Machine}
 use Rattle.machine.specs.Memory.{is_item}

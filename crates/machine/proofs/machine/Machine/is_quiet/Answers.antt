@@ -1,4 +1,4 @@
-use Rattle.std.proofs.Common.{◌≡◌, ◌∙◌, sym, ap, subst, true, false, not, is_some, IsTrue}
+use Rattle.std.proofs.Common.{◌∙◌, sym, ap, subst, not, is_some, IsTrue}
 use Rattle.std.proofs.lemmas.Bool.{false≢true}
 use Rattle.std.specs.Prelude.{◌↔◌}
 use Rattle.graph.specs.Fits.{HasNoFault}
@@ -7,7 +7,8 @@ use Rattle.machine.specs.Machine.{Machine, facts}
 use Rattle.machine.specs.Memory.{environment_of, facts_of}
 use Rattle.machine.specs.Status.{IsAllOfMeaning, NoneIsActive}
 use Rattle.machine.proofs.Parked.{without_fault}
-use Rattle.machine.proofs.Told.{idle_of, none_of, no_fault, quiet}
+use Rattle.machine.proofs.Told.{idle_of, none_of, quiet}
+use Rattle.machine.proofs.Worked.{no_fault_there}
 use Rattle.machine.proofs.machine.Machine.is_quiet.Goals as goal
 
 pub returns-then-is_none-clause-exact : goal.returns-then-is_none-clause-exact
@@ -40,4 +41,4 @@ returns-else-is_none-clause-exact c =
     let m = c.self.inside.memory in
     let some = c.is_none.ensures ∙ ap not c.if-is_none.false in
     subst (λ (s : Machine). IsTrue c.is_none.result ↔ (HasNoFault (facts s) × NoneIsActive s)) c.self.view_is
-    (λ is. absurd (false≢true (sym c.if-is_none.false ∙ is)), λ both. absurd (false≢true (sym (ap is_some (no_fault c.facts_are_told_apart.ensures.one m both.0)) ∙ some)))
+    (λ is. absurd (false≢true (sym c.if-is_none.false ∙ is)), λ both. absurd (false≢true (sym (ap is_some (no_fault_there c.facts_are_told_apart.ensures.one m.fault both.0)) ∙ some)))

@@ -1,4 +1,4 @@
-use Rattle.std.proofs.Common.{◌≡◌, ◌∙◌, ap, sym}
+use Rattle.std.proofs.Common.{◌∙◌, ap, sym}
 use Rattle.terms.specs.Facts.{bad}
 use Rattle.machine.specs.Memory.{is_fault}
 use Rattle.machine.specs.Machine.{Machine}

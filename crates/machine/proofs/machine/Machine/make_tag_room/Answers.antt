@@ -1,4 +1,3 @@
-use Rattle.std.proofs.Common.{refl}
 use Rattle.machine.proofs.Roomier.{tags_is_of}
 use Rattle.machine.proofs.machine.Machine.make_tag_room.Goals as goal
 

@@ -1,9 +1,7 @@
 use Rattle.std.proofs.Common.{◌≡◌, ◌∙◌, Some, ap, sym, subst, refl, true, is_some, None, inl, inr}
-use Rattle.terms.specs.declared.name.Inst.{Inst}
 use Rattle.graph.specs.Fits.{IsAbsent}
-use Rattle.items.specs.Held.{Held, item_at, with_waiter}
-use Rattle.instances.specs.declared.state.State.{State}
-use Rattle.instances.specs.declared.state.State.TheVariants.{Ready, Running, Waiting}
+use Rattle.items.specs.Held.{item_at, with_waiter}
+use Rattle.instances.specs.declared.state.State.TheVariants.{Ready, Running}
 use Rattle.machine.specs.declared.memory.Memory.{Memory}
 use Rattle.machine.specs.Legal.{Needs}
 use Rattle.machine.specs.Memory.{is_item}

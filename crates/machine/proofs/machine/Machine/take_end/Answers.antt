@@ -1,4 +1,4 @@
-use Rattle.std.proofs.Common.{◌≡◌, ◌∙◌, ℕ, ◌+◌, ◌≤◌, Some, List, [], length, ap, sym, subst, refl}
+use Rattle.std.proofs.Common.{◌≡◌, ℕ, ◌+◌, ◌≤◌, Some, [], length, sym, subst, refl}
 use Rattle.terms.specs.declared.event.Event.TheVariants.{Done}
 use Rattle.terms.specs.declared.name.Inst.{Inst}
 use Rattle.terms.specs.Facts.{put_facts}

@@ -1,11 +1,9 @@
-use Rattle.std.proofs.Common.{◌≡◌, ◌∙◌, Some, [], length, ap, sym, subst, refl, arith}
-use Rattle.maps.specs.Numbered.{Numbered}
+use Rattle.std.proofs.Common.{◌≡◌, Some, ap, sym, subst, refl, arith}
 use Rattle.terms.specs.declared.event.Event.TheVariants.{Stopped}
 use Rattle.terms.specs.declared.name.Inst.{Inst}
-use Rattle.instances.specs.declared.state.State.TheVariants.{Ready, Running}
+use Rattle.instances.specs.declared.state.State.TheVariants.{Running}
 use Rattle.machine.specs.declared.memory.Memory.{Memory}
 use Rattle.machine.specs.Legal.{IsLegal}
-use Rattle.machine.specs.Memory.{Comes}
 use Rattle.machine.specs.Machine.{Machine, Takes, facts, state_of}
 use Rattle.machine.proofs.TakenEvent.{takes}
 use Rattle.machine.proofs.Worked.{stop_comes, stays_on}

@@ -1,4 +1,4 @@
-use Rattle.std.proofs.Common.{◌≡◌, sym, subst, ℤ, w64, [], ◌∷◌}
+use Rattle.std.proofs.Common.{sym, subst, ℤ, w64, [], ◌∷◌}
 use Rattle.std.proofs.lemmas.Int.{to_z-of_z}
 use Rattle.terms.specs.declared.event.Event.TheVariants.{EnvItem}
 use Rattle.terms.specs.declared.producer.Producer.TheVariants.{Env}

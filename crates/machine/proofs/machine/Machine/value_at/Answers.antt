@@ -1,4 +1,4 @@
-use Rattle.std.proofs.Common.{◌≡◌, ◌∙◌, sym, ap, subst, true, ℤ, rules}
+use Rattle.std.proofs.Common.{◌≡◌, ◌∙◌, sym, subst, true, rules}
 use Rattle.items.specs.Held.{item_at}
 use Rattle.machine.specs.Machine.{Machine}
 use Rattle.machine.specs.Memory.{is_item}

@@ -1,4 +1,4 @@
-use Rattle.std.proofs.Common.{◌≡◌, ◌∙◌, ap, sym, ℕ, List, map}
+use Rattle.std.proofs.Common.{◌∙◌, ap, List, map}
 use Rattle.terms.specs.declared.name.TagCollection.{TagCollection}
 use Rattle.machine.proofs.Beginning.{begins}
 use Rattle.machine.proofs.memory.Memory.new.Goals as goal

@@ -1,4 +1,4 @@
-use Rattle.std.proofs.Common.{◌≡◌, ◌∙◌, ◌+◌, ◌<◌, sym, ap, subst, refl, suc, [], ◌∷◌, List, drop, length, arith}
+use Rattle.std.proofs.Common.{◌≡◌, ◌+◌, sym, subst, suc, [], ◌∷◌, List, drop, length, arith}
 use Rattle.terms.specs.Facts.{Fact, put_facts}
 use Rattle.terms.specs.declared.producer.Producer.TheVariants.{By}
 use Rattle.terms.specs.declared.put.Put.{Put}

@@ -1,6 +1,5 @@
-use Rattle.std.proofs.Common.{◌≡◌, ◌∙◌, sym, ap, subst, refl, ◌<◌, ℤ, List, OnOk, w64}
+use Rattle.std.proofs.Common.{◌≡◌, ◌∙◌, sym, ap, subst, refl, ◌<◌, ℤ, OnOk, w64}
 use Rattle.std.proofs.lemmas.Int.{to_z-of_z}
-use Rattle.terms.specs.declared.name.Inst.{Inst}
 use Rattle.machine.specs.declared.memory.Memory.{Memory}
 use Rattle.machine.specs.Waking.{EachWaits, Wakes}
 use Rattle.machine.proofs.Coming.{item_comes, none_there}

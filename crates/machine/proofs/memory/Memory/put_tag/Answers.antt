@@ -1,4 +1,4 @@
-use Rattle.std.proofs.Common.{◌≡◌, ◌∙◌, sym, ap, refl, is_some}
+use Rattle.std.proofs.Common.{◌∙◌, sym, ap, refl, is_some}
 use Rattle.machine.specs.declared.memory.Memory.{Memory}
 use Rattle.machine.specs.Producers.{is_environment}
 use Rattle.machine.proofs.Tagging.{no_mark, tag_comes, tag_again}
