@@ -14,12 +14,8 @@ impl Machine {
         ensures illegal { OnErr result ((value : ℤ) → IsLegal self.now.graph (facts self.now) (EnvItem addr value) → ⊥) }
         ensures refused { IfErr result (RefusesItem self.now addr) }
     {
-        let Some(components) = self.graph.item_components(addr.collection) else {
-            return Err(Refusal::NoSuchCollection);
-        };
-        if components != addr.key.components().len() {
-            return Err(Refusal::WrongArity);
-        }
+        let place = addr;
+        self.is_address(place)?;
         if !self.graph.environment_may_put_item(addr.collection) {
             return Err(Refusal::NotFromEnvironment);
         }

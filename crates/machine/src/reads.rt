@@ -4,7 +4,7 @@ use std::sync::Arc;
 use terms::{Addr, facts_are_told_apart};
 
 impl Machine {
-    ghost use Rattle.std.specs.Prelude.{◌≡◌, IfErr, IfOk, OnOk};
+    ghost use Rattle.std.specs.Prelude.{◌≡◌, IfErr, IfOk, OnErr, OnOk};
     ghost use Rattle.graph.specs.Fits.{AddressIsOf};
     ghost use Rattle.graph.specs.Graph.{EnvironmentMayGet};
     ghost use Rattle.machine.specs.Machine.{IsValueAt, RefusesGet, RefusesRead, facts};
@@ -22,12 +22,8 @@ impl Machine {
         ensures value { IfOk result (IsValueAt (facts self.now) addr) }
         ensures refused { IfErr result (RefusesGet self.now addr) }
     {
-        let Some(components) = self.graph.item_components(addr.collection) else {
-            return Err(Refusal::NoSuchCollection);
-        };
-        if components != addr.key.components().len() {
-            return Err(Refusal::WrongArity);
-        }
+        let place = addr;
+        self.is_address(place)?;
         if !self.graph.environment_may_get(addr.collection) {
             return Err(Refusal::NotFromEnvironment);
         }
@@ -40,13 +36,22 @@ impl Machine {
         ensures value { IfOk result (IsValueAt (facts self.now) addr) }
         ensures refused { IfErr result (RefusesRead self.now addr) }
     {
-        let Some(components) = self.graph.item_components(addr.collection) else {
-            return Err(Refusal::NoSuchCollection);
-        };
-        if components != addr.key.components().len() {
-            return Err(Refusal::WrongArity);
-        }
+        let place = addr;
+        self.is_address(place)?;
         Ok(self.value_at(addr))
+    }
+
+    // Whether the address is of a collection of the graph, and has as many components as its keys.
+    pub(crate) fn is_address(&self, addr: Addr) -> Result<(), Refusal>
+        ensures address { OnOk result (AddressIsOf self.now.graph addr) }
+        ensures other { OnErr result (AddressIsOf self.now.graph addr → ⊥) }
+        ensures refused { IfErr result (RefusesRead self.now addr) }
+    {
+        match self.graph.item_components(addr.collection) {
+            None => Err(Refusal::NoSuchCollection),
+            Some(components) if components == addr.key.components().len() => Ok(()),
+            Some(_) => Err(Refusal::WrongArity),
+        }
     }
 
     // The value at an address.
