@@ -1,6 +1,7 @@
 -- The laws of states, from those of lists.
 use Rattle.std.proofs.Common.{◌≡◌, ◌⊎◌, ◌↔◌, ℤ, Bool, true, false, ◌||◌, List, [], ◌∷◌, ◌++◌, refl, sym, ap, subst, ◌∙◌}
 use Rattle.std.specs.List.{AllByRecursion}
+use Rattle.std.proofs.lemmas.List.{append-nil}
 use Rattle.terms.specs.declared.name.Addr.{Addr}
 use Rattle.terms.specs.declared.name.Inst.{Inst}
 use Rattle.terms.specs.declared.fault.FaultKind.{FaultKind}
@@ -8,7 +9,7 @@ use Rattle.terms.specs.declared.producer.Producer.{Producer}
 use Rattle.terms.specs.declared.put.Put.{Put}
 use Rattle.terms.specs.declared.event.Event.{Event}
 use Rattle.terms.specs.declared.event.Event.TheVariants.{Done, Stopped}
-use Rattle.terms.specs.Facts.{Fact, tag, item, done, bad, facts, environment, event_facts, FactsGoOn, EnvironmentGoesOn}
+use Rattle.terms.specs.Facts.{Fact, tag, item, done, bad, facts, environment, event_facts, environment_facts, FactsGoOn, EnvironmentGoesOn}
 use Rattle.terms.specs.Sets.{Facts, among, with_facts, stated, put_by_environment, OneFact, AmongBoth}
 use Rattle.steptree.specs.Run.{Read}
 use Rattle.steptree.specs.Bodies.{Ending, Asks}
@@ -98,6 +99,12 @@ module _ (told : OneFact) (both : AmongBoth) where
         ap (λ (list : List Fact). among list fact) (given it.events events) ∙ both (environment it.events) (environment events) fact
         ∙ ap (λ (there : Bool). there || among (environment events) fact) (it.environment fact);
   }
+
+  pub reached_takes : FactsGoOn → EnvironmentGoesOn → (g : Graph) (E X : Facts) (event : Event) → IsReached g E X → IsLegal g X event
+      → IsReached g (with_facts E (environment_facts event)) (with_facts X (event_facts event))
+  reached_takes all given g E X event it legal =
+      subst (λ (list : List Fact). IsReached g (with_facts E list) (with_facts X (event_facts event))) (append-nil (environment_facts event))
+      (subst (λ (list : List Fact). IsReached g (with_facts E (environment (event ∷ []))) (with_facts X list)) (append-nil (event_facts event)) (reached_goes_on all given g E X (event ∷ []) it (legal, tt)))
 
   -- ---- the meaning
 

@@ -7,7 +7,7 @@ use Rattle.terms.specs.declared.producer.Producer.{Producer}
 use Rattle.terms.specs.declared.put.Put.{Put}
 use Rattle.terms.specs.declared.event.Event.{Event}
 use Rattle.terms.specs.declared.event.Event.TheVariants.{Done, Stopped}
-use Rattle.terms.specs.Facts.{Fact, item, done, bad, facts, environment}
+use Rattle.terms.specs.Facts.{Fact, item, done, bad, facts, environment, event_facts, environment_facts}
 use Rattle.terms.specs.Sets.{Facts, among, with_facts}
 use Rattle.graph.specs.Graph.{Graph}
 use Rattle.graph.specs.Fits.{IsPrescribed, HasNoFault, HasOneItemEach}
@@ -21,6 +21,10 @@ NothingIsReached = (g : Graph) → IsReached g (among []) (among [])
 
 abbrev pub ReachedGoesOn : Type 0
 ReachedGoesOn = (g : Graph) (E X : Facts) (events : List Event) → IsReached g E X → AreLegalFrom g X events → IsReached g (with_facts E (environment events)) (with_facts X (facts events))
+
+-- an event that is legal where it is reached leads to what is reached
+abbrev pub ReachedTakes : Type 0
+ReachedTakes = (g : Graph) (E X : Facts) (event : Event) → IsReached g E X → IsLegal g X event → IsReached g (with_facts E (environment_facts event)) (with_facts X (event_facts event))
 
 -- behind the facts of a list the same events are legal as from their set
 abbrev pub LegalAsSet : Type 0

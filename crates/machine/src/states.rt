@@ -1,5 +1,5 @@
 //! The laws of states, which have sets of facts in place of lists of events. Each is a contract, with nothing to run.
-ghost use Rattle.machine.specs.StateLaws.{NothingIsReached, ReachedGoesOn, LegalAsSet, ReachedIsWithin, ReachedHasOneItem, ReachedIsMeaning, OneMeaningEach, ReachedStoppedOrQuiet, ReachedCanGoOn, NeedsStays, QuietWaits};
+ghost use Rattle.machine.specs.StateLaws.{NothingIsReached, ReachedGoesOn, ReachedTakes, LegalAsSet, ReachedIsWithin, ReachedHasOneItem, ReachedIsMeaning, OneMeaningEach, ReachedStoppedOrQuiet, ReachedCanGoOn, NeedsStays, QuietWaits};
 
 use steptree::ends_once;
 use terms::{facts_are_told_apart, facts_go_on};
@@ -8,6 +8,7 @@ use terms::{facts_are_told_apart, facts_go_on};
 pub fn reached_goes_on()
     ensures nothing { NothingIsReached }
     ensures goes_on { ReachedGoesOn }
+    ensures takes { ReachedTakes }
     ensures as_set { LegalAsSet }
 {
     facts_are_told_apart();
