@@ -20,7 +20,7 @@ use Rattle.machine.specs.Promise.{IsKept}
 use Rattle.machine.proofs.Coming.{the_item}
 use Rattle.machine.proofs.Told.{kept, prescribed}
 
-ended : (o : Option State) → is_done o ≡ true → o ≡ Some Done
+pub ended : (o : Option State) → is_done o ≡ true → o ≡ Some Done
 ended None is = absurd (false≢true is)
 ended (Some Ready) is = absurd (false≢true is)
 ended (Some Running) is = absurd (false≢true is)

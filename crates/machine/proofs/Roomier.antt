@@ -15,7 +15,9 @@ use Rattle.terms.specs.declared.producer.Producer.{Producer}
 use Rattle.terms.specs.declared.producer.Producer.TheVariants.{Env, By}
 use Rattle.terms.specs.declared.put.Put.{Put}
 use Rattle.terms.specs.declared.put.Put.TheVariants as put
+use Rattle.terms.specs.declared.event.Event.{Event}
 use Rattle.terms.specs.Facts.{Fact, tag, item, done, bad}
+use Rattle.terms.specs.Sets.{Facts}
 use Rattle.maps.specs.Numbered.{place_cmp, OnlyMakesRoom as MapMakesRoom}
 use Rattle.graph.specs.Graph.{Graph}
 use Rattle.items.specs.Held.{Held, place, item_at, waiters_at}
@@ -23,6 +25,7 @@ use Rattle.instances.specs.Known.{Known, mark_of, tag_place, state_at, prescribe
 use Rattle.instances.specs.Known as instances
 use Rattle.machine.specs.declared.memory.Memory.{Memory}
 use Rattle.machine.specs.Machine.{Machine, HasRoomFor, item_room, tag_room}
+use Rattle.machine.specs.Legal.{IsLegal}
 use Rattle.machine.specs.Memory.{is_item, is_done, is_fault, waits_at, facts_of, environment_of, AreListed, IsOf, IsOnceEach}
 use Rattle.machine.specs.Room.{GivesRoom}
 use Rattle.machine.specs.Waking.{is_one_of}
@@ -47,7 +50,10 @@ module _ (old new : Memory) (same_items : (a : Addr) → item_at new.items a ≡
       → ((c : ItemCollection) → item_room (record { graph = g; memory = old }) c ≤ item_room (record { graph = g; memory = new }) c)
       → ((c : TagCollection) → tag_room (record { graph = g; memory = old }) c ≤ tag_room (record { graph = g; memory = new }) c)
       → GivesRoom (record { graph = g; memory = old }) (record { graph = g; memory = new })
-  only_room g items_more tags_more = record { graph = refl; facts = same_facts; environment = same_environment; states = states; item_room = items_more; tag_room = tags_more }
+  only_room g items_more tags_more = record { graph = refl; facts = same_facts; environment = same_environment; states = states; legal = still_legal; item_room = items_more; tag_room = tags_more }
+    where
+      still_legal : (event : Event) → IsLegal g (facts_of old) event → IsLegal g (facts_of new) event
+      still_legal event = subst (λ (X : Facts). IsLegal g X event) (λ i fact. sym (same_facts fact) i)
 
   same_listed : ((a : Addr) → waiters_at new.items a ≡ waiters_at old.items a) → AreListed old → AreListed new
   same_listed waiters listed = record {
@@ -114,6 +120,7 @@ no_room m = record {
   facts = λ fact. refl;
   environment = λ fact. refl;
   states = λ i. refl;
+  legal = λ event is. is;
   item_room = λ c. omega arith;
   tag_room = λ c. omega arith;
 }
@@ -124,6 +131,7 @@ more_room old mid new first then_more = record {
   facts = λ fact. then_more.facts fact ∙ first.facts fact;
   environment = λ fact. then_more.environment fact ∙ first.environment fact;
   states = λ i. then_more.states i ∙ first.states i;
+  legal = λ event is. then_more.legal event (first.legal event is);
   item_room = λ c. (let one = first.item_room c in let two = then_more.item_room c in omega (arith, one, two));
   tag_room = λ c. (let one = first.tag_room c in let two = then_more.tag_room c in omega (arith, one, two));
 }

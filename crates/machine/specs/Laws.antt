@@ -42,8 +42,8 @@ OneEnd = (g : Graph) (one two : List Event) → AreLegal g [] one → AreLegal g
     → (fact : Fact) → stated one fact ≡ stated two fact
 
 -- a legal list, and one that is legal behind it, are a legal list; of a legal list the first part is legal, and the second behind it
-abbrev pub GoesOn : Type 0
-GoesOn = (g : Graph) (before : List Fact) (one two : List Event) → AreLegal g before one → AreLegal g (before ++ facts one) two → AreLegal g before (one ++ two)
+abbrev pub ListsGoOn : Type 0
+ListsGoOn = (g : Graph) (before : List Fact) (one two : List Event) → AreLegal g before one → AreLegal g (before ++ facts one) two → AreLegal g before (one ++ two)
 
 abbrev pub HasLegalParts : Type 0
 HasLegalParts = (g : Graph) (before : List Fact) (one two : List Event) → AreLegal g before (one ++ two) → AreLegal g before one × AreLegal g (before ++ facts one) two

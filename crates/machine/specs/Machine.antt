@@ -76,24 +76,24 @@ count_of (event.Done ended puts) = length puts
 count_of (event.Stopped ended kind) = 0
 
 -- some item is at the address
-abbrev pub IsThere : Facts → Addr → Type 0
-IsThere X address = (value : ℤ) × items X address value
+abbrev pub HasItem : Facts → Addr → Type 0
+HasItem X address = (value : ℤ) × items X address value
 
 -- How the state of an instance goes on where facts come, and are X then. One that waits is ready where its item is there, and only there. One
 -- that had no state has none, or is ready. The others stay.
 abbrev pub GoesOn : Facts → Option State → Option State → Type 0
 GoesOn X None to = (to ≡ None) ⊎ (to ≡ Some Ready)
-GoesOn X (Some (Waiting address)) to = (IsAbsent X address × (to ≡ Some (Waiting address))) ⊎ (IsThere X address × (to ≡ Some Ready))
+GoesOn X (Some (Waiting address)) to = (IsAbsent X address × (to ≡ Some (Waiting address))) ⊎ (HasItem X address × (to ≡ Some Ready))
 GoesOn X (Some Ready) to = to ≡ Some Ready
 GoesOn X (Some Running) to = to ≡ Some Running
 GoesOn X (Some Done) to = to ≡ Some Done
 
--- an instance that a fault ends is ready again
-abbrev pub GivesBack : Machine → Event → Type 0
-GivesBack new (event.EnvItem address value) = ⊤
-GivesBack new (event.EnvTag name) = ⊤
-GivesBack new (event.Done ended puts) = ⊤
-GivesBack new (event.Stopped ended kind) = state_of new ended ≡ Some Ready
+-- the instance that the event ends is done; one that comes to be at fault is given back, and as nothing is claimed behind a fault it stays ready
+abbrev pub EndsAs : Machine → Event → Type 0
+EndsAs new (event.EnvItem address value) = ⊤
+EndsAs new (event.EnvTag name) = ⊤
+EndsAs new (event.Done ended puts) = state_of new ended ≡ Some Done
+EndsAs new (event.Stopped ended kind) = state_of new ended ≡ Some Ready
 
 -- The event is taken: its facts come, and of them the environment put its own. Other instances go on. Of each room there is less by as many as
 -- the event has puts, at most.
@@ -102,7 +102,7 @@ pub record Takes (old new : Machine) (event : Event) : Type 0 where
   pub facts : (fact : Fact) → facts new fact ≡ with_facts (facts old) (event_facts event) fact
   pub environment : (fact : Fact) → environment new fact ≡ with_facts (environment old) (environment_facts event) fact
   pub states : (instance : Inst) → (Ends event instance → ⊥) → GoesOn (facts_of new.memory) (state_of old instance) (state_of new instance)
-  pub given_back : GivesBack new event
+  pub ends : EndsAs new event
   pub item_room : (collection : ItemCollection) → item_room old collection ≤ item_room new collection + count_of event
   pub tag_room : (collection : TagCollection) → tag_room old collection ≤ tag_room new collection + count_of event
 
@@ -118,7 +118,7 @@ pub record Moves (old new : Machine) (instance : Inst) (to : State) : Type 0 whe
 
 -- where the item is there by now, the instance is ready, else it waits
 abbrev pub LooksAgain : Machine → Machine → Inst → Addr → Type 0
-LooksAgain old new instance address = (IsAbsent (facts old) address × Moves old new instance (Waiting address)) ⊎ (IsThere (facts old) address × Moves old new instance Ready)
+LooksAgain old new instance address = (IsAbsent (facts old) address × Moves old new instance (Waiting address)) ⊎ (HasItem (facts old) address × Moves old new instance Ready)
 
 -- ---- room
 

@@ -15,9 +15,9 @@ use Rattle.machine.specs.Meaning.{Meaning, IsClean}
 use Rattle.machine.specs.Legal.{IsLegal, AreLegal, Needs, IsBlocked, IsQuiet}
 use Rattle.machine.specs.State.{IsReached, AreLegalFrom, IsMeaning, Waits, IsUnfinished}
 
--- nothing is reached, and from what is reached each legal list goes on to what is reached
-abbrev pub NothingIsReached : Type 0
-NothingIsReached = (g : Graph) → IsReached g (among []) (among [])
+-- the empty state is reached, and from what is reached each legal list goes on to what is reached
+abbrev pub EmptyIsReached : Type 0
+EmptyIsReached = (g : Graph) → IsReached g (among []) (among [])
 
 abbrev pub ReachedGoesOn : Type 0
 ReachedGoesOn = (g : Graph) (E X : Facts) (events : List Event) → IsReached g E X → AreLegalFrom g X events → IsReached g (with_facts E (environment events)) (with_facts X (facts events))

@@ -26,7 +26,7 @@ impl Machine {
     /// How an instance ends whose body gave these puts over items that are here: it is done, or at fault by a double put. Where the
     /// store has a fault it may not end.
     ///
-    /// It takes no memory, and no time that grows faster than sorting the addresses of the puts.
+    /// It takes no memory: it looks each item up, and sorts the addresses of the puts.
     pub fn may_end(&mut self, task: &Task, puts: &[Put]) -> Result<End, Refusal>
         requires running { state_of self.old task.now ≡ Some Running }
         requires gives { BodyGives self.old.graph (facts self.old) task.now puts.now }

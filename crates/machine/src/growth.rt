@@ -9,7 +9,7 @@ impl Machine {
     ghost use Rattle.machine.specs.Machine.{HasRoom, HasRoomFor, item_room, tag_room};
     ghost use Rattle.machine.specs.Room.{GivesRoom};
 
-    /// Makes room for all that these puts bring. A refusal comes only where there was less.
+    /// Makes room for all that these puts bring: in each of their collections for as many as they are. A refusal comes only where there was less.
     pub fn make_room(&mut self, puts: &[Put]) -> Result<(), AllocError>
         requires { AllByRecursion (PutIsOf self.old.graph) puts.now }
         ensures ok { OnOk result (HasRoom self.new puts.now) }

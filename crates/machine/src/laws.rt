@@ -1,6 +1,6 @@
 //! The laws of what a graph means. Each is a contract, with nothing to run.
 ghost use Rattle.graph.specs.FitLaws.{FitKeeps};
-ghost use Rattle.machine.specs.Laws.{StaysWithin, QuietIsMeaning, QuietIsClean, StoppedIsMeant, StoppedOrQuiet, OneEnd, GoesOn, HasLegalParts, OneState, LegalFits, FitsAndMeant, FitKeepsOneItem, NewOrConflicting, CanGoOn};
+ghost use Rattle.machine.specs.Laws.{StaysWithin, QuietIsMeaning, QuietIsClean, StoppedIsMeant, StoppedOrQuiet, OneEnd, ListsGoOn, HasLegalParts, OneState, LegalFits, FitsAndMeant, FitKeepsOneItem, NewOrConflicting, CanGoOn};
 
 use graph::fitting;
 use steptree::{ends_once, keeps_to_its_sheet};
@@ -42,7 +42,7 @@ pub fn one_end()
 /// Legal lists one behind the other are a legal list, and of one the second part is legal behind the first. What is legal is
 /// told by the set of facts before it.
 pub fn legal_lists_go_on()
-    ensures goes_on { GoesOn }
+    ensures goes_on { ListsGoOn }
     ensures parts { HasLegalParts }
     ensures state { OneState }
 {

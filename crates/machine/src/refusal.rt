@@ -11,7 +11,7 @@ pub enum Refusal {
     #[error("the key has another number of components than those of its collection")]
     WrongArity,
     /// The graph gives the environment no such put or get.
-    #[error("not from the environment")]
+    #[error("the graph gives the environment no such put or get")]
     NotFromEnvironment,
     /// The store is stopped by this fault of this instance.
     #[error("stopped by a fault")]

@@ -1,12 +1,12 @@
 //! The laws of states, which have sets of facts in place of lists of events. Each is a contract, with nothing to run.
-ghost use Rattle.machine.specs.StateLaws.{NothingIsReached, ReachedGoesOn, ReachedTakes, LegalAsSet, ReachedIsWithin, ReachedHasOneItem, ReachedIsMeaning, OneMeaningEach, ReachedStoppedOrQuiet, ReachedCanGoOn, NeedsStays, QuietWaits};
+ghost use Rattle.machine.specs.StateLaws.{EmptyIsReached, ReachedGoesOn, ReachedTakes, LegalAsSet, ReachedIsWithin, ReachedHasOneItem, ReachedIsMeaning, OneMeaningEach, ReachedStoppedOrQuiet, ReachedCanGoOn, NeedsStays, QuietWaits};
 
 use steptree::ends_once;
 use terms::{facts_are_told_apart, facts_go_on};
 
-/// Nothing is reached, and from a state that is reached each legal list of events goes on to one that is.
+/// The empty state is reached, and from a state that is reached each legal list of events goes on to one that is.
 pub fn reached_goes_on()
-    ensures nothing { NothingIsReached }
+    ensures empty { EmptyIsReached }
     ensures goes_on { ReachedGoesOn }
     ensures takes { ReachedTakes }
     ensures as_set { LegalAsSet }

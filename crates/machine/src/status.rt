@@ -19,7 +19,8 @@ impl Machine {
         self.memory.fault
     }
 
-    /// Whether no instance is ready, none runs, and there is no fault: then nothing is left to do.
+    /// Whether no instance is ready, none runs, and there is no fault: then nothing is left to do. Where something is ready that would only wait,
+    /// nothing is left to do either, and this is false until it has run.
     pub fn is_quiet(&self) -> bool
         ensures exact { IsTrue result ↔ (HasNoFault (facts self.now) × NoneIsActive self.now) }
         ensures quiet { IsTrue result → IsQuiet self.now.graph (facts self.now) }

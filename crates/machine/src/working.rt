@@ -10,8 +10,8 @@ impl Machine {
     ghost use Rattle.machine.specs.Legal.{Needs};
     ghost use Rattle.machine.specs.Machine.{LooksAgain, Moves, facts, ready_count, state_of};
 
-    /// Lets one of the ready instances run, by its number among them. None where the number is not below theirs, and none in a store
-    /// that a fault stopped.
+    /// Lets one of the ready instances run, by its number among them; which one a number stands for is left open. None where the number is
+    /// not below theirs, and none in a store that a fault stopped.
     pub fn claim(&mut self, at: usize) -> Option<Task>
         ensures some { at < ready_count self.old → HasNoFault (facts self.old) → IsSome result }
         ensures below { IfSome result (λ task. at < ready_count self.old) }

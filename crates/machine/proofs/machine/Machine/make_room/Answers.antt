@@ -28,3 +28,6 @@ pub returns-clause-ok : goal.returns-clause-ok
 returns-clause-ok c =
     let none = left_none c.loop-number.number c.args.puts.now (omega (arith, c.loop-number-test.false)) in
     c.loop-number.invariant.1 c.loop-number.self (no_room c.loop-number.self) (subst (AllByRecursion (HasRoomFor c.loop-number.self (length c.args.puts.now))) (sym none) tt)
+
+pub returns-in_err-make_room_for-clause-grows : goal.returns-in_err-make_room_for-clause-grows
+returns-in_err-make_room_for-clause-grows c = more_room c.args.self.now c.loop-number.self c.make_room_for.new.self c.loop-number.invariant.0 c.make_room_for.ensures.grows

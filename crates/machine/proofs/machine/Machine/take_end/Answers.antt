@@ -9,7 +9,7 @@ use Rattle.machine.specs.Legal.{IsLegal}
 use Rattle.machine.specs.Memory.{MovesOn, Grows}
 use Rattle.machine.specs.Machine.{Machine, HasRoom, Takes, facts, state_of}
 use Rattle.machine.proofs.Ending.{can_take_all, with_room}
-use Rattle.machine.proofs.TakenEvent.{takes}
+use Rattle.machine.proofs.TakenEvent.{is_ended, takes}
 use Rattle.machine.proofs.Worked.{ended_listed, end_comes}
 use Rattle.machine.proofs.machine.Machine.take_end.Goals as goal
 
@@ -65,4 +65,4 @@ returns c =
     subst (λ (m : Machine). Takes m (record { graph = c.self.inside.graph.value; memory = new }) (Done c.args.task puts)) c.self.view_is
     (takes c.facts_are_told_apart.ensures.one c.self.inside.graph.value old new (Done c.args.task puts) comes
     (λ i other. subst (λ s. MovesOn new s (state_at new.instances i)) (c.finish.ensures.others i (λ same. other (sym same))) (grows.states i))
-    tt grows.item_room (λ k. subst (λ (n : ℕ). n ≤ room_for new.instances k + length puts) (c.finish.ensures.room k) (grows.tag_room k)))
+    (is_ended c.facts_are_told_apart.ensures.one old new c.args.task puts comes) grows.item_room (λ k. subst (λ (n : ℕ). n ≤ room_for new.instances k + length puts) (c.finish.ensures.room k) (grows.tag_room k)))
