@@ -3,6 +3,7 @@
 
 mod evaluate;
 mod images;
+mod machines;
 mod stores;
 mod texts;
 
@@ -14,6 +15,7 @@ const USAGE: &str = "usage: bench canonical FILE
        bench parse FILE
        bench codec ITEMS
        bench evaluate STATEMENTS
+       bench machine STEPS
        bench open RECORDS";
 
 fn main(rt: HostRuntime) -> Result<ExitCode, Error> {
@@ -25,6 +27,7 @@ fn main(rt: HostRuntime) -> Result<ExitCode, Error> {
             ("parse", _) => return done(texts::measure(&rt, &words[2])),
             ("codec", Ok(count)) => return done(images::measure(&rt, count)),
             ("evaluate", Ok(count)) => return done(evaluate::measure(&rt, count)),
+            ("machine", Ok(count)) => return done(machines::measure(&rt, count)),
             ("open", Ok(count)) => return done(stores::measure(&rt, count)),
             _ => {}
         }
