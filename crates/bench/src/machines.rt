@@ -3,7 +3,8 @@ ghost use Rattle.std.specs.Prelude.{◌≡◌, IfOk, IfSome, Some};
 ghost use Rattle.terms.specs.Sets.{Facts};
 ghost use Rattle.instances.specs.declared.state.State.TheVariants.{Running};
 ghost use Rattle.terms.specs.declared.event.Event.TheVariants.{Done};
-ghost use Rattle.machine.specs.Legal.{IsLegal};
+ghost use Rattle.graph.specs.Fits.{IsAbsent};
+ghost use Rattle.machine.specs.Legal.{IsLegal, Needs};
 ghost use Rattle.machine.specs.Machine.{facts, state_of};
 ghost use Rattle.machine.specs.Meaning.{BodyGives};
 
@@ -13,6 +14,7 @@ use instances::Task;
 use machine::{End, Machine, given_are_of_graph, results_are_meant};
 use std::alloc::{AllocError, Global};
 use std::collections::{BTreeMap, HashMap};
+use std::fs;
 use std::io::Print;
 use std::sync::Arc;
 use std::time::{Clock, Instant};
@@ -25,19 +27,28 @@ use terms::{
 const TEXT: &str = "[out: i]; <t: i>; <t> :: (one); (one) -> [out]; env -> <t>; [out] -> env;
 step one(k) { read { } write { put [out: k] = k; } }";
 
+/// A step that reads one item, which is the same for all instances.
+const WAITING: &str = "[in: i]; <t: i>; <t> :: (wait); [in] -> (wait); env -> <t>; env -> [in];
+step wait(k) { var a; read { get a = [in: 0]; } write { } }";
+
 /// Takes so many steps, each with its tag, its claim and its end with one item, and prints the microseconds of one, with and
-/// without those of its body; and what the same puts and look-ups take in maps.
-pub(crate) fn measure<R: Clock + Print + AllocGlobal>(rt: &R, steps: u32) -> Result<(), Error> {
-    let Ok(graph) = parse(rt.alloc(), TEXT.as_bytes()) else {
-        bail!("the text is no graph")
-    };
-    let graph = Arc::new(rt.alloc(), graph)?;
+/// without those of its body; and what the same puts and look-ups take in maps. Then it lets a tenth of so many instances, and as
+/// many, wait for one item, and prints what its put takes, an instance. First of all it prints the bytes of memory that an instance
+/// with its tag and an item take, by what the process has.
+pub(crate) fn measure(rt: &HostRuntime, steps: u32) -> Result<(), Error> {
+    let graph = graph_of(rt.alloc(), TEXT)?;
+    let tagged = held(rt, &graph, steps, false)?;
+    let ended = held(rt, &graph, steps, true)?;
     let whole = stepping(rt, &graph, steps)?;
     let bodies = running(rt, &graph, steps)?;
     let tree = in_tree(rt, steps)?;
     let hashed = in_hash(rt, steps)?;
     let one = 1e6 / f64::from(steps.max(1));
     println!(rt; "{steps} steps")?;
+    println!(rt;
+        "an instance and its tag {tagged} bytes, an item {} bytes",
+        ended.saturating_sub(tagged)
+    )?;
     println!(rt;
         "steps {:.3} µs, their bodies {:.3} µs",
         whole * one,
@@ -53,7 +64,45 @@ pub(crate) fn measure<R: Clock + Print + AllocGlobal>(rt: &R, steps: u32) -> Res
         (whole - bodies) / tree,
         (whole - bodies) / hashed
     )?;
+    let graph = graph_of(rt.alloc(), WAITING)?;
+    for waiting in [steps / 10, steps] {
+        let seconds = waking(rt, &graph, waiting)?;
+        let one = 1e6 / f64::from(waiting.max(1));
+        println!(rt; "{waiting} woken by one put, {:.3} µs each", seconds * one)?;
+    }
     Ok(())
+}
+
+fn graph_of(alloc: Global, text: &str) -> Result<Arc<Graph>, Error> {
+    let Ok(graph) = parse(alloc, text.as_bytes()) else {
+        bail!("the text is no graph")
+    };
+    Ok(Arc::new(alloc, graph)?)
+}
+
+// The bytes that the process takes for each of so many instances with their tags, and with their items if they are ended.
+fn held(rt: &HostRuntime, graph: &Arc<Graph>, steps: u32, ends: bool) -> Result<u64, Error> {
+    let mut machine = Machine::new(rt.alloc(), Arc::clone(graph)?)?;
+    let before = resident(rt)?;
+    for number in 0..steps {
+        if ends {
+            step(rt.alloc(), &mut machine, i64::from(number))?;
+        } else {
+            put_tag(&mut machine, i64::from(number))?;
+        }
+    }
+    let bytes = resident(rt)?.saturating_sub(before);
+    if machine.ready() > steps as usize {
+        bail!("more are ready than there are")
+    }
+    Ok(bytes / u64::from(steps.max(1)))
+}
+
+// The bytes of memory that the process has.
+fn resident(rt: &HostRuntime) -> Result<u64, Error> {
+    let told = fs::read_to_string(rt, "/proc/self/statm")?;
+    let pages = told.split_whitespace().nth(1).unwrap_or("0");
+    Ok(pages.parse::<u64>().unwrap_or(0).saturating_mul(4096))
 }
 
 // The seconds that the steps take, with their bodies.
@@ -163,6 +212,74 @@ fn run(alloc: Global, graph: &Graph, instance: Inst) -> Result<Option<Puts>, All
         Turn::Gave(given) => Ok(Some(given.into_puts())),
         _ => Ok(None),
     }
+}
+
+// The seconds that a put takes for whose item so many instances wait.
+fn waking<R: Clock + AllocGlobal>(rt: &R, graph: &Arc<Graph>, waiting: u32) -> Result<f64, Error> {
+    let mut machine = Machine::new(rt.alloc(), Arc::clone(graph)?)?;
+    for number in 0..waiting {
+        put_tag(&mut machine, i64::from(number))?;
+        let Some(task) = machine.claim(0) else {
+            bail!("no instance is ready")
+        };
+        wait(rt.alloc(), &mut machine, task)?;
+    }
+    let start = Instant::now(rt)?;
+    put_item(&mut machine)?;
+    let seconds = start.elapsed(rt)?.as_secs_f64();
+    if machine.ready() != waiting as usize {
+        bail!("not all are woken")
+    }
+    Ok(seconds)
+}
+
+// Lets an instance wait for the item that it asks for first.
+fn wait(alloc: Global, machine: &mut Machine, task: Task) -> Result<(), Error>
+    requires { state_of machine.old task ≡ Some Running }
+{
+    match asked(alloc, machine.graph(), task.inst()) {
+        Ok(Some(address)) => Ok(machine.park(task, address)?),
+        Ok(None) => {
+            machine.release(task);
+            bail!("the body asks for nothing")
+        }
+        Err(error) => {
+            machine.release(task);
+            Err(error.into())
+        }
+    }
+}
+
+// What the body of an instance asks for first.
+fn asked(alloc: Global, graph: &Graph, instance: Inst) -> Result<Option<Addr>, AllocError>
+    ensures { IfOk result (λ asked. IfSome asked (λ address. (X : Facts) → IsAbsent X address → Needs graph.now X instance address)) }
+{
+    results_are_meant();
+    let Some(checked) = graph.body(instance.collection) else {
+        return Ok(None);
+    };
+    if instance.key.components().len() != checked.parameters {
+        return Ok(None);
+    }
+    let mut run = Run::start(alloc, checked, instance)?;
+    match run.advance(None)? {
+        Turn::Need(address) => Ok(Some(address)),
+        _ => Ok(None),
+    }
+}
+
+// Puts the item that all wait for.
+fn put_item(machine: &mut Machine) -> Result<(), Error> {
+    let address = Addr {
+        collection: ItemCollection(0),
+        key: Key::new(&[0]),
+    };
+    let asked = address;
+    machine.may_put_item(asked)?;
+    let put = address;
+    machine.make_room(&[Put::Item(put, 1)])?;
+    machine.take_item(address, 1);
+    Ok(())
 }
 
 // The seconds of the same puts and look-ups in three maps.
