@@ -28,13 +28,13 @@ const TEXT: &str = "[out: i]; <t: i>; <t> :: (one); (one) -> [out]; env -> <t>; 
 step one(k) { read { } write { put [out: k] = k; } }";
 
 /// A step that reads one item, which is the same for all instances.
-const WAITING: &str = "[in: i]; <t: i>; <t> :: (wait); [in] -> (wait); env -> <t>; env -> [in];
-step wait(k) { var a; read { get a = [in: 0]; } write { } }";
+const WAITING: &str = "[out: i]; <t: i>; <t> :: (one); [out] -> (one); env -> <t>; env -> [out];
+step one(k) { var a; read { get a = [out: 0]; } write { } }";
 
 /// Takes so many steps, each with its tag, its claim and its end with one item, and prints the microseconds of one, with and
 /// without those of its body; and what the same puts and look-ups take in maps. Then it lets a tenth of so many instances, and as
 /// many, wait for one item, and prints what its put takes, an instance. First of all it prints the bytes of memory that an instance
-/// with its tag and an item take, by what the process has.
+/// takes, by what the process has.
 pub(crate) fn measure(rt: &HostRuntime, steps: u32) -> Result<(), Error> {
     let graph = graph_of(rt.alloc(), TEXT)?;
     let tagged = held(rt, &graph, steps, false)?;
@@ -46,8 +46,7 @@ pub(crate) fn measure(rt: &HostRuntime, steps: u32) -> Result<(), Error> {
     let one = 1e6 / f64::from(steps.max(1));
     println!(rt; "{steps} steps")?;
     println!(rt;
-        "an instance and its tag {tagged} bytes, an item {} bytes",
-        ended.saturating_sub(tagged)
+        "bytes: a ready instance and its tag {tagged}, a done one, its tag and its item {ended}"
     )?;
     println!(rt;
         "steps {:.3} µs, their bodies {:.3} µs",
