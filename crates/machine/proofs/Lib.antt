@@ -9,6 +9,8 @@ pub mod Fit
 pub mod GoesOn
 pub mod Growing
 pub mod Grown
+pub mod ImageFacts
+pub mod Imaged
 pub mod Kept
 pub mod Left
 pub mod MixedRow

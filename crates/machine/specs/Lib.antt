@@ -2,6 +2,7 @@ pub mod Absence
 pub mod Coming
 pub mod Creation
 pub mod Examples
+pub mod Imaging
 pub mod Laws
 pub mod Legal
 pub mod Machine

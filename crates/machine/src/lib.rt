@@ -15,6 +15,7 @@ mod end;
 mod ends;
 mod examples;
 mod growth;
+mod imaging;
 mod keeping;
 mod laws;
 mod looks;
