@@ -1,16 +1,13 @@
 -- What an image says of a fact, by the kind of the fact.
 use Rattle.std.proofs.Common.{◌≡◌, ◌∙◌, ap, refl, ℕ, ℤ, Bool, true, false, ◌&&◌, ◌||◌, List, [], ◌∷◌, ◌++◌, map, Option, Some, None}
 use Rattle.std.specs.List.{flat_map}
-use Rattle.std.specs.Ordering.{is_eq, int_eq}
+use Rattle.std.specs.Ordering.{int_eq}
 use Rattle.terms.specs.declared.name.Addr.{Addr}
 use Rattle.terms.specs.declared.name.Tag.{Tag}
 use Rattle.terms.specs.declared.name.Inst.{Inst}
 use Rattle.terms.specs.declared.fault.FaultKind.{FaultKind}
 use Rattle.terms.specs.declared.producer.Producer.{Producer}
 use Rattle.terms.specs.declared.producer.Producer.TheVariants.{Env, By}
-use Rattle.terms.specs.Fault.{fault_number}
-use Rattle.terms.specs.Name.{inst_cmp}
-use Rattle.terms.specs.Put.{producer_cmp}
 use Rattle.terms.specs.Same.{is_same}
 use Rattle.terms.specs.Facts.{Fact, tag, item, done, bad}
 use Rattle.terms.specs.Sets.{is_fact, among, AmongBoth}

@@ -21,6 +21,9 @@ pub mod PutFacts
 pub mod Putting
 pub mod Quiet
 pub mod Reached
+pub mod Restored
+pub mod RestoredItems
+pub mod RestoredTags
 pub mod Roomier
 pub mod Rows
 pub mod Sets

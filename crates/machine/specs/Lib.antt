@@ -12,6 +12,7 @@ pub mod Mixed
 pub mod Producers
 pub mod Promise
 pub mod Restored
+pub mod Restoring
 pub mod Results
 pub mod Room
 pub mod State

@@ -38,7 +38,7 @@ impl Memory {
     ghost use Rattle.machine.specs.Creation.{HoldsNothing};
 
     // What a store of this graph holds before the first event.
-    fn new(alloc: Global, graph: &Graph) -> Result<Self, AllocError>
+    pub(crate) fn new(alloc: Global, graph: &Graph) -> Result<Self, AllocError>
         ensures { IfOk result (HoldsNothing graph.now) }
     {
         limits();

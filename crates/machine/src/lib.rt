@@ -5,7 +5,7 @@
 //!
 //! `Machine` is seen as its graph and what it holds: the sets `facts` and `environment`, and the state of each instance. It looks
 //! whether an event is legal (`may_put_item`, `may_end`), makes room (`make_room`), and takes it (`take_item`, `take_end`); what it
-//! keeps is told by `is_kept`.
+//! keeps is told by `is_kept`. `image` lists what it holds, and `of_image` restores it from such a list.
 #![tactic(auto)]
 
 mod absence;
@@ -24,6 +24,7 @@ mod memory;
 mod promise;
 mod reads;
 mod refusal;
+mod restoring;
 mod results;
 mod states;
 mod status;
