@@ -23,7 +23,7 @@ use Rattle.codec.specs.Entries.{Item, Rises}
 use Rattle.codec.specs.Image.{IsListed, environment_tag, environment_in, facts_in}
 use Rattle.codec.specs.Spelling.{HasPutNumber, IsNumbered}
 use Rattle.graph.specs.Graph.{Graph, Step, Prescribes}
-use Rattle.graph.specs.Fits.{FitsState}
+use Rattle.graph.specs.Fits.{FitsState, IsPrescribed}
 use Rattle.items.specs.Held.{item_at, place}
 use Rattle.instances.specs.declared.state.State.{State}
 use Rattle.instances.specs.declared.state.State.TheVariants.{Ready, Running, Waiting, Done}
@@ -171,6 +171,16 @@ module _ (told : OneFact) (both : AmongBoth) (g : Graph) (image : Image) (fits :
         let same_given : environment_in image ≡ environment_of m = λ i fact. given fact i in
         subst (λ (X : Facts). FitsState g (environment_of m) X) same_facts (subst (λ (E : Facts). FitsState g E (facts_in image)) same_given fits)
 
+    unfinished_ready : (i : Inst) → IsPrescribed g (facts_of m) i → facts_of m (done i) ≡ false → state_at m.instances i ≡ Some Ready
+    unfinished_ready i it not_done = at (state_at m.instances i) refl (ready_or_done i)
+      where
+        at : (o : Option State) → state_at m.instances i ≡ o → IsReadyOrDone o → o ≡ Some Ready
+        at None here is = absurd (false≢true (ap is_some (sym here) ∙ there.together it.0 i (is_kept it.0 i it.2) ∙ it.1))
+        at (Some Ready) here is = refl
+        at (Some Running) here is = absurd is
+        at (Some (Waiting a)) here is = absurd is
+        at (Some Done) here is = absurd (false≢true (sym not_done ∙ ap is_done here))
+
     pub restored : IsRestored g image m
     restored = record {
       is_of = record {
@@ -185,4 +195,5 @@ module _ (told : OneFact) (both : AmongBoth) (g : Graph) (image : Image) (fits :
       };
       lists = record { facts = facts; environment = given };
       instances = ready_or_done;
+      ready = unfinished_ready;
     }

@@ -6,14 +6,16 @@ use Rattle.terms.specs.declared.name.Addr.{Addr}
 use Rattle.terms.specs.declared.name.Tag.{Tag}
 use Rattle.terms.specs.declared.name.Inst.{Inst}
 use Rattle.terms.specs.declared.producer.Producer.{Producer}
-use Rattle.terms.specs.Facts.{tag, item}
+use Rattle.terms.specs.Facts.{tag, item, done}
 use Rattle.terms.specs.Sets.{among}
 use Rattle.codec.specs.declared.image.Image.{Image}
 use Rattle.codec.specs.Entries.{Item, MarkedTag}
 use Rattle.codec.specs.Image.{Lists, environment_tag}
 use Rattle.graph.specs.Graph.{Graph}
+use Rattle.graph.specs.Fits.{IsPrescribed}
 use Rattle.items.specs.Held.{Held, IsOfCollection, item_at}
 use Rattle.instances.specs.Known.{Known, first_state, mark_of, prescriber_at, state_at}
+use Rattle.instances.specs.declared.state.State.TheVariants.{Ready}
 use Rattle.machine.specs.declared.memory.Memory.{Memory}
 use Rattle.machine.specs.Memory.{IsOf, environment_of, facts_of, is_item}
 use Rattle.machine.specs.Restored.{IsReadyOrDone}
@@ -45,3 +47,4 @@ pub record IsRestored (g : Graph) (image : Image) (m : Memory) : Type 0 where
   pub is_of : IsOf g m
   pub lists : Lists image (environment_of m) (facts_of m)
   pub instances : (instance : Inst) → IsReadyOrDone (state_at m.instances instance)
+  pub ready : (instance : Inst) → IsPrescribed g (facts_of m) instance → facts_of m (done instance) ≡ false → state_at m.instances instance ≡ Some Ready
