@@ -156,7 +156,11 @@ fn tell_put(graph: &Graph, put: &Put, out: &mut String) -> Result<(), AllocError
     }
 }
 
-fn tell_address(graph: &Graph, address: &Addr, out: &mut String) -> Result<(), AllocError> {
+pub(crate) fn tell_address(
+    graph: &Graph,
+    address: &Addr,
+    out: &mut String,
+) -> Result<(), AllocError> {
     write!(
         out,
         "[{}",

@@ -6,10 +6,11 @@
 //! - `event`, `image`, `short event`, `short image`: bytes that spell one (`codecs`)
 //! - `rising KIND`: values that rise (`orders`)
 //! - `items`: calls on a map of items (`item_calls`)
+//! - `machine NAME CHOOSERS`: a story of a store in memory, once for each chooser (`states`)
 //! - `first`: bytes that begin with a record (`journals`)
 //! - `store NUMBERS`: a story of a store on a memory disk, once for each number (`stories`)
 use crate::names::Names;
-use crate::{bodies, bytes, codecs, graphs, item_calls, journals, orders, stories, texts};
+use crate::{bodies, bytes, codecs, graphs, item_calls, journals, orders, states, stories, texts};
 use std::alloc::{AllocError, Global};
 
 /// What a command answers to its input.
@@ -34,6 +35,7 @@ pub(crate) fn answer(
             Some(text) => bodies::answer(alloc, text, input),
             None => String::from_str(alloc, "no such name\n"),
         },
+        "machine" => states::answer(alloc, names, rest, input),
         "store" => stories::answer(alloc, names, rest, input),
         "rising" => orders::answer(alloc, names, rest, input),
         "items" => item_calls::answer(alloc, input),

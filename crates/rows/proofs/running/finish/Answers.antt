@@ -1,0 +1,12 @@
+use Rattle.terms.specs.declared.event.Event.TheVariants.{Done}
+use Rattle.machine.specs.Machine.{facts}
+use Rattle.rows.proofs.Ran.{stays_legal}
+use Rattle.rows.proofs.running.finish.Goals as goal
+
+pub make_room-requires : goal.make_room-requires
+make_room-requires c =
+    (c.given_are_of_graph.ensures c.args.machine.now.graph (facts c.args.machine.now) c.args.task c.args.puts.now c.is_kept.ensures.graph c.requires.legal.event_is_legal.2).0
+
+pub take_end-requires-clause-legal : goal.take_end-requires-clause-legal
+take_end-requires-clause-legal c =
+    stays_legal c.args.machine.now c.make_room.new.self c.make_room.ensures.grows.only (Done c.args.task c.args.puts.now) c.requires.legal

@@ -1,0 +1,76 @@
+//! Which of the ready instances runs next: `first`, `last`, or a list of numbers, as `3,1,4`, taken in turn and over and over.
+ghost use Rattle.std.specs.Prelude.{◌<◌};
+
+use std::alloc::{AllocError, Global};
+
+/// Who picks.
+#[derive(Drop)]
+pub(crate) enum Chooser {
+    First,
+    Last,
+    /// By these numbers, each from 0 again past the last of the ready ones.
+    Listed(Numbers),
+}
+
+/// Numbers that come in turn, over and over.
+#[derive(Drop)]
+pub(crate) struct Numbers {
+    numbers: Vec<usize>,
+    // The place of the one that comes next.
+    next: usize,
+}
+
+impl Chooser {
+    /// The chooser of this name, if it is one.
+    pub(crate) fn named(alloc: Global, name: &str) -> Result<Option<Self>, AllocError> {
+        match name {
+            "first" => Ok(Some(Chooser::First)),
+            "last" => Ok(Some(Chooser::Last)),
+            _ => Ok(Numbers::read(alloc, name)?.map(Chooser::Listed)),
+        }
+    }
+
+    /// The number of the instance that runs, of so many.
+    pub(crate) fn pick(&mut self, ready: usize) -> usize
+        ensures { 0 < ready → result < ready }
+    {
+        match self {
+            Chooser::First => 0,
+            Chooser::Last => ready.saturating_sub(1),
+            Chooser::Listed(numbers) => within(numbers.take(), ready),
+        }
+    }
+}
+
+impl Numbers {
+    // The numbers of a text, with commas between them, if each is one.
+    fn read(alloc: Global, text: &str) -> Result<Option<Self>, AllocError> {
+        let mut numbers = Vec::new(alloc);
+        for word in text.split(',') {
+            match word.parse::<usize>() {
+                Ok(number) => numbers.push(number)?,
+                Err(_) => return Ok(None),
+            }
+        }
+        Ok(Some(Numbers { numbers, next: 0 }))
+    }
+
+    // The one whose turn it is, and 0 where there are none.
+    fn take(&mut self) -> usize {
+        let number = self.numbers.get(self.next).copied().unwrap_or(0);
+        let behind = self.next.saturating_add(1);
+        self.next = if behind < self.numbers.len() {
+            behind
+        } else {
+            0
+        };
+        number
+    }
+}
+
+// The number, counted from 0 again at each `count`.
+fn within(number: usize, count: usize) -> usize
+    ensures { 0 < count → result < count }
+{
+    if count == 0 { 0 } else { number % count }
+}
