@@ -5,7 +5,6 @@ use Rattle.std.specs.Prelude.{slice_get, is_some}
 use Rattle.terms.specs.declared.name.Addr.{Addr}
 use Rattle.terms.specs.declared.name.Inst.{Inst}
 use Rattle.terms.specs.declared.producer.Producer.{Producer}
-use Rattle.terms.specs.declared.event.Event.{Event}
 use Rattle.terms.specs.Facts.{Fact, tag, item}
 use Rattle.terms.specs.Sets.{Facts}
 use Rattle.steptree.specs.Nameable.{Collection}
@@ -15,8 +14,7 @@ use Rattle.graph.specs.Fits.{AddressIsOf, InstanceIsOf, FitsState, IsAbsent}
 use Rattle.instances.specs.declared.state.State.{State}
 use Rattle.machine.specs.declared.refusal.Refusal.{Refusal}
 use Rattle.machine.specs.declared.refusal.Refusal.TheVariants.{NoSuchCollection, NotFromEnvironment, WrongArity, AlreadyPut, Stopped, Repeat}
-use Rattle.machine.specs.Legal.{IsLegal}
-use Rattle.machine.specs.Machine.{Machine, OnlyMakesRoom, RefusesRead, facts, environment, state_of}
+use Rattle.machine.specs.Machine.{Machine, RefusesRead, facts, environment, state_of}
 use Rattle.machine.specs.Promise.{IsKept}
 use Rattle.machine.specs.Results.{AreItems}
 
@@ -34,14 +32,6 @@ instance_is_of m kept instance state has =
     let of_tag = kept.fits.of_graph (tag prescribed.0) prescribed.1 in
     let one : of_graph.0 ≡ of_tag.0 = same_collection (sym of_graph.1 ∙ ap (λ (n : ℕ). slice_get m.graph.tags n) it.prescriber ∙ of_tag.1) in
     (it.step, it.is_step, sym of_graph.2 ∙ ap (λ (c : Collection). c.components) one ∙ of_tag.2 ∙ ap length it.key)
-
--- ---- room
-
--- what was legal before room was made is legal behind it
-pub stays_legal : (old new : Machine) → OnlyMakesRoom old new → (event : Event) → IsLegal old.graph (facts old) event → IsLegal new.graph (facts new) event
-stays_legal old new only event legal =
-    let same : facts old ≡ facts new = λ i fact. sym (only.facts fact) i in
-    subst (λ (g : Graph). IsLegal g (facts new) event) (sym only.graph) (subst (λ (X : Facts). IsLegal old.graph X event) same legal)
 
 -- ---- reads
 

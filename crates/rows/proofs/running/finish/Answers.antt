@@ -1,6 +1,5 @@
 use Rattle.terms.specs.declared.event.Event.TheVariants.{Done}
 use Rattle.machine.specs.Machine.{facts}
-use Rattle.rows.proofs.Ran.{stays_legal}
 use Rattle.rows.proofs.running.finish.Goals as goal
 
 pub make_room-requires : goal.make_room-requires
@@ -9,4 +8,4 @@ make_room-requires c =
 
 pub take_end-requires-clause-legal : goal.take_end-requires-clause-legal
 take_end-requires-clause-legal c =
-    stays_legal c.args.machine.now c.make_room.new.self c.make_room.ensures.grows.only (Done c.args.task c.args.puts.now) c.requires.legal
+    c.make_room.ensures.grows.legal (Done c.args.task c.args.puts.now) c.requires.legal
