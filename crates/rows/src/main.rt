@@ -18,6 +18,7 @@ mod laws;
 mod named;
 mod names;
 mod orders;
+mod reopening;
 mod running;
 mod states;
 mod stories;

@@ -2,7 +2,8 @@
 //! call. The story is told once for each chooser (`choosers`). What is told the same each time is the answer.
 //!
 //! Calls of the environment: `tag <n: 2>`, `put [fib: 0] = 0`, `get [fib: 1]`. `run` lets ready instances run, one after another, until
-//! none is ready or there is a fault. `report ADDRESS; ADDRESS..` tells what is at these addresses, and the fault.
+//! none is ready or there is a fault. `report ADDRESS; ADDRESS..` tells what is at these addresses, and the fault. `reopen` lists the store
+//! as an image and makes it anew from that.
 ghost use Rattle.std.specs.Prelude.{◌≡◌};
 ghost use Rattle.terms.specs.declared.event.Event.TheVariants.{EnvItem, EnvTag};
 ghost use Rattle.machine.specs.Legal.{IsLegal};
@@ -12,6 +13,7 @@ use crate::bodies::tell_address;
 use crate::choosers::Chooser;
 use crate::named::{address_of, tag_of, tell_named};
 use crate::names::Names;
+use crate::reopening::reopened;
 use crate::running::run_ready;
 use graph::parse;
 use machine::{Machine, Refusal};
@@ -86,6 +88,10 @@ fn tell(
             "run" => {
                 run(alloc, machine, chooser)?;
                 tell_end(alloc, machine, out)?;
+            }
+            "reopen" => {
+                *machine = reopened(alloc, machine)?;
+                out.push_str("ok\n")?;
             }
             "report" => report(alloc, machine, rest, out)?,
             _ => out.push_str("no such call\n")?,

@@ -1,0 +1,19 @@
+//! A store in memory that is closed and opened again.
+ghost use Rattle.std.specs.Prelude.{◌≡◌, IfOk};
+ghost use Rattle.terms.specs.Facts.{Fact};
+ghost use Rattle.machine.specs.Machine.{facts};
+
+use machine::Machine;
+use std::alloc::{AllocError, Global};
+use std::sync::Arc;
+
+/// Lists what a store holds as an image, and makes a store of it, as an opening does: it has the same facts, and those that
+/// waited are ready.
+pub(crate) fn reopened(alloc: Global, machine: &Machine) -> Result<Machine, AllocError>
+    ensures { IfOk result (λ opened. (fact : Fact) → facts opened fact ≡ facts machine.now fact) }
+{
+    machine.is_kept();
+    let image = machine.image(alloc)?;
+    let graph = Arc::clone(machine.graph())?;
+    Machine::of_image(alloc, graph, &image)
+}
