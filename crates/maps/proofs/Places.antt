@@ -1,8 +1,10 @@
 -- Where a key stands in a list in order, or where it would go.
-use Rattle.std.proofs.Common.{◌≡◌, ℕ, zero, suc, ◌+◌, ◌<◌, ◌≤◌, Bool, true, false, T, cond, ◌&&◌, List, [], ◌∷◌, length, get_or, set, Some, None, refl, sym, ap, subst, ◌∙◌, arith}
+use Rattle.std.proofs.Common.{◌≡◌, ℕ, zero, suc, ◌+◌, ◌-◌, ◌<◌, ◌≤◌, Bool, true, false, T, cond, ◌&&◌, List, [], ◌∷◌, length, get_or, slice_get, set, Some, None, refl, sym, ap, subst, ◌∙◌, arith}
 use Rattle.std.specs.declared.cmp.Ordering.{Ordering}
 use Rattle.std.specs.declared.cmp.Ordering.TheVariants.{Less, Equal, Greater}
 use Rattle.std.specs.Ordering.{is_lt, is_eq, ordering_reverse}
+use mathlib.Core.Bool.{false≢true}
+use Rattle.std.specs.Option.{unwrap_or}
 use Rattle.std.specs.Cmp.{IsTotalOrder, tied_back, alike_right}
 use Rattle.std.specs.FinMap.{IsAntisymmetric, entries, find, from_entries, get-entries, get-from_entries, entries_sorted, put, is_sorted}
 use Rattle.std.specs.FinMap.Entries.{below_all, by_order, same_entries}
@@ -28,6 +30,18 @@ module _ {K : Type 0} {R : K → K → Ordering} (o : IsTotalOrder R) where
 
   pub turned_back : (x y : K) → R x y ≡ Greater → R y x ≡ Less
   turned_back x y is = o.antisymm y x ∙ ap ordering_reverse is
+
+pub lesser : (r : Ordering) → is_lt r ≡ true → r ≡ Less
+lesser Less is = refl
+lesser Equal is = absurd (false≢true is)
+lesser Greater is = absurd (false≢true is)
+
+-- the last of a list is the last behind its first
+last_behind : {X : Type 0} (x y : X) (xs : List X) (last : X) → slice_get (x ∷ y ∷ xs) (length (x ∷ y ∷ xs) - 1) ≡ Some last → slice_get (y ∷ xs) (length (y ∷ xs) - 1) ≡ Some last
+last_behind x y xs last is =
+    let all : length (x ∷ y ∷ xs) - 1 ≡ suc (length xs) = omega arith in
+    let behind : length (y ∷ xs) - 1 ≡ length xs = omega arith in
+    ap (λ n. slice_get (y ∷ xs) n) behind ∙ sym (ap (λ n. slice_get (x ∷ y ∷ xs) n) all) ∙ is
 
 module _ {K X : Type 0} {R : K → K → Ordering} (o : IsTotalOrder R) where
   -- each later key is greater than the first
@@ -65,6 +79,16 @@ module _ {K X : Type 0} {R : K → K → Ordering} (o : IsTotalOrder R) where
       let here : R q e.0 ≡ Greater = turned o e.0 q (lesser 0 e (omega arith) (omega arith)) in
       let rest = gap es q i (omega (arith, within)) (λ k d low high. lesser (suc k) d (omega arith) (omega (arith, high))) (λ k d low high. greater (suc k) d (omega (arith, low)) (omega (arith, high))) in
       (ap (λ r. cond (is_eq r) (Some e.1) (find R q es)) here ∙ rest.0, λ v. ap (λ r. by_order r ((q, v) ∷ e ∷ es) ((e.0, v) ∷ es) (e ∷ put R q v es)) here ∙ ap (λ more. e ∷ more) (rest.1 v))
+
+  -- where the last key is less, all are
+  pub all_less : (es : List (K × X)) (q : K) (last : K × X) → T (is_sorted R es) → slice_get es (length es - 1) ≡ Some last → R last.0 q ≡ Less → AllWithin (λ e. R e.0 q ≡ Less) es 0 (length es)
+  all_less [] q last sorted is below k d low high = absurd (omega (arith, high))
+  all_less (e ∷ []) q last sorted is below zero d low high = subst (λ (x : K × X). R x.0 q ≡ Less) (sym (ap (λ o. unwrap_or o e) is)) below
+  all_less (e ∷ []) q last sorted is below (suc k) d low high = absurd (omega (arith, high))
+  all_less (e ∷ f ∷ es) q last sorted is below zero d low high =
+      o.trans e.0 f.0 q (less _ (first _ _ (first _ _ sorted))) (all_less (f ∷ es) q last (second (below_all R e.0 (f ∷ es)) _ sorted) (last_behind e f es last is) below 0 f (omega arith) (omega arith))
+  all_less (e ∷ f ∷ es) q last sorted is below (suc k) d low high =
+      all_less (f ∷ es) q last (second (below_all R e.0 (f ∷ es)) _ sorted) (last_behind e f es last is) below k d (omega arith) (omega (arith, high))
 
   -- the map of a list in order has the list as its entries
   pub listed : IsAntisymmetric R → (es : List (K × X)) → T (is_sorted R es) → entries (from_entries {R = R} es) ≡ es

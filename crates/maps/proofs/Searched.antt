@@ -2,7 +2,10 @@
 use Rattle.std.specs.Prelude.{Vec}
 use Rattle.std.specs.Vec.{vec_len, vec_capacity}
 use Rattle.std.specs.declared.alloc.Global.{Global}
-use Rattle.std.proofs.Common.{◌≡◌, ◌∙◌, ◌<◌, ◌-◌, ap, sym, subst, arith, Some, ℕ, ℤ, T, List, length, get_or, set, Result, Ok, Err, IfOk, IfErr}
+use Rattle.std.proofs.Common.{◌≡◌, ◌∙◌, ◌<◌, ◌-◌, ap, refl, sym, subst, arith, Some, None, is_some, ℕ, ℤ, T, List, [], ◌∷◌, length, get_or, slice_get, set, Result, Ok, Err, IfOk, IfErr}
+use Rattle.std.specs.declared.cmp.Ordering.TheVariants.{Less}
+use Rattle.std.proofs.lemmas.Option.{slice_get-get_or}
+use mathlib.Core.Bool.{false≢true}
 use Rattle.std.specs.FinMap.{entries, from_entries, entries_sorted, entries-insert, same_entries_map, is_sorted, get, get-entries, insert, put}
 use Rattle.std.specs.FinMap.Entries.{is_sorted-put}
 use Rattle.std.specs.List.{insert as add}
@@ -11,7 +14,7 @@ use Rattle.std.proofs.lemmas.List.Sorted.{searchable_from_sorted}
 use Rattle.terms.specs.Key.{key_cmp}
 use Rattle.maps.specs.PlaceOrder.{keys_total, same_key}
 use Rattle.maps.specs.Keyed.{Keyed, IsAt, IsGapFor}
-use Rattle.maps.proofs.Places.{adjacent, found, written, gap, listed}
+use Rattle.maps.proofs.Places.{adjacent, all_less, found, written, gap, listed}
 
 abbrev pub Entry : Type 0 → Type 0
 Entry X = List ℤ × X
@@ -29,6 +32,16 @@ searched es key (Err at) sorted within parted =
     let parts = parted rise in
     let goes = gap keys_total es key at within parts.0 parts.1 in
     (tt, record { within = within; absent = goes.0; goes_there = goes.1 })
+
+-- where the last key is less, or there is none, a key goes behind all
+pub goes_last : {X : Type 0} (es : List (Entry X)) (key : List ℤ) (last : Entry X) → T (is_sorted key_cmp es) → slice_get es (length es - 1) ≡ Some last → key_cmp last.0 key ≡ Less → IsGapFor es key (length es)
+goes_last es key last sorted is lesser =
+    let goes = gap keys_total es key (length es) (omega arith) (all_less keys_total es key last sorted is lesser) (λ k d low high. absurd (omega (arith, low, high))) in
+    record { within = omega arith; absent = goes.0; goes_there = goes.1 }
+
+pub goes_first : {X : Type 0} (es : List (Entry X)) (key : List ℤ) → slice_get es (length es - 1) ≡ None → IsGapFor es key (length es)
+goes_first [] key none = record { within = omega arith; absent = refl; goes_there = λ value. refl }
+goes_first (e ∷ es) key none = absurd (false≢true (sym (ap is_some none) ∙ ap is_some (slice_get-get_or (e ∷ es) (length (e ∷ es) - 1) e (omega arith))))
 
 -- how a vector is seen
 abbrev pub seen_as : {X : Type 0} → Vec (Entry X) Global → Keyed X

@@ -3,8 +3,8 @@ use std::alloc::{AllocError, Global};
 use std::marker::Model;
 use terms::Key;
 
-/// A map from keys to values, in the order of its keys, with room for more. A look-up is a binary search, and an entry with a
-/// greater key than all others moves none.
+/// A map from keys to values, in the order of its keys, with room for more. A look-up is a binary search, but for a key greater than all
+/// others, and an entry with such a key moves none.
 #[derive(Drop)]
 pub struct KeyMap<V> {
     items: Vec<(Key, V)>,
@@ -28,7 +28,7 @@ impl<V> Model for KeyMap<V> {
 }
 
 impl<V: Copy> KeyMap<V> {
-    ghost use Rattle.std.specs.Prelude.{◌≡◌, ◌<◌, ◌≤◌, IfOk, IfErr, IsSome, OnOk, OnErr, None};
+    ghost use Rattle.std.specs.Prelude.{◌≡◌, ◌<◌, ◌≤◌, IfOk, IfErr, IsSome, IsTrue, OnOk, OnErr, None, length};
     ghost use Rattle.std.specs.FinMap.{entries, get, insert};
     ghost use Rattle.maps.specs.Insertion.{IsRefused};
     ghost use Rattle.maps.specs.Keyed.{none, Adds, IsAt, IsGapFor};
@@ -112,6 +112,19 @@ impl<V: Copy> KeyMap<V> {
         ensures found { IfOk result (IsAt (entries self.now.items) key) }
         ensures absent { IfErr result (IsGapFor (entries self.now.items) key) }
     {
+        if self.is_last(key) {
+            return Err(self.items.len());
+        }
         self.items.binary_search_by_key(&key, |&(other, _)| other)
+    }
+
+    // Whether the key is greater than all that are there. Names often come in order, and then no search is needed.
+    fn is_last(&self, key: Key) -> bool
+        ensures { IsTrue result → IsGapFor (entries self.now.items) key (length (entries self.now.items)) }
+    {
+        match self.items.last() {
+            Some((last, _)) => *last < key,
+            None => true,
+        }
     }
 }

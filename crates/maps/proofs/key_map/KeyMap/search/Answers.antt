@@ -1,5 +1,5 @@
-use Rattle.std.proofs.Common.{rules, ◌∙◌, List, sym, subst, IfOk, IfErr, T}
-use Rattle.std.specs.FinMap.{is_sorted}
+use Rattle.std.proofs.Common.{rules, ◌≡◌, ◌∙◌, ap, arith, List, length, sym, subst, IfOk, IfErr, T}
+use Rattle.std.specs.FinMap.{entries, is_sorted}
 use Rattle.std.proofs.lemmas.List.Sorted.{answers_always}
 use Rattle.terms.specs.Key.{key_cmp}
 use Rattle.maps.specs.Keyed.{IsAt, IsGapFor}
@@ -19,3 +19,9 @@ returns-clause-absent g c =
     let sorted = subst (λ (es : List (Entry g.row.V.Denot)). T (is_sorted key_cmp es)) (sym c.deref.ensures.value) c.self.invariant in
     let items = c.deref.ensures.value ∙ sym (seen_entries c.self.inside.items c.args.self.now c.self.invariant c.self.view_is) in
     subst (λ (es : List (Entry g.row.V.Denot)). IfErr c.binary_search_by_key.result (IsGapFor es c.args.key)) items (searched _ _ _ sorted c.binary_search_by_key.ensures.bound by_key).1
+
+pub returns-then-is_last-clause-absent : goal.returns-then-is_last-clause-absent
+returns-then-is_last-clause-absent g c =
+    let items = seen_entries c.self.inside.items c.args.self.now c.self.invariant c.self.view_is in
+    let end : length (entries c.args.self.now.items) ≡ c.len.result = omega (arith, c.len.ensures, ap length items, c.self.inside.items.ok.0) in
+    subst (λ n. IsGapFor (entries c.args.self.now.items) c.args.key n) end (c.is_last.ensures c.if-is_last.true)
