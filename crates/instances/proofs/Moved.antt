@@ -1,10 +1,10 @@
 -- One instance of one step comes into another state: what is seen of it over all steps.
-use Rattle.std.proofs.Common.{◌≡◌, ◌≢◌, ◌⊎◌, ◌∙◌, ap, sym, refl, subst, inl, inr, ℕ, zero, suc, ◌<◌, ◌≤◌, ◌^◌, ◌==◌, min, ℤ, Bool, true, false, cond, List, [], ◌∷◌, set, length, get_or, slice_get, Some, is_some, arith}
+use Rattle.std.proofs.Common.{◌≡◌, ◌≢◌, ◌⊎◌, ◌∙◌, ap, sym, refl, subst, inl, inr, ℕ, zero, suc, ◌+◌, ◌<◌, ◌≤◌, ◌^◌, ◌==◌, min, ℤ, Bool, true, false, cond, List, [], ◌∷◌, set, length, get_or, slice_get, sum_by, Some, is_some, arith}
 use mathlib.Core.Bool.{false≢true}
 use Rattle.std.specs.Option.{unwrap_or}
 use Rattle.std.specs.Ordering.{eq_by_cmp}
 use Rattle.std.specs.Cmp.{Equal-is, eq_by_cmp_equiv}
-use Rattle.std.specs.FinMap.{get, get-insert, get_tied}
+use Rattle.std.specs.FinMap.{get, insert, get-insert, get_tied}
 use Rattle.std.proofs.lemmas.Bool.{cases_eq}
 use Rattle.std.proofs.lemmas.List.{length-set}
 use Rattle.terms.specs.Key.{key_cmp}
@@ -13,7 +13,8 @@ use Rattle.maps.specs.Numbered.{Numbered, room_at}
 use Rattle.maps.specs.PlaceOrder.{keys_total, same_key}
 use Rattle.instances.specs.declared.state.State.{State}
 use Rattle.instances.specs.declared.step.Step.{Step}
-use Rattle.instances.specs.OfStep.{OfStep, Moves}
+use Rattle.instances.specs.OfStep.{OfStep, Moves, how_many, one_if}
+use Rattle.instances.proofs.Counted.{front, counted}
 use Rattle.instances.specs.Known.{Known, state_in, state_at, prescriber_in, least, ArePrescribed, MovesOne}
 
 -- what stands at a place, and what stands there after a write
@@ -42,6 +43,12 @@ least_kept collection room (step ∷ steps) zero old new is prescriber same =
     ∙ ap (λ (r : ℕ). least collection (cond (step.prescriber.0 == collection) (min room r) room) steps) (same ∙ ap (λ (s : Step). s.instances.room) is)
 least_kept collection room (step ∷ steps) (suc n) old new is prescriber same = least_kept collection (cond (step.prescriber.0 == collection) (min room step.instances.room) room) steps n old new is prescriber same
 
+-- where one of a list is written over, the sum has the new one's number in place of the old one's
+summed : (f : Step → ℕ) (steps : List Step) (n : ℕ) (old new : Step) → n < length steps → old ≡ get_or steps n old → sum_by f (set steps n new) + f old ≡ sum_by f steps + f new
+summed f [] n old new within is = absurd (omega (arith, within))
+summed f (step ∷ steps) zero old new within is = omega (arith, front f new steps, front f step steps, ap f is)
+summed f (step ∷ steps) (suc n) old new within is = omega (arith, front f step (set steps n new), front f step steps, summed f steps n old new (omega (arith, within)) is)
+
 module _ (tags : Numbered Bool) (steps : List Step) (instance : Inst) (old : Step) (new : OfStep) (to : State)
     (within : instance.collection.0 < length steps) (is : old ≡ get_or steps instance.collection.0 old) (moves : Moves old.instances new instance.key to) where
   abbrev number : ℕ
@@ -58,12 +65,19 @@ module _ (tags : Numbered Bool) (steps : List Step) (instance : Inst) (old : Ste
     tags = refl;
     here = ap (λ o. state_in o instance.key) (written_here steps number step within) ∙ at_key instance.key true ((eq_by_cmp_equiv keys_total).refl instance.key);
     others = λ other differs. elsewhere other differs (cases_eq other.collection.0 number);
+    counts = λ test. omega (arith, summed (λ s. how_many test s.instances.states) steps number old step within is, here_counted test);
     prescribers = λ other. by_number other (cases_eq other number);
     room = λ collection. least_kept collection.0 (room_at tags collection.0) steps number old step is refl moves.room;
   }
     where
       before : slice_get steps number ≡ Some old
       before = read_at steps number old within is
+
+      here_counted : (test : State → Bool) → how_many test new.states + one_if test (state_in (slice_get steps number) instance.key) ≡ how_many test old.instances.states + one_if test (Some to)
+      here_counted test =
+          ap (λ states. how_many test states + one_if test (state_in (slice_get steps number) instance.key)) moves.states
+          ∙ ap (λ o. how_many test (insert old.instances.states instance.key to) + one_if test (state_in o instance.key)) before
+          ∙ counted test old.instances.states instance.key to
 
       with_key : (other : Inst) → other ≢ instance → other.collection.0 ≡ number → (b : Bool) → eq_by_cmp key_cmp other.key instance.key ≡ b → get new.states other.key ≡ get old.instances.states other.key
       with_key other differs same true tied =

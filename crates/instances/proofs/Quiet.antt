@@ -9,9 +9,10 @@ use Rattle.std.specs.FinMap.Entries.{below_all}
 use Rattle.std.proofs.lemmas.Cmp.{tied_itself}
 use Rattle.terms.specs.Key.{key_cmp}
 use Rattle.maps.specs.PlaceOrder.{keys_total, same_key}
+use Rattle.terms.specs.declared.name.Inst.{Inst}
 use Rattle.instances.specs.declared.state.State.{State}
 use Rattle.instances.specs.declared.step.Step.{Step}
-use Rattle.instances.specs.Known.{Known, instance_at, state_in, total, NoneIsActive}
+use Rattle.instances.specs.Known.{Known, instance_at, state_at, state_in, total, NoneIsActive}
 use Rattle.instances.specs.OfStep.{how_many, is_ready, is_running}
 use Rattle.instances.proofs.Below.{first, second, none_below}
 use Rattle.instances.proofs.Counted.{Entry, weight, number, front}
@@ -69,6 +70,13 @@ module _ (test : State → Bool) where
       let first_none = all_fail (entries states) (entries_sorted states) (λ key state there. each 0 key state (get-entries states key ∙ there)) in
       let others = all_of_none steps (λ n key state there. each (suc n) key state there) in
       omega (arith, front here step steps, first_none, others)
+
+  -- none is counted exactly where each fails the test
+  pub counted_none : (known : Known) → (total test known ≡ 0) ↔ ((instance : Inst) (state : State) → state_at known instance ≡ Some state → test state ≡ false)
+  counted_none known = (
+    λ none instance state there. none_of_all known.steps instance.collection.0 instance.key state none there,
+    λ each. all_of_none known.steps (λ n key state there. each (instance_at n key) state there),
+  )
 
 -- a test of both counts tells whether no instance is ready or runs
 pub quiet : (known : Known) (b : Bool) → (b ≡ true → (total is_ready known ≡ 0) × (total is_running known ≡ 0)) → (total is_ready known ≡ 0 → total is_running known ≡ 0 → b ≡ true) → IsTrue b ↔ NoneIsActive known

@@ -12,7 +12,7 @@ use Rattle.maps.specs.Numbered.{Numbered, Place, AddsAt, room_at}
 use Rattle.instances.specs.declared.state.State.{State}
 use Rattle.instances.specs.declared.state.State.TheVariants.{Ready, Done}
 use Rattle.instances.specs.declared.step.Step.{Step}
-use Rattle.instances.specs.OfStep.{how_many, is_ready, is_running}
+use Rattle.instances.specs.OfStep.{how_many, is_ready, is_running, one_if}
 
 -- each tag that is there, with whether the environment put it; and for each step, by its number, the tag collection that
 -- prescribes it, with its instances
@@ -75,11 +75,12 @@ room_for known collection = least collection.0 (room_at known.tags collection.0)
 abbrev pub ArePrescribed : Numbered Bool → List Step → Type 0
 ArePrescribed tags steps = (number : ℕ) (step : Step) (key : List ℤ) → slice_get steps number ≡ Some step → is_some (get step.instances.states key) ≡ is_some (get tags.items (step.prescriber.0, key))
 
--- one instance comes into a state, and nothing else changes
+-- one instance comes into a state, and so it is counted there and no more in the one that it had; nothing else changes
 pub record MovesOne (old new : Known) (instance : Inst) (to : State) : Type 0 where
   pub tags : new.tags ≡ old.tags
   pub here : state_at new instance ≡ Some to
   pub others : (other : Inst) → other ≢ instance → state_at new other ≡ state_at old other
+  pub counts : (test : State → Bool) → total test new + one_if test (state_at old instance) ≡ total test old + one_if test (Some to)
   pub prescribers : (number : ℕ) → prescriber_at new number ≡ prescriber_at old number
   pub room : (collection : TagCollection) → room_for new collection ≡ room_for old collection
 

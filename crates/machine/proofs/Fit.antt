@@ -11,7 +11,9 @@ use Rattle.terms.specs.Facts.{Fact, tag, bad, event_facts, environment_facts}
 use Rattle.terms.specs.Sets.{Facts, among, OneFact, AmongBoth}
 use Rattle.steptree.specs.Nameable.{Collection}
 use Rattle.steptree.specs.Sheet.{PutIsAllowed, KeepsAtAnyReads}
+use Rattle.steptree.specs.Laws.{FewPuts}
 use Rattle.steptree.specs.Bodies.{Gives}
+use Rattle.codec.specs.Spelling.{HasFewPuts}
 use Rattle.graph.specs.Graph.{Graph, Step, sheet_of, IsGraph}
 use Rattle.graph.specs.Fits.{AllFit, IsPrescribed, TagIsOf, InstanceIsOf, PutIsOf, Fits, FitsState, HasOneItemEach}
 use Rattle.graph.specs.FitLaws.{FitKeeps}
@@ -68,6 +70,19 @@ module _ (keeps : KeepsAtAnyReads) (g : Graph) (is_graph : IsGraph g) where
   legal_fits kept given before (event ∷ events) state legal =
       let fits = event_fits (among before) event (λ name there. state.of_graph (tag name) there) legal.0 in
       (fits, legal_fits kept (given ++ environment_facts event) (before ++ event_facts event) events (kept g given before event state fits) legal.1)
+
+-- ---- the same of sets
+
+few_puts : FewPuts → (g : Graph) (X : Facts) (event : Event) → IsLegal g X event → HasFewPuts event
+few_puts few g X (EnvItem address value) legal = tt
+few_puts few g X (EnvTag name) legal = tt
+few_puts few g X (Done instance puts) legal =
+    let gives = legal.event_is_legal.2 in
+    few gives.step.body instance.key gives.means.reads puts gives.means.along
+few_puts few g X (Stopped instance kind) legal = tt
+
+pub legal_fits_state : KeepsAtAnyReads → FewPuts → (g : Graph) → IsGraph g → (E X : Facts) (event : Event) → FitsState g E X → IsLegal g X event → Fits g X event × HasFewPuts event
+legal_fits_state keeps few g is_graph E X event state legal = (event_fits keeps g is_graph X event (λ name there. state.of_graph (tag name) there) legal, few_puts few g X event legal)
 
 -- ---- one item at an address
 

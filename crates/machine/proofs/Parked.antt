@@ -113,6 +113,7 @@ module _ (total : IsTotalOrder inst_cmp) (tie : IsAntisymmetric inst_cmp) (old n
     environment = environment_stays total tie old new i Running (Waiting a) was moves items_same fault;
     here = moves.here;
     others = moves.others;
+    counts = moves.counts;
     item_room = λ c. ap (λ (h : Held). room_for h c) items;
     tag_room = moves.room;
   }

@@ -13,7 +13,7 @@ use Rattle.items.specs.Held.{item_at}
 use Rattle.instances.specs.declared.state.State.{State}
 use Rattle.instances.specs.declared.state.State.TheVariants.{Ready, Running, Waiting, Done}
 use Rattle.instances.specs.Known.{state_at}
-use Rattle.instances.specs.There.{AreThereTogether}
+use Rattle.instances.specs.There.{AreCounted, AreThereTogether}
 use Rattle.machine.specs.declared.memory.Memory.{Memory}
 use Rattle.machine.specs.Memory.{is_done, facts_of, IsOf}
 use Rattle.machine.specs.Promise.{IsKept}
@@ -27,7 +27,7 @@ ended (Some Running) is = absurd (false≢true is)
 ended (Some (Waiting address)) is = absurd (false≢true is)
 ended (Some Done) is = refl
 
-module _ (told : OneFact) (total : IsTotalOrder key_cmp) (tie : IsAntisymmetric key_cmp) (g : Graph) (m : Memory) (is : IsOf g m) (there : AreThereTogether m.instances) where
+module _ (told : OneFact) (total : IsTotalOrder key_cmp) (tie : IsAntisymmetric key_cmp) (g : Graph) (m : Memory) (is : IsOf g m) (there : AreThereTogether m.instances) (counted : AreCounted m.instances) where
   one_item : HasOneItemEach (facts_of m)
   one_item a v w p q first second =
       let one : ℤ × Producer = (v, p) in
@@ -52,6 +52,7 @@ module _ (told : OneFact) (total : IsTotalOrder key_cmp) (tie : IsAntisymmetric 
     one_item = one_item;
     prescribed = λ i. (its_tag i, λ it. there.together it.0 i (kept total tie g m is it.0 i it.2) ∙ it.1);
     done = λ i. (λ here. ap is_done here, ended (state_at m.instances i));
+    counted = counted;
     numbered = is.numbered;
     waits = λ i a here. record { prescribed = prescribed total tie g m is there i (Waiting a) here; not_done = ap is_done here; needs = is.needs i a here };
   }

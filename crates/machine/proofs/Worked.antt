@@ -96,6 +96,7 @@ module _ (total : IsTotalOrder inst_cmp) (tie : IsAntisymmetric inst_cmp) (old n
     environment = environment_same;
     here = moves.here;
     others = moves.others;
+    counts = moves.counts;
     item_room = λ c. ap (λ (h : Held). room_for h c) items;
     tag_room = moves.room;
   }

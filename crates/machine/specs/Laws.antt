@@ -9,6 +9,7 @@ use Rattle.terms.specs.Sets.{Facts, among, stated, put_by_environment}
 use Rattle.graph.specs.Graph.{Graph, IsGraph}
 use Rattle.terms.specs.declared.put.Put.{Put}
 use Rattle.graph.specs.Fits.{AllFit, IsPrescribed, HasNoFault, AreNew, Fits, FitsState, HasOneItemEach}
+use Rattle.codec.specs.Spelling.{HasFewPuts}
 use Rattle.machine.specs.Meaning.{Meaning, IsClean}
 use Rattle.machine.specs.Legal.{Conflicts, IsMeant, IsLegal, AreLegal, IsBlocked, IsQuiet}
 
@@ -55,6 +56,10 @@ OneState = (g : Graph) (before other : List Fact) (events : List Event) → ((fa
 -- events fit wherever they are legal behind facts that fit
 abbrev pub LegalFits : Type 0
 LegalFits = (g : Graph) → IsGraph g → (given before : List Fact) (events : List Event) → FitsState g (among given) (among before) → AreLegal g before events → AllFit g before events
+
+-- the same of one event and of sets: it fits, and has no more puts than an instance may make
+abbrev pub LegalFitsState : Type 0
+LegalFitsState = (g : Graph) → IsGraph g → (E X : Facts) (event : Event) → FitsState g E X → IsLegal g X event → Fits g X event × HasFewPuts event
 
 -- an event is legal where it fits and the body means it
 abbrev pub FitsAndMeant : Type 0

@@ -1,5 +1,5 @@
 -- The state of a store in memory: its graph and what it holds; what each call makes of it, and why one is refused.
-use Rattle.std.specs.Prelude.{◌≡◌, ◌≢◌, ◌⊎◌, ⊤, ℕ, ℤ, ◌+◌, ◌≤◌, true, false, List, length, get_or, slice_get, Option, Some, None}
+use Rattle.std.specs.Prelude.{◌≡◌, ◌≢◌, ◌⊎◌, ⊤, ℕ, ℤ, ◌+◌, ◌≤◌, Bool, true, false, List, length, get_or, slice_get, Option, Some, None}
 use Rattle.std.specs.List.{AllByRecursion}
 use Rattle.terms.specs.declared.name.Addr.{Addr}
 use Rattle.terms.specs.declared.name.Tag.{Tag}
@@ -19,7 +19,7 @@ use Rattle.graph.specs.Fits.{HasNoFault, IsAbsent, AddressIsOf, TagIsOf}
 use Rattle.items.specs.Held as items_held
 use Rattle.instances.specs.declared.state.State.{State}
 use Rattle.instances.specs.declared.state.State.TheVariants.{Ready, Running, Waiting, Done}
-use Rattle.instances.specs.OfStep.{is_ready, is_running}
+use Rattle.instances.specs.OfStep.{is_ready, is_running, one_if}
 use Rattle.instances.specs.Known.{state_at, total}
 use Rattle.instances.specs.Known as instances
 use Rattle.machine.specs.declared.memory.Memory.{Memory}
@@ -45,12 +45,15 @@ environment m = environment_of m.memory
 abbrev pub state_of : Machine → Inst → Option State
 state_of m instance = state_at m.memory.instances instance
 
--- how many instances are ready, and how many run
+-- how many instances are in such a state; how many are ready, and how many run
+abbrev pub how_many : (State → Bool) → Machine → ℕ
+how_many test m = total test m.memory.instances
+
 abbrev pub ready_count : Machine → ℕ
-ready_count m = total is_ready m.memory.instances
+ready_count m = how_many is_ready m
 
 abbrev pub running_count : Machine → ℕ
-running_count m = total is_running m.memory.instances
+running_count m = how_many is_running m
 
 -- for how many more items of a collection there is room, and for how many more tags of one, with all that they prescribe
 abbrev pub item_room : Machine → ItemCollection → ℕ
@@ -106,13 +109,14 @@ pub record Takes (old new : Machine) (event : Event) : Type 0 where
   pub item_room : (collection : ItemCollection) → item_room old collection ≤ item_room new collection + count_of event
   pub tag_room : (collection : TagCollection) → tag_room old collection ≤ tag_room new collection + count_of event
 
--- one instance comes into a state, and no fact changes, nor another instance, nor any room
+-- one instance comes into a state, and so it is counted there and no more in the one that it had; no fact changes, nor another instance, nor any room
 pub record Moves (old new : Machine) (instance : Inst) (to : State) : Type 0 where
   pub graph : new.graph ≡ old.graph
   pub facts : (fact : Fact) → facts new fact ≡ facts old fact
   pub environment : (fact : Fact) → environment new fact ≡ environment old fact
   pub here : state_of new instance ≡ Some to
   pub others : (other : Inst) → other ≢ instance → state_of new other ≡ state_of old other
+  pub counts : (test : State → Bool) → how_many test new + one_if test (state_of old instance) ≡ how_many test old + one_if test (Some to)
   pub item_room : (collection : ItemCollection) → item_room new collection ≡ item_room old collection
   pub tag_room : (collection : TagCollection) → tag_room new collection ≡ tag_room old collection
 

@@ -1,9 +1,9 @@
 //! The laws of what a graph means. Each is a contract, with nothing to run.
 ghost use Rattle.graph.specs.FitLaws.{FitKeeps};
-ghost use Rattle.machine.specs.Laws.{StaysWithin, QuietIsMeaning, QuietIsClean, StoppedIsMeant, StoppedOrQuiet, OneEnd, ListsGoOn, HasLegalParts, OneState, LegalFits, FitsAndMeant, FitKeepsOneItem, NewOrConflicting, CanGoOn};
+ghost use Rattle.machine.specs.Laws.{StaysWithin, QuietIsMeaning, QuietIsClean, StoppedIsMeant, StoppedOrQuiet, OneEnd, ListsGoOn, HasLegalParts, OneState, LegalFits, LegalFitsState, FitsAndMeant, FitKeepsOneItem, NewOrConflicting, CanGoOn};
 
 use graph::fitting;
-use steptree::{ends_once, keeps_to_its_sheet};
+use steptree::{ends_once, ends_within_limits, keeps_to_its_sheet};
 use terms::facts_are_told_apart;
 
 /// After a legal list of events from nothing the facts are within the meaning of the graph on what the environment put.
@@ -52,12 +52,14 @@ pub fn legal_lists_go_on()
 /// Legal events fit, and events that fit and are meant are legal. What an event that fits leaves fits.
 pub fn legal_events_fit()
     ensures fit { LegalFits }
+    ensures fit_state { LegalFitsState }
     ensures legal { FitsAndMeant }
     ensures keeps { FitKeeps }
     ensures one_item { FitKeepsOneItem }
 {
     facts_are_told_apart();
     keeps_to_its_sheet();
+    ends_within_limits();
     fitting();
 }
 

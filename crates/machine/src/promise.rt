@@ -11,5 +11,6 @@ impl Machine {
         facts_are_told_apart();
         orders_are_total();
         self.memory.instances.are_there_together();
+        self.memory.instances.are_counted();
     }
 }

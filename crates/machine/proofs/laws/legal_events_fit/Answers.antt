@@ -1,5 +1,5 @@
 use Rattle.machine.proofs.GoesOn.{fits_and_meant}
-use Rattle.machine.proofs.Fit.{legal_fits, keeps_one_item}
+use Rattle.machine.proofs.Fit.{legal_fits, legal_fits_state, keeps_one_item}
 use Rattle.machine.proofs.laws.legal_events_fit.Goals as goal
 
 pub returns-clause-fit : goal.returns-clause-fit
@@ -13,3 +13,6 @@ returns-clause-one_item c = keeps_one_item c.facts_are_told_apart.ensures.one c.
 
 pub returns-clause-legal : goal.returns-clause-legal
 returns-clause-legal c = fits_and_meant
+
+pub returns-clause-fit_state : goal.returns-clause-fit_state
+returns-clause-fit_state c = legal_fits_state c.keeps_to_its_sheet.ensures c.ends_within_limits.ensures.puts
