@@ -24,6 +24,12 @@ is_running Running = true
 is_running (Waiting address) = false
 is_running Done = false
 
+abbrev pub is_waiting : State → Bool
+is_waiting Ready = false
+is_waiting Running = false
+is_waiting (Waiting address) = true
+is_waiting Done = false
+
 -- how many instances are in such a state
 abbrev pub how_many : (State → Bool) → FinMap key_cmp State → ℕ
 how_many test states = count_by (λ entry. test entry.1) (entries states)

@@ -35,7 +35,7 @@ impl Instances {
     ghost use Rattle.std.specs.Prelude.{◌≡◌, ◌-◌, ◌^◌, ◌==◌, ◌&&◌, ◌<◌, ◌≤◌, ◌↔◌, IfOk, IfSome, IsSome, IsTrue, None, OnErr, OnOk, Some, T, length, map, min};
     ghost use Rattle.std.specs.FinMap.{entries, find, is_sorted};
     ghost use Rattle.instances.specs.declared.state.State.TheVariants.{Ready, Running, Waiting, Done};
-    ghost use Rattle.instances.specs.OfStep.{is_ready, is_running, IsWaiting};
+    ghost use Rattle.instances.specs.OfStep.{is_ready, is_running, is_waiting, IsWaiting};
     ghost use Rattle.std.specs.List.Sorted.{IsSorted};
     ghost use Rattle.terms.specs.Name.{inst_cmp};
     ghost use Rattle.terms.specs.declared.name.Inst.{Inst as Instance};
@@ -143,6 +143,17 @@ impl Instances {
             running = running.saturating_add(self.steps[number].instances.running());
         }
         running
+    }
+
+    /// How many wait, or the greatest `usize` where they are more. It goes through all.
+    pub fn waiting(&self) -> usize
+        ensures { result ≡ min (total is_waiting self.now) (2 ^ 64 - 1) }
+    {
+        let mut waiting = 0usize;
+        for number in 0..self.steps.len() {
+            waiting = waiting.saturating_add(self.steps[number].instances.waiting());
+        }
+        waiting
     }
 
     /// Whether none is ready and none runs.

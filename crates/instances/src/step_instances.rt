@@ -1,3 +1,6 @@
+ghost use Rattle.std.specs.Prelude.{◌≡◌};
+ghost use Rattle.instances.specs.OfStep.{is_waiting as is_waiting_state};
+
 use crate::State;
 use maps::KeyMap;
 use std::alloc::{AllocError, Global};
@@ -34,7 +37,7 @@ impl StepInstances {
     ghost use Rattle.std.specs.Prelude.{◌≡◌, ◌+◌, ◌<◌, ◌≤◌, IfSome, IsSome, OnOk, OnErr, Some, None, cond};
     ghost use Rattle.std.specs.FinMap.{empty, entries, get};
     ghost use Rattle.instances.specs.declared.state.State.TheVariants.{Ready, Running, Waiting, Done};
-    ghost use Rattle.instances.specs.OfStep.{is_ready, is_running, how_many, IsWaiting, Moves, AddsInstance};
+    ghost use Rattle.instances.specs.OfStep.{is_ready, is_running, is_waiting, how_many, IsWaiting, Moves, AddsInstance};
 
     /// No instances.
     pub fn new(alloc: Global) -> Self
@@ -73,6 +76,17 @@ impl StepInstances {
         ensures { result ≡ how_many is_running self.now.states }
     {
         self.running
+    }
+
+    /// How many wait. It goes through all.
+    pub fn waiting(&self) -> usize
+        ensures { result ≡ how_many is_waiting self.now.states }
+    {
+        self.states
+            .entries()
+            .iter()
+            .filter(|entry| is_waiting(&entry.1))
+            .count()
     }
 
     /// How many more instances there is room for.
@@ -186,4 +200,11 @@ impl StepInstances {
         self.states.set(key, State::Ready);
         self.ready.push_reserved(key);
     }
+}
+
+// Whether this is the state of an instance that waits.
+fn is_waiting(state: &State) -> bool
+    ensures { result ≡ is_waiting_state state.now }
+{
+    matches!(state, State::Waiting(_))
 }

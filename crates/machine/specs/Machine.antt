@@ -19,7 +19,7 @@ use Rattle.graph.specs.Fits.{HasNoFault, IsAbsent, AddressIsOf, TagIsOf}
 use Rattle.items.specs.Held as items_held
 use Rattle.instances.specs.declared.state.State.{State}
 use Rattle.instances.specs.declared.state.State.TheVariants.{Ready, Running, Waiting, Done}
-use Rattle.instances.specs.OfStep.{is_ready, is_running, one_if}
+use Rattle.instances.specs.OfStep.{is_ready, is_running, is_waiting, one_if}
 use Rattle.instances.specs.Known.{state_at, total}
 use Rattle.instances.specs.Known as instances
 use Rattle.machine.specs.declared.memory.Memory.{Memory}
@@ -45,7 +45,7 @@ environment m = environment_of m.memory
 abbrev pub state_of : Machine → Inst → Option State
 state_of m instance = state_at m.memory.instances instance
 
--- how many instances are in such a state; how many are ready, and how many run
+-- how many instances are in such a state; how many are ready, how many run, and how many wait
 abbrev pub how_many : (State → Bool) → Machine → ℕ
 how_many test m = total test m.memory.instances
 
@@ -54,6 +54,9 @@ ready_count m = how_many is_ready m
 
 abbrev pub running_count : Machine → ℕ
 running_count m = how_many is_running m
+
+abbrev pub waiting_count : Machine → ℕ
+waiting_count m = how_many is_waiting m
 
 -- for how many more items of a collection there is room, and for how many more tags of one, with all that they prescribe
 abbrev pub item_room : Machine → ItemCollection → ℕ

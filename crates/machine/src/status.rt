@@ -8,7 +8,7 @@ impl Machine {
     ghost use Rattle.std.specs.Prelude.{◌≡◌, ◌↔◌, ◌-◌, ◌^◌, IfOk, IsTrue, min};
     ghost use Rattle.graph.specs.Fits.{HasNoFault};
     ghost use Rattle.machine.specs.Legal.{IsQuiet};
-    ghost use Rattle.machine.specs.Machine.{facts, ready_count, running_count};
+    ghost use Rattle.machine.specs.Machine.{facts, ready_count, running_count, waiting_count};
     ghost use Rattle.machine.specs.Status.{AreBlocked, AreUnfinished, IsAllOfMeaning, NoneIsActive, TellsFault};
 
     /// The instance at fault, if there is one.
@@ -45,6 +45,13 @@ impl Machine {
         ensures { result ≡ min (running_count self.now) (2 ^ 64 - 1) }
     {
         self.memory.instances.running()
+    }
+
+    /// How many instances wait, or the greatest `usize` where they are more. It goes through all.
+    pub fn waiting(&self) -> usize
+        ensures { result ≡ min (waiting_count self.now) (2 ^ 64 - 1) }
+    {
+        self.memory.instances.waiting()
     }
 
     /// The instances that wait, each with the address of the item that it needs, by step and then by key.
