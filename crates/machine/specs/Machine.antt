@@ -1,5 +1,5 @@
 -- The state of a store in memory: its graph and what it holds; what each call makes of it, and why one is refused.
-use Rattle.std.specs.Prelude.{◌≡◌, ◌≢◌, ◌⊎◌, ⊤, ℕ, ℤ, ◌+◌, ◌≤◌, Bool, true, false, List, length, get_or, slice_get, Option, Some, None}
+use Rattle.std.specs.Prelude.{◌≡◌, ◌≢◌, ◌⊎◌, ⊤, ℕ, ℤ, ◌+◌, ◌≤◌, Bool, true, false, List, [], ◌∷◌, length, get_or, slice_get, Option, Some, None}
 use Rattle.std.specs.List.{AllByRecursion}
 use Rattle.terms.specs.declared.name.Addr.{Addr}
 use Rattle.terms.specs.declared.name.Tag.{Tag}
@@ -74,7 +74,20 @@ Ends (event.EnvTag name) instance = ⊥
 Ends (event.Done ended puts) instance = ended ≡ instance
 Ends (event.Stopped ended kind) instance = ended ≡ instance
 
--- how many puts the event has
+-- the environment puts
+abbrev pub IsPut : Event → Type 0
+IsPut (event.EnvItem address value) = ⊤
+IsPut (event.EnvTag name) = ⊤
+IsPut (event.Done ended puts) = ⊥
+IsPut (event.Stopped ended kind) = ⊥
+
+-- the puts that the event has, and how many they are
+abbrev pub puts_of : Event → List Put
+puts_of (event.EnvItem address value) = put.Item address value ∷ []
+puts_of (event.EnvTag name) = put.Tag name ∷ []
+puts_of (event.Done ended puts) = puts
+puts_of (event.Stopped ended kind) = []
+
 abbrev pub count_of : Event → ℕ
 count_of (event.EnvItem address value) = 1
 count_of (event.EnvTag name) = 1

@@ -13,6 +13,7 @@ mod creation;
 mod distinct;
 mod end;
 mod ends;
+mod events;
 mod examples;
 mod growth;
 mod imaging;
