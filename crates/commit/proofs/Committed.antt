@@ -1,0 +1,130 @@
+-- What an append makes of a core: where the event is taken, and where an error was answered.
+use Rattle.std.proofs.Common.{◌≡◌, ◌∙◌, ◌↔◌, ◌⊎◌, ◌<◌, ◌≤◌, ◌+◌, ap, sym, refl, subst, inl, inr, ℕ, Bool, true, false, cond, List, [], ◌∷◌, ◌++◌, length, Option, Some, None, Result, Ok, Err, IsErrOf, arith}
+use Rattle.std.proofs.lemmas.Bool.{false≢true}
+use Rattle.std.proofs.lemmas.List.{append-nil}
+use Rattle.disk.specs.declared.side.Side.{Side}
+use Rattle.disk.specs.File.{File}
+use Rattle.disk.specs.Time.{Contents, MayLeaveNow, LeavesOnly, HasCauses}
+use Rattle.terms.specs.declared.event.Event.{Event}
+use Rattle.terms.specs.Facts.{Fact, event_facts, environment_facts}
+use Rattle.terms.specs.Facts as facts
+use Rattle.terms.specs.Sets.{Facts, with_facts}
+use Rattle.graph.specs.Graph.{Graph}
+use Rattle.codec.specs.Commits.{commit_bytes}
+use Rattle.journal.specs.Records.{record_of}
+use Rattle.codec.specs.Spelling.{HasFewPuts}
+use Rattle.graph.specs.Fits.{Fits}
+use Rattle.machine.specs.Laws.{LegalFitsState}
+use Rattle.machine.specs.Legal.{IsLegal}
+use Rattle.machine.specs.Promise as machine_kept
+use Rattle.machine.specs.Machine.{Machine, facts as facts_of, environment as environment_of}
+use Rattle.machine.specs.Machine as machine
+use Rattle.vault.specs.declared.vault.Vault.{Vault}
+use Rattle.vault.specs.declared.error.VaultError.{VaultError}
+use Rattle.vault.specs.declared.error.VaultError.TheVariants.{Device, NoMemory, Halted}
+use Rattle.vault.specs.Calls as calls
+use Rattle.vault.specs.Commits.{HeldLeaves, RefusedStore}
+use Rattle.vault.specs.Opened.{contents_of}
+use Rattle.vault.specs.Stands.{Stands}
+use Rattle.vault.specs.Store.{Holds, IsSame, HasGates, StandsBeforeOrAfter}
+use Rattle.commit.specs.declared.error.CoreError.{CoreError}
+use Rattle.commit.specs.declared.error.CoreError.TheVariants.{Store}
+use Rattle.commit.specs.Core.{Core, graph, facts as facts_in, environment as environment_in, is_halted}
+use Rattle.commit.specs.Calls.{Halts}
+use Rattle.commit.specs.Doubt.{events_in}
+use Rattle.commit.specs.Kept.{IsKept}
+
+-- sets that agree at each fact hold alike
+pub holds_alike :
+    {D : Type 0} (files : D → Side → File) (v : Vault D) (g h : Graph) (E F X Y : Facts) → h ≡ g → ((fact : Fact) → F fact ≡ E fact) → ((fact : Fact) → Y fact ≡ X fact) →
+    Holds files v g E X → Holds files v h F Y
+holds_alike files v g h E F X Y graph given facts holds =
+    let sets : E ≡ F = λ i fact. sym (given fact) i in
+    let all : X ≡ Y = λ i fact. sym (facts fact) i in
+    let at_graph : Holds files v h E X = subst (λ (k : Graph). Holds files v k E X) (sym graph) holds in
+    let at_given : Holds files v h F X = subst (λ (S : Facts). Holds files v h S X) sets at_graph in
+    subst (λ (S : Facts). Holds files v h F S) all at_given
+
+pub stands_alike :
+    (g h : Graph) (E F X Y : Facts) (events : List Event) (contents : Contents) → h ≡ g → ((fact : Fact) → F fact ≡ E fact) → ((fact : Fact) → Y fact ≡ X fact) →
+    StandsBeforeOrAfter g E X events contents → StandsBeforeOrAfter h F Y events contents
+stands_alike g h E F X Y events contents graph given facts stands =
+    let sets : E ≡ F = λ i fact. sym (given fact) i in
+    let all : X ≡ Y = λ i fact. sym (facts fact) i in
+    let at_graph : StandsBeforeOrAfter h E X events contents = subst (λ (k : Graph). StandsBeforeOrAfter k E X events contents) (sym graph) stands in
+    let at_given : StandsBeforeOrAfter h F X events contents = subst (λ (S : Facts). StandsBeforeOrAfter h S X events contents) sets at_graph in
+    subst (λ (S : Facts). StandsBeforeOrAfter h F S events contents) all at_given
+
+-- a legal event fits what a machine holds, and has no more puts than it may
+pub fits : LegalFitsState → (m : Machine) → machine_kept.IsKept m → (event : Event) → IsLegal m.graph (facts_of m) event → Fits m.graph (facts_of m) event × HasFewPuts event
+fits law m kept event legal = law m.graph kept.graph (environment_of m) (facts_of m) event kept.fits legal
+
+module _ {D : Type 0} (files : D → Side → File) (moment : D → ℕ) (left_at : D → ℕ → Contents → Type 0) (now : (disk : D) (contents : Contents) → left_at disk (moment disk) contents ↔ MayLeaveNow (files disk) contents) where
+  -- what a crash leaves behind calls is what one leaves at their last moment
+  pub at_end : (old new : D) (P : Contents → Type 0) → LeavesOnly moment left_at old new P → (contents : Contents) → MayLeaveNow (files new) contents → P contents
+  at_end old new P only contents may = only.each (moment new) contents only.later (omega arith) ((now new contents).1 may)
+
+  -- a vault that holds the facts of a machine keeps its core
+  pub kept : HeldLeaves files moment left_at → (v : Vault D) (m : Machine) (doubt : List Event) (allowance : ℕ) → Holds files v m.graph (environment_of m) (facts_of m)
+      → IsKept files (record { vault = v; machine = m; in_doubt = doubt; allowance = allowance })
+  kept leaves v m doubt allowance holds = record {
+    holds = λ _. holds;
+    left = λ contents may. inl (at_end v.disk v.disk (λ c. Stands c m.graph (environment_of m) (facts_of m)) (leaves v m.graph (environment_of m) (facts_of m) holds) contents may);
+  }
+
+  -- and so does one whose facts are the same
+  pub kept_alike : (v : Vault D) (m n : Machine) (doubt : List Event) (allowance more : ℕ) → n.graph ≡ m.graph → ((fact : Fact) → environment_of n fact ≡ environment_of m fact) → ((fact : Fact) → facts_of n fact ≡ facts_of m fact)
+      → IsKept files (record { vault = v; machine = m; in_doubt = doubt; allowance = allowance }) → IsKept files (record { vault = v; machine = n; in_doubt = doubt; allowance = more })
+  kept_alike v m n doubt allowance more graph given facts keeps = record {
+    holds = λ working. holds_alike files v m.graph n.graph (environment_of m) (environment_of n) (facts_of m) (facts_of n) graph given facts (keeps.holds working);
+    left = λ contents may. stands_alike m.graph n.graph (environment_of m) (environment_of n) (facts_of m) (facts_of n) doubt contents graph given facts (keeps.left contents may);
+  }
+
+  pub kept_taken : HeldLeaves files moment left_at → (v : Vault D) (m n : Machine) (event : Event) (doubt : List Event) (allowance : ℕ) → machine.Takes m n event
+      → Holds files v m.graph (with_facts (environment_of m) (facts.environment (event ∷ []))) (with_facts (facts_of m) (facts.facts (event ∷ [])))
+      → IsKept files (record { vault = v; machine = n; in_doubt = doubt; allowance = allowance })
+  kept_taken leaves v m n event doubt allowance takes holds =
+      kept leaves v n doubt allowance
+      (holds_alike files v m.graph n.graph (with_facts (environment_of m) (facts.environment (event ∷ []))) (environment_of n) (with_facts (facts_of m) (facts.facts (event ∷ []))) (facts_of n) takes.graph
+      (λ fact. takes.environment fact ∙ ap (λ (more : List Fact). with_facts (environment_of m) more fact) (sym (append-nil (environment_facts event))))
+      (λ fact. takes.facts fact ∙ ap (λ (more : List Fact). with_facts (facts_of m) more fact) (sym (append-nil (event_facts event))))
+      holds)
+
+  -- an error leaves it kept, with the event in doubt where it halted the vault
+  pub kept_refused : HeldLeaves files moment left_at → RefusedStore files moment left_at → (v w : Vault D) (m : Machine) (event : Event) (before after : Option Event) (allowance : ℕ)
+      → v.halted ≡ false → after ≡ cond w.halted (Some event) before → Holds files v m.graph (environment_of m) (facts_of m) → (w.halted ≡ v.halted → IsSame v w)
+      → LeavesOnly moment left_at v.disk w.disk (StandsBeforeOrAfter m.graph (environment_of m) (facts_of m) (event ∷ []))
+      → IsKept files (record { vault = w; machine = m; in_doubt = events_in after; allowance = allowance })
+  kept_refused leaves refused v w m event before after allowance working doubt holds same moments = at w.halted refl
+    where
+      at : (b : Bool) → w.halted ≡ b → IsKept files (record { vault = w; machine = m; in_doubt = events_in after; allowance = allowance })
+      at false is = kept leaves w m (events_in after) allowance (refused v w m.graph (environment_of m) (facts_of m) holds (same (is ∙ sym working)))
+      at true is = record {
+        holds = λ goes. absurd (false≢true (sym goes ∙ is));
+        left = λ contents may.
+            let event_is : event ∷ [] ≡ events_in after = sym (ap events_in (doubt ∙ ap (λ b. cond b (Some event) before) is)) in
+            subst (λ (events : List Event). StandsBeforeOrAfter m.graph (environment_of m) (facts_of m) events contents) event_is
+            (at_end v.disk w.disk (StandsBeforeOrAfter m.graph (environment_of m) (facts_of m) (event ∷ [])) moments contents may);
+      }
+
+-- why an error halted the core, told by the vault
+pub halts : {D : Type 0} (failures refusals : D → ℕ) (v w : Vault D) (m n : Machine) (event : Event) (before after : Option Event) (a b : ℕ) (error : VaultError)
+    → v.halted ≡ false → after ≡ cond w.halted (Some event) before → calls.Halts {T = Unit {0}} failures refusals v w (Err error)
+    → Halts {T = Unit {0}} failures refusals (record { vault = v; machine = m; in_doubt = events_in before; allowance = a }) (record { vault = w; machine = n; in_doubt = events_in after; allowance = b }) (Err (Store error))
+halts failures refusals v w m n event before after a b error working doubt told = record {
+  halts = told.halts;
+  halted = (λ is. told.halted.0 (inside Halted is), λ is. outside Halted (told.halted.1 is));
+  disk = record {
+    device = (λ is. told.disk.device.0 (inside Device is), λ grew. outside Device (told.disk.device.1 grew));
+    refused = λ changed. outside NoMemory (told.disk.refused changed);
+    later = told.disk.later;
+  };
+  same = λ is. (told.same is, ap events_in (doubt ∙ ap (λ h. cond h (Some event) before) (is ∙ working)));
+  settled = tt;
+}
+  where
+    inside : (cause : VaultError) → ◌≡◌ {A = Result (Unit {0}) CoreError} (Err (Store error)) (Err (Store cause)) → ◌≡◌ {A = Result (Unit {0}) VaultError} (Err error) (Err cause)
+    inside cause is = cc
+
+    outside : (cause : VaultError) → ◌≡◌ {A = Result (Unit {0}) VaultError} (Err error) (Err cause) → ◌≡◌ {A = Result (Unit {0}) CoreError} (Err (Store error)) (Err (Store cause))
+    outside cause is = cc

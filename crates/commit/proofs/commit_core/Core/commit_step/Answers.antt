@@ -1,0 +1,77 @@
+use Rattle.std.proofs.Common.{◌≡◌, ◌∙◌, [], ◌∷◌, List, false, cond, ap, sym, subst, Option, Some, None}
+use Rattle.terms.specs.declared.event.Event.{Event}
+use Rattle.machine.specs.Legal.{IsLegal}
+use Rattle.machine.specs.Machine.{Machine, HasRoom, puts_of, environment as environment_of, facts as facts_of}
+use Rattle.commit.specs.Core.{Core, facts, graph, is_halted}
+use Rattle.commit.specs.Calls.{CrashLeaves}
+use Rattle.commit.specs.Doubt.{events_in}
+use Rattle.commit.proofs.Committed.{fits, kept_alike, kept_taken, kept_refused}
+use Rattle.commit.proofs.commit_core.Core.commit_step.Goals as goal
+
+pub append-requires-clause-puts : goal.append-requires-clause-puts
+append-requires-clause-puts g c =
+    let legal = subst (λ (old : Core g.row.D.Denot). IsLegal (graph old) (facts old) c.args.event) (sym c.self.view_is) c.requires.legal in
+    (fits c.legal_events_fit.ensures.fit_state c.self.inside.machine c.is_kept.ensures c.args.event legal).1
+
+pub take_step-requires-clause-legal : goal.take_step-requires-clause-legal
+take_step-requires-clause-legal g c = subst (λ (old : Core g.row.D.Denot). IsLegal (graph old) (facts old) c.args.event) (sym c.self.view_is) c.requires.legal
+
+pub take_step-requires-clause-room : goal.take_step-requires-clause-room
+take_step-requires-clause-room g c = subst (λ (old : Core g.row.D.Denot). HasRoom old.machine (puts_of c.args.event)) (sym c.self.view_is) c.requires.room
+
+pub invariant_of-self : goal.invariant_of-self
+invariant_of-self g c =
+    let before = c.self.inside in
+    let working : before.vault.halted ≡ false = ap is_halted c.self.view_is ∙ c.requires.working in
+    let legal = subst (λ (old : Core g.row.D.Denot). IsLegal (graph old) (facts old) c.args.event) (sym c.self.view_is) c.requires.legal in
+    let it = fits c.legal_events_fit.ensures.fit_state before.machine c.is_kept.ensures c.args.event legal in (
+      λ _. c.self.invariant.0 working,
+      λ honest.
+          let holds = (c.self.invariant.1 honest).holds working in
+          kept_taken g.D.Disk.files g.D.Disk.moment g.D.Disk.left_at (g.met.D.Disk.at_now honest) (c.stores_go_on.ensures.held_leaves honest)
+          c.append.new.self before.machine c.take_step.new.self c.args.event (events_in before.in_doubt) c.saturating_sub-self-inside.result c.take_step.ensures
+          (c.in-Ok.ensures.added honest before.machine.graph (environment_of before.machine) (facts_of before.machine) holds it.0),
+    )
+
+pub invariant_of-self-in-Err : goal.invariant_of-self-in-Err
+invariant_of-self-in-Err g c =
+    let before = c.self.inside in
+    let working : before.vault.halted ≡ false = ap is_halted c.self.view_is ∙ c.requires.working in
+    let legal = subst (λ (old : Core g.row.D.Denot). IsLegal (graph old) (facts old) c.args.event) (sym c.self.view_is) c.requires.legal in
+    let it = fits c.legal_events_fit.ensures.fit_state before.machine c.is_kept.ensures c.args.event legal in
+    let doubt : c.keep_in_doubt.new.in_doubt ≡ cond c.append.new.self.halted (Some c.args.event) before.in_doubt = c.keep_in_doubt.ensures ∙ ap (λ h. cond h (Some c.args.event) before.in_doubt) c.is_halted.ensures in (
+      λ goes. doubt ∙ ap (λ h. cond h (Some c.args.event) before.in_doubt) goes ∙ c.self.invariant.0 working,
+      λ honest.
+          let holds = (c.self.invariant.1 honest).holds working in
+          kept_alike g.D.Disk.files g.D.Disk.moment g.D.Disk.left_at (g.met.D.Disk.at_now honest) c.append.new.self before.machine c.release.new.self (events_in c.keep_in_doubt.new.in_doubt) before.allowance before.allowance
+          c.release.ensures.graph c.release.ensures.environment c.release.ensures.facts
+          (kept_refused g.D.Disk.files g.D.Disk.moment g.D.Disk.left_at (g.met.D.Disk.at_now honest) (c.stores_go_on.ensures.held_leaves honest) c.stores_go_on.ensures.refused
+          before.vault c.append.new.self before.machine c.args.event before.in_doubt c.keep_in_doubt.new.in_doubt before.allowance working doubt holds c.in-Err.ensures.halting.same
+          (c.append.ensures.any_moment honest before.machine.graph (environment_of before.machine) (facts_of before.machine) holds it.0)),
+    )
+
+pub returns-in-Ok-clause-moments : goal.returns-in-Ok-clause-moments
+returns-in-Ok-clause-moments g c honest =
+    let before = c.self.inside in
+    let working : before.vault.halted ≡ false = ap is_halted c.self.view_is ∙ c.requires.working in
+    let legal = subst (λ (old : Core g.row.D.Denot). IsLegal (graph old) (facts old) c.args.event) (sym c.self.view_is) c.requires.legal in
+    let it = fits c.legal_events_fit.ensures.fit_state before.machine c.is_kept.ensures c.args.event legal in
+    let holds = (c.self.invariant.1 honest).holds working in
+    subst (λ (old : Core g.row.D.Denot). CrashLeaves g.D.Disk.files g.D.Disk.moment g.D.Disk.left_at old (record { vault = c.append.new.self; machine = c.take_step.new.self; in_doubt = events_in before.in_doubt; allowance = c.saturating_sub-self-inside.result }) (c.args.event ∷ [])) c.self.view_is
+    (record {
+      facts = c.append.ensures.any_moment honest before.machine.graph (environment_of before.machine) (facts_of before.machine) holds it.0;
+      gates = c.append.ensures.gates honest before.machine.graph (environment_of before.machine) (facts_of before.machine) holds;
+    })
+
+pub returns-in-Err-clause-moments : goal.returns-in-Err-clause-moments
+returns-in-Err-clause-moments g c honest =
+    let before = c.self.inside in
+    let working : before.vault.halted ≡ false = ap is_halted c.self.view_is ∙ c.requires.working in
+    let legal = subst (λ (old : Core g.row.D.Denot). IsLegal (graph old) (facts old) c.args.event) (sym c.self.view_is) c.requires.legal in
+    let it = fits c.legal_events_fit.ensures.fit_state before.machine c.is_kept.ensures c.args.event legal in
+    let holds = (c.self.invariant.1 honest).holds working in
+    subst (λ (old : Core g.row.D.Denot). CrashLeaves g.D.Disk.files g.D.Disk.moment g.D.Disk.left_at old (record { vault = c.append.new.self; machine = c.release.new.self; in_doubt = events_in c.keep_in_doubt.new.in_doubt; allowance = before.allowance }) (c.args.event ∷ [])) c.self.view_is
+    (record {
+      facts = c.append.ensures.any_moment honest before.machine.graph (environment_of before.machine) (facts_of before.machine) holds it.0;
+      gates = c.append.ensures.gates honest before.machine.graph (environment_of before.machine) (facts_of before.machine) holds;
+    })

@@ -1,0 +1,109 @@
+-- What the calls of a core promise: the event that comes at `Ok`, and what an error says and leaves.
+use Rattle.std.specs.Prelude.{◌≡◌, ◌≢◌, ◌⊎◌, ◌↔◌, ◌<◌, ◌≤◌, ◌+◌, ◌-◌, ⊤, ℕ, true, false, List, [], ◌∷◌, length, Result, Some, IsErrOf, OnOk, OnErr, IfErr}
+use Rattle.disk.specs.declared.side.Side.{Side}
+use Rattle.disk.specs.File.{File}
+use Rattle.disk.specs.Time.{Contents, LeavesOnly, HasCauses, HasErred}
+use Rattle.terms.specs.declared.name.Inst.{Inst}
+use Rattle.terms.specs.declared.event.Event.{Event}
+use Rattle.terms.specs.declared.event.Event.TheVariants.{EnvItem, EnvTag, Done, Stopped}
+use Rattle.terms.specs.Facts.{Fact}
+use Rattle.codec.specs.Commits.{commit_bytes}
+use Rattle.journal.specs.Records.{record_of}
+use Rattle.journal.specs.declared.journal.TheConstants.{LIMIT}
+use Rattle.instances.specs.declared.state.State.TheVariants.{Ready}
+use Rattle.machine.specs.declared.refusal.Refusal.{Refusal}
+use Rattle.machine.specs.Legal.{IsLegal}
+use Rattle.machine.specs.Machine as machine
+use Rattle.vault.specs.declared.error.VaultError.{VaultError}
+use Rattle.vault.specs.declared.error.VaultError.TheVariants.{Device, NoMemory, Damaged, Full, NotAStore, Halted, Exists}
+use Rattle.vault.specs.Store.{IsSame, HasGates, StandsBeforeOrAfter}
+use Rattle.vault.specs.Opened.{contents_of}
+use Rattle.commit.specs.declared.error.CoreError.{CoreError}
+use Rattle.commit.specs.declared.error.CoreError.TheVariants.{Refused, Store}
+use Rattle.commit.specs.Core.{Core, graph, facts, environment, state_of, is_halted}
+
+-- ---- events
+
+-- how much of the allowance an event uses: one for a step, and nothing for a put of the environment
+abbrev pub step_count : Event → ℕ
+step_count (EnvItem address value) = 0
+step_count (EnvTag name) = 0
+step_count (Done instance puts) = 1
+step_count (Stopped instance kind) = 1
+
+-- The event was legal, and has come: to the state in memory, and to the live side, whose journal it made longer.
+pub record Takes {D : Type 0} (old new : Core D) (event : Event) : Type 0 where
+  pub legal : IsLegal (graph old) (facts old) event
+  pub takes : machine.Takes old.machine new.machine event
+  pub working : (is_halted old ≡ false) × (is_halted new ≡ false)
+  pub moved : old.vault.journal.end < new.vault.journal.end
+  pub allowance : new.allowance ≡ old.allowance - step_count event
+  pub generation : new.vault.generation ≡ old.vault.generation
+
+-- No fact has changed, and no allowance.
+pub record Stays {D : Type 0} (old new : Core D) : Type 0 where
+  pub graph : graph new ≡ graph old
+  pub facts : (fact : Fact) → facts new fact ≡ facts old fact
+  pub environment : (fact : Fact) → environment new fact ≡ environment old fact
+  pub allowance : new.allowance ≡ old.allowance
+
+-- and no instance has moved
+pub record IsUnchanged {D : Type 0} (old new : Core D) : Type 0 where
+  pub stays : Stays old new
+  pub states : (instance : Inst) → state_of new instance ≡ state_of old instance
+
+-- and one instance is ready again, and no other has moved
+pub record GivesBack {D : Type 0} (old new : Core D) (instance : Inst) : Type 0 where
+  pub stays : Stays old new
+  pub ready : state_of new instance ≡ Some Ready
+  pub others : (other : Inst) → other ≢ instance → state_of new other ≡ state_of old other
+
+-- ---- refusals
+
+-- the closed gate behind the event's record would not lie below the limit
+abbrev pub IsTooLong : {D : Type 0} → Core D → Event → Type 0
+IsTooLong c event = LIMIT ≤ c.vault.journal.end + length (record_of (commit_bytes (event ∷ [])))
+
+-- Why an event is refused. A halted core says that it is halted, and nothing else. Then comes why the event may not come; an event that may
+-- come is refused where its record does not fit, where the device failed, and where memory was refused.
+abbrev pub Refuses : {D : Type 0} → Core D → (Refusal → Type 0) → Event → CoreError → Type 0
+Refuses c why event (Refused refusal) = (is_halted c ≡ false) × why refusal
+Refuses c why event (Store Halted) = is_halted c ≡ true
+Refuses c why event (Store Full) = (is_halted c ≡ false) × IsLegal (graph c) (facts c) event × IsTooLong c event
+Refuses c why event (Store Device) = (is_halted c ≡ false) × IsLegal (graph c) (facts c) event
+Refuses c why event (Store NoMemory) = (is_halted c ≡ false) × IsLegal (graph c) (facts c) event
+Refuses c why event (Store (Damaged side place)) = ⊥
+Refuses c why event (Store NotAStore) = ⊥
+Refuses c why event (Store Exists) = ⊥
+
+-- Where a core is not halted, and the record of an event that may come does not fit, that is told, or that memory was refused first.
+abbrev pub TellsFull : {D T : Type 0} → Core D → Event → Result T CoreError → Type 0
+TellsFull c event result = is_halted c ≡ false → IsLegal (graph c) (facts c) event → IsTooLong c event → IsErrOf result (Store Full) ⊎ IsErrOf result (Store NoMemory)
+
+-- ---- halts
+
+-- Why a call halts: exactly where a call of the disk answered an error. Which error it answers then, what another one leaves, and what is in
+-- doubt from then on.
+pub record Halts {D T : Type 0} (failures refusals : D → ℕ) (old new : Core D) (result : Result T CoreError) : Type 0 where
+  pub halts : (is_halted new ≡ true) ↔ ((is_halted old ≡ true) ⊎ HasErred failures refusals old.vault.disk new.vault.disk)
+  pub halted : IsErrOf result (Store Halted) ↔ (is_halted old ≡ true)
+  pub disk : HasCauses failures refusals (Store Device) (Store NoMemory) old.vault.disk new.vault.disk result
+  -- where an error does not halt it, nothing on the disk has changed
+  pub same : OnErr result (is_halted new ≡ is_halted old → IsSame old.vault new.vault × (new.in_doubt ≡ old.in_doubt))
+  pub settled : OnOk result (new.in_doubt ≡ [])
+
+-- the event is in doubt, where this call halted
+abbrev pub IsInDoubt : {D T : Type 0} → Core D → Core D → Event → Result T CoreError → Type 0
+IsInDoubt old new event result = OnErr result (is_halted old ≡ false → is_halted new ≡ true → new.in_doubt ≡ event ∷ [])
+
+-- ---- crashes
+
+-- What a crash leaves at any moment of a call that commits these events at `Ok`: the facts before them or behind them, and nothing between. And each file
+-- keeps a first byte.
+pub record CrashLeaves {D : Type 0} (files : D → Side → File) (moment : D → ℕ) (left_at : D → ℕ → Contents → Type 0) (old new : Core D) (events : List Event) : Type 0 where
+  pub facts : LeavesOnly moment left_at old.vault.disk new.vault.disk (StandsBeforeOrAfter (graph old) (environment old) (facts old) events)
+  pub gates : HasGates (contents_of (files old.vault.disk)) → LeavesOnly moment left_at old.vault.disk new.vault.disk HasGates
+
+-- no cause of a refusal
+abbrev pub NoCause : Refusal → Type 0
+NoCause refusal = ⊥

@@ -1,0 +1,4 @@
+pub mod Calls
+pub mod Core
+pub mod Doubt
+pub mod Kept

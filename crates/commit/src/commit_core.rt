@@ -1,0 +1,54 @@
+use disk::Disk;
+use graph::Graph;
+use instances::Task;
+use machine::Machine;
+use std::marker::Model;
+use std::sync::Arc;
+use terms::{Event, FaultKind, Inst};
+use vault::Vault;
+
+/// A store on two files, with the state of it in memory.
+///
+/// Each event that it takes is on the disk before the call answers `Ok`, and each refusal leaves all as it was. Where a call of the disk
+/// answers an error the core halts: from then on it answers `Halted`, until its disk is opened again.
+pub struct Core<D: Disk> {
+    pub(crate) vault: Vault<D>,
+    pub(crate) machine: Machine,
+    // The event of the call that halted it, if that had one.
+    pub(crate) in_doubt: Option<Event>,
+    // How many more steps may be committed, those that run among them.
+    pub(crate) allowance: u64,
+}
+
+impl<D: Disk + Drop> Drop for Core<D> {
+    // By hand, so that it is one call wherever a core goes.
+    fn drop(self) {
+        let Core {
+            vault: _,
+            machine: _,
+            in_doubt: _,
+            allowance: _,
+        } = self;
+    }
+}
+
+impl<D: Disk> Model for Core<D> {
+    ghost use Rattle.std.specs.Prelude.{◌≡◌, false, None, IsTrue};
+    ghost use Rattle.std.specs.Coded.{codes};
+    ghost use Rattle.machine.specs.contracts.machine.Machine as of_machine;
+    ghost use Rattle.commit.specs.Core.{Core as Seen};
+    ghost use Rattle.commit.specs.Doubt.{events_in};
+    ghost use Rattle.commit.specs.Kept.{IsKept};
+
+    ghost Value = { Seen D };
+
+    ghost coded = { Prim.hlevel (codes, of_machine.the_row.coded) };
+
+    ghost view = { λ c. record { vault = c.vault; machine = c.machine; in_doubt = events_in c.in_doubt; allowance = c.allowance } };
+
+    ghost invariant = { λ c. (c.vault.halted ≡ false → c.in_doubt ≡ None)
+        × (IsTrue D.is_honest → IsKept D.files (record { vault = c.vault; machine = c.machine; in_doubt = events_in c.in_doubt; allowance = c.allowance })) };
+}
+
+/// How many steps a core may commit that was opened, before the first `allow`.
+pub const FIRST_ALLOWANCE: u64 = 1_000_000_000;

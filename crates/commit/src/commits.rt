@@ -1,0 +1,89 @@
+ghost use Rattle.std.specs.Prelude.{◌≡◌, cond, Some};
+
+use crate::{Core, CoreError};
+use disk::Disk;
+use instances::Task;
+use machine::legal_events_fit;
+use terms::{Event, facts_are_told_apart};
+use vault::stores_go_on;
+
+impl<D: Disk> Core<D> {
+    ghost use Rattle.std.specs.Prelude.{◌≡◌, false, [], ◌∷◌, IsTrue, IfErr, OnErr, OnOk, Some};
+    ghost use Rattle.instances.specs.declared.state.State.TheVariants.{Running};
+    ghost use Rattle.machine.specs.Legal.{IsLegal};
+    ghost use Rattle.machine.specs.Machine.{Ends, HasRoom, IsPut, puts_of};
+    ghost use Rattle.commit.specs.Core.{facts, graph, is_halted, state_of};
+    ghost use Rattle.commit.specs.Calls.{Takes, IsUnchanged, GivesBack, Refuses, TellsFull, Halts, IsInDoubt, CrashLeaves, NoCause};
+
+    /// Commits what the environment puts, which is legal and for which there is room.
+    pub(crate) fn commit_put(&mut self, event: Event) -> Result<(), CoreError>
+        requires put { IsPut event }
+        requires working { is_halted self.old ≡ false }
+        requires legal { IsLegal (graph self.old) (facts self.old) event }
+        requires room { HasRoom self.old.machine (puts_of event) }
+        ensures ok { OnOk result (Takes self.old self.new event) }
+        ensures err { OnErr result (IsUnchanged self.old self.new) }
+        ensures refused { IfErr result (Refuses self.old NoCause event) }
+        ensures full { TellsFull self.old event result }
+        ensures halts { Halts D.failures D.refusals self.old self.new result }
+        ensures doubt { IsInDoubt self.old self.new event result }
+        ensures moments { IsTrue D.is_honest → CrashLeaves D.files D.moment D.left_at self.old self.new (event ∷ []) }
+    {
+        legal_events_fit();
+        stores_go_on::<D>();
+        self.machine.is_kept();
+        match self.vault.append(&event) {
+            Ok(()) => {
+                self.machine.take_put(&event);
+                drop(event);
+                Ok(())
+            }
+            Err(error) => {
+                keep_in_doubt(&mut self.in_doubt, self.vault.is_halted(), event);
+                Err(CoreError::Store(error))
+            }
+        }
+    }
+
+    /// Commits the end of the instance of a task, which is legal and for which there is room. Where it is refused the instance is ready.
+    pub(crate) fn commit_step(&mut self, task: Task, event: Event) -> Result<(), CoreError>
+        requires ends { Ends event task }
+        requires running { state_of self.old task ≡ Some Running }
+        requires working { is_halted self.old ≡ false }
+        requires legal { IsLegal (graph self.old) (facts self.old) event }
+        requires room { HasRoom self.old.machine (puts_of event) }
+        ensures ok { OnOk result (Takes self.old self.new event) }
+        ensures err { OnErr result (GivesBack self.old self.new task) }
+        ensures refused { IfErr result (Refuses self.old NoCause event) }
+        ensures full { TellsFull self.old event result }
+        ensures halts { Halts D.failures D.refusals self.old self.new result }
+        ensures doubt { IsInDoubt self.old self.new event result }
+        ensures moments { IsTrue D.is_honest → CrashLeaves D.files D.moment D.left_at self.old self.new (event ∷ []) }
+    {
+        legal_events_fit();
+        stores_go_on::<D>();
+        self.machine.is_kept();
+        match self.vault.append(&event) {
+            Ok(()) => {
+                self.machine.take_step(task, &event);
+                drop(event);
+                self.allowance = self.allowance.saturating_sub(1);
+                Ok(())
+            }
+            Err(error) => {
+                self.machine.release(task);
+                keep_in_doubt(&mut self.in_doubt, self.vault.is_halted(), event);
+                Err(CoreError::Store(error))
+            }
+        }
+    }
+}
+
+// Keeps the event of an append that answered an error, if that halted the vault.
+fn keep_in_doubt(in_doubt: &mut Option<Event>, halted: bool, event: Event)
+    ensures { in_doubt.new ≡ cond halted (Some event) in_doubt.old }
+{
+    if halted {
+        *in_doubt = Some(event);
+    }
+}
