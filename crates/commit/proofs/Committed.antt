@@ -1,17 +1,15 @@
 -- What an append makes of a core: where the event is taken, and where an error was answered.
-use Rattle.std.proofs.Common.{◌≡◌, ◌∙◌, ◌↔◌, ◌⊎◌, ◌<◌, ◌≤◌, ◌+◌, ap, sym, refl, subst, inl, inr, ℕ, Bool, true, false, cond, List, [], ◌∷◌, ◌++◌, length, Option, Some, None, Result, Ok, Err, IsErrOf, arith}
+use Rattle.std.proofs.Common.{◌≡◌, ◌∙◌, ◌↔◌, ap, sym, refl, subst, inl, ℕ, Bool, true, false, cond, List, [], ◌∷◌, Option, Some, Result, Err, arith}
 use Rattle.std.proofs.lemmas.Bool.{false≢true}
 use Rattle.std.proofs.lemmas.List.{append-nil}
 use Rattle.disk.specs.declared.side.Side.{Side}
 use Rattle.disk.specs.File.{File}
-use Rattle.disk.specs.Time.{Contents, MayLeaveNow, LeavesOnly, HasCauses}
+use Rattle.disk.specs.Time.{Contents, MayLeaveNow, LeavesOnly}
 use Rattle.terms.specs.declared.event.Event.{Event}
 use Rattle.terms.specs.Facts.{Fact, event_facts, environment_facts}
 use Rattle.terms.specs.Facts as facts
 use Rattle.terms.specs.Sets.{Facts, with_facts}
 use Rattle.graph.specs.Graph.{Graph}
-use Rattle.codec.specs.Commits.{commit_bytes}
-use Rattle.journal.specs.Records.{record_of}
 use Rattle.codec.specs.Spelling.{HasFewPuts}
 use Rattle.graph.specs.Fits.{Fits}
 use Rattle.machine.specs.Laws.{LegalFitsState}
@@ -24,12 +22,11 @@ use Rattle.vault.specs.declared.error.VaultError.{VaultError}
 use Rattle.vault.specs.declared.error.VaultError.TheVariants.{Device, NoMemory, Halted}
 use Rattle.vault.specs.Calls as calls
 use Rattle.vault.specs.Commits.{HeldLeaves, RefusedStore}
-use Rattle.vault.specs.Opened.{contents_of}
 use Rattle.vault.specs.Stands.{Stands}
-use Rattle.vault.specs.Store.{Holds, IsSame, HasGates, StandsBeforeOrAfter}
+use Rattle.vault.specs.Store.{Holds, IsSame, StandsBeforeOrAfter}
 use Rattle.commit.specs.declared.error.CoreError.{CoreError}
 use Rattle.commit.specs.declared.error.CoreError.TheVariants.{Store}
-use Rattle.commit.specs.Core.{Core, graph, facts as facts_in, environment as environment_in, is_halted}
+use Rattle.commit.specs.Core.{graph}
 use Rattle.commit.specs.Calls.{Halts}
 use Rattle.commit.specs.Doubt.{events_in}
 use Rattle.commit.specs.Kept.{IsKept}

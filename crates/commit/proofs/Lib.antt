@@ -1,1 +1,3 @@
+pub mod Answered
 pub mod Committed
+pub mod Roomy

@@ -1,5 +1,5 @@
 -- What the calls of a core promise: the event that comes at `Ok`, and what an error says and leaves.
-use Rattle.std.specs.Prelude.{◌≡◌, ◌≢◌, ◌⊎◌, ◌↔◌, ◌<◌, ◌≤◌, ◌+◌, ◌-◌, ⊤, ℕ, true, false, List, [], ◌∷◌, length, Result, Some, IsErrOf, OnOk, OnErr, IfErr}
+use Rattle.std.specs.Prelude.{◌≡◌, ◌≢◌, ◌⊎◌, ◌↔◌, ◌<◌, ◌≤◌, ◌+◌, ◌-◌, ℕ, true, false, List, [], ◌∷◌, length, Result, Some, IsErrOf, OnOk, OnErr}
 use Rattle.disk.specs.declared.side.Side.{Side}
 use Rattle.disk.specs.File.{File}
 use Rattle.disk.specs.Time.{Contents, LeavesOnly, HasCauses, HasErred}
@@ -14,7 +14,6 @@ use Rattle.instances.specs.declared.state.State.TheVariants.{Ready}
 use Rattle.machine.specs.declared.refusal.Refusal.{Refusal}
 use Rattle.machine.specs.Legal.{IsLegal}
 use Rattle.machine.specs.Machine as machine
-use Rattle.vault.specs.declared.error.VaultError.{VaultError}
 use Rattle.vault.specs.declared.error.VaultError.TheVariants.{Device, NoMemory, Damaged, Full, NotAStore, Halted, Exists}
 use Rattle.vault.specs.Store.{IsSame, HasGates, StandsBeforeOrAfter}
 use Rattle.vault.specs.Opened.{contents_of}

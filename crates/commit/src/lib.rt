@@ -8,6 +8,8 @@
 mod commit_core;
 mod commits;
 mod error;
+mod keeping;
+mod puts;
 
 pub use commit_core::{Core, FIRST_ALLOWANCE};
 pub use error::CoreError;

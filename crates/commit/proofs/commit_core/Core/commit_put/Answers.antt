@@ -1,11 +1,10 @@
-use Rattle.std.proofs.Common.{◌≡◌, ◌∙◌, [], ◌∷◌, List, false, cond, ap, sym, subst, Option, Some, None}
-use Rattle.terms.specs.declared.event.Event.{Event}
+use Rattle.std.proofs.Common.{◌≡◌, ◌∙◌, [], ◌∷◌, false, cond, ap, sym, subst, Some}
 use Rattle.machine.specs.Legal.{IsLegal}
-use Rattle.machine.specs.Machine.{Machine, HasRoom, puts_of, environment as environment_of, facts as facts_of}
+use Rattle.machine.specs.Machine.{environment as environment_of, facts as facts_of}
 use Rattle.commit.specs.Core.{Core, facts, graph, is_halted}
 use Rattle.commit.specs.Calls.{CrashLeaves}
 use Rattle.commit.specs.Doubt.{events_in}
-use Rattle.commit.proofs.Committed.{fits, kept_alike, kept_taken, kept_refused}
+use Rattle.commit.proofs.Committed.{fits, kept_taken, kept_refused}
 use Rattle.commit.proofs.commit_core.Core.commit_put.Goals as goal
 
 pub invariant_of-self : goal.invariant_of-self
@@ -32,7 +31,6 @@ invariant_of-self-in-Err g c =
       λ goes. doubt ∙ ap (λ h. cond h (Some c.args.event) before.in_doubt) goes ∙ c.self.invariant.0 working,
       λ honest.
           let holds = (c.self.invariant.1 honest).holds working in
-          
           (kept_refused g.D.Disk.files g.D.Disk.moment g.D.Disk.left_at (g.met.D.Disk.at_now honest) (c.stores_go_on.ensures.held_leaves honest) c.stores_go_on.ensures.refused
           before.vault c.append.new.self before.machine c.args.event before.in_doubt c.keep_in_doubt.new.in_doubt before.allowance working doubt holds c.in-Err.ensures.halting.same
           (c.append.ensures.any_moment honest before.machine.graph (environment_of before.machine) (facts_of before.machine) holds it.0)),

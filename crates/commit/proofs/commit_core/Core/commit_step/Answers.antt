@@ -1,7 +1,6 @@
-use Rattle.std.proofs.Common.{◌≡◌, ◌∙◌, [], ◌∷◌, List, false, cond, ap, sym, subst, Option, Some, None}
-use Rattle.terms.specs.declared.event.Event.{Event}
+use Rattle.std.proofs.Common.{◌≡◌, ◌∙◌, [], ◌∷◌, false, cond, ap, sym, subst, Some}
 use Rattle.machine.specs.Legal.{IsLegal}
-use Rattle.machine.specs.Machine.{Machine, HasRoom, puts_of, environment as environment_of, facts as facts_of}
+use Rattle.machine.specs.Machine.{HasRoom, puts_of, environment as environment_of, facts as facts_of}
 use Rattle.commit.specs.Core.{Core, facts, graph, is_halted}
 use Rattle.commit.specs.Calls.{CrashLeaves}
 use Rattle.commit.specs.Doubt.{events_in}

@@ -1,0 +1,14 @@
+-- What is said of one answer, said with other words.
+use Rattle.std.proofs.Common.{Result, Ok, Err, OnOk, OnErr, IfErr}
+
+pub on_ok : {T E : Type 0} (result : Result T E) (P Q : Type 0) → (P → Q) → OnOk result P → OnOk result Q
+on_ok (Ok value) P Q so is = so is
+on_ok (Err error) P Q so is = tt
+
+pub on_err : {T E : Type 0} (result : Result T E) (P Q : Type 0) → (P → Q) → OnErr result P → OnErr result Q
+on_err (Ok value) P Q so is = tt
+on_err (Err error) P Q so is = so is
+
+pub if_err : {T E : Type 0} (result : Result T E) (P Q : E → Type 0) → ((error : E) → P error → Q error) → IfErr result P → IfErr result Q
+if_err (Ok value) P Q so is = tt
+if_err (Err error) P Q so is = so error is

@@ -1,0 +1,23 @@
+use Rattle.terms.specs.declared.event.Event.TheVariants.{EnvTag}
+use Rattle.commit.specs.Doubt.{events_in}
+use Rattle.commit.proofs.Committed.{kept_alike}
+use Rattle.commit.proofs.commit_core.Core.make_ready_for_tag.Goals as goal
+
+pub invariant_of-self : goal.invariant_of-self
+invariant_of-self g c = (
+  c.self.invariant.0,
+  λ honest.
+      kept_alike g.D.Disk.files g.D.Disk.moment g.D.Disk.left_at (g.met.D.Disk.at_now honest) c.self.inside.vault c.self.inside.machine c.make_room.new.self (events_in c.self.inside.in_doubt) c.self.inside.allowance c.self.inside.allowance
+      c.make_room.ensures.grows.graph c.make_room.ensures.grows.environment c.make_room.ensures.grows.facts (c.self.invariant.1 honest),
+)
+
+pub invariant_of-self-2 : goal.invariant_of-self-2
+invariant_of-self-2 g c = (
+  c.self.invariant.0,
+  λ honest.
+      kept_alike g.D.Disk.files g.D.Disk.moment g.D.Disk.left_at (g.met.D.Disk.at_now honest) c.self.inside.vault c.self.inside.machine c.make_room.new.self (events_in c.self.inside.in_doubt) c.self.inside.allowance c.self.inside.allowance
+      c.make_room.ensures.grows.graph c.make_room.ensures.grows.environment c.make_room.ensures.grows.facts (c.self.invariant.1 honest),
+)
+
+pub returns-clause-legal : goal.returns-clause-legal
+returns-clause-legal g c = c.make_room.ensures.grows.legal (EnvTag c.args.tag) (c.in_ok-may_put_tag.ensures.legal)

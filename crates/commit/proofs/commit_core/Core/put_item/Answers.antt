@@ -1,0 +1,40 @@
+use Rattle.std.proofs.Common.{[], ◌∷◌, subst, w64, OnOk, IfErr}
+use Rattle.std.proofs.lemmas.Int.{to_z-of_z}
+use Rattle.terms.specs.declared.event.Event.{Event}
+use Rattle.terms.specs.declared.event.Event.TheVariants.{EnvItem}
+use Rattle.machine.specs.Machine.{RefusesItem}
+use Rattle.commit.specs.Calls.{Takes, Refuses, NoCause, CrashLeaves}
+use Rattle.commit.proofs.Answered.{on_ok, if_err}
+use Rattle.commit.proofs.Roomy.{takes, refuses, moments, rests}
+use Rattle.commit.proofs.commit_core.Core.put_item.Goals as goal
+
+pub returns-in-Ok-clause-ok : goal.returns-in-Ok-clause-ok
+returns-in-Ok-clause-ok g c =
+    let event : Event = EnvItem c.args.addr c.args.value in
+    let old = c.args.self.now in
+    let mid = c.make_ready_for_item.new.self in
+    let new = c.commit_put.new.self in
+    on_ok c.commit_put.result (Takes mid new event) (Takes old new event) (takes old mid c.make_ready_for_item.ensures.same new event)
+    (subst (λ (e : Event). OnOk c.commit_put.result (Takes mid new e)) (λ i. EnvItem c.args.addr (to_z-of_z w64 c.args.value c.ranges.value i)) (c.commit_put.ensures.ok))
+
+pub returns-in-Ok-clause-refused : goal.returns-in-Ok-clause-refused
+returns-in-Ok-clause-refused g c =
+    let event : Event = EnvItem c.args.addr c.args.value in
+    let old = c.args.self.now in
+    let mid = c.make_ready_for_item.new.self in
+    if_err c.commit_put.result (Refuses mid NoCause event) (Refuses old (RefusesItem c.args.self.now.machine c.args.addr) event) (refuses old mid c.make_ready_for_item.ensures.same (RefusesItem c.args.self.now.machine c.args.addr) event)
+    (subst (λ (e : Event). IfErr c.commit_put.result (Refuses mid NoCause e)) (λ i. EnvItem c.args.addr (to_z-of_z w64 c.args.value c.ranges.value i)) (c.commit_put.ensures.refused))
+
+pub returns-in-Ok-clause-moments : goal.returns-in-Ok-clause-moments
+returns-in-Ok-clause-moments g c honest working =
+    let event : Event = EnvItem c.args.addr c.args.value in
+    let old = c.args.self.now in
+    let mid = c.make_ready_for_item.new.self in
+    let new = c.commit_put.new.self in
+    moments old mid c.make_ready_for_item.ensures.same g.D.Disk.files g.D.Disk.moment g.D.Disk.left_at new (event ∷ [])
+    (subst (λ (e : Event). CrashLeaves g.D.Disk.files g.D.Disk.moment g.D.Disk.left_at mid new (e ∷ [])) (λ i. EnvItem c.args.addr (to_z-of_z w64 c.args.value c.ranges.value i)) (c.commit_put.ensures.moments honest))
+
+pub returns-in-Err-clause-moments : goal.returns-in-Err-clause-moments
+returns-in-Err-clause-moments g c honest working =
+    rests g.D.Disk.files g.D.Disk.moment g.D.Disk.left_at c.args.self.now c.make_ready_for_item.new.self (EnvItem c.args.addr c.args.value ∷ []) (c.stores_go_on.ensures.held_leaves honest) (c.stores_go_on.ensures.gates_rest honest)
+    (c.is_kept.ensures.kept honest) working c.make_ready_for_item.ensures.same.vault

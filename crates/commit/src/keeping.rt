@@ -1,0 +1,16 @@
+use crate::Core;
+use disk::Disk;
+
+impl<D: Disk> Core<D> {
+    ghost use Rattle.std.specs.Prelude.{◌≡◌, false, [], IsTrue};
+    ghost use Rattle.commit.specs.Core.{is_halted};
+    ghost use Rattle.commit.specs.Kept.{IsKept};
+
+    /// A law, with nothing to run: what a core keeps.
+    pub fn is_kept(&self)
+        ensures kept { IsTrue D.is_honest → IsKept D.files self.now }
+        ensures settled { is_halted self.now ≡ false → self.now.in_doubt ≡ [] }
+    {
+        let _ = &self.vault;
+    }
+}

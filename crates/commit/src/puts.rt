@@ -1,0 +1,93 @@
+use crate::{Core, CoreError};
+use disk::Disk;
+use terms::{Addr, Event, Put, Tag};
+use vault::{VaultError, stores_go_on};
+
+impl<D: Disk> Core<D> {
+    ghost use Rattle.std.specs.Prelude.{◌≡◌, false, [], ◌∷◌, IsTrue, IfErr, OnErr, OnOk};
+    ghost use Rattle.terms.specs.declared.event.Event.TheVariants.{EnvItem, EnvTag};
+    ghost use Rattle.terms.specs.declared.put.Put.TheVariants.{Item, Tag as Name};
+    ghost use Rattle.machine.specs.Legal.{IsLegal};
+    ghost use Rattle.machine.specs.Machine.{HasRoom, RefusesItem, RefusesTag};
+    ghost use Rattle.commit.specs.Core.{facts, graph, is_halted};
+    ghost use Rattle.commit.specs.Calls.{Takes, IsUnchanged, Refuses, TellsFull, Halts, IsInDoubt, CrashLeaves};
+    ghost use Rattle.commit.specs.Room.{GivesRoom, RefusesFirst};
+
+    /// Puts an item of the environment.
+    ///
+    /// The causes of a refusal, in their order: `Halted`; no such collection; another number of components; the graph gives the environment no such put; a
+    /// fault stopped the store; the item is there already; `Full`. An error that does not halt leaves all as it was.
+    pub fn put_item(&mut self, addr: Addr, value: i64) -> Result<(), CoreError>
+        ensures ok { OnOk result (Takes self.old self.new (EnvItem addr value)) }
+        ensures err { OnErr result (IsUnchanged self.old self.new) }
+        ensures refused { IfErr result (Refuses self.old (RefusesItem self.old.machine addr) (EnvItem addr value)) }
+        ensures full { TellsFull self.old (EnvItem addr value) result }
+        ensures halts { Halts D.failures D.refusals self.old self.new result }
+        ensures doubt { IsInDoubt self.old self.new (EnvItem addr value) result }
+        ensures moments { IsTrue D.is_honest → is_halted self.old ≡ false → CrashLeaves D.files D.moment D.left_at self.old self.new (EnvItem addr value ∷ []) }
+    {
+        stores_go_on::<D>();
+        self.is_kept();
+        let place = addr;
+        match self.make_ready_for_item(place, value) {
+            Ok(()) => self.commit_put(Event::EnvItem(addr, value)),
+            Err(error) => Err(error),
+        }
+    }
+
+    /// Puts a tag of the environment, and with it the instances that it prescribes, which are ready.
+    ///
+    /// The causes of a refusal, in their order: `Halted`; no such collection; another number of components; the graph gives the environment no such put; a
+    /// fault stopped the store; the tag is there already; `Full`. An error that does not halt leaves all as it was.
+    pub fn put_tag(&mut self, tag: Tag) -> Result<(), CoreError>
+        ensures ok { OnOk result (Takes self.old self.new (EnvTag tag)) }
+        ensures err { OnErr result (IsUnchanged self.old self.new) }
+        ensures refused { IfErr result (Refuses self.old (RefusesTag self.old.machine tag) (EnvTag tag)) }
+        ensures full { TellsFull self.old (EnvTag tag) result }
+        ensures halts { Halts D.failures D.refusals self.old self.new result }
+        ensures doubt { IsInDoubt self.old self.new (EnvTag tag) result }
+        ensures moments { IsTrue D.is_honest → is_halted self.old ≡ false → CrashLeaves D.files D.moment D.left_at self.old self.new (EnvTag tag ∷ []) }
+    {
+        stores_go_on::<D>();
+        self.is_kept();
+        let name = tag;
+        match self.make_ready_for_tag(name) {
+            Ok(()) => self.commit_put(Event::EnvTag(tag)),
+            Err(error) => Err(error),
+        }
+    }
+
+    // Whether the environment may put the item; if so, with room for it.
+    fn make_ready_for_item(&mut self, addr: Addr, value: i64) -> Result<(), CoreError>
+        ensures working { OnOk result (is_halted self.old ≡ false) }
+        ensures legal { OnOk result (IsLegal (graph self.new) (facts self.new) (EnvItem addr value)) }
+        ensures room { OnOk result (HasRoom self.new.machine (Item addr value ∷ [])) }
+        ensures refused { IfErr result (RefusesFirst self.old (RefusesItem self.old.machine addr) (EnvItem addr value)) }
+        ensures same { GivesRoom self.old self.new }
+    {
+        if self.vault.is_halted() {
+            return Err(CoreError::Store(VaultError::Halted));
+        }
+        let place = addr;
+        self.machine.may_put_item(place)?;
+        self.machine.make_room(&[Put::Item(addr, value)])?;
+        Ok(())
+    }
+
+    // Whether the environment may put the tag; if so, with room for it.
+    fn make_ready_for_tag(&mut self, tag: Tag) -> Result<(), CoreError>
+        ensures working { OnOk result (is_halted self.old ≡ false) }
+        ensures legal { OnOk result (IsLegal (graph self.new) (facts self.new) (EnvTag tag)) }
+        ensures room { OnOk result (HasRoom self.new.machine (Name tag ∷ [])) }
+        ensures refused { IfErr result (RefusesFirst self.old (RefusesTag self.old.machine tag) (EnvTag tag)) }
+        ensures same { GivesRoom self.old self.new }
+    {
+        if self.vault.is_halted() {
+            return Err(CoreError::Store(VaultError::Halted));
+        }
+        let name = tag;
+        self.machine.may_put_tag(name)?;
+        self.machine.make_room(&[Put::Tag(tag)])?;
+        Ok(())
+    }
+}
