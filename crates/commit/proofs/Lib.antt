@@ -1,3 +1,5 @@
 pub mod Answered
-pub mod Committed
+pub mod Found
+pub mod Moving
 pub mod Roomy
+pub mod Taken

@@ -1,9 +1,12 @@
 -- What is committed behind room that was made is committed from what was there before.
-use Rattle.std.proofs.Common.{◌≡◌, ◌∙◌, ◌<◌, ◌≤◌, ◌+◌, ◌-◌, ◌||◌, ap, sym, subst, inl, ℕ, false, List, [], ◌∷◌, length, arith}
+use Rattle.std.proofs.Common.{◌≡◌, ◌∙◌, ◌↔◌, ◌⊎◌, ◌<◌, ◌≤◌, ◌+◌, ◌-◌, ◌||◌, ap, sym, refl, subst, inl, inr, ℕ, true, false, List, [], ◌∷◌, length, Result, Err, IsErrOf, arith}
+use Rattle.std.proofs.lemmas.Bool.{false≢true}
 use Rattle.disk.specs.declared.side.Side.{Side}
 use Rattle.disk.specs.File.{File}
-use Rattle.disk.specs.Time.{Contents, LeavesOnly}
+use Rattle.disk.specs.Time.{Contents, LeavesOnly, HasCauses, HasErred}
 use Rattle.disk.specs.Moments.{weakened}
+use Rattle.terms.specs.declared.name.Inst.{Inst}
+use Rattle.instances.specs.declared.state.State.TheVariants.{Ready}
 use Rattle.terms.specs.declared.event.Event.{Event}
 use Rattle.terms.specs.Facts.{event_facts, environment_facts}
 use Rattle.terms.specs.Sets.{Facts, among}
@@ -20,11 +23,13 @@ use Rattle.vault.specs.declared.error.VaultError.TheVariants.{Device, NoMemory, 
 use Rattle.vault.specs.Commits.{HeldLeaves, GatesRest}
 use Rattle.vault.specs.Opened.{contents_of}
 use Rattle.vault.specs.Stands.{Stands}
-use Rattle.vault.specs.Store.{HasGates, StandsBeforeOrAfter}
+use Rattle.vault.specs.Store.{HasGates, IsSame, StandsBeforeOrAfter}
 use Rattle.commit.specs.declared.error.CoreError.{CoreError}
 use Rattle.commit.specs.declared.error.CoreError.TheVariants.{Refused, Store}
 use Rattle.commit.specs.Core.{Core, graph, facts, environment, is_halted}
-use Rattle.commit.specs.Calls.{Takes, Refuses, NoCause, CrashLeaves, step_count}
+use Rattle.commit.specs.Calls.{Commits, Takes, GivesBack, Halts, Refuses, NoCause, CrashLeaves, step_count}
+use Rattle.commit.specs.Steps.{Moves}
+use Rattle.commit.proofs.Answered.{if_err, on_err, on_ok}
 use Rattle.commit.specs.Kept.{IsKept}
 use Rattle.commit.specs.Room.{GivesRoom}
 
@@ -86,6 +91,56 @@ module _ {D : Type 0} (old mid : Core D) (room : GivesRoom old mid) where
         (it.gates (subst (λ (v : Vault D). HasGates (contents_of (files v.disk))) (sym room.vault) has));
   }
 
+  -- all of it together
+  pub commits :
+      {T : Type 0} (files : D → Side → File) (moment : D → ℕ) (left_at : D → ℕ → Contents → Type 0) (honest : Type 0) (new : Core D) (why : Refusal → Type 0) (event : Event) (result : Result T CoreError) →
+      Commits files moment left_at honest mid new NoCause event result → Commits files moment left_at honest old new why event result
+  commits files moment left_at honest new why event result it = record {
+    takes = on_ok result (Takes mid new event) (Takes old new event) (takes new event) it.takes;
+    refused = if_err result (Refuses mid NoCause event) (Refuses old why event) (refuses why event) it.refused;
+    full = λ working legal long. it.full (halted ∙ working) (legal_behind event legal) (subst (λ (v : Vault D). LIMIT ≤ v.journal.end + length (record_of (commit_bytes (event ∷ [])))) (sym room.vault) long);
+    doubt = on_err result (is_halted mid ≡ false → is_halted new ≡ true → new.in_doubt ≡ event ∷ []) (is_halted old ≡ false → is_halted new ≡ true → new.in_doubt ≡ event ∷ []) (λ so working. so (halted ∙ working)) it.doubt;
+    moments = λ on working. moments files moment left_at new (event ∷ []) (it.moments on (halted ∙ working));
+  }
+    where
+      legal_behind : (e : Event) → IsLegal (graph old) (facts old) e → IsLegal (graph mid) (facts mid) e
+      legal_behind e legal = room.machine.legal e legal
+
+  pub gives_back : (new : Core D) (instance : Inst) → GivesBack mid new instance → GivesBack old new instance
+  gives_back new instance it = record {
+    stays = record {
+      graph = it.stays.graph ∙ room.machine.graph;
+      facts = λ fact. it.stays.facts fact ∙ room.machine.facts fact;
+      environment = λ fact. it.stays.environment fact ∙ room.machine.environment fact;
+      allowance = it.stays.allowance ∙ room.allowance;
+    };
+    ready = it.ready;
+    others = λ other differs. it.others other differs ∙ room.machine.states other;
+  }
+
+  pub halts : {T : Type 0} (failures refusals : D → ℕ) (new : Core D) (result : Result T CoreError) → Halts failures refusals mid new result → Halts failures refusals old new result
+  halts failures refusals new result it = record {
+    halts = subst (λ (v : Vault D). (is_halted new ≡ true) ↔ ((v.halted ≡ true) ⊎ HasErred failures refusals v.disk new.vault.disk)) room.vault it.halts;
+    halted = subst (λ (v : Vault D). IsErrOf result (Store Halted) ↔ (v.halted ≡ true)) room.vault it.halted;
+    disk = subst (λ (v : Vault D). HasCauses failures refusals (Store Device) (Store NoMemory) v.disk new.vault.disk result) room.vault it.disk;
+    same = on_err result (is_halted new ≡ is_halted mid → IsSame mid.vault new.vault × (new.in_doubt ≡ mid.in_doubt)) (is_halted new ≡ is_halted old → IsSame old.vault new.vault × (new.in_doubt ≡ old.in_doubt))
+        (λ so is. let both = so (is ∙ sym halted) in (subst (λ (v : Vault D). IsSame v new.vault) room.vault both.0, both.1 ∙ room.in_doubt)) it.same;
+    settled = it.settled;
+  }
+
+  -- an instance that is given back behind room that was made
+  pub released : (new : Core D) (instance : Inst) → Moves mid new instance Ready → GivesBack old new instance
+  released new instance moves = record {
+    stays = record {
+      graph = moves.machine.graph ∙ room.machine.graph;
+      facts = λ fact. moves.machine.facts fact ∙ room.machine.facts fact;
+      environment = λ fact. moves.machine.environment fact ∙ room.machine.environment fact;
+      allowance = moves.allowance ∙ room.allowance;
+    };
+    ready = moves.machine.here;
+    others = λ other differs. moves.machine.others other differs ∙ room.machine.states other;
+  }
+
 -- where nothing on the disk changes, a crash leaves what is held
 pub rests : {D : Type 0} (files : D → Side → File) (moment : D → ℕ) (left_at : D → ℕ → Contents → Type 0) (old new : Core D) (events : List Event) → HeldLeaves files moment left_at → GatesRest files moment left_at
     → IsKept files old → is_halted old ≡ false → new.vault ≡ old.vault → CrashLeaves files moment left_at old new events
@@ -98,3 +153,37 @@ rests files moment left_at old new events leaves gates kept working same =
           (leaves old.vault (graph old) (environment old) (facts old) holds) (λ c stands. inl stands));
       gates = λ has. subst (λ v. LeavesOnly moment left_at old.vault.disk v.disk HasGates) (sym same) (gates old.vault (graph old) (environment old) (facts old) holds has);
     }
+
+-- an error that is answered before anything is written
+pub refused_first :
+    {D T : Type 0} (files : D → Side → File) (moment : D → ℕ) (left_at : D → ℕ → Contents → Type 0) (honest : Type 0) (old new : Core D) (why : Refusal → Type 0) (event : Event) (error : CoreError) →
+    Refuses old why event error → (IsLegal (graph old) (facts old) event → (error ≡ Store NoMemory) ⊎ ⊥) → is_halted new ≡ is_halted old →
+    (honest → is_halted old ≡ false → CrashLeaves files moment left_at old new (event ∷ [])) → Commits {T = T} files moment left_at honest old new why event (Err error)
+refused_first files moment left_at honest old new why event error refuses legal same moments = record {
+  takes = tt;
+  refused = refuses;
+  full = λ working may long. elim (legal may) [ inl is ↦ inr (ap Err is) | inr never ↦ absurd never ];
+  doubt = λ working halts. absurd (false≢true (sym working ∙ sym same ∙ halts));
+  moments = moments;
+}
+
+pub unhalted :
+    {D T : Type 0} (failures refusals : D → ℕ) (old new : Core D) (error : CoreError) → is_halted old ≡ false → new.vault ≡ old.vault → new.in_doubt ≡ old.in_doubt →
+    ((error ≡ Store Halted) → ⊥) → ((error ≡ Store Device) → ⊥) → Halts {T = T} failures refusals old new (Err error)
+unhalted {T = T} failures refusals old new error working vault doubt not_halted not_device = record {
+  halts = (λ is. inl (sym (ap (λ v. v.halted) vault) ∙ is), λ either. elim either [ inl is ↦ ap (λ v. v.halted) vault ∙ is | inr erred ↦ absurd (never erred) ]);
+  halted = (λ is. absurd (not_halted (inside is)), λ is. absurd (false≢true (sym working ∙ is)));
+  disk = subst (λ v. HasCauses {T = T} failures refusals (Store Device) (Store NoMemory) old.vault.disk v.disk (Err error)) (sym vault) (record {
+    device = (λ is. absurd (not_device (inside is)), λ grew. absurd (omega (arith, grew)));
+    refused = λ changed. absurd (changed refl);
+    later = omega arith;
+  });
+  same = λ _. (subst (λ v. IsSame old.vault v) (sym vault) (record { disk = refl; side = refl; end = refl; generation = refl; text = refl; halted = refl }), doubt);
+  settled = tt;
+}
+  where
+    inside : {cause : CoreError} → ◌≡◌ {A = Result T CoreError} (Err error) (Err cause) → error ≡ cause
+    inside is = cc
+
+    never : HasErred failures refusals old.vault.disk new.vault.disk → ⊥
+    never erred = elim (subst (λ v. HasErred failures refusals old.vault.disk v.disk) vault erred) [ inl grew ↦ absurd (omega (arith, grew)) | inr changed ↦ changed refl ]

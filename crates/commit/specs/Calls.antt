@@ -1,5 +1,5 @@
 -- What the calls of a core promise: the event that comes at `Ok`, and what an error says and leaves.
-use Rattle.std.specs.Prelude.{◌≡◌, ◌≢◌, ◌⊎◌, ◌↔◌, ◌<◌, ◌≤◌, ◌+◌, ◌-◌, ℕ, true, false, List, [], ◌∷◌, length, Result, Some, IsErrOf, OnOk, OnErr}
+use Rattle.std.specs.Prelude.{◌≡◌, ◌≢◌, ◌⊎◌, ◌↔◌, ◌<◌, ◌≤◌, ◌+◌, ◌-◌, ℕ, true, false, List, [], ◌∷◌, length, Result, Some, IsErrOf, OnOk, OnErr, IfErr}
 use Rattle.disk.specs.declared.side.Side.{Side}
 use Rattle.disk.specs.File.{File}
 use Rattle.disk.specs.Time.{Contents, LeavesOnly, HasCauses, HasErred}
@@ -106,3 +106,14 @@ pub record CrashLeaves {D : Type 0} (files : D → Side → File) (moment : D �
 -- no cause of a refusal
 abbrev pub NoCause : Refusal → Type 0
 NoCause refusal = ⊥
+
+-- ---- one event
+
+-- A call that commits this event at `Ok`: it was legal, and has come; or why it is refused, and what is in doubt where it halted. A crash at any
+-- moment of it leaves the facts before the event or behind it.
+pub record Commits {D T : Type 0} (files : D → Side → File) (moment : D → ℕ) (left_at : D → ℕ → Contents → Type 0) (honest : Type 0) (old new : Core D) (why : Refusal → Type 0) (event : Event) (result : Result T CoreError) : Type 0 where
+  pub takes : OnOk result (Takes old new event)
+  pub refused : IfErr result (Refuses old why event)
+  pub full : TellsFull old event result
+  pub doubt : IsInDoubt old new event result
+  pub moments : honest → is_halted old ≡ false → CrashLeaves files moment left_at old new (event ∷ [])

@@ -1,5 +1,10 @@
 pub mod Calls
 pub mod Core
 pub mod Doubt
+pub mod Gets
 pub mod Kept
+pub mod Opened
+pub mod Outcome
 pub mod Room
+pub mod Status
+pub mod Steps

@@ -50,5 +50,22 @@ impl<D: Disk> Model for Core<D> {
         × (IsTrue D.is_honest → IsKept D.files (record { vault = c.vault; machine = c.machine; in_doubt = events_in c.in_doubt; allowance = c.allowance })) };
 }
 
+impl<D: Disk> Core<D> {
+    ghost use Rattle.std.specs.Prelude.{◌≡◌};
+
+    /// Gives the disk back, for another opening.
+    pub fn into_disk(self) -> D
+        ensures { result ≡ self.vault.disk }
+    {
+        let Core {
+            vault,
+            machine: _,
+            in_doubt: _,
+            allowance: _,
+        } = self;
+        vault.into_disk()
+    }
+}
+
 /// How many steps a core may commit that was opened, before the first `allow`.
 pub const FIRST_ALLOWANCE: u64 = 1_000_000_000;

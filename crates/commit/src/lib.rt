@@ -8,8 +8,16 @@
 mod commit_core;
 mod commits;
 mod error;
+mod finish;
+mod gets;
 mod keeping;
+mod opening;
+mod outcome;
 mod puts;
+mod status;
+mod steps;
 
 pub use commit_core::{Core, FIRST_ALLOWANCE};
 pub use error::CoreError;
+pub use outcome::{Committed, Outcome};
+pub use status::Status;

@@ -4,7 +4,7 @@ use Rattle.machine.specs.Machine.{environment as environment_of, facts as facts_
 use Rattle.commit.specs.Core.{Core, facts, graph, is_halted}
 use Rattle.commit.specs.Calls.{CrashLeaves}
 use Rattle.commit.specs.Doubt.{events_in}
-use Rattle.commit.proofs.Committed.{fits, kept_taken, kept_refused}
+use Rattle.commit.proofs.Taken.{fits, kept_taken, kept_refused}
 use Rattle.commit.proofs.commit_core.Core.commit_put.Goals as goal
 
 pub invariant_of-self : goal.invariant_of-self

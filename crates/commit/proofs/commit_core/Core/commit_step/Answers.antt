@@ -4,7 +4,7 @@ use Rattle.machine.specs.Machine.{HasRoom, puts_of, environment as environment_o
 use Rattle.commit.specs.Core.{Core, facts, graph, is_halted}
 use Rattle.commit.specs.Calls.{CrashLeaves}
 use Rattle.commit.specs.Doubt.{events_in}
-use Rattle.commit.proofs.Committed.{fits, kept_alike, kept_taken, kept_refused}
+use Rattle.commit.proofs.Taken.{fits, kept_alike, kept_taken, kept_refused}
 use Rattle.commit.proofs.commit_core.Core.commit_step.Goals as goal
 
 pub append-requires-clause-puts : goal.append-requires-clause-puts

@@ -3,7 +3,7 @@ use Rattle.terms.specs.declared.event.Event.TheVariants.{EnvItem}
 use Rattle.machine.specs.Legal.{IsLegal}
 use Rattle.commit.specs.Core.{Core, facts, graph}
 use Rattle.commit.specs.Doubt.{events_in}
-use Rattle.commit.proofs.Committed.{kept_alike}
+use Rattle.commit.proofs.Taken.{kept_alike}
 use Rattle.commit.proofs.commit_core.Core.make_ready_for_item.Goals as goal
 
 pub invariant_of-self : goal.invariant_of-self
@@ -31,5 +31,5 @@ make_room-requires g c = ((c.in_ok-may_put_item.ensures.legal c.args.value).even
 pub returns-in_err-make_room-clause-refused : goal.returns-in_err-make_room-clause-refused
 returns-in_err-make_room-clause-refused g c =
     let legal : IsLegal (graph c.args.self.now) (facts c.args.self.now) (EnvItem c.args.addr c.args.value) =
-        subst (λ (old : Core g.row.D.Denot). IsLegal (graph old) (facts old) (EnvItem c.args.addr c.args.value)) c.self.view_is (c.in_ok-may_put_item.ensures.legal c.args.value)
+    subst (λ (old : Core g.row.D.Denot). IsLegal (graph old) (facts old) (EnvItem c.args.addr c.args.value)) c.self.view_is (c.in_ok-may_put_item.ensures.legal c.args.value)
     in search rules

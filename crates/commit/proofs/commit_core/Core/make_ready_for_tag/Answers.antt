@@ -1,6 +1,6 @@
 use Rattle.terms.specs.declared.event.Event.TheVariants.{EnvTag}
 use Rattle.commit.specs.Doubt.{events_in}
-use Rattle.commit.proofs.Committed.{kept_alike}
+use Rattle.commit.proofs.Taken.{kept_alike}
 use Rattle.commit.proofs.commit_core.Core.make_ready_for_tag.Goals as goal
 
 pub invariant_of-self : goal.invariant_of-self

@@ -1,0 +1,15 @@
+use Rattle.std.proofs.Common.{◌≡◌, ◌∙◌, ap, sym, subst, false}
+use Rattle.commit.specs.Core.{Core, facts, graph}
+use Rattle.commit.specs.Doubt.{events_in}
+use Rattle.commit.proofs.Moving.{SameFacts, of_claim, of_look, of_move}
+use Rattle.commit.proofs.Taken.{kept_alike}
+use Rattle.commit.proofs.commit_core.Core.claim.Goals as goal
+
+pub invariant_of-self : goal.invariant_of-self
+invariant_of-self g c =
+    let same : SameFacts c.self.inside.machine c.claim.new.self = of_claim _ _ c.claim.result _ c.claim.ensures.claimed c.claim.ensures.none in (
+      c.self.invariant.0,
+      λ honest.
+          kept_alike g.D.Disk.files g.D.Disk.moment g.D.Disk.left_at (g.met.D.Disk.at_now honest) c.self.inside.vault c.self.inside.machine c.claim.new.self (events_in c.self.inside.in_doubt) c.self.inside.allowance c.self.inside.allowance
+          same.graph same.environment same.facts (c.self.invariant.1 honest),
+    )

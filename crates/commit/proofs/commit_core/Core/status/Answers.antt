@@ -1,0 +1,28 @@
+use Rattle.std.proofs.Common.{◌≡◌, ◌∙◌, ap, sym, subst, Bool, true, false, Option, Some, refl}
+use Rattle.std.proofs.lemmas.Bool.{false≢true}
+use Rattle.terms.specs.declared.name.Inst.{Inst}
+use Rattle.terms.specs.declared.fault.FaultKind.{FaultKind}
+use Rattle.terms.specs.Facts.{bad}
+use Rattle.graph.specs.Fits.{HasNoFault}
+use Rattle.machine.specs.Legal.{IsQuiet}
+use Rattle.machine.specs.Machine.{Machine, facts as facts_of}
+use Rattle.machine.specs.Status.{IsAllOfMeaning, NoneIsActive, TellsFault}
+use Rattle.commit.specs.Core.{Core, facts, graph}
+use Rattle.commit.proofs.commit_core.Core.status.Goals as goal
+
+no_fault : (m : Machine) (result : Option (Inst × FaultKind)) → TellsFault m result → ((fault : Inst × FaultKind) → result ≡ Some fault → ⊥) → HasNoFault (facts_of m)
+no_fault m result told none instance kind = at (facts_of m (bad instance kind)) refl
+  where
+    at : (b : Bool) → facts_of m (bad instance kind) ≡ b → facts_of m (bad instance kind) ≡ false
+    at true is = absurd (none (instance, kind) ((told instance kind).0 is))
+    at false is = is
+
+pub returns-then-is_quiet-clause-quiet : goal.returns-then-is_quiet-clause-quiet
+returns-then-is_quiet-clause-quiet g c =
+    subst (λ (core : Core g.row.D.Denot). IsQuiet (graph core) (facts core) × IsAllOfMeaning core.machine) c.self.view_is (c.is_quiet.ensures.quiet c.if-is_quiet.true, c.is_quiet.ensures.meaning c.if-is_quiet.true)
+
+pub returns-else-is_quiet-clause-told : goal.returns-else-is_quiet-clause-told
+returns-else-is_quiet-clause-told g c =
+    let working = no_fault c.self.inside.machine c.fault.result c.fault.ensures c.in_default.not-Some in
+    subst (λ (core : Core g.row.D.Denot). HasNoFault (facts core) × (NoneIsActive core.machine → ⊥)) c.self.view_is
+    (working, λ none. false≢true (sym c.if-is_quiet.false ∙ c.is_quiet.ensures.exact.1 (working, none)))

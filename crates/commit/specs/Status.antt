@@ -1,0 +1,25 @@
+-- What a core tells of itself.
+use Rattle.std.specs.Prelude.{◌≡◌, ◌⊎◌, ◌-◌, ◌^◌, ⊤, min, true, Some}
+use Rattle.terms.specs.declared.name.Inst.{Inst}
+use Rattle.terms.specs.Facts.{bad}
+use Rattle.graph.specs.Fits.{HasNoFault}
+use Rattle.instances.specs.declared.state.State.TheVariants.{Ready, Running}
+use Rattle.machine.specs.Legal.{IsQuiet}
+use Rattle.machine.specs.Machine.{waiting_count}
+use Rattle.machine.specs.Status.{NoneIsActive, IsAllOfMeaning}
+use Rattle.commit.specs.declared.status.Status.{Status}
+use Rattle.commit.specs.declared.status.Status.TheVariants.{Working, Quiet, Stopped}
+use Rattle.commit.specs.Core.{Core, graph, facts}
+
+-- This is how far the store is. It works where it has no fault, and some instance is ready or runs: not all of them are neither. It is quiet
+-- where it has none, and none is, and so many wait. It is stopped where it has this fault.
+abbrev pub TellsStatus : {D : Type 0} → Core D → Status → Type 0
+TellsStatus c Working = HasNoFault (facts c) × (NoneIsActive c.machine → ⊥)
+TellsStatus c (Quiet blocked) = HasNoFault (facts c) × NoneIsActive c.machine × (blocked ≡ min (waiting_count c.machine) (2 ^ 64 - 1))
+TellsStatus c (Stopped instance kind) = facts c (bad instance kind) ≡ true
+
+-- where it is quiet nothing is left to do, and where legal events led there its facts are all of the meaning
+abbrev pub IsMeantIfQuiet : {D : Type 0} → Core D → Status → Type 0
+IsMeantIfQuiet c Working = ⊤
+IsMeantIfQuiet c (Quiet blocked) = IsQuiet (graph c) (facts c) × IsAllOfMeaning c.machine
+IsMeantIfQuiet c (Stopped instance kind) = ⊤

@@ -1,0 +1,82 @@
+ghost use Rattle.std.specs.Prelude.{IfOk};
+ghost use Rattle.codec.specs.Image.{IsListed, environment_in, facts_in};
+ghost use Rattle.graph.specs.Fits.{FitsState};
+ghost use Rattle.machine.specs.Restored.{Restores};
+
+use crate::Core;
+use crate::commit_core::FIRST_ALLOWANCE;
+use codec::Image;
+use disk::Disk;
+use graph::Graph;
+use machine::Machine;
+use std::alloc::{AllocError, Global};
+use std::sync::Arc;
+use vault::{Recovered, Refused, VaultError, stores_go_on};
+
+impl<D: Disk> Core<D> {
+    ghost use Rattle.std.specs.Prelude.{◌≡◌, false, [], IfErr, IfOk, IsTrue};
+    ghost use Rattle.disk.specs.Time.{HasCauses, HasErred};
+    ghost use Rattle.vault.specs.Opened.{OnlyReads, TellsWhy, contents_of, IsOfOpening, IsSound};
+    ghost use Rattle.vault.specs.Store.{answer_of, Holds};
+    ghost use Rattle.vault.specs.declared.error.VaultError.TheVariants.{Device, NoMemory};
+    ghost use Rattle.commit.specs.Opened.{IsOpened, IsCoreOf, Finds, disk_of};
+
+    /// Opens the store on two files. What it holds is what they stand for, and each prescribed instance that is not done is ready.
+    ///
+    /// It answers `Damaged` and `NotAStore` only where the files stand for nothing, and hands the disk back with each error. Nothing is written,
+    /// whatever it answers.
+    pub fn open(alloc: Global, disk: D) -> Result<Core<D>, Refused<D>>
+        ensures opened { IfOk result IsOpened }
+        ensures finds { IsTrue D.is_honest → IfOk result (Finds D.files disk) }
+        ensures tells { IsTrue D.is_honest → TellsWhy (contents_of (D.files disk)) (HasErred D.failures D.refusals disk (disk_of result)) (answer_of result) }
+        ensures only_reads { IsTrue D.is_honest → OnlyReads D.files D.moment D.left_at disk (disk_of result) }
+        ensures errors { IfErr result (λ refused. IsOfOpening refused.error) }
+        ensures causes { HasCauses D.failures D.refusals Device NoMemory disk (disk_of result) (answer_of result) }
+    {
+        stores_go_on::<D>();
+        match vault::open(alloc, disk) {
+            Ok(recovered) => Core::recovered(alloc, recovered),
+            Err(refused) => Err(refused),
+        }
+    }
+
+    // The core of a store that was read.
+    fn recovered(alloc: Global, recovered: Recovered<D>) -> Result<Core<D>, Refused<D>>
+        requires sound { IsSound recovered.graph recovered.image recovered.vault.generation recovered.vault.journal.end recovered.vault.text.items }
+        requires working { recovered.vault.halted ≡ false }
+        requires holds { IsTrue D.is_honest → Holds D.files recovered.vault recovered.graph (environment_in recovered.image) (facts_in recovered.image) }
+        ensures opened { IfOk result IsOpened }
+        ensures lists { IfOk result (IsCoreOf recovered) }
+        ensures disk { disk_of result ≡ recovered.vault.disk }
+        ensures error { IfErr result (λ refused. refused.error ≡ NoMemory) }
+    {
+        stores_go_on::<D>();
+        let Recovered {
+            vault,
+            graph,
+            image,
+        } = recovered;
+        match restored(alloc, graph, &image) {
+            Ok(machine) => Ok(Core {
+                vault,
+                machine,
+                in_doubt: None,
+                allowance: FIRST_ALLOWANCE,
+            }),
+            Err(_) => Err(Refused {
+                disk: vault.into_disk(),
+                error: VaultError::NoMemory,
+            }),
+        }
+    }
+}
+
+// The state in memory of a store of this graph that an image lists.
+fn restored(alloc: Global, graph: Graph, image: &Image) -> Result<Machine, AllocError>
+    requires fits { FitsState graph (environment_in image.now) (facts_in image.now) }
+    requires listed { IsListed image.now }
+    ensures { IfOk result (Restores graph image.now) }
+{
+    let graph = Arc::new(alloc, graph)?;
+    Machine::of_image(alloc, graph, image)
+}

@@ -1,0 +1,97 @@
+use crate::{Core, CoreError};
+use disk::Disk;
+use graph::Graph;
+use instances::{State, Task};
+use std::alloc::Global;
+use std::sync::Arc;
+use terms::{Addr, FaultKind, Inst};
+use vault::VaultError;
+
+/// How far a store is.
+#[derive(Clone, Copy, Debug, PartialEq, Eq)]
+pub enum Status {
+    /// An instance is ready or runs, and there is no fault.
+    Working,
+    /// Nothing is left to do: so many instances wait for items that are not there.
+    Quiet { blocked: usize },
+    /// The store is stopped by this fault of this instance.
+    Stopped(Inst, FaultKind),
+}
+
+impl<D: Disk> Core<D> {
+    ghost use Rattle.std.specs.Prelude.{◌≡◌, ◌↔◌, false, true, Some, IfErr, IfOk, IsTrue, OnErr, OnOk};
+    ghost use Rattle.instances.specs.declared.state.State.TheVariants.{Running};
+    ghost use Rattle.machine.specs.Status.{AreBlocked, AreUnfinished, TellsFault};
+    ghost use Rattle.vault.specs.declared.error.VaultError.TheVariants.{NoMemory};
+    ghost use Rattle.commit.specs.declared.error.CoreError.TheVariants.{Store};
+    ghost use Rattle.commit.specs.Core.{graph, is_halted, state_of};
+    ghost use Rattle.commit.specs.Gets.{SaysHalted};
+    ghost use Rattle.commit.specs.Status.{TellsStatus, IsMeantIfQuiet};
+    ghost use Rattle.commit.specs.Steps.{running_count};
+
+    /// How far the store is. Where it is quiet nothing is left to do, and where legal events led there, its facts are the meaning of the graph on what
+    /// the environment put. It takes no memory.
+    pub fn status(&self) -> Result<Status, CoreError>
+        ensures told { IfOk result (TellsStatus self.now) }
+        ensures quiet { IfOk result (IsMeantIfQuiet self.now) }
+        ensures working { OnOk result (is_halted self.now ≡ false) }
+        ensures halted { IfErr result (SaysHalted self.now) }
+    {
+        if self.vault.is_halted() {
+            return Err(CoreError::Store(VaultError::Halted));
+        }
+        if let Some((instance, kind)) = self.machine.fault() {
+            return Ok(Status::Stopped(instance, kind));
+        }
+        if self.machine.is_quiet() {
+            let blocked = self.machine.waiting();
+            Ok(Status::Quiet { blocked })
+        } else {
+            Ok(Status::Working)
+        }
+    }
+
+    /// The instances that wait, each with the address of the item that it needs, by step and then by key.
+    pub fn blocked(&self, alloc: Global) -> Result<Vec<(Inst, Addr)>, CoreError>
+        ensures blocked { IfOk result (λ list. AreBlocked self.now.machine list.items) }
+        ensures unfinished { IfOk result (λ list. AreUnfinished self.now.machine list.items) }
+        ensures working { OnOk result (is_halted self.now ≡ false) }
+        ensures refused { IfErr result (λ error. (is_halted self.now ≡ false → error ≡ Store NoMemory) × (is_halted self.now ≡ true → SaysHalted self.now error)) }
+    {
+        if self.vault.is_halted() {
+            return Err(CoreError::Store(VaultError::Halted));
+        }
+        match self.machine.blocked(alloc) {
+            Ok(list) => Ok(list),
+            Err(_) => Err(CoreError::Store(VaultError::NoMemory)),
+        }
+    }
+
+    /// The graph.
+    pub fn graph(&self) -> &Arc<Graph>
+        ensures { result.now.value ≡ graph self.now }
+    {
+        self.machine.graph()
+    }
+
+    /// The instance at fault, if there is one.
+    pub fn fault(&self) -> Option<(Inst, FaultKind)>
+        ensures { TellsFault self.now.machine result }
+    {
+        self.machine.fault()
+    }
+
+    /// How many instances run, or the greatest `usize` where they are more.
+    pub fn running(&self) -> usize
+        ensures { result ≡ running_count self.now }
+    {
+        self.machine.running()
+    }
+
+    /// Whether the instance of a task runs here.
+    pub fn runs(&self, task: &Task) -> bool
+        ensures { IsTrue result ↔ (state_of self.now task.now ≡ Some Running) }
+    {
+        self.machine.runs(task)
+    }
+}

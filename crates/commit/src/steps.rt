@@ -1,0 +1,76 @@
+use crate::{Core, CoreError};
+use disk::Disk;
+use instances::Task;
+use machine::results_are_meant;
+use steplang::Parked;
+use vault::VaultError;
+
+impl<D: Disk> Core<D> {
+    ghost use Rattle.std.specs.Prelude.{◌≡◌, ◌<◌, false, None, Some, IfOk, IfSome, IsSome, OnErr, OnOk};
+    ghost use Rattle.instances.specs.declared.state.State.TheVariants.{Ready, Running};
+    ghost use Rattle.graph.specs.Fits.{HasNoFault};
+    ghost use Rattle.commit.specs.Core.{facts, state_of, is_halted};
+    ghost use Rattle.commit.specs.Steps.{Allows, MayClaim, Moves, LooksAgain, IsHalted, RefusesPark, IsParkedOf, ready_count};
+    ghost use Rattle.commit.specs.Calls.{GivesBack};
+
+    /// Lets so many steps be committed from now on, or as many as run now where these are more.
+    ///
+    /// Before the first call that is 1,000,000,000.
+    pub fn allow(&mut self, count: u64) -> Result<(), CoreError>
+        ensures ok { OnOk result ((is_halted self.old ≡ false) × Allows self.old self.new count) }
+        ensures err { OnErr result (IsHalted self.old self.new result) }
+    {
+        if self.vault.is_halted() {
+            return Err(CoreError::Store(VaultError::Halted));
+        }
+        self.allowance = count.max(self.machine.running() as u64);
+        Ok(())
+    }
+
+    /// Lets one of the ready instances run, by its number among them; which one a number stands for is left open. None where the number is not
+    /// below theirs, where those that run use up what is left of the allowance, and in a store that a fault stopped.
+    pub fn claim(&mut self, at: usize) -> Result<Option<Task>, CoreError>
+        ensures some { IfOk result (λ claimed. MayClaim self.old at → IsSome claimed) }
+        ensures claimed { IfOk result (λ claimed. IfSome claimed (λ task. MayClaim self.old at × (state_of self.old task ≡ Some Ready) × Moves self.old self.new task Running)) }
+        ensures none { IfOk result (λ claimed. (is_halted self.old ≡ false) × (claimed ≡ None → self.new ≡ self.old)) }
+        ensures err { OnErr result (IsHalted self.old self.new result) }
+    {
+        if self.vault.is_halted() {
+            return Err(CoreError::Store(VaultError::Halted));
+        }
+        if self.machine.running() as u64 >= self.allowance {
+            return Ok(None);
+        }
+        Ok(self.machine.claim(at))
+    }
+
+    /// Lets the instance of a task wait for the item that its body asks for, unless that is there by now: then it is ready.
+    ///
+    /// The result is of the task's instance and of the body of its step in this graph, and what it read are items of this core. Where it is
+    /// refused the instance is ready: `Halted`, and `NoMemory` where a growth was refused.
+    pub fn park(&mut self, task: Task, parked: Parked<'_>) -> Result<(), CoreError>
+        requires running { state_of self.old task ≡ Some Running }
+        requires result { IsParkedOf self.old task parked }
+        ensures ok { OnOk result ((is_halted self.old ≡ false) × LooksAgain self.old self.new task parked.entry.address) }
+        ensures err { OnErr result (GivesBack self.old self.new task) }
+        ensures refused { RefusesPark self.old self.new parked.entry.address result }
+    {
+        results_are_meant();
+        if self.vault.is_halted() {
+            self.machine.release(task);
+            return Err(CoreError::Store(VaultError::Halted));
+        }
+        match self.machine.park(task, parked.address) {
+            Ok(()) => Ok(()),
+            Err(_) => Err(CoreError::Store(VaultError::NoMemory)),
+        }
+    }
+
+    /// Gives the instance of a task back: it is ready.
+    pub fn release(&mut self, task: Task)
+        requires { state_of self.old task ≡ Some Running }
+        ensures { Moves self.old self.new task Ready }
+    {
+        self.machine.release(task);
+    }
+}
