@@ -1,5 +1,5 @@
 -- What is committed behind room that was made is committed from what was there before.
-use Rattle.std.proofs.Common.{◌≡◌, ◌∙◌, ◌↔◌, ◌⊎◌, ◌<◌, ◌≤◌, ◌+◌, ◌-◌, ◌||◌, ap, sym, refl, subst, inl, inr, ℕ, true, false, List, [], ◌∷◌, length, Result, Err, IsErrOf, arith}
+use Rattle.std.proofs.Common.{◌≡◌, ◌∙◌, ◌↔◌, ◌⊎◌, ◌<◌, ◌≤◌, ◌+◌, ◌-◌, ◌||◌, ap, sym, refl, subst, inl, inr, ℕ, true, false, List, [], ◌∷◌, length, Result, Ok, Err, IsErrOf, arith}
 use Rattle.std.proofs.lemmas.Bool.{false≢true}
 use Rattle.disk.specs.declared.side.Side.{Side}
 use Rattle.disk.specs.File.{File}
@@ -19,6 +19,7 @@ use Rattle.machine.specs.Legal.{IsLegal}
 use Rattle.machine.specs.Machine.{GoesOn, state_of as state_in}
 use Rattle.machine.specs.Memory.{facts_of}
 use Rattle.vault.specs.declared.vault.Vault.{Vault}
+use Rattle.vault.specs.declared.error.VaultError.{VaultError}
 use Rattle.vault.specs.declared.error.VaultError.TheVariants.{Device, NoMemory, Damaged, Full, NotAStore, Halted, Exists}
 use Rattle.vault.specs.Commits.{HeldLeaves, GatesRest}
 use Rattle.vault.specs.Opened.{contents_of}
@@ -27,7 +28,7 @@ use Rattle.vault.specs.Store.{HasGates, IsSame, StandsBeforeOrAfter}
 use Rattle.commit.specs.declared.error.CoreError.{CoreError}
 use Rattle.commit.specs.declared.error.CoreError.TheVariants.{Refused, Store}
 use Rattle.commit.specs.Core.{Core, graph, facts, environment, is_halted}
-use Rattle.commit.specs.Calls.{Commits, Takes, GivesBack, Halts, Refuses, NoCause, CrashLeaves, step_count}
+use Rattle.commit.specs.Calls.{Commits, Takes, GivesBack, Halts, Refuses, NoCause, TellsFull, IsInDoubt, CrashLeaves, step_count}
 use Rattle.commit.specs.Steps.{Moves}
 use Rattle.commit.proofs.Answered.{if_err, on_err, on_ok}
 use Rattle.commit.specs.Kept.{IsKept}
@@ -187,3 +188,53 @@ unhalted {T = T} failures refusals old new error working vault doubt not_halted 
 
     never : HasErred failures refusals old.vault.disk new.vault.disk → ⊥
     never erred = elim (subst (λ v. HasErred failures refusals old.vault.disk v.disk) vault erred) [ inl grew ↦ absurd (omega (arith, grew)) | inr changed ↦ changed refl ]
+
+-- the same, answered with another value
+module _ {D T U : Type 0} (files : D → Side → File) (moment : D → ℕ) (left_at : D → ℕ → Contents → Type 0) (honest : Type 0) (old new : Core D) (event : Event) where
+  pub commits_ok : (given : T) (value : U) → Takes old new event → TellsFull {T = T} old event (Ok given) → (honest → CrashLeaves files moment left_at old new (event ∷ []))
+      → Commits {T = U} files moment left_at honest old new NoCause event (Ok value)
+  commits_ok given value takes full moments = record {
+    takes = takes;
+    refused = tt;
+    full = λ working legal long. elim (full working legal long) [ inl is ↦ absurd (never Full is) | inr is ↦ absurd (never NoMemory is) ];
+    doubt = tt;
+    moments = λ on working. moments on;
+  }
+    where
+      never : (cause : VaultError) → ◌≡◌ {A = Result T CoreError} (Ok given) (Err (Store cause)) → ⊥
+      never cause is = cc
+
+  pub commits_err : (error : CoreError) → Refuses old NoCause event error → TellsFull {T = T} old event (Err error) → IsInDoubt {T = T} old new event (Err error) → (honest → CrashLeaves files moment left_at old new (event ∷ []))
+      → Commits {T = U} files moment left_at honest old new NoCause event (Err error)
+  commits_err error refused full doubt moments = record {
+    takes = tt;
+    refused = refused;
+    full = λ working legal long. elim (full working legal long) [ inl is ↦ inl (other Full is) | inr is ↦ inr (other NoMemory is) ];
+    doubt = doubt;
+    moments = λ on working. moments on;
+  }
+    where
+      other : (cause : VaultError) → ◌≡◌ {A = Result T CoreError} (Err error) (Err (Store cause)) → ◌≡◌ {A = Result U CoreError} (Err error) (Err (Store cause))
+      other cause is = cc
+
+-- what has no cause of a refusal has any
+pub with_cause :
+    {D T : Type 0} (files : D → Side → File) (moment : D → ℕ) (left_at : D → ℕ → Contents → Type 0) (honest : Type 0) (old new : Core D) (why : Refusal → Type 0) (event : Event) (result : Result T CoreError) →
+    Commits files moment left_at honest old new NoCause event result → Commits files moment left_at honest old new why event result
+with_cause files moment left_at honest old new why event result it = record {
+  takes = it.takes;
+  refused = if_err result (Refuses old NoCause event) (Refuses old why event) other it.refused;
+  full = it.full;
+  doubt = it.doubt;
+  moments = it.moments;
+}
+  where
+    other : (error : CoreError) → Refuses old NoCause event error → Refuses old why event error
+    other (Refused refusal) is = absurd is.1
+    other (Store Halted) is = is
+    other (Store Full) is = is
+    other (Store Device) is = is
+    other (Store NoMemory) is = is
+    other (Store (Damaged side place)) is = absurd is
+    other (Store NotAStore) is = absurd is
+    other (Store Exists) is = absurd is
