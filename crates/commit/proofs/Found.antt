@@ -1,19 +1,14 @@
 -- What an opening finds, and why it is refused.
-use Rattle.std.proofs.Common.{◌≡◌, ◌≢◌, ◌∙◌, ◌↔◌, ◌⊎◌, ◌<◌, ap, sym, refl, subst, inl, inr, ℕ, List, Result, Ok, Err, IfOk, IfErr, IsErrOf}
+use Rattle.std.proofs.Common.{◌≡◌, ◌∙◌, ap, sym, refl, subst, inl, inr, ℕ, Result, Ok, Err, IfOk, IfErr, IsErrOf}
 use Rattle.disk.specs.declared.side.Side.{Side}
-use Rattle.disk.specs.File.{File, at_rest}
+use Rattle.disk.specs.File.{File}
 use Rattle.disk.specs.Time.{Contents, HasCauses, HasErred}
-use Rattle.terms.specs.Facts.{Fact}
-use Rattle.terms.specs.Sets.{Facts}
-use Rattle.graph.specs.Graph.{Graph}
-use Rattle.codec.specs.Image.{Lists, environment_in, facts_in}
-use Rattle.machine.specs.Machine as machine
+use Rattle.codec.specs.Image.{environment_in, facts_in}
 use Rattle.vault.specs.declared.opening.Recovered.{Recovered}
 use Rattle.vault.specs.declared.refused.Refused.{Refused}
 use Rattle.vault.specs.declared.error.VaultError.{VaultError}
-use Rattle.vault.specs.declared.error.VaultError.TheVariants.{Device, NoMemory, NotAStore, Damaged}
-use Rattle.vault.specs.declared.vault.Vault.{Vault}
-use Rattle.vault.specs.Opened.{contents_of, TellsWhy, HeadsFault, IsOfAhead}
+use Rattle.vault.specs.declared.error.VaultError.TheVariants.{Device, NoMemory}
+use Rattle.vault.specs.Opened.{contents_of, TellsWhy}
 use Rattle.vault.specs.Stands.{Stands}
 use Rattle.vault.specs.Store.{Holds, SaysNothing, answer_of}
 use Rattle.commit.specs.Core.{Core, graph, facts, environment}
@@ -25,7 +20,7 @@ pub finds : {D : Type 0} (files : D → Side → File) (disk : D) (recovered : R
     → ((side : Side) → (files recovered.vault.disk side).content ≡ (files disk side).content) → Finds files disk c
 finds files disk recovered c is holds reads =
     let here = holds_alike files recovered.vault recovered.graph (graph c) (environment_in recovered.image) (environment c) (facts_in recovered.image) (facts c) is.graph
-        (λ fact. sym (is.lists.environment fact)) (λ fact. sym (is.lists.facts fact)) holds
+    (λ fact. sym (is.lists.environment fact)) (λ fact. sym (is.lists.facts fact)) holds
     in
     let same : here.contents ≡ contents_of (files disk) = λ i side. (ap (λ (file : File). file.content) (sym (here.rests side)) ∙ reads side) i in
     subst (λ (contents : Contents). Stands contents (graph c) (environment c) (facts c)) same (recovered.vault.journal.side, recovered.vault.generation, here.is_live)

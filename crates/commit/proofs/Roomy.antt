@@ -238,3 +238,15 @@ with_cause files moment left_at honest old new why event result it = record {
     other (Store (Damaged side place)) is = absurd is
     other (Store NotAStore) is = absurd is
     other (Store Exists) is = absurd is
+
+-- a halted core refuses everything
+pub refused_halted :
+    {D T : Type 0} (files : D → Side → File) (moment : D → ℕ) (left_at : D → ℕ → Contents → Type 0) (honest : Type 0) (old new : Core D) (why : Refusal → Type 0) (event : Event) →
+    is_halted old ≡ true → Commits {T = T} files moment left_at honest old new why event (Err (Store Halted))
+refused_halted files moment left_at honest old new why event halted = record {
+  takes = tt;
+  refused = halted;
+  full = λ working legal long. absurd (false≢true (sym working ∙ halted));
+  doubt = λ working. absurd (false≢true (sym working ∙ halted));
+  moments = λ on working. absurd (false≢true (sym working ∙ halted));
+}

@@ -1,5 +1,5 @@
 -- What an append makes of a core: where the event is taken, and where an error was answered.
-use Rattle.std.proofs.Common.{◌≡◌, ◌∙◌, ◌↔◌, ap, sym, refl, subst, inl, ℕ, Bool, true, false, cond, List, [], ◌∷◌, Option, Some, Result, Err, arith}
+use Rattle.std.proofs.Common.{◌≡◌, ◌∙◌, ◌↔◌, ap, sym, refl, subst, inl, ℕ, Bool, true, false, cond, List, [], ◌∷◌, Option, Some, None, Result, Ok, Err, OnOk, OnErr, arith}
 use Rattle.std.proofs.lemmas.Bool.{false≢true}
 use Rattle.std.proofs.lemmas.List.{append-nil}
 use Rattle.disk.specs.declared.side.Side.{Side}
@@ -66,7 +66,7 @@ module _ {D : Type 0} (files : D → Side → File) (moment : D → ℕ) (left_a
       → IsKept files (record { vault = v; machine = m; in_doubt = doubt; allowance = allowance })
   kept leaves v m doubt allowance holds = record {
     holds = λ _. holds;
-    left = λ contents may. inl (at_end v.disk v.disk (λ c. Stands c m.graph (environment_of m) (facts_of m)) (leaves v m.graph (environment_of m) (facts_of m) holds) contents may);
+    left = λ _ contents may. inl (at_end v.disk v.disk (λ c. Stands c m.graph (environment_of m) (facts_of m)) (leaves v m.graph (environment_of m) (facts_of m) holds) contents may);
   }
 
   -- and so does one whose facts are the same
@@ -74,7 +74,7 @@ module _ {D : Type 0} (files : D → Side → File) (moment : D → ℕ) (left_a
       → IsKept files (record { vault = v; machine = m; in_doubt = doubt; allowance = allowance }) → IsKept files (record { vault = v; machine = n; in_doubt = doubt; allowance = more })
   kept_alike v m n doubt allowance more graph given facts keeps = record {
     holds = λ working. holds_alike files v m.graph n.graph (environment_of m) (environment_of n) (facts_of m) (facts_of n) graph given facts (keeps.holds working);
-    left = λ contents may. stands_alike m.graph n.graph (environment_of m) (environment_of n) (facts_of m) (facts_of n) doubt contents graph given facts (keeps.left contents may);
+    left = λ apart contents may. stands_alike m.graph n.graph (environment_of m) (environment_of n) (facts_of m) (facts_of n) doubt contents graph given facts (keeps.left apart contents may);
   }
 
   pub kept_taken : HeldLeaves files moment left_at → (v : Vault D) (m n : Machine) (event : Event) (doubt : List Event) (allowance : ℕ) → machine.Takes m n event
@@ -87,6 +87,23 @@ module _ {D : Type 0} (files : D → Side → File) (moment : D → ℕ) (left_a
       (λ fact. takes.facts fact ∙ ap (λ (more : List Fact). with_facts (facts_of m) more fact) (sym (append-nil (event_facts event))))
       holds)
 
+  -- a turnover that answers an error leaves it kept
+  pub kept_turned : HeldLeaves files moment left_at → RefusedStore files moment left_at → (v w : Vault D) (m : Machine) (doubt : Option Event) (allowance : ℕ)
+      → v.halted ≡ false → doubt ≡ None → Holds files v m.graph (environment_of m) (facts_of m) → (w.halted ≡ v.halted → IsSame v w)
+      → IsKept files (record { vault = w; machine = m; in_doubt = events_in doubt; allowance = allowance })
+  kept_turned leaves refused v w m doubt allowance working none holds same = at w.halted refl
+    where
+      at : (b : Bool) → w.halted ≡ b → IsKept files (record { vault = w; machine = m; in_doubt = events_in doubt; allowance = allowance })
+      at false is = kept leaves w m (events_in doubt) allowance (refused v w m.graph (environment_of m) (facts_of m) holds (same (is ∙ sym working)))
+      at true is = record { holds = λ goes. absurd (false≢true (sym goes ∙ is)); left = λ apart. absurd (apart (is, ap events_in none)) }
+
+  -- and one that answers `Ok` does
+  pub kept_either : HeldLeaves files moment left_at → RefusedStore files moment left_at → (v w : Vault D) (m : Machine) (doubt : Option Event) (allowance : ℕ) (result : Result ℕ VaultError)
+      → v.halted ≡ false → doubt ≡ None → Holds files v m.graph (environment_of m) (facts_of m) → OnOk result (Holds files w m.graph (environment_of m) (facts_of m)) → OnErr result (w.halted ≡ v.halted → IsSame v w)
+      → IsKept files (record { vault = w; machine = m; in_doubt = events_in doubt; allowance = allowance })
+  kept_either leaves refused v w m doubt allowance (Ok generation) working none holds turned same = kept leaves w m (events_in doubt) allowance turned
+  kept_either leaves refused v w m doubt allowance (Err error) working none holds turned same = kept_turned leaves refused v w m doubt allowance working none holds same
+
   -- an error leaves it kept, with the event in doubt where it halted the vault
   pub kept_refused : HeldLeaves files moment left_at → RefusedStore files moment left_at → (v w : Vault D) (m : Machine) (event : Event) (before after : Option Event) (allowance : ℕ)
       → v.halted ≡ false → after ≡ cond w.halted (Some event) before → Holds files v m.graph (environment_of m) (facts_of m) → (w.halted ≡ v.halted → IsSame v w)
@@ -98,7 +115,7 @@ module _ {D : Type 0} (files : D → Side → File) (moment : D → ℕ) (left_a
       at false is = kept leaves w m (events_in after) allowance (refused v w m.graph (environment_of m) (facts_of m) holds (same (is ∙ sym working)))
       at true is = record {
         holds = λ goes. absurd (false≢true (sym goes ∙ is));
-        left = λ contents may.
+        left = λ _ contents may.
             let event_is : event ∷ [] ≡ events_in after = sym (ap events_in (doubt ∙ ap (λ b. cond b (Some event) before) is)) in
             subst (λ (events : List Event). StandsBeforeOrAfter m.graph (environment_of m) (facts_of m) events contents) event_is
             (at_end v.disk w.disk (StandsBeforeOrAfter m.graph (environment_of m) (facts_of m) (event ∷ [])) moments contents may);

@@ -1,13 +1,17 @@
 -- What a core keeps from call to call.
-use Rattle.std.specs.Prelude.{◌≡◌, false}
+use Rattle.std.specs.Prelude.{◌≡◌, true, false, []}
 use Rattle.disk.specs.declared.side.Side.{Side}
 use Rattle.disk.specs.File.{File}
 use Rattle.disk.specs.Time.{Contents, MayLeaveNow}
 use Rattle.vault.specs.Store.{Holds, StandsBeforeOrAfter}
 use Rattle.commit.specs.Core.{Core, graph, facts, environment, is_halted}
 
--- On an honest disk: where it is not halted, its files hold its facts. Halted or not, a crash between its calls leaves its facts, or those with
--- the events in doubt.
+-- a turnover halted the core: it is halted, and no event is in doubt
+abbrev pub IsHaltedByTurn : {D : Type 0} → Core D → Type 0
+IsHaltedByTurn c = (is_halted c ≡ true) × (c.in_doubt ≡ [])
+
+-- On an honest disk: where it is not halted, its files hold its facts. A crash between its calls leaves its facts, or those with the event in
+-- doubt; where a turnover halted it, the call's own clause says what a crash leaves.
 pub record IsKept {D : Type 0} (files : D → Side → File) (c : Core D) : Type 0 where
   pub holds : is_halted c ≡ false → Holds files c.vault (graph c) (environment c) (facts c)
-  pub left : (contents : Contents) → MayLeaveNow (files c.vault.disk) contents → StandsBeforeOrAfter (graph c) (environment c) (facts c) c.in_doubt contents
+  pub left : (IsHaltedByTurn c → ⊥) → (contents : Contents) → MayLeaveNow (files c.vault.disk) contents → StandsBeforeOrAfter (graph c) (environment c) (facts c) c.in_doubt contents

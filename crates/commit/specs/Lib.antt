@@ -8,3 +8,4 @@ pub mod Outcome
 pub mod Room
 pub mod Status
 pub mod Steps
+pub mod Turning

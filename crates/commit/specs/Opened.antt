@@ -1,9 +1,9 @@
 -- What an opening and a creation give.
-use Rattle.std.specs.Prelude.{◌≡◌, ⊤, ℕ, true, false, List, [], Option, Some, None, Result, Ok, Err}
+use Rattle.std.specs.Prelude.{◌≡◌, false, [], Some, Result, Ok, Err}
 use Rattle.disk.specs.declared.side.Side.{Side}
 use Rattle.disk.specs.File.{File}
 use Rattle.terms.specs.declared.name.Inst.{Inst}
-use Rattle.terms.specs.Facts.{Fact, done}
+use Rattle.terms.specs.Facts.{done}
 use Rattle.graph.specs.Fits.{IsPrescribed}
 use Rattle.instances.specs.declared.state.State.TheVariants.{Ready}
 use Rattle.machine.specs.Restored.{IsReadyOrDone}

@@ -1,9 +1,7 @@
 -- What a core tells of itself.
-use Rattle.std.specs.Prelude.{◌≡◌, ◌⊎◌, ◌-◌, ◌^◌, ⊤, min, true, Some}
-use Rattle.terms.specs.declared.name.Inst.{Inst}
+use Rattle.std.specs.Prelude.{◌≡◌, ◌-◌, ◌^◌, ⊤, min, true}
 use Rattle.terms.specs.Facts.{bad}
 use Rattle.graph.specs.Fits.{HasNoFault}
-use Rattle.instances.specs.declared.state.State.TheVariants.{Ready, Running}
 use Rattle.machine.specs.Legal.{IsQuiet}
 use Rattle.machine.specs.Machine.{waiting_count}
 use Rattle.machine.specs.Status.{NoneIsActive, IsAllOfMeaning}

@@ -16,6 +16,7 @@ mod outcome;
 mod puts;
 mod status;
 mod steps;
+mod turning;
 
 pub use commit_core::{Core, FIRST_ALLOWANCE};
 pub use error::CoreError;

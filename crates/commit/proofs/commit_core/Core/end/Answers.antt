@@ -1,4 +1,4 @@
-use Rattle.std.proofs.Common.{◌≡◌, ◌⊎◌, ◌∙◌, ap, inl, inr, refl, subst, sym, [], ◌∷◌, List, IsTrue}
+use Rattle.std.proofs.Common.{◌≡◌, ◌∙◌, ap, inl, inr, refl, subst, sym, [], ◌∷◌, List, IsTrue}
 use Rattle.terms.specs.declared.put.Put.{Put}
 use Rattle.terms.specs.declared.fault.FaultKind.TheVariants.{DoublePut}
 use Rattle.terms.specs.declared.event.Event.{Event}
@@ -44,11 +44,11 @@ returns-in-Ok-Done-clause-ends g c =
     let old = c.args.self.now in
     let mid : Core g.row.D.Denot = record { vault = before.vault; machine = c.may_end.new.self; in_doubt = events_in before.in_doubt; allowance = before.allowance } in
     let looked : ◌≡◌ {A = Core g.row.D.Denot} mid (record { vault = before.vault; machine = before.machine; in_doubt = events_in before.in_doubt; allowance = before.allowance }) =
-        λ i. record { vault = before.vault; machine = c.may_end.ensures.same i; in_doubt = events_in before.in_doubt; allowance = before.allowance }
+    λ i. record { vault = before.vault; machine = c.may_end.ensures.same i; in_doubt = events_in before.in_doubt; allowance = before.allowance }
     in
     let event : Event = Done c.args.task c.args.puts in
     let commits =
-        subst (λ (core : Core g.row.D.Denot). Commits {T = committed.the_data} g.D.Disk.files g.D.Disk.moment g.D.Disk.left_at (IsTrue g.D.Disk.is_honest) core c.commit_done.new.self NoCause event c.commit_done.result) (looked ∙ c.self.view_is) c.commit_done.ensures.commits
+    subst (λ (core : Core g.row.D.Denot). Commits {T = committed.the_data} g.D.Disk.files g.D.Disk.moment g.D.Disk.left_at (IsTrue g.D.Disk.is_honest) core c.commit_done.new.self NoCause event c.commit_done.result) (looked ∙ c.self.view_is) c.commit_done.ensures.commits
     in
     record {
       end = event;
@@ -63,11 +63,11 @@ returns-in-Ok-DoublePut-clause-ends g c =
     let old = c.args.self.now in
     let mid : Core g.row.D.Denot = record { vault = before.vault; machine = c.may_end.new.self; in_doubt = events_in before.in_doubt; allowance = before.allowance } in
     let looked : ◌≡◌ {A = Core g.row.D.Denot} mid (record { vault = before.vault; machine = before.machine; in_doubt = events_in before.in_doubt; allowance = before.allowance }) =
-        λ i. record { vault = before.vault; machine = c.may_end.ensures.same i; in_doubt = events_in before.in_doubt; allowance = before.allowance }
+    λ i. record { vault = before.vault; machine = c.may_end.ensures.same i; in_doubt = events_in before.in_doubt; allowance = before.allowance }
     in
     let event : Event = Stopped c.args.task DoublePut in
     let commits =
-        subst (λ (core : Core g.row.D.Denot). Commits {T = committed.the_data} g.D.Disk.files g.D.Disk.moment g.D.Disk.left_at (IsTrue g.D.Disk.is_honest) core c.commit_fault.new.self NoCause event c.commit_fault.result) (looked ∙ c.self.view_is) c.commit_fault.ensures.commits
+    subst (λ (core : Core g.row.D.Denot). Commits {T = committed.the_data} g.D.Disk.files g.D.Disk.moment g.D.Disk.left_at (IsTrue g.D.Disk.is_honest) core c.commit_fault.new.self NoCause event c.commit_fault.result) (looked ∙ c.self.view_is) c.commit_fault.ensures.commits
     in
     record {
       end = event;

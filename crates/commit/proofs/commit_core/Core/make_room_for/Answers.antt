@@ -1,4 +1,4 @@
-use Rattle.std.proofs.Common.{◌≡◌, ◌∙◌, ap, sym, subst, false}
+use Rattle.std.proofs.Common.{sym, subst}
 use Rattle.terms.specs.declared.event.Event.TheVariants.{Done}
 use Rattle.machine.specs.Legal.{IsLegal}
 use Rattle.machine.specs.Machine.{facts as facts_of}

@@ -1,11 +1,11 @@
-use Rattle.std.proofs.Common.{◌≡◌, ◌∙◌, ap, sym, subst, false}
+use Rattle.std.proofs.Common.{sym, subst}
 use Rattle.terms.specs.declared.name.Inst.{Inst}
 use Rattle.steptree.specs.Bodies.{Along, Asks}
 use Rattle.machine.specs.Machine.{facts as facts_of}
 use Rattle.machine.specs.Results.{AreItems, IsBodyOf}
 use Rattle.commit.specs.Core.{Core, facts, graph}
 use Rattle.commit.specs.Doubt.{events_in}
-use Rattle.commit.proofs.Moving.{SameFacts, of_claim, of_look, of_move}
+use Rattle.commit.proofs.Moving.{SameFacts, of_look, of_move}
 use Rattle.commit.proofs.Taken.{kept_alike}
 use Rattle.commit.proofs.commit_core.Core.park.Goals as goal
 
@@ -41,7 +41,7 @@ park-requires-clause-needs g c absent =
     let machine = c.self.inside.machine in
     let parked = c.args.parked in
     let here =
-        subst (λ (old : Core g.row.D.Denot). IsBodyOf (graph old) c.args.task parked.checked.now.body × AreItems (facts old) parked.reads) (sym c.self.view_is) (c.requires.result.body, c.requires.result.reads)
+    subst (λ (old : Core g.row.D.Denot). IsBodyOf (graph old) c.args.task parked.checked.now.body × AreItems (facts old) parked.reads) (sym c.self.view_is) (c.requires.result.body, c.requires.result.reads)
     in
     c.results_are_meant.ensures.needs machine.graph (facts_of machine) c.args.task parked.checked.now.body parked.reads parked.address here.0 here.1
     (subst (λ (i : Inst). Along parked.checked.now.body i.key parked.reads (Asks parked.address)) c.requires.result.instance_is c.args.parked.along) absent

@@ -1,4 +1,4 @@
-use Rattle.std.proofs.Common.{◌≡◌, sym, subst, [], refl}
+use Rattle.std.proofs.Common.{sym, subst, [], refl}
 use Rattle.graph.specs.Graph.{Graph}
 use Rattle.graph.specs.Fits.{IsPrescribed}
 use Rattle.codec.specs.Image.{environment_in, facts_in}

@@ -1,7 +1,5 @@
-use Rattle.std.proofs.Common.{◌≡◌, ◌∙◌, ap, sym, subst, false}
-use Rattle.commit.specs.Core.{Core, facts, graph}
 use Rattle.commit.specs.Doubt.{events_in}
-use Rattle.commit.proofs.Moving.{SameFacts, of_claim, of_look, of_move}
+use Rattle.commit.proofs.Moving.{SameFacts, of_move}
 use Rattle.commit.proofs.Taken.{kept_alike}
 use Rattle.commit.proofs.commit_core.Core.release.Goals as goal
 

@@ -1,0 +1,41 @@
+use Rattle.std.proofs.Common.{◌≡◌, ◌∙◌, ap, inl, refl, sym, true, IsTrue}
+use Rattle.terms.specs.declared.name.Inst.{Inst}
+use Rattle.terms.specs.declared.event.Event.{Event}
+use Rattle.terms.specs.declared.event.Event.TheVariants.{Done, Stopped}
+use Rattle.machine.specs.Machine.{RefusesEnd}
+use Rattle.commit.specs.declared.outcome.Outcome.{Outcome}
+use Rattle.commit.specs.declared.outcome.Outcome.TheVariants.{Gave, Fault}
+use Rattle.commit.specs.Core.{Core, is_halted}
+use Rattle.commit.specs.Doubt.{events_in}
+use Rattle.commit.specs.Outcome.{IsEndOf}
+use Rattle.commit.proofs.Moving.{SameFacts, of_move}
+use Rattle.commit.proofs.Roomy.{refused_halted}
+use Rattle.commit.proofs.Taken.{kept_alike}
+use Rattle.commit.proofs.commit_core.Core.finish.Goals as goal
+
+pub invariant_of-self : goal.invariant_of-self
+invariant_of-self g c =
+    let same : SameFacts c.self.inside.machine c.release.new.self = of_move _ _ _ _ c.release.ensures in (
+      c.self.invariant.0,
+      λ honest.
+          kept_alike g.D.Disk.files g.D.Disk.moment g.D.Disk.left_at (g.met.D.Disk.at_now honest) c.self.inside.vault c.self.inside.machine c.release.new.self (events_in c.self.inside.in_doubt) c.self.inside.allowance c.self.inside.allowance
+          same.graph same.environment same.facts (c.self.invariant.1 honest),
+    )
+
+-- some end of the instance
+an_end : (outcome : Outcome) (instance : Inst) → (end : Event) × IsEndOf outcome instance end
+an_end (Gave given) instance = (Done instance given.puts, inl refl)
+an_end (Fault bad) instance = (Stopped instance bad.kind, refl)
+
+pub returns-then-is_halted-clause-finishes : goal.returns-then-is_halted-clause-finishes
+returns-then-is_halted-clause-finishes g c =
+    let old = c.args.self.now in
+    let new : Core g.row.D.Denot = record { vault = c.self.inside.vault; machine = c.release.new.self; in_doubt = events_in c.self.inside.in_doubt; allowance = c.self.inside.allowance } in
+    let end = an_end c.args.outcome c.args.task in
+    let halted : is_halted old ≡ true = sym (ap is_halted c.self.view_is) ∙ sym c.is_halted.ensures ∙ c.if-is_halted.true in
+    record {
+      end = end.0;
+      is_end = end.1;
+      commits = refused_halted g.D.Disk.files g.D.Disk.moment g.D.Disk.left_at (IsTrue g.D.Disk.is_honest) old new (RefusesEnd old.machine) end.0 halted;
+      told = tt;
+    }
