@@ -1,5 +1,6 @@
 pub mod Calls
 pub mod Core
+pub mod Created
 pub mod Doubt
 pub mod Gets
 pub mod Kept

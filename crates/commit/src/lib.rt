@@ -7,6 +7,7 @@
 
 mod commit_core;
 mod commits;
+mod creation;
 mod error;
 mod finish;
 mod gets;
@@ -19,6 +20,7 @@ mod steps;
 mod turning;
 
 pub use commit_core::{Core, FIRST_ALLOWANCE};
+pub use creation::{CreateError, NotCreated};
 pub use error::CoreError;
 pub use outcome::{Committed, Outcome};
 pub use status::Status;
