@@ -1,4 +1,5 @@
 pub mod Calls
+pub mod Came
 pub mod Core
 pub mod Created
 pub mod Doubt

@@ -9,7 +9,7 @@ use Rattle.terms.specs.declared.event.Event.{Event}
 use Rattle.terms.specs.declared.event.Event.TheVariants as event
 use Rattle.terms.specs.declared.put.Put.{Put}
 use Rattle.machine.specs.Machine.{RefusesEnd}
-use Rattle.machine.specs.Results.{AreItems, IsBodyOf}
+use Rattle.commit.specs.Came.{IsOutcomeIn}
 use Rattle.commit.specs.declared.error.CoreError.{CoreError}
 use Rattle.commit.specs.Calls.{Commits}
 use Rattle.commit.specs.declared.outcome.Outcome.{Outcome}
@@ -20,8 +20,7 @@ use Rattle.commit.specs.Core.{Core, graph, facts}
 
 -- What a finish asks of its outcome: it is of this instance and of the body of its step, and what was read are items here.
 abbrev pub IsOutcomeOf : {D : Type 0} → Core D → Inst → Outcome → Type 0
-IsOutcomeOf c instance (Gave given) = (given.instance ≡ instance) × IsBodyOf (graph c) instance given.checked.now.body × AreItems (facts c) given.reads
-IsOutcomeOf c instance (Fault bad) = (bad.instance ≡ instance) × IsBodyOf (graph c) instance bad.checked.now.body × AreItems (facts c) bad.reads
+IsOutcomeOf c instance outcome = IsOutcomeIn (graph c) (facts c) instance outcome
 
 -- the ends of an instance whose body gave these puts
 abbrev pub IsEndOfGiven : Inst → List Put → Event → Type 0

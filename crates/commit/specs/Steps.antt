@@ -8,7 +8,7 @@ use Rattle.instances.specs.declared.state.State.TheVariants.{Ready, Waiting}
 use Rattle.steplang.specs.declared.outcome.Parked.{Parked}
 use Rattle.machine.specs.Machine.{HasItem}
 use Rattle.machine.specs.Machine as machine
-use Rattle.machine.specs.Results.{AreItems, IsBodyOf}
+use Rattle.commit.specs.Came.{IsParkedIn}
 use Rattle.vault.specs.declared.error.VaultError.TheVariants.{Halted, NoMemory}
 use Rattle.commit.specs.declared.error.CoreError.{CoreError}
 use Rattle.commit.specs.declared.error.CoreError.TheVariants.{Store}
@@ -50,10 +50,8 @@ pub record IsHalted {D T : Type 0} (old new : Core D) (result : Result T CoreErr
   pub same : new ≡ old
 
 -- What a park asks of its result: it is of this instance and of the body of its step, and what was read are items here.
-pub record IsParkedOf {D : Type 0} (c : Core D) (instance : Inst) (parked : Parked) : Type 0 where
-  pub instance_is : parked.instance ≡ instance
-  pub body : IsBodyOf (graph c) instance parked.checked.now.body
-  pub reads : AreItems (facts c) parked.reads
+abbrev pub IsParkedOf : {D : Type 0} → Core D → Inst → Parked → Type 0
+IsParkedOf c instance parked = IsParkedIn (graph c) (facts c) instance parked
 
 -- Why a park is refused: the core is halted; or memory was refused, for an item that is not there. The instance is ready, and else nothing has
 -- changed.

@@ -5,6 +5,7 @@
 //! `claim`, `park` and `release`, and on `status`, which tells when nothing is left to do: then the facts are the meaning of the graph.
 #![tactic(auto)]
 
+mod bodies;
 mod commit_core;
 mod commits;
 mod creation;
@@ -19,6 +20,7 @@ mod status;
 mod steps;
 mod turning;
 
+pub use bodies::{Came, run_body};
 pub use commit_core::{Core, FIRST_ALLOWANCE};
 pub use creation::{CreateError, NotCreated};
 pub use error::CoreError;
