@@ -19,7 +19,7 @@ pub enum Status {
 }
 
 impl<D: Disk> Core<D> {
-    ghost use Rattle.std.specs.Prelude.{◌≡◌, ◌↔◌, false, true, Some, IfErr, IfOk, IsTrue, OnErr, OnOk};
+    ghost use Rattle.std.specs.Prelude.{◌≡◌, ◌↔◌, ◌-◌, ◌^◌, false, true, Some, IfErr, IfOk, IsTrue, OnErr, OnOk, min};
     ghost use Rattle.instances.specs.declared.state.State.TheVariants.{Running};
     ghost use Rattle.machine.specs.Status.{AreBlocked, AreUnfinished, TellsFault};
     ghost use Rattle.vault.specs.declared.error.VaultError.TheVariants.{NoMemory};
@@ -27,7 +27,7 @@ impl<D: Disk> Core<D> {
     ghost use Rattle.commit.specs.Core.{graph, is_halted, state_of};
     ghost use Rattle.commit.specs.Gets.{SaysHalted};
     ghost use Rattle.commit.specs.Status.{TellsStatus, IsMeantIfQuiet};
-    ghost use Rattle.commit.specs.Steps.{running_count};
+    ghost use Rattle.commit.specs.Steps.{ready_count, running_count};
 
     /// How far the store is. Where it is quiet nothing is left to do, and where legal events led there, its facts are the meaning of the graph on what
     /// the environment put. It takes no memory.
@@ -79,6 +79,13 @@ impl<D: Disk> Core<D> {
         ensures { TellsFault self.now.machine result }
     {
         self.machine.fault()
+    }
+
+    /// How many instances are ready, or the greatest `usize` where they are more.
+    pub fn ready(&self) -> usize
+        ensures { result ≡ min (ready_count self.now) (2 ^ 64 - 1) }
+    {
+        self.machine.ready()
     }
 
     /// How many instances run, or the greatest `usize` where they are more.

@@ -1,15 +1,20 @@
-use crate::{Core, CoreError};
+use crate::{Came, Core, CoreError, run_body};
 use disk::Disk;
+use graph::Graph;
 use instances::Task;
 use machine::results_are_meant;
+use std::alloc::Global;
 use steplang::Parked;
 use vault::VaultError;
 
 impl<D: Disk> Core<D> {
-    ghost use Rattle.std.specs.Prelude.{◌≡◌, ◌<◌, false, None, Some, IfOk, IfSome, IsSome, OnErr, OnOk};
+    ghost use Rattle.std.specs.Prelude.{◌≡◌, ◌<◌, false, None, Some, IfOk, IfSome, IsSome, OnErr, OnOk, Err};
     ghost use Rattle.instances.specs.declared.state.State.TheVariants.{Ready, Running};
     ghost use Rattle.graph.specs.Fits.{HasNoFault};
-    ghost use Rattle.commit.specs.Core.{facts, state_of, is_halted};
+    ghost use Rattle.vault.specs.declared.error.VaultError.TheVariants.{NoMemory};
+    ghost use Rattle.commit.specs.declared.error.CoreError.TheVariants.{Store};
+    ghost use Rattle.commit.specs.Came.{CameTo};
+    ghost use Rattle.commit.specs.Core.{facts, graph as graph_of, state_of, is_halted};
     ghost use Rattle.commit.specs.Steps.{Allows, MayClaim, Moves, LooksAgain, IsHalted, RefusesPark, IsParkedOf, ready_count};
     ghost use Rattle.commit.specs.Calls.{GivesBack};
 
@@ -72,5 +77,24 @@ impl<D: Disk> Core<D> {
         ensures { Moves self.old self.new task Ready }
     {
         self.machine.release(task);
+    }
+
+    /// Runs the body of the instance of a task over the items that are here, to its end or to an item that is not. The graph is this core's, by
+    /// itself, so that the core can take what came of it.
+    pub fn run<'a>(
+        &self,
+        alloc: Global,
+        graph: &'a Graph,
+        task: &Task,
+    ) -> Result<Came<'a>, CoreError>
+        requires graph { graph.now ≡ graph_of self.now }
+        requires running { state_of self.now task.now ≡ Some Running }
+        ensures came { IfOk result (CameTo self.now.machine task.now) }
+        ensures refused { OnErr result (result ≡ Err (Store NoMemory)) }
+    {
+        match run_body(alloc, &self.machine, graph, task.inst()) {
+            Ok(came) => Ok(came),
+            Err(_) => Err(CoreError::Store(VaultError::NoMemory)),
+        }
     }
 }

@@ -7,10 +7,13 @@
 //! - `rising KIND`: values that rise (`orders`)
 //! - `items`: calls on a map of items (`item_calls`)
 //! - `machine NAME CHOOSERS`: a story of a store in memory, once for each chooser (`states`)
+//! - `core NUMBERS`: a story of a store on a memory disk with its steps, once for each number (`cores`)
 //! - `first`: bytes that begin with a record (`journals`)
 //! - `store NUMBERS`: a story of a store on a memory disk, once for each number (`stories`)
 use crate::names::Names;
-use crate::{bodies, bytes, codecs, graphs, item_calls, journals, orders, states, stories, texts};
+use crate::{
+    bodies, bytes, codecs, cores, graphs, item_calls, journals, orders, states, stories, texts,
+};
 use std::alloc::{AllocError, Global};
 
 /// What a command answers to its input.
@@ -35,6 +38,7 @@ pub(crate) fn answer(
             Some(text) => bodies::answer(alloc, text, input),
             None => String::from_str(alloc, "no such name\n"),
         },
+        "core" => cores::answer(alloc, names, rest, input),
         "machine" => states::answer(alloc, names, rest, input),
         "store" => stories::answer(alloc, names, rest, input),
         "rising" => orders::answer(alloc, names, rest, input),

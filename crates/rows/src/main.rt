@@ -10,6 +10,8 @@ mod cases;
 mod choosers;
 mod codecs;
 mod commands;
+mod core_calls;
+mod cores;
 mod disks;
 mod graphs;
 mod item_calls;
