@@ -1,17 +1,13 @@
 -- What an instance that runs reads and comes to, over the items of a store.
-use Rattle.std.proofs.Common.{◌≡◌, ◌∙◌, ℕ, ℤ, Bool, true, false, List, [], ◌∷◌, ◌++◌, length, Option, Some, None, sym, ap, subst, refl}
+use Rattle.std.proofs.Common.{◌≡◌, ◌∙◌, ℕ, ℤ, Bool, true, false, length, Option, Some, sym, ap, refl}
 use Rattle.std.proofs.lemmas.Bool.{false≢true}
 use Rattle.std.specs.Prelude.{slice_get, is_some}
 use Rattle.terms.specs.declared.name.Addr.{Addr}
 use Rattle.terms.specs.declared.name.Inst.{Inst}
-use Rattle.terms.specs.declared.producer.Producer.{Producer}
-use Rattle.terms.specs.Facts.{Fact, tag, item}
-use Rattle.terms.specs.Sets.{Facts}
+use Rattle.terms.specs.Facts.{tag, item}
 use Rattle.steptree.specs.Nameable.{Collection}
 use Rattle.steplang.specs.Running.{Running, IsDue, reads_with}
-use Rattle.graph.specs.Graph.{Graph}
 use Rattle.graph.specs.Fits.{AddressIsOf, InstanceIsOf, FitsState, IsAbsent}
-use Rattle.instances.specs.declared.state.State.{State}
 use Rattle.machine.specs.declared.refusal.Refusal.{Refusal}
 use Rattle.machine.specs.declared.refusal.Refusal.TheVariants.{NoSuchCollection, NotFromEnvironment, WrongArity, AlreadyPut, Stopped, Repeat}
 use Rattle.machine.specs.Machine.{Machine, RefusesRead, facts, environment, state_of}

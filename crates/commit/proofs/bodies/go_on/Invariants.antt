@@ -1,4 +1,4 @@
-use Rattle.std.proofs.Common.{ℕ, ◌+◌, ◌-◌, length}
+use Rattle.std.proofs.Common.{◌+◌, ◌-◌, length}
 use Rattle.steptree.specs.declared.body.TheConstants.{BUDGET}
 use Rattle.steplang.specs.Running.{reads_with}
 use Rattle.commit.proofs.Ran.{GoesOn}

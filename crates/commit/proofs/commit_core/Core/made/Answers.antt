@@ -1,8 +1,6 @@
-use Rattle.std.proofs.Common.{◌≡◌, ◌∙◌, sym, subst, [], refl, List, ℕ}
+use Rattle.std.proofs.Common.{[], refl}
 use Rattle.disk.specs.Moments.{begun}
 use Rattle.disk.specs.Time.{MayLeaveNow}
-use Rattle.graph.specs.Canonical.{canonical}
-use Rattle.graph.specs.Reads.{Reads}
 use Rattle.machine.specs.Machine.{environment as environment_of, facts as facts_of}
 use Rattle.vault.specs.Store.{nothing}
 use Rattle.commit.proofs.Taken.{holds_alike, kept}
