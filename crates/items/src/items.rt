@@ -6,7 +6,7 @@ use std::marker::Model;
 use terms::{Addr, Inst, ItemCollection, Producer};
 
 /// The items of a store, and the instances that wait for some. A `get` is a binary search, and a put of a greater key than those
-/// of its collection moves no item.
+/// of its collection searches nothing and moves no item.
 #[derive(Drop)]
 pub struct Items {
     items: CollectionMap<(i64, Producer)>,
