@@ -1,13 +1,10 @@
 //! The calls of a store with its steps.
-ghost use Rattle.std.specs.Prelude.{◌≡◌};
-ghost use Rattle.commit.specs.Core.{graph as graph_of};
 
 use crate::bodies::tell_address;
 use crate::choosers::Chooser;
 use crate::named::{address_of, tag_of, tell_named};
 use commit::{Came, Core, CoreError, CreateError, Status};
 use disk::MemDisk;
-use graph::Graph;
 use std::alloc::{AllocError, Global};
 use std::sync::Arc;
 use terms::{Addr, FaultKind, Inst};
@@ -99,11 +96,10 @@ fn run(
     let Some(mut chooser) = Chooser::named(alloc, name)? else {
         return told.push_str("no such chooser");
     };
-    let graph = Arc::clone(core.graph())?;
     if core.allow(limit.parse::<u64>().unwrap_or(0)).is_ok() {
         for _ in 0..u64::MAX {
             let ready = core.ready();
-            if ready == 0 || !run_ready(alloc, core, &graph, chooser.pick(ready)) {
+            if ready == 0 || !run_ready(alloc, core, chooser.pick(ready))? {
                 break;
             }
         }
@@ -112,19 +108,18 @@ fn run(
 }
 
 // Lets the ready instance with this number run, to its end or to an item that is not there. Whether it did.
-fn run_ready(alloc: Global, core: &mut Core<MemDisk>, graph: &Graph, at: usize) -> bool
-    requires { graph.now ≡ graph_of core.old }
-{
-    match core.claim(at) {
-        Ok(Some(task)) => match core.run(alloc, graph, &task) {
-            Ok(Came::Ended(outcome)) => core.finish(task, outcome).is_ok(),
-            Ok(Came::Waits(parked)) => core.park(task, parked).is_ok(),
-            Err(_) => {
-                core.release(task);
-                false
-            }
-        },
-        _ => false,
+fn run_ready(alloc: Global, core: &mut Core<MemDisk>, at: usize) -> Result<bool, AllocError> {
+    let graph = Arc::clone(core.graph())?;
+    let Ok(Some(task)) = core.claim(at) else {
+        return Ok(false);
+    };
+    match core.run(alloc, &graph, &task) {
+        Ok(Came::Ended(outcome)) => Ok(core.finish(task, outcome).is_ok()),
+        Ok(Came::Waits(parked)) => Ok(core.park(task, parked).is_ok()),
+        Err(_) => {
+            core.release(task);
+            Ok(false)
+        }
     }
 }
 
