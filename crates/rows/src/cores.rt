@@ -73,7 +73,14 @@ fn take(
         "create" => create(alloc, names, closed(world), rest, told),
         "open" => open(alloc, closed(world), told),
         "fail" => fail(closed(world), if rest == "$" { number } else { rest }, told),
-        "crash" | "length" | "has" => on_disk(alloc, names, closed(world), word, rest, told),
+        "crash" | "length" | "has" | "write" => on_disk(
+            alloc,
+            names,
+            closed(world),
+            word,
+            rest,
+            told,
+        ),
         _ => match world {
             World::Open(core) => on_core(alloc, core, word, rest, told),
             World::Closed(disk) => {
