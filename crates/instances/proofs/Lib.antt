@@ -11,3 +11,4 @@ mod Together
 mod Quiet
 mod Order
 mod Picked
+mod Lengths

@@ -16,7 +16,7 @@ use Rattle.instances.specs.declared.state.State.{State}
 use Rattle.instances.specs.declared.state.State.TheVariants.{Ready, Running, Waiting, Done}
 use Rattle.instances.specs.AllInstances.{all_instances}
 use Rattle.instances.specs.Known.{Known, state_at}
-use Rattle.instances.specs.Listed.{AreTheWaiting, AreTheDone, if_waiting, if_done}
+use Rattle.instances.specs.Listed.{AreAll, AreTheWaiting, AreTheDone, if_waiting, if_done}
 use Rattle.instances.proofs.Below.{first, second, both, less, none_below}
 use Rattle.instances.proofs.Order.{found, rises, same_instance}
 
@@ -88,6 +88,19 @@ strictly : {V : Type 0} (es : Placed V) → T (is_sorted inst_cmp es) → IsStri
 unfolding IsStrictlySortedBy
 strictly [] sorted = tt
 strictly (e ∷ es) sorted = (each_below e.0 es (first (below_all inst_cmp e.0 es) (is_sorted inst_cmp es) sorted), strictly es (second (below_all inst_cmp e.0 es) (is_sorted inst_cmp es) sorted))
+
+-- ---- all of them
+
+abbrev pub names_of : Placed State → List Inst
+names_of es = map (λ e. e.0) es
+
+pub are_all : (known : Known) → AreAll known (names_of (all_instances known))
+are_all known = record {
+  rises = strictly (all_instances known) (rises known);
+  each = λ instance.
+      let there = sym (is_some-find inst_cmp instance (all_instances known)) ∙ ap is_some (found known instance) in
+      (λ is. sym there ∙ is, λ is. there ∙ is);
+}
 
 -- ---- those that wait
 

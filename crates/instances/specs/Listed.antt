@@ -1,5 +1,5 @@
 -- The lists that are made of all instances: of those that wait, and of those that are done.
-use Rattle.std.specs.Prelude.{◌≡◌, ◌↔◌, T, true, List, Option, Some, None}
+use Rattle.std.specs.Prelude.{◌≡◌, ◌↔◌, ◌-◌, ◌^◌, ℕ, T, true, List, length, min, Option, Some, None, is_some}
 use Rattle.std.specs.List.{list_any}
 use Rattle.std.specs.List.Sorted.{IsStrictlySortedBy}
 use Rattle.std.specs.Ordering.{eq_by_cmp}
@@ -20,6 +20,18 @@ pub record AreTheWaiting (known : Known) (list : List (Inst × Addr)) : Type 0 w
 pub record AreTheDone (known : Known) (list : List Inst) : Type 0 where
   pub rises : IsStrictlySortedBy inst_cmp list
   pub each : (instance : Inst) → (list_any (eq_by_cmp inst_cmp instance) list ≡ true) ↔ (state_at known instance ≡ Some Done)
+
+-- all instances, in order
+pub record AreAll (known : Known) (list : List Inst) : Type 0 where
+  pub rises : IsStrictlySortedBy inst_cmp list
+  pub each : (instance : Inst) → (list_any (eq_by_cmp inst_cmp instance) list ≡ true) ↔ (is_some (state_at known instance) ≡ true)
+
+-- how many instances there are, and how many are done, told up to the greatest number of 64 bits
+abbrev pub CountsAll : Known → ℕ → Type 0
+CountsAll known count = (list : List Inst) × AreAll known list × (count ≡ min (length list) (2 ^ 64 - 1))
+
+abbrev pub CountsDone : Known → ℕ → Type 0
+CountsDone known count = (list : List Inst) × AreTheDone known list × (count ≡ min (length list) (2 ^ 64 - 1))
 
 -- ---- what a walk's entry gives to such a list
 

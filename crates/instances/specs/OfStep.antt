@@ -30,6 +30,12 @@ is_waiting Running = false
 is_waiting (Waiting address) = true
 is_waiting Done = false
 
+abbrev pub is_done : State → Bool
+is_done Ready = false
+is_done Running = false
+is_done (Waiting address) = false
+is_done Done = true
+
 -- how many instances are in such a state
 abbrev pub how_many : (State → Bool) → FinMap key_cmp State → ℕ
 how_many test states = count_by (λ entry. test entry.1) (entries states)

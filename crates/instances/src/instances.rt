@@ -40,7 +40,7 @@ impl Instances {
     ghost use Rattle.terms.specs.Name.{inst_cmp};
     ghost use Rattle.terms.specs.declared.name.Inst.{Inst as Instance};
     ghost use Rattle.instances.specs.AllInstances.{all_instances};
-    ghost use Rattle.instances.specs.Listed.{AreTheWaiting, AreTheDone};
+    ghost use Rattle.instances.specs.Listed.{AreTheWaiting, AreTheDone, CountsAll, CountsDone};
     ghost use Rattle.instances.specs.Known.{first_state, fresh, mark_of, tag_at, room_for, state_at, total, MovesOne, NoneIsActive, OnlyMakesRoom, Prescribes};
 
     /// No tags, of so many collections, and no instances of the steps that these collections prescribe, a step each.
@@ -154,6 +154,35 @@ impl Instances {
             waiting = waiting.saturating_add(self.steps[number].instances.waiting());
         }
         waiting
+    }
+
+    /// How many instances there are, or the greatest `usize` where they are more.
+    pub fn count(&self) -> usize
+        ensures { CountsAll self.now result }
+    {
+        let mut count = 0usize;
+        for number in 0..self.steps.len() {
+            count = count.saturating_add(self.steps[number].instances.entries().len());
+        }
+        count
+    }
+
+    /// How many are done, or the greatest `usize` where they are more. It goes through all.
+    pub fn done_count(&self) -> usize
+        ensures { CountsDone self.now result }
+    {
+        let mut done = 0usize;
+        for number in 0..self.steps.len() {
+            done = done.saturating_add(self.steps[number].instances.done());
+        }
+        done
+    }
+
+    /// How many tags there are, or the greatest `usize` where they are more.
+    pub fn tag_count(&self) -> usize
+        ensures { result ≡ min (length (entries self.now.tags.items)) (2 ^ 64 - 1) }
+    {
+        self.tags.count()
     }
 
     /// Whether none is ready and none runs.

@@ -1,5 +1,5 @@
 ghost use Rattle.std.specs.Prelude.{◌≡◌};
-ghost use Rattle.instances.specs.OfStep.{is_waiting as is_waiting_state};
+ghost use Rattle.instances.specs.OfStep.{is_done as is_done_state, is_waiting as is_waiting_state};
 
 use crate::State;
 use maps::KeyMap;
@@ -37,7 +37,7 @@ impl StepInstances {
     ghost use Rattle.std.specs.Prelude.{◌≡◌, ◌+◌, ◌<◌, ◌≤◌, IfSome, IsSome, OnOk, OnErr, Some, None, cond};
     ghost use Rattle.std.specs.FinMap.{empty, entries, get};
     ghost use Rattle.instances.specs.declared.state.State.TheVariants.{Ready, Running, Waiting, Done};
-    ghost use Rattle.instances.specs.OfStep.{is_ready, is_running, is_waiting, how_many, IsWaiting, Moves, AddsInstance};
+    ghost use Rattle.instances.specs.OfStep.{is_ready, is_running, is_waiting, is_done, how_many, IsWaiting, Moves, AddsInstance};
 
     /// No instances.
     pub fn new(alloc: Global) -> Self
@@ -86,6 +86,17 @@ impl StepInstances {
             .entries()
             .iter()
             .filter(|entry| is_waiting(&entry.1))
+            .count()
+    }
+
+    /// How many are done. It goes through all.
+    pub fn done(&self) -> usize
+        ensures { result ≡ how_many is_done self.now.states }
+    {
+        self.states
+            .entries()
+            .iter()
+            .filter(|entry| is_done(&entry.1))
             .count()
     }
 
@@ -207,4 +218,11 @@ fn is_waiting(state: &State) -> bool
     ensures { result ≡ is_waiting_state state.now }
 {
     matches!(state, State::Waiting(_))
+}
+
+// Whether this is the state of an instance that is done.
+fn is_done(state: &State) -> bool
+    ensures { result ≡ is_done_state state.now }
+{
+    matches!(state, State::Done)
 }

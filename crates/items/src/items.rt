@@ -28,9 +28,9 @@ impl Model for Items {
 }
 
 impl Items {
-    ghost use Rattle.std.specs.Prelude.{◌≡◌, ◌<◌, ◌≤◌, ◌^◌, IfOk, IfErr, OnOk, OnErr, map, replicate};
+    ghost use Rattle.std.specs.Prelude.{◌≡◌, ◌<◌, ◌≤◌, ◌-◌, ◌^◌, IfOk, IfErr, OnOk, OnErr, length, map, min, replicate};
     ghost use Rattle.std.specs.FinMap.{empty, entries};
-    ghost use Rattle.maps.specs.Numbered.{AddsAt, OnlyMakesRoom};
+    ghost use Rattle.maps.specs.Numbered.{of_number, AddsAt, OnlyMakesRoom};
     ghost use Rattle.items.specs.Held.{
       item_at,
       waiters_at,
@@ -69,6 +69,22 @@ impl Items {
         Walk {
             entries: self.items.walk(),
         }
+    }
+
+    /// The items of one collection, in the order of their addresses; none where there is no such collection.
+    pub fn walk_of(&self, collection: ItemCollection) -> Walk<'_>
+        ensures { result ≡ map (λ entry. (address_at entry.0, entry.1)) (of_number collection.0 (entries self.now.items.items)) }
+    {
+        Walk {
+            entries: self.items.walk_of(collection.0),
+        }
+    }
+
+    /// How many items there are, or the greatest `usize` where they are more.
+    pub fn count(&self) -> usize
+        ensures { result ≡ min (length (entries self.now.items.items)) (2 ^ 64 - 1) }
+    {
+        self.items.count()
     }
 
     /// How many more items of the collection there is room for.

@@ -1,8 +1,6 @@
 -- What a store holds is what its lists say, and they rise.
 use Rattle.std.proofs.Common.{◌≡◌, ◌∙◌, ap, sym, refl, subst, ℤ, T, Bool, true, false, cond, ◌&&◌, ◌||◌, List, [], ◌∷◌, map, Option, Some, None, is_some}
 use Rattle.std.proofs.lemmas.Bool.{false≢true}
-use Rattle.std.specs.declared.cmp.Ordering.{Ordering}
-use Rattle.std.specs.declared.cmp.Ordering.TheVariants.{Less, Equal, Greater}
 use Rattle.std.specs.List.{flat_map, list_any, AllByRecursion}
 use Rattle.std.specs.List.Sorted.{IsStrictlySortedBy}
 use Rattle.std.specs.Option.{unwrap_or}
@@ -35,23 +33,11 @@ use Rattle.machine.specs.Imaging.{items_of, items_in, tags_of, tags_in}
 use Rattle.machine.specs.Memory.{is_done, is_fault, is_item, facts_of, environment_of, IsOf}
 use Rattle.machine.proofs.Coming.{or_false}
 use Rattle.machine.proofs.ImageFacts.{item_fact, tag_fact, facts_tag, facts_item, facts_done, facts_bad, given_tag, given_own, given_by, given_done, given_bad}
+use Rattle.machine.proofs.InPlaceOrder.{first, second, less}
 use Rattle.machine.proofs.Sets.{same_truth, the_first, behind_first}
 
 abbrev Entry : Type 0
 Entry = ℤ × Producer
-
-first : (a b : Bool) → T (a && b) → T a
-first true b p = tt
-first false b p = p
-
-second : (a b : Bool) → T (a && b) → T b
-second true b p = p
-second false b p = absurd p
-
-less : (o : Ordering) → T (is_lt o) → o ≡ Less
-less Less p = refl
-less Equal p = absurd p
-less Greater p = absurd p
 
 -- what is below all is not among them
 not_among : {X : Type 0} (k : Place) (es : List (Place × X)) → T (below_all place_cmp k es) → find place_cmp k es ≡ None

@@ -9,8 +9,10 @@ pub mod Fit
 pub mod GoesOn
 pub mod Growing
 pub mod Grown
+pub mod Holding
 pub mod ImageFacts
 pub mod Imaged
+pub mod InPlaceOrder
 pub mod Kept
 pub mod Left
 pub mod MixedRow

@@ -1,5 +1,6 @@
 pub mod Absence
 pub mod Coming
+pub mod Counts
 pub mod Creation
 pub mod Examples
 pub mod Imaging

@@ -1,5 +1,5 @@
 -- What a store tells of itself: its fault, whether anything is left to do, and which instances wait for which items.
-use Rattle.std.specs.Prelude.{◌≡◌, ◌↔◌, T, true, List, Option, Some}
+use Rattle.std.specs.Prelude.{◌≡◌, ◌↔◌, T, Bool, true, false, List, Option, Some}
 use Rattle.std.specs.FinMap.{find, is_sorted}
 use Rattle.terms.specs.Name.{inst_cmp}
 use Rattle.terms.specs.declared.name.Addr.{Addr}
@@ -7,10 +7,11 @@ use Rattle.terms.specs.declared.name.Inst.{Inst}
 use Rattle.terms.specs.declared.fault.FaultKind.{FaultKind}
 use Rattle.terms.specs.Facts.{bad}
 use Rattle.graph.specs.Fits.{HasNoFault}
+use Rattle.instances.specs.declared.state.State.{State}
 use Rattle.instances.specs.declared.state.State.TheVariants.{Ready, Running, Waiting}
 use Rattle.machine.specs.Meaning.{IsClean}
 use Rattle.machine.specs.State.{IsReached, IsMeaning, Waits, IsUnfinished}
-use Rattle.machine.specs.Machine.{Machine, facts, environment, state_of}
+use Rattle.machine.specs.Machine.{Machine, facts, environment, state_of, how_many}
 
 -- it is the instance at fault with the kind of its fault, if the store has a fault
 abbrev pub TellsFault : Machine → Option (Inst × FaultKind) → Type 0
@@ -34,3 +35,7 @@ pub record AreBlocked (m : Machine) (list : List (Inst × Addr)) : Type 0 where
 abbrev pub AreUnfinished : Machine → List (Inst × Addr) → Type 0
 AreUnfinished m list = HasNoFault (facts m) → NoneIsActive m → IsReached m.graph (environment m) (facts m)
     → (instance : Inst) (address : Addr) → (find inst_cmp instance list ≡ Some address) ↔ IsUnfinished m.graph (environment m) instance address
+
+-- none is counted exactly where each instance that is there is in a state that fails the test
+abbrev pub AreCounted : Machine → Type 0
+AreCounted m = (test : State → Bool) → (how_many test m ≡ 0) ↔ ((instance : Inst) (state : State) → state_of m instance ≡ Some state → test state ≡ false)

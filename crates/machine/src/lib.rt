@@ -9,6 +9,7 @@
 #![tactic(auto)]
 
 mod absence;
+mod counts;
 mod creation;
 mod distinct;
 mod end;
@@ -17,6 +18,7 @@ mod events;
 mod examples;
 mod growth;
 mod imaging;
+mod items_of;
 mod keeping;
 mod laws;
 mod looks;
@@ -33,8 +35,10 @@ mod taking;
 mod waking;
 mod working;
 
+pub use counts::Counts;
 pub use end::End;
 pub use examples::{fibonacci_numbers, item_put_twice, meant_and_not_reached, refused_examples};
+pub use items_of::ItemsOf;
 pub use keeping::given_are_of_graph;
 pub use laws::{
     each_instance_can_go_on, legal_events_fit, legal_lists_go_on, one_end, quiet_is_meaning,

@@ -9,7 +9,7 @@ impl Machine {
     ghost use Rattle.graph.specs.Fits.{HasNoFault};
     ghost use Rattle.machine.specs.Legal.{IsQuiet};
     ghost use Rattle.machine.specs.Machine.{facts, ready_count, running_count, waiting_count};
-    ghost use Rattle.machine.specs.Status.{AreBlocked, AreUnfinished, IsAllOfMeaning, NoneIsActive, TellsFault};
+    ghost use Rattle.machine.specs.Status.{AreBlocked, AreCounted, AreUnfinished, IsAllOfMeaning, NoneIsActive, TellsFault};
 
     /// The instance at fault, if there is one.
     pub fn fault(&self) -> Option<(Inst, FaultKind)>
@@ -65,5 +65,12 @@ impl Machine {
         unfinished_wait();
         self.memory.instances.are_there_together();
         self.memory.instances.blocked(alloc)
+    }
+
+    /// A law, with nothing to run: where none is counted, none is in such a state.
+    pub fn are_counted(&self)
+        ensures { AreCounted self.now }
+    {
+        self.memory.instances.are_counted();
     }
 }

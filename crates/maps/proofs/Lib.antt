@@ -3,3 +3,4 @@ mod Searched
 mod Refused
 mod ByNumber
 mod Whole
+mod OneCollection

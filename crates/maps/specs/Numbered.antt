@@ -1,6 +1,7 @@
 -- A map from the keys of several collections, each with its number.
-use Rattle.std.specs.Prelude.{◌≡◌, ◌≢◌, ℕ, suc, ℤ, ◌+◌, ◌<◌, ◌≤◌, List, [], ◌∷◌, ◌++◌, map, length, get_or, None}
+use Rattle.std.specs.Prelude.{◌≡◌, ◌≢◌, ℕ, suc, ℤ, ◌+◌, ◌<◌, ◌≤◌, ◌==◌, List, [], ◌∷◌, ◌++◌, map, length, get_or, None}
 use Rattle.std.specs.declared.cmp.Ordering.{Ordering}
+use Rattle.std.specs.List.{filter}
 use Rattle.std.specs.Ordering.{nat_cmp, ordering_then}
 use Rattle.std.specs.FinMap.{FinMap, entries, get, insert}
 use Rattle.terms.specs.Key.{key_cmp}
@@ -54,3 +55,7 @@ all_from number (collection ∷ collections) = map (placed number) (entries coll
 -- what is left of a walk: of the collection with this number these entries, and all of the collections behind it
 abbrev pub left_of : {X : Type 0} → ℕ → List (List ℤ × X) → List (Keyed X) → List (Place × X)
 left_of number entries collections = map (placed number) entries ++ all_from (suc number) collections
+
+-- those of one collection
+abbrev pub of_number : {X : Type 0} → ℕ → List (Place × X) → List (Place × X)
+of_number number list = filter (λ entry. entry.0.0 == number) list

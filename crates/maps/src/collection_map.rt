@@ -28,10 +28,10 @@ impl<V> Model for CollectionMap<V> {
 }
 
 impl<V: Copy> CollectionMap<V> {
-    ghost use Rattle.std.specs.Prelude.{◌≡◌, ◌<◌, ◌≤◌, ◌^◌, IfOk, IfErr, IsSome, OnOk, OnErr, length, replicate};
+    ghost use Rattle.std.specs.Prelude.{◌≡◌, ◌<◌, ◌≤◌, ◌-◌, ◌^◌, IfOk, IfErr, IsSome, OnOk, OnErr, length, min, replicate};
     ghost use Rattle.std.specs.FinMap.{empty, entries, get, insert};
     ghost use Rattle.maps.specs.Insertion.{IsRefused};
-    ghost use Rattle.maps.specs.Numbered.{room_at, AddsAt, OnlyMakesRoom};
+    ghost use Rattle.maps.specs.Numbered.{of_number, room_at, AddsAt, OnlyMakesRoom};
 
     /// No entries, of so many collections.
     pub fn new(alloc: Global, collections: usize) -> Result<Self, AllocError>
@@ -66,6 +66,35 @@ impl<V: Copy> CollectionMap<V> {
                 collections: &[],
             },
         }
+    }
+
+    /// The entries of one collection, in the order of their keys; none where there is no such collection.
+    pub fn walk_of(&self, number: u16) -> Walk<'_, V>
+        ensures { result ≡ of_number number (entries self.now.items) }
+    {
+        match self.collections.get(number as usize) {
+            Some(collection) => Walk {
+                number,
+                entries: collection.entries(),
+                collections: &[],
+            },
+            None => Walk {
+                number: 0,
+                entries: &[],
+                collections: &[],
+            },
+        }
+    }
+
+    /// How many entries there are, or the greatest `usize` where they are more.
+    pub fn count(&self) -> usize
+        ensures { result ≡ min (length (entries self.now.items)) (2 ^ 64 - 1) }
+    {
+        let mut count = 0usize;
+        for number in 0..self.collections.len() {
+            count = count.saturating_add(self.collections[number].entries().len());
+        }
+        count
     }
 
     /// How many more entries of the collection there is room for.
