@@ -1,6 +1,14 @@
 pub mod Answered
+pub mod Counted
+pub mod Driven
 pub mod Found
+pub mod Histories
+pub mod Idle
+pub mod Joined
+pub mod Lists
+pub mod Making
 pub mod Moving
 pub mod Ran
 pub mod Roomy
+pub mod Running
 pub mod Taken

@@ -1,29 +1,36 @@
 -- What a creation gives, and what it leaves.
-use Rattle.std.specs.Prelude.{◌≡◌, ◌≢◌, ◌⊎◌, ℕ, false, List, [], Result, Ok, Err}
+use Rattle.std.specs.Prelude.{◌≡◌, ◌≢◌, ◌⊎◌, ℕ, false, List, [], Result, Ok, Err, IsErrOf, OnOk}
 use Rattle.disk.specs.declared.side.Side.{Side}
+use Rattle.disk.specs.declared.side.Side.TheVariants.{A, B}
 use Rattle.disk.specs.File.{File}
 use Rattle.disk.specs.Time.{Contents, MayLeaveNow, LeavesOnly}
 use Rattle.terms.specs.Facts.{Fact}
+use Rattle.graph.specs.Graph.{Graph as TheGraph}
 use Rattle.graph.specs.Reads.{HasCause, Reads}
+use Rattle.vault.specs.Opened.{contents_of}
+use Rattle.vault.specs.Store.{HasGates}
 use Rattle.vault.specs.declared.error.VaultError.TheVariants.{Device, NoMemory, Exists}
 use Rattle.commit.specs.declared.creation.CreateError.{CreateError}
 use Rattle.commit.specs.declared.creation.CreateError.TheVariants.{Graph, Store}
 use Rattle.commit.specs.declared.creation.NotCreated.{NotCreated}
 use Rattle.commit.specs.Core.{Core, graph, facts, environment}
+use Rattle.commit.specs.Opened.{IsOpened}
 
--- the text reads as its graph
-abbrev pub IsOfText : {D : Type 0} → List ℕ → Core D → Type 0
-IsOfText text c = Reads text (graph c)
-
--- it has no facts
-pub record HoldsNothing {D : Type 0} (c : Core D) : Type 0 where
+-- A new store: the text reads as its graph, it has no facts, its core is as one that was just opened, and its side is the first one. On an honest disk each file has its first
+-- byte.
+pub record IsCreated {D : Type 0} (files : D → Side → File) (honest : Type 0) (text : List ℕ) (c : Core D) : Type 0 where
+  pub reads : Reads text (graph c)
   pub facts : (fact : Fact) → facts c fact ≡ false
   pub environment : (fact : Fact) → environment c fact ≡ false
+  pub opened : IsOpened c
+  pub generation : c.vault.generation ≡ 1
+  pub gates : honest → HasGates (contents_of (files c.vault.disk))
 
--- why none was made: the text has this fault, and then the disk is as it was; or a file is not empty, memory was refused, or the device failed
+-- why none was made: the text has this fault, and then the disk is as it was; or it is a graph's, and a file is not empty, memory was refused, or the
+-- device failed
 abbrev pub TellsCause : {D : Type 0} → List ℕ → D → D → CreateError → Type 0
 TellsCause text old new (Graph fault) = HasCause text fault × (new ≡ old)
-TellsCause text old new (Store error) = (error ≡ Exists) ⊎ (error ≡ NoMemory) ⊎ (error ≡ Device)
+TellsCause text old new (Store error) = ((g : TheGraph) × Reads text g) × ((error ≡ Exists) ⊎ (error ≡ NoMemory) ⊎ (error ≡ Device))
 
 abbrev pub TellsCreation : {D : Type 0} → List ℕ → D → NotCreated D → Type 0
 TellsCreation text old refused = TellsCause text old refused.disk refused.error
@@ -33,7 +40,15 @@ abbrev pub disk_of : {D : Type 0} → Result (Core D) (NotCreated D) → D
 disk_of (Ok core) = core.vault.disk
 disk_of (Err refused) = refused.disk
 
--- Files that are not both empty, on an honest disk: both stay as they are, and a crash at any moment leaves what one might have left before.
-pub record LeavesOthers {D : Type 0} (files : D → Side → File) (moment : D → ℕ) (left_at : D → ℕ → Contents → Type 0) (old new : D) : Type 0 where
+-- what was answered, apart from the disk
+abbrev pub answer_of : {D : Type 0} → Result (Core D) (NotCreated D) → Result (Core D) CreateError
+answer_of (Ok core) = Ok core
+answer_of (Err refused) = Err refused.error
+
+-- Files that are not both empty, on an honest disk: no store is made of them, both stay as they are, and a crash at any moment leaves what one
+-- might have left before. `Exists` says that one is not empty.
+pub record LeavesOthers {D T : Type 0} (files : D → Side → File) (moment : D → ℕ) (left_at : D → ℕ → Contents → Type 0) (old new : D) (result : Result T CreateError) : Type 0 where
+  pub were_empty : OnOk result ((side : Side) → (files old side).content ≡ [])
+  pub exists : IsErrOf result (Store Exists) → ((files old A).content ≢ []) ⊎ ((files old B).content ≢ [])
   pub kept : (some : Side) → (files old some).content ≢ [] → (side : Side) → files new side ≡ files old side
   pub moments : (some : Side) → (files old some).content ≢ [] → LeavesOnly moment left_at old new (MayLeaveNow (files old))

@@ -5,9 +5,12 @@ pub mod Created
 pub mod Doubt
 pub mod Gets
 pub mod Kept
+pub mod MoveLaws
+pub mod Moves
 pub mod Opened
 pub mod Outcome
 pub mod Room
+pub mod Runs
 pub mod Status
 pub mod Steps
 pub mod Turning

@@ -9,7 +9,7 @@ use vault::Vault;
 
 /// A store on two files, with the state of it in memory.
 ///
-/// Each event that it takes is on the disk before the call answers `Ok`, and each refusal leaves all as it was. Where a call of the disk
+/// Each event that it takes is on the disk before the call answers `Ok`, and a refusal leaves each fact as it was. Where a call of the disk
 /// answers an error the core halts: from then on it answers `Halted`, until its disk is opened again.
 pub struct Core<D: Disk> {
     pub(crate) vault: Vault<D>,

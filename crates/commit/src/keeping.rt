@@ -5,6 +5,7 @@ impl<D: Disk> Core<D> {
     ghost use Rattle.std.specs.Prelude.{◌≡◌, false, [], IsTrue};
     ghost use Rattle.commit.specs.Core.{is_halted};
     ghost use Rattle.commit.specs.Kept.{IsKept};
+    ghost use Rattle.machine.specs.Status.{AreCounted};
 
     /// A law, with nothing to run: what a core keeps.
     pub fn is_kept(&self)
@@ -12,5 +13,12 @@ impl<D: Disk> Core<D> {
         ensures settled { is_halted self.now ≡ false → self.now.in_doubt ≡ [] }
     {
         let _ = &self.vault;
+    }
+
+    /// A law, with nothing to run: where none is counted, none is in such a state.
+    pub fn are_counted(&self)
+        ensures { AreCounted self.now.machine }
+    {
+        self.machine.are_counted();
     }
 }

@@ -6,23 +6,34 @@
 #![tactic(auto)]
 
 mod bodies;
+mod choose;
 mod commit_core;
 mod commits;
+mod counts;
 mod creation;
+mod driver;
 mod error;
 mod finish;
 mod gets;
 mod keeping;
+mod moves;
 mod opening;
 mod outcome;
 mod puts;
+mod runs;
 mod status;
 mod steps;
 mod turning;
+mod verdict;
 
 pub use bodies::{Came, run_body};
+pub use choose::{Choose, First};
 pub use commit_core::{Core, FIRST_ALLOWANCE};
 pub use creation::{CreateError, NotCreated};
+pub use driver::{Alone, Driver};
 pub use error::CoreError;
+pub use moves::{acknowledged_stays, calls_are_moves, histories_go_on};
 pub use outcome::{Committed, Outcome};
+pub use runs::run_with;
 pub use status::Status;
+pub use verdict::{RunError, Verdict};

@@ -26,6 +26,7 @@ impl<D: Disk> Core<D> {
     ghost use Rattle.commit.specs.declared.error.CoreError.TheVariants.{Store};
     ghost use Rattle.commit.specs.Core.{graph, is_halted, state_of};
     ghost use Rattle.commit.specs.Gets.{SaysHalted};
+    ghost use Rattle.commit.specs.Runs.{NoneRuns};
     ghost use Rattle.commit.specs.Status.{TellsStatus, IsMeantIfQuiet};
     ghost use Rattle.commit.specs.Steps.{ready_count, running_count};
 
@@ -90,8 +91,10 @@ impl<D: Disk> Core<D> {
 
     /// How many instances run, or the greatest `usize` where they are more.
     pub fn running(&self) -> usize
-        ensures { result ≡ running_count self.now }
+        ensures count { result ≡ running_count self.now }
+        ensures none { (result ≡ 0) ↔ NoneRuns self.now }
     {
+        self.machine.are_counted();
         self.machine.running()
     }
 

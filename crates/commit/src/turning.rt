@@ -19,6 +19,7 @@ impl<D: Disk> Core<D> {
         ensures refused { IfErr result (RefusesTurn self.old) }
         ensures full { TellsLast self.old result }
         ensures halts { Halts D.failures D.refusals self.old self.new result }
+        ensures doubt { self.new.in_doubt ≡ self.old.in_doubt }
         ensures moments { IsTrue D.is_honest → is_halted self.old ≡ false → TurnLeaves D.files D.moment D.left_at self.old self.new }
     {
         stores_go_on::<D>();

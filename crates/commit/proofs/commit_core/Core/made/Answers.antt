@@ -1,8 +1,9 @@
-use Rattle.std.proofs.Common.{[], refl}
-use Rattle.disk.specs.Moments.{begun}
-use Rattle.disk.specs.Time.{MayLeaveNow}
+use Rattle.std.proofs.Common.{◌≡◌, [], refl, Result, Err}
+use Rattle.vault.specs.declared.error.VaultError.{VaultError}
+use Rattle.vault.specs.declared.error.VaultError.TheVariants.{Device, NoMemory, Exists}
 use Rattle.machine.specs.Machine.{environment as environment_of, facts as facts_of}
 use Rattle.vault.specs.Store.{nothing}
+use Rattle.commit.proofs.Making.{at_rest_gates, made, refused_alike, unasked, untouched, left_empty}
 use Rattle.commit.proofs.Taken.{holds_alike, kept}
 use Rattle.commit.proofs.commit_core.Core.made.Goals as goal
 
@@ -17,14 +18,42 @@ invariant_of-result g c =
           ((c.in-Ok-create.ensures.created honest).holds c.args.graph c.requires.reads c.requires.spelled)),
     )
 
+-- the same error, with a value of another type
+same_error : {T U : Type 0} {one two : VaultError} → ◌≡◌ {A = Result T VaultError} (Err one) (Err two) → ◌≡◌ {A = Result U VaultError} (Err one) (Err two)
+same_error is = cc
+
+-- want of memory is neither of these
+not_failed : {T : Type 0} → ◌≡◌ {A = Result T VaultError} (Err NoMemory) (Err Device) → ⊥
+not_failed is = cc
+
+not_there : {T : Type 0} → ◌≡◌ {A = Result T VaultError} (Err NoMemory) (Err Exists) → ⊥
+not_there is = cc
+
 pub returns-in-Ok-create-clause-others : goal.returns-in-Ok-create-clause-others
-returns-in-Ok-create-clause-others g c honest = let it = c.in-Ok-create.ensures.non_empty honest in record { kept = it.kept; moments = it.moments }
+returns-in-Ok-create-clause-others g c honest = let it = c.in-Ok-create.ensures.non_empty honest in record { were_empty = it.were_empty; exists = λ is. absurd (cc is); kept = it.kept; moments = it.moments }
+
+pub returns-in-Ok-create-clause-causes : goal.returns-in-Ok-create-clause-causes
+returns-in-Ok-create-clause-causes g c = made _ _ _ _ _ _ c.in-Ok-create.ensures.causes
 
 pub returns-in-Err-create-clause-others : goal.returns-in-Err-create-clause-others
-returns-in-Err-create-clause-others g c honest = let it = c.in-Err-create.ensures.non_empty honest in record { kept = it.kept; moments = it.moments }
+returns-in-Err-create-clause-others g c honest = let it = c.in-Err-create.ensures.non_empty honest in record { were_empty = tt; exists = λ is. it.exists (same_error is); kept = it.kept; moments = it.moments }
+
+pub returns-in-Err-create-clause-causes : goal.returns-in-Err-create-clause-causes
+returns-in-Err-create-clause-causes g c = refused_alike _ _ _ _ _ _ c.in-Err-create.ensures.causes
 
 pub returns-in-Err-clause-others : goal.returns-in-Err-clause-others
 returns-in-Err-clause-others g c honest = record {
+  were_empty = tt;
+  exists = λ is. absurd (not_there is);
   kept = λ some has side. refl;
-  moments = λ some has. begun g.D.Disk.moment g.D.Disk.left_at c.args.disk (MayLeaveNow (g.D.Disk.files c.args.disk)) (λ contents left. (g.met.D.Disk.at_now honest c.args.disk contents).0 left);
+  moments = λ some has. untouched g.D.Disk.files g.D.Disk.moment g.D.Disk.left_at (g.met.D.Disk.at_now honest) c.args.disk;
 }
+
+pub returns-in-Err-clause-begins : goal.returns-in-Err-clause-begins
+returns-in-Err-clause-begins g c honest empty = left_empty g.D.Disk.files g.D.Disk.moment g.D.Disk.left_at (g.met.D.Disk.at_now honest) c.args.disk empty
+
+pub returns-in-Err-clause-causes : goal.returns-in-Err-clause-causes
+returns-in-Err-clause-causes g c = unasked _ _ _ _ _ c.args.disk not_failed
+
+pub returns-in-Ok-create-clause-gates : goal.returns-in-Ok-create-clause-gates
+returns-in-Ok-create-clause-gates g c honest = let it = c.in-Ok-create.ensures.created honest in at_rest_gates g.D.Disk.files c.in-Ok-create.vault.disk _ it.a it.b

@@ -1,0 +1,243 @@
+-- What each call of a run makes of a core: the end of an instance, and all that changes nothing on the disk.
+use Rattle.std.proofs.Common.{◌≡◌, ◌∙◌, ◌⊎◌, ◌<◌, ◌≤◌, ◌+◌, ◌++◌, ap, refl, sym, subst, inl, inr, ℕ, Bool, true, false, List, [], ◌∷◌, length, Result, Err, arith}
+use Rattle.std.proofs.lemmas.Bool.{false≢true}
+use Rattle.std.proofs.lemmas.List.{append-nil}
+use Rattle.std.specs.List.{AllByRecursion}
+use Rattle.disk.specs.declared.side.Side.{Side}
+use Rattle.disk.specs.File.{File}
+use Rattle.disk.specs.Time.{Contents, LeavesOnly, HasErred}
+use Rattle.terms.specs.declared.name.Addr.{Addr}
+use Rattle.terms.specs.declared.name.Inst.{Inst}
+use Rattle.terms.specs.declared.event.Event.{Event}
+use Rattle.terms.specs.declared.event.Event.TheVariants as event
+use Rattle.terms.specs.Facts.{Fact, event_facts}
+use Rattle.terms.specs.Sets.{Facts, with_facts}
+use Rattle.codec.specs.Commits.{commit_bytes}
+use Rattle.journal.specs.Records.{record_of}
+use Rattle.journal.specs.declared.journal.TheConstants.{LIMIT}
+use Rattle.graph.specs.Fits.{HasNoFault}
+use Rattle.graph.specs.Graph.{Graph}
+use Rattle.instances.specs.declared.state.State.{State}
+use Rattle.instances.specs.declared.state.State.TheVariants.{Ready, Waiting}
+use Rattle.machine.specs.declared.refusal.Refusal.{Refusal}
+use Rattle.machine.specs.declared.refusal.Refusal.TheVariants.{NoSuchCollection, NotFromEnvironment, WrongArity, AlreadyPut, Stopped, Repeat}
+use Rattle.machine.specs.Legal.{IsLegal}
+use Rattle.machine.specs.Machine.{RefusesEnd}
+use Rattle.machine.specs.State.{AreLegalFrom}
+use Rattle.vault.specs.declared.error.VaultError.TheVariants.{Device, NoMemory, Damaged, Full, NotAStore, Halted, Exists}
+use Rattle.vault.specs.Commits.{AppendLeaves, RestLeaves, GatesRest, StandsForBeginning}
+use Rattle.vault.specs.Store.{Holds, HasGates, IsSame, StandsBeforeOrAfter}
+use Rattle.commit.specs.declared.error.CoreError.{CoreError}
+use Rattle.commit.specs.declared.error.CoreError.TheVariants.{Refused, Store}
+use Rattle.commit.specs.declared.outcome.Outcome.{Outcome}
+use Rattle.commit.specs.declared.outcome.Outcome.TheVariants.{Gave, Fault}
+use Rattle.commit.specs.Calls.{Commits, CrashLeaves, GivesBack, Halts, Refuses, Takes, step_count}
+use Rattle.commit.specs.Core.{Core, graph, facts, environment, is_halted}
+use Rattle.commit.specs.Kept.{IsKept}
+use Rattle.commit.specs.Outcome.{IsEndOf}
+use Rattle.commit.specs.Runs.{EndsEarly, IsEnd, IsFull, Runs, RunsOn, one_by_one}
+use Rattle.commit.specs.Steps.{LooksAgain, Moves}
+use Rattle.commit.proofs.Lists.{with_nothing, puts_nothing}
+
+-- an outcome ends its instance
+pub is_end : (outcome : Outcome) (instance : Inst) (end : Event) → IsEndOf outcome instance end → IsEnd end
+is_end (Gave given) instance end is = elim is [ inl done ↦ subst IsEnd (sym done) tt | inr stopped ↦ subst IsEnd (sym stopped) tt ]
+is_end (Fault bad) instance end is = subst IsEnd (sym is) tt
+
+-- an end costs one of the allowance
+costs_one : (end : Event) → IsEnd end → step_count end ≡ 1
+costs_one (event.EnvItem address value) is = absurd is
+costs_one (event.EnvTag name) is = absurd is
+costs_one (event.Done instance puts) is = refl
+costs_one (event.Stopped instance kind) is = refl
+
+-- nothing has changed that is on the disk, or goes there
+pub record SameStore {D : Type 0} (old new : Core D) : Type 0 where
+  pub graph : graph new ≡ graph old
+  pub facts : (fact : Fact) → facts new fact ≡ facts old fact
+  pub environment : (fact : Fact) → environment new fact ≡ environment old fact
+  pub allowance : new.allowance ≡ old.allowance
+  pub disk : new.vault.disk ≡ old.vault.disk
+  pub halted : is_halted new ≡ false
+  pub settled : new.in_doubt ≡ []
+
+pub moved : {D : Type 0} (old new : Core D) (instance : Inst) (to : State) → Moves old new instance to → is_halted old ≡ false → old.in_doubt ≡ [] → SameStore old new
+moved old new instance to moves working settled = record {
+  graph = moves.machine.graph;
+  facts = moves.machine.facts;
+  environment = moves.machine.environment;
+  allowance = moves.allowance;
+  disk = ap (λ v. v.disk) moves.vault;
+  halted = ap (λ v. v.halted) moves.vault ∙ working;
+  settled = moves.in_doubt ∙ settled;
+}
+
+pub looked : {D : Type 0} (old new : Core D) (instance : Inst) (address : Addr) → LooksAgain old new instance address → is_halted old ≡ false → old.in_doubt ≡ [] → SameStore old new
+looked old new instance address looks working settled = elim looks [
+  | inl waits ↦ moved old new instance (Waiting address) waits.1 working settled
+  | inr ready ↦ moved old new instance Ready ready.1 working settled
+]
+
+pub handed_back : {D : Type 0} (old new : Core D) (instance : Inst) → GivesBack old new instance → new.vault ≡ old.vault → new.in_doubt ≡ old.in_doubt → is_halted old ≡ false → old.in_doubt ≡ [] → SameStore old new
+handed_back old new instance back vault doubt working settled = record {
+  graph = back.stays.graph;
+  facts = back.stays.facts;
+  environment = back.stays.environment;
+  allowance = back.stays.allowance;
+  disk = ap (λ v. v.disk) vault;
+  halted = ap (λ v. v.halted) vault ∙ working;
+  settled = doubt ∙ settled;
+}
+
+module _ {D : Type 0} (files : D → Side → File) (moment : D → ℕ) (left_at : D → ℕ → Contents → Type 0) (failures refusals : D → ℕ) (honest : Type 0) where
+  -- ---- nothing changes on the disk
+
+  pub rests : (honest → RestLeaves files moment left_at) → (honest → GatesRest files moment left_at) → (old new : Core D) → is_halted old ≡ false → (honest → IsKept files old) → SameStore old new
+      → Runs files moment left_at failures refusals honest old new []
+  rests leaves gates_rest old new working kept same =
+      let none : [] ++ new.in_doubt ≡ [] = same.settled in
+      record {
+        are_ends = subst (λ (events : List Event). AllByRecursion IsEnd events) (sym none) tt;
+        legal = subst (λ (events : List Event). AreLegalFrom (graph old) (facts old) events) (sym none) tt;
+        graph = same.graph;
+        facts = λ fact. same.facts fact ∙ ap (λ (X : Facts). X fact) (sym (with_nothing (facts old)));
+        environment = same.environment;
+        spent = omega (arith, same.allowance);
+        crashes = λ on.
+            let holds = (kept on).holds working in
+            let of_store = subst (λ (E : Facts). Holds files old.vault (graph old) E (with_facts (facts old) [])) (sym (with_nothing (environment old))) (subst (λ (X : Facts). Holds files old.vault (graph old) (environment old) X) (sym (with_nothing (facts old))) holds) in
+            let here = leaves on old.vault (graph old) (environment old) (facts old) [] of_store in
+            subst (λ (d : D). LeavesOnly moment left_at old.vault.disk d (StandsForBeginning (graph old) (environment old) (facts old) [] (one_by_one ([] ++ new.in_doubt)))) (sym same.disk)
+            (subst (λ (events : List Event). LeavesOnly moment left_at old.vault.disk old.vault.disk (StandsForBeginning (graph old) (environment old) (facts old) [] (one_by_one events))) (sym none) here);
+        gates = λ on has. subst (λ (d : D). LeavesOnly moment left_at old.vault.disk d HasGates) (sym same.disk) (gates_rest on old.vault (graph old) (environment old) (facts old) ((kept on).holds working) has);
+        halts = (λ is. absurd (false≢true (sym same.halted ∙ is)), λ erred. absurd (calm (subst (λ (d : D). HasErred failures refusals old.vault.disk d) same.disk erred)));
+        later = omega (arith, ap failures same.disk);
+        one_in_doubt = λ is. absurd (false≢true (sym same.halted ∙ is));
+      }
+    where
+      calm : HasErred failures refusals old.vault.disk old.vault.disk → ⊥
+      calm (inl grew) = omega (arith, grew)
+      calm (inr changed) = changed refl
+
+  -- no call of the disk was made
+  pub as_it_was : (honest → RestLeaves files moment left_at) → (honest → GatesRest files moment left_at) → (core : Core D) → is_halted core ≡ false → core.in_doubt ≡ [] → (honest → IsKept files core) → RunsOn files moment left_at failures refusals honest core core
+  as_it_was leaves gates_rest core working settled kept = record {
+    ends = [];
+    runs = rests leaves gates_rest core core working kept (record { graph = refl; facts = λ _. refl; environment = λ _. refl; allowance = refl; disk = refl; halted = working; settled = settled });
+  }
+
+  -- ---- an end
+
+  -- at each moment of a commit of one event a crash leaves a beginning of it
+  pub begins : (honest → AppendLeaves files moment left_at) → (old new : Core D) (end : Event) → honest → CrashLeaves files moment left_at old new (end ∷ [])
+      → LeavesOnly moment left_at old.vault.disk new.vault.disk (StandsForBeginning (graph old) (environment old) (facts old) [] (one_by_one (end ∷ [])))
+  begins leaves old new end on it =
+      leaves on old.vault new.vault (graph old) (environment old) (facts old) [] (end ∷ [])
+      (subst (λ (E : Facts). LeavesOnly moment left_at old.vault.disk new.vault.disk (StandsBeforeOrAfter (graph old) E (with_facts (facts old) []) (end ∷ []))) (sym (with_nothing (environment old)))
+      (subst (λ (X : Facts). LeavesOnly moment left_at old.vault.disk new.vault.disk (StandsBeforeOrAfter (graph old) (environment old) X (end ∷ []))) (sym (with_nothing (facts old))) it.facts))
+
+  pub ended : {T : Type 0} → (honest → AppendLeaves files moment left_at) → (old new : Core D) (end : Event) (result : Result T CoreError) → is_halted old ≡ false → 0 < old.allowance → IsEnd end
+      → Takes old new end → new.in_doubt ≡ [] → (honest → CrashLeaves files moment left_at old new (end ∷ [])) → Halts failures refusals old new result → Runs files moment left_at failures refusals honest old new (end ∷ [])
+  ended leaves old new end result working allowed is takes settled moments halts =
+      let one : end ∷ [] ++ new.in_doubt ≡ end ∷ [] = ap (λ (events : List Event). end ∷ events) settled in
+      record {
+        are_ends = subst (λ (events : List Event). AllByRecursion IsEnd events) (sym one) (is, tt);
+        legal = subst (λ (events : List Event). AreLegalFrom (graph old) (facts old) events) (sym one) (takes.legal, tt);
+        graph = takes.takes.graph;
+        facts = λ fact. takes.takes.facts fact ∙ ap (λ (list : List Fact). with_facts (facts old) list fact) (sym (append-nil (event_facts end)));
+        environment = λ fact. takes.takes.environment fact ∙ ap (λ (list : List Fact). with_facts (environment old) list fact) (puts_nothing end is) ∙ ap (λ (E : Facts). E fact) (with_nothing (environment old));
+        spent = omega (arith, takes.allowance, costs_one end is, allowed);
+        crashes = λ on.
+            subst (λ (events : List Event). LeavesOnly moment left_at old.vault.disk new.vault.disk (StandsForBeginning (graph old) (environment old) (facts old) [] (one_by_one events))) (sym one)
+            (begins leaves old new end on (moments on));
+        gates = λ on has. (moments on).gates has;
+        halts = (λ halted. elim (halts.halts.0 halted) [ inl before ↦ absurd (false≢true (sym working ∙ before)) | inr erred ↦ erred ], λ erred. halts.halts.1 (inr erred));
+        later = halts.disk.later;
+        one_in_doubt = λ is. absurd (false≢true (sym takes.working.1 ∙ is));
+      }
+
+  -- ---- an end that is refused
+
+  -- an error of the disk comes only where the end was legal
+  pub legal_in_doubt : {T : Type 0} (old new : Core D) (causes : Refusal → Type 0) (end : Event) (error : CoreError) → Refuses old causes end error → Halts {T = T} failures refusals old new (Err error)
+      → HasErred failures refusals old.vault.disk new.vault.disk → IsLegal (graph old) (facts old) end
+  legal_in_doubt {T} old new causes end error why halts (inl grew) = device error why (inside (halts.disk.device.1 grew))
+    where
+      inside : {cause : CoreError} → ◌≡◌ {A = Result T CoreError} (Err error) (Err cause) → error ≡ cause
+      inside is = cc
+
+      device : (e : CoreError) → Refuses old causes end e → e ≡ Store Device → IsLegal (graph old) (facts old) end
+      device e refuses is = (subst (λ (x : CoreError). Refuses old causes end x) is refuses).1
+  legal_in_doubt {T} old new causes end error why halts (inr changed) = memory error why (inside (halts.disk.refused changed))
+    where
+      inside : {cause : CoreError} → ◌≡◌ {A = Result T CoreError} (Err error) (Err cause) → error ≡ cause
+      inside is = cc
+
+      memory : (e : CoreError) → Refuses old causes end e → e ≡ Store NoMemory → IsLegal (graph old) (facts old) end
+      memory e refuses is = (subst (λ (x : CoreError). Refuses old causes end x) is refuses).1
+
+  pub refused : {T : Type 0} → (honest → AppendLeaves files moment left_at) → (honest → RestLeaves files moment left_at) → (honest → GatesRest files moment left_at) → (old new : Core D) (instance : Inst) (end : Event) (error : CoreError)
+      → is_halted old ≡ false → old.in_doubt ≡ [] → 0 < old.allowance → (honest → IsKept files old) → IsEnd end → GivesBack old new instance → Commits {T = T} files moment left_at honest old new (RefusesEnd old.machine) end (Err error)
+      → Halts {T = T} failures refusals old new (Err error) → Runs files moment left_at failures refusals honest old new []
+  refused {T} leaves rest_leaves gates_rest old new instance end error working settled allowed kept is back commits halts = at (is_halted new) refl
+    where
+      at : (b : Bool) → is_halted new ≡ b → Runs files moment left_at failures refusals honest old new []
+      at false goes =
+          let same = halts.same (goes ∙ sym working) in
+          rests rest_leaves gates_rest old new working kept (record {
+            graph = back.stays.graph;
+            facts = back.stays.facts;
+            environment = back.stays.environment;
+            allowance = back.stays.allowance;
+            disk = same.0.disk;
+            halted = goes;
+            settled = same.1 ∙ settled;
+          })
+      at true stops =
+          let doubt : new.in_doubt ≡ end ∷ [] = commits.doubt working stops in
+          let erred : HasErred failures refusals old.vault.disk new.vault.disk = elim (halts.halts.0 stops) [ inl before ↦ absurd (false≢true (sym working ∙ before)) | inr it ↦ it ] in
+          let legal = legal_in_doubt old new (RefusesEnd old.machine) end error commits.refused halts erred in
+          record {
+            are_ends = subst (λ (events : List Event). AllByRecursion IsEnd events) (sym doubt) (is, tt);
+            legal = subst (λ (events : List Event). AreLegalFrom (graph old) (facts old) events) (sym doubt) (legal, tt);
+            graph = back.stays.graph;
+            facts = λ fact. back.stays.facts fact ∙ ap (λ (X : Facts). X fact) (sym (with_nothing (facts old)));
+            environment = back.stays.environment;
+            spent = omega (arith, back.stays.allowance);
+            crashes = λ on.
+                subst (λ (events : List Event). LeavesOnly moment left_at old.vault.disk new.vault.disk (StandsForBeginning (graph old) (environment old) (facts old) [] (one_by_one events))) (sym doubt)
+                (begins leaves old new end on (commits.moments on working));
+            gates = λ on has. (commits.moments on working).gates has;
+            halts = (λ _. erred, λ _. stops);
+            later = halts.disk.later;
+            one_in_doubt = λ _. (end, doubt, allowed);
+          }
+
+  -- why it ends the run
+  pub ends_early : {T : Type 0} (old new : Core D) (instance : Inst) (end : Event) (error : CoreError) → is_halted old ≡ false → 0 < old.allowance → HasNoFault (facts old) → IsEnd end → GivesBack old new instance
+      → Refuses old (RefusesEnd old.machine) end error → Halts {T = T} failures refusals old new (Err error) → EndsEarly new error
+  ends_early {T} old new instance end error working allowed none is back why halts goes = at error why refl
+    where
+      same : IsSame old.vault new.vault × (new.in_doubt ≡ old.in_doubt)
+      same = halts.same (goes ∙ sym working)
+
+      outside : {cause : CoreError} → error ≡ cause → ◌≡◌ {A = Result T CoreError} (Err error) (Err cause)
+      outside is = cc
+
+      at : (e : CoreError) → Refuses old (RefusesEnd old.machine) end e → error ≡ e → (error ≡ Store NoMemory) ⊎ ((error ≡ Store Full) × IsFull new × (0 < new.allowance))
+      at (Refused (Stopped stopped kind)) refuses told = absurd (false≢true (sym (none stopped kind) ∙ refuses.1))
+      at (Refused NoSuchCollection) refuses told = absurd refuses.1
+      at (Refused NotFromEnvironment) refuses told = absurd refuses.1
+      at (Refused WrongArity) refuses told = absurd refuses.1
+      at (Refused (AlreadyPut value)) refuses told = absurd refuses.1
+      at (Refused Repeat) refuses told = absurd refuses.1
+      at (Store Halted) refuses told = absurd (false≢true (sym working ∙ refuses))
+      at (Store Device) refuses told = absurd (false≢true (sym goes ∙ halts.halts.1 (inr (inl (halts.disk.device.0 (outside told))))))
+      at (Store NoMemory) refuses told = inl told
+      at (Store Full) refuses told =
+          let sets : facts old ≡ facts new = λ i fact. sym (back.stays.facts fact) i in
+          let legal = subst (λ (g : Graph). IsLegal g (facts new) end) (sym back.stays.graph) (subst (λ (X : Facts). IsLegal (graph old) X end) sets refuses.1) in
+          inr (told, (end, is, legal, subst (λ n. LIMIT ≤ n + length (record_of (commit_bytes (end ∷ [])))) (sym same.0.end) refuses.2), omega (arith, back.stays.allowance, allowed))
+      at (Store (Damaged side place)) refuses told = absurd refuses
+      at (Store NotAStore) refuses told = absurd refuses
+      at (Store Exists) refuses told = absurd refuses

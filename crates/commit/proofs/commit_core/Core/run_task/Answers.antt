@@ -1,0 +1,61 @@
+use Rattle.std.proofs.Common.{[], ◌∷◌, IsTrue}
+use Rattle.commit.proofs.Idle.{behind_end, ends}
+use Rattle.commit.proofs.Running.{ended, ends_early, handed_back, is_end, looked, moved, refused, rests}
+use Rattle.commit.proofs.commit_core.Core.run_task.Goals as goal
+
+pub returns-in-Ok-clause-idle : goal.returns-in-Ok-clause-idle
+returns-in-Ok-clause-idle g c =
+    let it = c.in-Ok.ensures.finishes in
+    behind_end c.args.self.now c.finish.new.self c.args.task c.requires.alone it.end (ends _ c.args.task it.end it.is_end) it.commits.takes.takes
+
+pub returns-in-Ok-clause-runs : goal.returns-in-Ok-clause-runs
+returns-in-Ok-clause-runs g c =
+    let it = c.in-Ok.ensures.finishes in
+    record {
+      ends = it.end ∷ [];
+      runs =
+          ended g.D.Disk.files g.D.Disk.moment g.D.Disk.left_at g.D.Disk.failures g.D.Disk.refusals (IsTrue g.D.Disk.is_honest) (λ _. c.stores_go_on.ensures.append_leaves) c.args.self.now c.finish.new.self it.end _ c.requires.working c.requires.allowed
+          (is_end _ c.args.task it.end it.is_end) it.commits.takes c.in-Ok.ensures.halts.settled (λ honest. it.commits.moments honest c.requires.working) c.in-Ok.ensures.halts;
+    }
+
+pub returns-in-Err-finish-clause-runs : goal.returns-in-Err-finish-clause-runs
+returns-in-Err-finish-clause-runs g c =
+    let it = c.in-Err-finish.ensures.finishes in
+    record {
+      ends = [];
+      runs =
+          refused g.D.Disk.files g.D.Disk.moment g.D.Disk.left_at g.D.Disk.failures g.D.Disk.refusals (IsTrue g.D.Disk.is_honest) (λ _. c.stores_go_on.ensures.append_leaves) c.stores_go_on.ensures.rest_leaves c.stores_go_on.ensures.gates_rest
+          c.args.self.now c.finish.new.self c.args.task it.end _ c.requires.working (c.is_kept.ensures.settled c.requires.working) c.requires.allowed c.is_kept.ensures.kept (is_end _ c.args.task it.end it.is_end) c.in-Err-finish.ensures.err it.commits c.in-Err-finish.ensures.halts;
+    }
+
+pub returns-in-Err-finish-clause-err : goal.returns-in-Err-finish-clause-err
+returns-in-Err-finish-clause-err g c =
+    let it = c.in-Err-finish.ensures.finishes in
+    ends_early g.D.Disk.files g.D.Disk.moment g.D.Disk.left_at g.D.Disk.failures g.D.Disk.refusals (IsTrue g.D.Disk.is_honest) c.args.self.now c.finish.new.self c.args.task it.end _ c.requires.working c.requires.allowed c.requires.no_fault
+    (is_end _ c.args.task it.end it.is_end) c.in-Err-finish.ensures.err it.commits.refused c.in-Err-finish.ensures.halts
+
+pub returns-in-Ok-park-clause-runs : goal.returns-in-Ok-park-clause-runs
+returns-in-Ok-park-clause-runs g c = record {
+  ends = [];
+  runs =
+      rests g.D.Disk.files g.D.Disk.moment g.D.Disk.left_at g.D.Disk.failures g.D.Disk.refusals (IsTrue g.D.Disk.is_honest) c.stores_go_on.ensures.rest_leaves c.stores_go_on.ensures.gates_rest c.args.self.now c.park.new.self c.requires.working c.is_kept.ensures.kept
+      (looked c.args.self.now c.park.new.self c.args.task _ c.in-Ok-park.ensures.ok.1 c.requires.working (c.is_kept.ensures.settled c.requires.working));
+}
+
+pub returns-in-Err-park-clause-runs : goal.returns-in-Err-park-clause-runs
+returns-in-Err-park-clause-runs g c =
+    let it = c.in-Err-park.ensures in
+    record {
+      ends = [];
+      runs =
+          rests g.D.Disk.files g.D.Disk.moment g.D.Disk.left_at g.D.Disk.failures g.D.Disk.refusals (IsTrue g.D.Disk.is_honest) c.stores_go_on.ensures.rest_leaves c.stores_go_on.ensures.gates_rest c.args.self.now c.park.new.self c.requires.working c.is_kept.ensures.kept
+          (handed_back c.args.self.now c.park.new.self c.args.task it.err it.refused.vault it.refused.in_doubt c.requires.working (c.is_kept.ensures.settled c.requires.working));
+    }
+
+pub returns-in-Err-clause-runs : goal.returns-in-Err-clause-runs
+returns-in-Err-clause-runs g c = record {
+  ends = [];
+  runs =
+      rests g.D.Disk.files g.D.Disk.moment g.D.Disk.left_at g.D.Disk.failures g.D.Disk.refusals (IsTrue g.D.Disk.is_honest) c.stores_go_on.ensures.rest_leaves c.stores_go_on.ensures.gates_rest c.args.self.now c.release.new.self c.requires.working c.is_kept.ensures.kept
+      (moved c.args.self.now c.release.new.self c.args.task _ c.release.ensures c.requires.working (c.is_kept.ensures.settled c.requires.working));
+}

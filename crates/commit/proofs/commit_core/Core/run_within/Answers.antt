@@ -1,0 +1,18 @@
+use Rattle.std.proofs.Common.{◌≡◌, ◌∙◌, ap, length, max, subst, IsTrue, arith}
+use Rattle.commit.specs.Core.{Core}
+use Rattle.commit.specs.Runs.{Runs, with_allowance}
+use Rattle.commit.specs.Steps.{running_count}
+use Rattle.commit.proofs.Counted.{none_runs}
+use Rattle.commit.proofs.commit_core.Core.run_within.Goals as goal
+
+pub returns-in-Ok-clause-runs : goal.returns-in-Ok-clause-runs
+returns-in-Ok-clause-runs g c _ =
+    let old = c.args.self.now in
+    let none : running_count old ≡ 0 = let here = (none_runs old.machine c.are_counted.ensures).1 c.requires.idle in omega (arith, here) in
+    let exact : max c.args.limit (running_count old) ≡ c.args.limit = omega (arith, none) in
+    let allowed : c.allow.new.self ≡ with_allowance old c.args.limit = c.in-Ok.ensures.ok.1 ∙ ap (λ n. with_allowance old n) exact in
+    let it = c.run_allowed-went.ensures.runs in
+    let runs =
+    subst (λ (first : Core g.row.D.Denot). Runs g.D.Disk.files g.D.Disk.moment g.D.Disk.left_at g.D.Disk.failures g.D.Disk.refusals (IsTrue g.D.Disk.is_honest) first c.run_allowed-went.new.self it.ends) allowed it.runs
+    in
+    record { ends = it.ends; runs = runs; told = c.verdict.ensures c.args.limit (length it.ends) runs.spent }

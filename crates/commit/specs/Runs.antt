@@ -1,0 +1,107 @@
+-- A run of the steps of a core: the ends of instances that it commits, and what it answers.
+use Rattle.std.specs.Prelude.{◌≡◌, ◌≢◌, ◌⊎◌, ◌↔◌, ◌+◌, ◌<◌, ◌≤◌, ⊤, ℕ, Bool, true, false, List, [], ◌∷◌, ◌++◌, map, length, Some, Result, Ok, Err}
+use Rattle.std.specs.List.{AllByRecursion}
+use Rattle.disk.specs.declared.side.Side.{Side}
+use Rattle.disk.specs.File.{File}
+use Rattle.disk.specs.Time.{Contents, LeavesOnly, HasErred}
+use Rattle.terms.specs.declared.name.Inst.{Inst}
+use Rattle.terms.specs.declared.event.Event.{Event}
+use Rattle.terms.specs.declared.event.Event.TheVariants as event
+use Rattle.terms.specs.Commits.{Commit}
+use Rattle.terms.specs.Facts.{Fact}
+use Rattle.terms.specs.Facts as stated
+use Rattle.terms.specs.Sets.{with_facts}
+use Rattle.instances.specs.declared.state.State.TheVariants.{Running}
+use Rattle.machine.specs.Legal.{IsLegal}
+use Rattle.machine.specs.State.{AreLegalFrom}
+use Rattle.vault.specs.Commits.{StandsForBeginning}
+use Rattle.vault.specs.Opened.{contents_of}
+use Rattle.vault.specs.Store.{HasGates}
+use Rattle.commit.specs.declared.error.CoreError.{CoreError}
+use Rattle.commit.specs.declared.error.CoreError.TheVariants.{Store}
+use Rattle.vault.specs.declared.error.VaultError.TheVariants as vault
+use Rattle.commit.specs.declared.status.Status.{Status}
+use Rattle.commit.specs.declared.status.Status.TheVariants as status
+use Rattle.commit.specs.declared.verdict.Verdict.{Verdict}
+use Rattle.commit.specs.declared.verdict.Verdict.TheVariants.{Complete, Blocked, Stopped, Limit, Asked, Halted}
+use Rattle.commit.specs.declared.verdict.RunError.{RunError}
+use Rattle.commit.specs.declared.verdict.RunError.TheVariants.{Spawn, NoMemory, Full}
+use Rattle.commit.specs.Calls.{IsTooLong}
+use Rattle.commit.specs.Core.{Core, graph, facts, state_of, is_halted}
+use Rattle.commit.specs.Core as core
+use Rattle.commit.specs.Status.{TellsStatus, IsMeantIfQuiet}
+
+-- no instance runs
+abbrev pub NoneRuns : {D : Type 0} → Core D → Type 0
+NoneRuns c = (instance : Inst) → state_of c instance ≢ Some Running
+
+-- ---- what is committed
+
+-- an instance comes to its end: it is done, or at fault
+abbrev pub IsEnd : Event → Type 0
+IsEnd (event.EnvItem address value) = ⊥
+IsEnd (event.EnvTag name) = ⊥
+IsEnd (event.Done instance puts) = ⊤
+IsEnd (event.Stopped instance kind) = ⊤
+
+-- each event is a commit of its own
+abbrev pub one_by_one : List Event → List Commit
+one_by_one events = map (λ one. one ∷ []) events
+
+-- From a core that is not halted these ends of instances were committed, one after another; and where it is halted now, one more is in doubt. They
+-- were legal, and state all that is new; each used one of the allowance. At each moment a crash leaves what some of the first of them state, each of
+-- which is there whole. The core is halted exactly where a call of the disk answered an error.
+pub record Runs {D : Type 0} (files : D → Side → File) (moment : D → ℕ) (left_at : D → ℕ → Contents → Type 0) (failures refusals : D → ℕ) (honest : Type 0) (old new : Core D) (ends : List Event) : Type 0 where
+  pub are_ends : AllByRecursion IsEnd (ends ++ new.in_doubt)
+  pub legal : AreLegalFrom (core.graph old) (core.facts old) (ends ++ new.in_doubt)
+  pub graph : core.graph new ≡ core.graph old
+  pub facts : (fact : Fact) → core.facts new fact ≡ with_facts (core.facts old) (stated.facts ends) fact
+  pub environment : (fact : Fact) → core.environment new fact ≡ core.environment old fact
+  pub spent : new.allowance + length ends ≡ old.allowance
+  pub crashes : honest → LeavesOnly moment left_at old.vault.disk new.vault.disk (StandsForBeginning (core.graph old) (core.environment old) (core.facts old) [] (one_by_one (ends ++ new.in_doubt)))
+  pub gates : honest → HasGates (contents_of (files old.vault.disk)) → LeavesOnly moment left_at old.vault.disk new.vault.disk HasGates
+  pub halts : (is_halted new ≡ true) ↔ HasErred failures refusals old.vault.disk new.vault.disk
+  pub later : failures old.vault.disk ≤ failures new.vault.disk
+  pub one_in_doubt : is_halted new ≡ true → (end : Event) × (new.in_doubt ≡ end ∷ []) × (length ends < old.allowance)
+
+-- ---- what is answered
+
+-- the core is not halted, and this is how far it is
+abbrev pub IsAt : {D : Type 0} → Core D → Status → Type 0
+IsAt c status = (is_halted c ≡ false) × TellsStatus c status × IsMeantIfQuiet c status
+
+-- an end of an instance may come, whose record does not fit
+abbrev pub IsFull : {D : Type 0} → Core D → Type 0
+IsFull c = (end : Event) × IsEnd end × IsLegal (graph c) (facts c) end × IsTooLong c end
+
+-- This is answered behind a run with this limit, in which so many ends were committed, by a driver that may be asked to stop, or may start threads.
+-- The first line that holds is answered, in this order: the core is halted; it is stopped; it is quiet. Of the other lines something is
+-- ready, and there is no fault. Of these three errors and the limit any may be told that holds; one thread tells `Full` only where its limit was not met.
+abbrev pub TellsVerdict : {D : Type 0} → (may_be_asked may_spawn : Bool) → Core D → (limit count : ℕ) → Result Verdict RunError → Type 0
+TellsVerdict may_be_asked may_spawn c limit count (Ok Halted) = is_halted c ≡ true
+TellsVerdict may_be_asked may_spawn c limit count (Ok (Stopped instance kind)) = IsAt c (status.Stopped instance kind)
+TellsVerdict may_be_asked may_spawn c limit count (Ok Complete) = IsAt c (status.Quiet 0)
+TellsVerdict may_be_asked may_spawn c limit count (Ok (Blocked blocked)) = IsAt c (status.Quiet blocked) × (blocked ≢ 0)
+TellsVerdict may_be_asked may_spawn c limit count (Err Spawn) = IsAt c status.Working × (may_spawn ≡ true)
+TellsVerdict may_be_asked may_spawn c limit count (Err NoMemory) = IsAt c status.Working
+TellsVerdict may_be_asked may_spawn c limit count (Err Full) = IsAt c status.Working × IsFull c × ((count ≢ limit) ⊎ (may_spawn ≡ true))
+TellsVerdict may_be_asked may_spawn c limit count (Ok Limit) = IsAt c status.Working × (count ≡ limit)
+TellsVerdict may_be_asked may_spawn c limit count (Ok Asked) = IsAt c status.Working × (may_be_asked ≡ true) × (count ≢ limit)
+
+-- why a run ends before its limit in a core that is not halted: memory was refused, or it is full, and the limit not met
+abbrev pub EndsEarly : {D : Type 0} → Core D → CoreError → Type 0
+EndsEarly c error = is_halted c ≡ false → (error ≡ Store vault.NoMemory) ⊎ ((error ≡ Store vault.Full) × IsFull c × (0 < c.allowance))
+
+-- A run with a limit: from a core that is halted nothing changes, and that is told; else it may commit as many ends of instances, and tells how it ended.
+abbrev pub with_allowance : {D : Type 0} → Core D → ℕ → Core D
+with_allowance c count = record c { allowance = count }
+
+pub record RunsWithin {D : Type 0} (files : D → Side → File) (moment : D → ℕ) (left_at : D → ℕ → Contents → Type 0) (failures refusals : D → ℕ) (honest : Type 0) (may_be_asked may_spawn : Bool) (old new : Core D) (limit : ℕ) (result : Result Verdict RunError) : Type 0 where
+  pub ends : List Event
+  pub runs : Runs files moment left_at failures refusals honest (with_allowance old limit) new ends
+  pub told : TellsVerdict may_be_asked may_spawn new limit (length ends) result
+
+-- the same, where what is committed is of no account
+pub record RunsOn {D : Type 0} (files : D → Side → File) (moment : D → ℕ) (left_at : D → ℕ → Contents → Type 0) (failures refusals : D → ℕ) (honest : Type 0) (old new : Core D) : Type 0 where
+  pub ends : List Event
+  pub runs : Runs files moment left_at failures refusals honest old new ends

@@ -1,0 +1,19 @@
+ghost use Rattle.std.specs.Prelude.{◌<◌};
+
+/// Who picks which of the ready instances runs next. The answers of a store don't depend on it.
+pub trait Choose {
+    /// The number of one of so many ready instances, from 0.
+    fn pick(&mut self, ready: usize) -> usize
+        requires { 0 < ready }
+        ensures { result < ready };
+}
+
+/// Always picks the first.
+#[derive(Clone, Copy, Debug, PartialEq, Eq)]
+pub struct First;
+
+impl Choose for First {
+    fn pick(&mut self, _ready: usize) -> usize {
+        0
+    }
+}

@@ -1,0 +1,34 @@
+use terms::{FaultKind, Inst};
+use thiserror::Error;
+
+/// How a run ended: the first of these that holds behind it, in the order `Halted`, `Stopped`, `Complete` or `Blocked`, then each `RunError`, `Limit`,
+/// `Asked`.
+#[derive(Clone, Copy, Debug, PartialEq, Eq)]
+pub enum Verdict {
+    /// Nothing is left to do, and each prescribed instance is done.
+    Complete,
+    /// Nothing is left to do: so many instances wait for items that are not there.
+    Blocked(usize),
+    /// The store is stopped by this fault of this instance.
+    Stopped(Inst, FaultKind),
+    /// Exactly as many ends of instances were committed as the limit says, and something is left to do.
+    Limit,
+    /// The run was asked to stop.
+    Asked,
+    /// A call of the disk answered an error: the store is to be opened again.
+    Halted,
+}
+
+/// Why a run ended before its limit, where the store is neither halted, stopped nor quiet. What was committed stays.
+#[derive(Clone, Copy, Debug, PartialEq, Eq, Error)]
+pub enum RunError {
+    /// A thread could not be started.
+    #[error("no thread")]
+    Spawn,
+    /// Memory was refused.
+    #[error("no memory")]
+    NoMemory,
+    /// The record of an end does not fit.
+    #[error("full")]
+    Full,
+}
