@@ -1,6 +1,5 @@
 //! Which of the ready instances runs next: `first`, `last`, or a list of numbers, as `3,1,4`, taken in turn and over and over.
-ghost use Rattle.std.specs.Prelude.{◌<◌};
-
+use commit::Choose;
 use std::alloc::{AllocError, Global};
 
 /// Who picks.
@@ -29,15 +28,14 @@ impl Chooser {
             _ => Ok(Numbers::read(alloc, name)?.map(Chooser::Listed)),
         }
     }
+}
 
-    /// The number of the instance that runs, of so many.
-    pub(crate) fn pick(&mut self, ready: usize) -> usize
-        ensures { 0 < ready → result < ready }
-    {
+impl Choose for Chooser {
+    fn pick(&mut self, ready: usize) -> usize {
         match self {
             Chooser::First => 0,
-            Chooser::Last => ready.saturating_sub(1),
-            Chooser::Listed(numbers) => within(numbers.take(), ready),
+            Chooser::Last => ready - 1,
+            Chooser::Listed(numbers) => numbers.take() % ready,
         }
     }
 }
@@ -66,11 +64,4 @@ impl Numbers {
         };
         number
     }
-}
-
-// The number, counted from 0 again at each `count`.
-fn within(number: usize, count: usize) -> usize
-    ensures { 0 < count → result < count }
-{
-    if count == 0 { 0 } else { number % count }
 }

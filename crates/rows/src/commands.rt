@@ -9,10 +9,11 @@
 //! - `machine NAME CHOOSERS`: a story of a store in memory, once for each chooser (`states`)
 //! - `core NUMBERS`: a story of a store on a memory disk with its steps, once for each number (`cores`)
 //! - `first`: bytes that begin with a record (`journals`)
-//! - `store NUMBERS`: a story of a store on a memory disk, once for each number (`stories`)
+//! - `store NUMBERS`: a story of a store on a memory disk, once for each number (`vault_stories`)
 use crate::names::Names;
 use crate::{
     bodies, bytes, codecs, cores, graphs, item_calls, journals, orders, states, stories, texts,
+    vaults,
 };
 use std::alloc::{AllocError, Global};
 
@@ -38,9 +39,9 @@ pub(crate) fn answer(
             Some(text) => bodies::answer(alloc, text, input),
             None => String::from_str(alloc, "no such name\n"),
         },
-        "core" => cores::answer(alloc, names, rest, input),
+        "core" => stories::answer::<cores::Store>(alloc, names, rest, input),
         "machine" => states::answer(alloc, names, rest, input),
-        "store" => stories::answer(alloc, names, rest, input),
+        "store" => stories::answer::<vaults::World>(alloc, names, rest, input),
         "rising" => orders::answer(alloc, names, rest, input),
         "items" => item_calls::answer(alloc, input),
         _ => answer_bytes(alloc, names, command, input),

@@ -3,10 +3,9 @@
 use crate::bodies::tell_address;
 use crate::choosers::Chooser;
 use crate::named::{address_of, tag_of, tell_named};
-use commit::{Came, Core, CoreError, CreateError, Status};
+use commit::{Core, CoreError, CreateError, RunError, Status, Verdict, run_with};
 use disk::MemDisk;
 use std::alloc::{AllocError, Global};
-use std::sync::Arc;
 use terms::{Addr, FaultKind, Inst};
 use vault::VaultError;
 
@@ -22,9 +21,10 @@ pub(crate) fn take(
         "tag" => put_tag(alloc, core, rest, told),
         "put" => put_item(alloc, core, rest, told),
         "get" => get(alloc, core, rest, told),
-        "run" => run(alloc, core, rest, told),
         "status" => tell_status(core, told),
         "report" => report(alloc, core, rest, told),
+        "counts" => tell_counts(core, told),
+        "items" => tell_items(core, rest, told),
         "turn" => turn(alloc, core, told),
         _ => told.push_str("no such call"),
     }
@@ -85,41 +85,40 @@ fn turn(alloc: Global, core: &mut Core<MemDisk>, told: &mut String) -> Result<()
     }
 }
 
-// Lets ready instances run, at most so many to an end, and tells how the store is then.
-fn run(
+/// Runs the steps, at most so many of them to an end, and tells how that ended.
+pub(crate) fn run(
     alloc: Global,
-    core: &mut Core<MemDisk>,
+    core: Core<MemDisk>,
     words: &str,
     told: &mut String,
-) -> Result<(), AllocError> {
+) -> Result<Core<MemDisk>, AllocError> {
     let (name, limit) = words.split_once(' ').unwrap_or((words, "1000000000"));
     let Some(mut chooser) = Chooser::named(alloc, name)? else {
-        return told.push_str("no such chooser");
+        told.push_str("no such chooser")?;
+        return Ok(core);
     };
-    if core.allow(limit.parse::<u64>().unwrap_or(0)).is_ok() {
-        for _ in 0..u64::MAX {
-            let ready = core.ready();
-            if ready == 0 || !run_ready(alloc, core, chooser.pick(ready))? {
-                break;
-            }
-        }
+    if core.running() != 0 {
+        told.push_str("an instance runs")?;
+        return Ok(core);
     }
-    tell_status(core, told)
+    let (core, verdict) = run_with(alloc, core, &mut chooser, limit.parse::<u64>().unwrap_or(0));
+    tell_verdict(&core, verdict, told)?;
+    Ok(core)
 }
 
-// Lets the ready instance with this number run, to its end or to an item that is not there. Whether it did.
-fn run_ready(alloc: Global, core: &mut Core<MemDisk>, at: usize) -> Result<bool, AllocError> {
-    let graph = Arc::clone(core.graph())?;
-    let Ok(Some(task)) = core.claim(at) else {
-        return Ok(false);
-    };
-    match core.run(alloc, &graph, &task) {
-        Ok(Came::Ended(outcome)) => Ok(core.finish(task, outcome).is_ok()),
-        Ok(Came::Waits(parked)) => Ok(core.park(task, parked).is_ok()),
-        Err(_) => {
-            core.release(task);
-            Ok(false)
-        }
+fn tell_verdict(
+    core: &Core<MemDisk>,
+    verdict: Result<Verdict, RunError>,
+    told: &mut String,
+) -> Result<(), AllocError> {
+    match verdict {
+        Ok(Verdict::Complete) => told.push_str("complete"),
+        Ok(Verdict::Blocked(blocked)) => write!(told, "blocked {blocked}"),
+        Ok(Verdict::Stopped(instance, kind)) => tell_fault(core, &instance, kind, told),
+        Ok(Verdict::Limit) => told.push_str("limit"),
+        Ok(Verdict::Asked) => told.push_str("asked"),
+        Ok(Verdict::Halted) => told.push_str("halted"),
+        Err(error) => write!(told, "ended early: {error}"),
     }
 }
 
@@ -208,4 +207,30 @@ fn tell_value(
         }
         Err(error) => write!(told, "refused: {error}"),
     }
+}
+
+fn tell_counts(core: &Core<MemDisk>, told: &mut String) -> Result<(), AllocError> {
+    let counts = core.counts();
+    write!(
+        told,
+        "{} items, {} tags, {} of {} steps done",
+        counts.items, counts.tags, counts.done, counts.prescribed
+    )
+}
+
+// The items of the collection with this name.
+fn tell_items(core: &Core<MemDisk>, name: &str, told: &mut String) -> Result<(), AllocError> {
+    let Some(collection) = core.graph().item_number(name) else {
+        return told.push_str("no such collection");
+    };
+    let mut is_first = true;
+    for (address, value) in core.items_of(collection) {
+        if !is_first {
+            told.push_str(", ")?;
+        }
+        is_first = false;
+        tell_address(core.graph(), &address, told)?;
+        write!(told, " = {value}")?;
+    }
+    Ok(())
 }

@@ -1,10 +1,10 @@
-//! Stories of a store on a memory disk with its steps: `core NUMBERS`, and below it a line for each call. The story is told once for each of the
-//! numbers, which `$` stands for, or once where there are none. What the calls answer is a line for each time.
+//! Stories of a store on a memory disk with its steps: `core NUMBERS`, and below it a line for each call (`stories`).
 //!
 //! `create NAME`, `open`; `tag <n: 2>`, `put [fib: 0] = 0`, `get [fib: 1]`; `run CHOOSER LIMIT`, where the chooser is one of `choosers`; `status`,
-//! `report ADDRESS; ADDRESS..`, `turn`. `fail NUMBER`: the call of the disk with this number from now on fails. All other words are calls on the two
+//! `report ADDRESS; ADDRESS..`, `items NAME`, `counts`, `turn`. `fail NUMBER`: the call of the disk with this number from now on fails. All other words are calls on the two
 //! files, which close the store (`disks`).
 use crate::names::Names;
+use crate::stories::World;
 use crate::{core_calls as calls, disks};
 use commit::{Core, NotCreated};
 use disk::MemDisk;
@@ -13,88 +13,53 @@ use vault::Refused;
 
 /// A disk, or a store that is open on it.
 #[derive(Drop)]
-enum World {
+pub(crate) enum Store {
     Closed(MemDisk),
     Open(Core<MemDisk>),
 }
 
-/// What the calls of a story answer.
-pub(crate) fn answer(
-    alloc: Global,
-    names: &Names,
-    numbers: &str,
-    lines: &str,
-) -> Result<String, AllocError> {
-    let mut out = String::new(alloc);
-    if numbers.is_empty() {
-        tell(alloc, names, "0", lines, &mut out)?;
+impl World for Store {
+    fn begin(alloc: Global) -> Self {
+        Store::Closed(MemDisk::new(alloc))
     }
-    for number in numbers.split_whitespace() {
-        write!(out, "{number}: ")?;
-        tell(alloc, names, number, lines, &mut out)?;
-    }
-    Ok(out)
-}
 
-fn tell(
-    alloc: Global,
-    names: &Names,
-    number: &str,
-    lines: &str,
-    out: &mut String,
-) -> Result<(), AllocError> {
-    let mut world = World::Closed(MemDisk::new(alloc));
-    let mut is_first = true;
-    for line in lines.lines() {
-        let mut told = String::new(alloc);
-        world = take(alloc, names, world, number, line, &mut told)?;
-        if !told.is_empty() {
-            if !is_first {
-                out.push_str("; ")?;
-            }
-            out.push_str(told.as_str())?;
-            is_first = false;
+    fn take(
+        self,
+        alloc: Global,
+        names: &Names,
+        number: &str,
+        line: &str,
+        told: &mut String,
+    ) -> Result<Self, AllocError> {
+        let (word, rest) = line.split_once(' ').unwrap_or((line, ""));
+        match word {
+            "create" => create(alloc, names, closed(self), rest, told),
+            "open" => open(alloc, closed(self), told),
+            "fail" => fail(closed(self), if rest == "$" { number } else { rest }, told),
+            "crash" | "length" | "has" | "write" => on_disk(
+                alloc,
+                names,
+                closed(self),
+                word,
+                rest,
+                told,
+            ),
+            _ => match self {
+                Store::Open(core) => on_core(alloc, core, word, rest, told),
+                Store::Closed(disk) => {
+                    told.push_str("closed")?;
+                    Ok(Store::Closed(disk))
+                }
+            },
         }
     }
-    out.push_str("\n")
 }
 
-// One call.
-fn take(
-    alloc: Global,
-    names: &Names,
-    world: World,
-    number: &str,
-    line: &str,
-    told: &mut String,
-) -> Result<World, AllocError> {
-    let (word, rest) = line.split_once(' ').unwrap_or((line, ""));
-    match word {
-        "create" => create(alloc, names, closed(world), rest, told),
-        "open" => open(alloc, closed(world), told),
-        "fail" => fail(closed(world), if rest == "$" { number } else { rest }, told),
-        "crash" | "length" | "has" | "write" => on_disk(
-            alloc,
-            names,
-            closed(world),
-            word,
-            rest,
-            told,
-        ),
-        _ => match world {
-            World::Open(core) => on_core(alloc, core, word, rest, told),
-            World::Closed(disk) => {
-                told.push_str("closed")?;
-                Ok(World::Closed(disk))
-            }
-        },
-    }
-}
-
-fn closed(world: World) -> MemDisk {
+// The disk, closed.
+fn closed(world: Store) -> MemDisk {
     match world {
-        World::Closed(disk) => disk,
-        World::Open(core) => core.into_disk(),
+        Store::Closed(disk) => disk,
+        Store::Open(core) => core.into_disk(),
     }
 }
 
@@ -106,10 +71,10 @@ fn on_disk(
     word: &str,
     rest: &str,
     told: &mut String,
-) -> Result<World, AllocError> {
+) -> Result<Store, AllocError> {
     let mut disk = disk;
     disks::take(alloc, names, &mut disk, word, rest, told)?;
-    Ok(World::Closed(disk))
+    Ok(Store::Closed(disk))
 }
 
 // A call of a store.
@@ -119,20 +84,23 @@ fn on_core(
     word: &str,
     rest: &str,
     told: &mut String,
-) -> Result<World, AllocError> {
+) -> Result<Store, AllocError> {
+    if word == "run" {
+        return Ok(Store::Open(calls::run(alloc, core, rest, told)?));
+    }
     let mut core = core;
     calls::take(alloc, &mut core, word, rest, told)?;
-    Ok(World::Open(core))
+    Ok(Store::Open(core))
 }
 
 // The call of the disk with this number from now on is to fail.
-fn fail(disk: MemDisk, number: &str, told: &mut String) -> Result<World, AllocError> {
+fn fail(disk: MemDisk, number: &str, told: &mut String) -> Result<Store, AllocError> {
     let mut disk = disk;
     match number.parse::<u64>() {
         Ok(number) if number > 0 => disk.fail_call(number),
         _ => told.push_str("no number")?,
     }
-    Ok(World::Closed(disk))
+    Ok(Store::Closed(disk))
 }
 
 fn create(
@@ -141,7 +109,7 @@ fn create(
     disk: MemDisk,
     name: &str,
     told: &mut String,
-) -> Result<World, AllocError> {
+) -> Result<Store, AllocError> {
     match names.bytes(name) {
         Some(text) => {
             let (world, refusal) = created(alloc, disk, text)?;
@@ -150,37 +118,37 @@ fn create(
         }
         None => {
             told.push_str("no such name")?;
-            Ok(World::Closed(disk))
+            Ok(Store::Closed(disk))
         }
     }
 }
 
 // A store of the graph with this text, and what is told of it.
-fn created(alloc: Global, disk: MemDisk, text: &[u8]) -> Result<(World, String), AllocError> {
+fn created(alloc: Global, disk: MemDisk, text: &[u8]) -> Result<(Store, String), AllocError> {
     let mut told = String::new(alloc);
     match Core::create(alloc, disk, text) {
         Ok(core) => {
             told.push_str("created")?;
-            Ok((World::Open(core), told))
+            Ok((Store::Open(core), told))
         }
         Err(refused) => {
             let NotCreated { disk, error } = refused;
             calls::tell_creation(&error, &mut told)?;
-            Ok((World::Closed(disk), told))
+            Ok((Store::Closed(disk), told))
         }
     }
 }
 
-fn open(alloc: Global, disk: MemDisk, told: &mut String) -> Result<World, AllocError> {
+fn open(alloc: Global, disk: MemDisk, told: &mut String) -> Result<Store, AllocError> {
     match Core::open(alloc, disk) {
         Ok(core) => {
             told.push_str("open")?;
-            Ok(World::Open(core))
+            Ok(Store::Open(core))
         }
         Err(refused) => {
             let Refused { disk, error } = refused;
             calls::tell_opening(&error, told)?;
-            Ok(World::Closed(disk))
+            Ok(Store::Closed(disk))
         }
     }
 }

@@ -26,6 +26,7 @@ mod states;
 mod stories;
 mod telling;
 mod texts;
+mod vault_stories;
 mod vaults;
 
 use anyhow::{Error, bail};

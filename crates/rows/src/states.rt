@@ -15,6 +15,7 @@ use crate::named::{address_of, tag_of, tell_named};
 use crate::names::Names;
 use crate::reopening::reopened;
 use crate::running::run_ready;
+use commit::Choose;
 use graph::parse;
 use machine::{Machine, Refusal};
 use std::alloc::{AllocError, Global};

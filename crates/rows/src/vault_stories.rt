@@ -1,0 +1,60 @@
+//! Stories of a store on a memory disk: `store NUMBERS`, and below it a line for each call (`stories`).
+//!
+//! Calls on the two files, which close a store that is open: `write SIDE PLACE BYTES`, `cut SIDE LENGTH`, `sync SIDE`,
+//! `length SIDE`, `read SIDE PLACE LENGTH`, `has SIDE BYTES`, `crash BYTES | BYTES`, and those of `journals`.
+//! `fail NUMBER`: the call of the disk with this number from now on fails. Calls of a store: `create NAME`, `open`, `facts`,
+//! `append BYTES`, and `turn`, which writes the image that the last `open` gave.
+use crate::names::Names;
+use crate::stories::World;
+use crate::{disks, vaults};
+use disk::MemDisk;
+use std::alloc::{AllocError, Global};
+use vaults::World as Store;
+
+impl World for Store {
+    fn begin(alloc: Global) -> Self {
+        Store::Closed(MemDisk::new(alloc))
+    }
+
+    fn take(
+        self,
+        alloc: Global,
+        names: &Names,
+        number: &str,
+        line: &str,
+        told: &mut String,
+    ) -> Result<Self, AllocError> {
+        let (word, rest) = line.split_once(' ').unwrap_or((line, ""));
+        match word {
+            "create" => create(alloc, names, self, rest, told),
+            "open" => vaults::open_store(alloc, self, told),
+            "facts" => vaults::tell_facts(alloc, self, told),
+            "append" => vaults::append_event(alloc, names, self, rest, told),
+            "turn" => vaults::turn_over(alloc, self, told),
+            "fail" if rest == "$" => vaults::fail(self, number, told),
+            "fail" => vaults::fail(self, rest, told),
+            _ => {
+                let mut disk = vaults::closed(self);
+                disks::take(alloc, names, &mut disk, word, rest, told)?;
+                Ok(Store::Closed(disk))
+            }
+        }
+    }
+}
+
+// Makes a store of the text with this name.
+fn create(
+    alloc: Global,
+    names: &Names,
+    world: Store,
+    name: &str,
+    told: &mut String,
+) -> Result<Store, AllocError> {
+    match names.bytes(name) {
+        Some(text) => vaults::create_store(alloc, world, text, told),
+        None => {
+            told.push_str("no such name")?;
+            Ok(world)
+        }
+    }
+}
