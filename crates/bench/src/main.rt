@@ -1,6 +1,7 @@
 //! Measures what the layers do, by the clock, and tries graph texts by hand. Its numbers are measured, not proved.
 #![tactic(auto)]
 
+mod cores;
 mod evaluate;
 mod images;
 mod machines;
@@ -14,6 +15,7 @@ use std::process::ExitCode;
 const USAGE: &str = "usage: bench canonical FILE
        bench parse FILE
        bench codec ITEMS
+       bench core STEPS
        bench evaluate STATEMENTS
        bench machine STEPS
        bench open RECORDS";
@@ -26,6 +28,7 @@ fn main(rt: HostRuntime) -> Result<ExitCode, Error> {
             ("canonical", _) => return texts::print_canonical(&rt, &words[2]),
             ("parse", _) => return done(texts::measure(&rt, &words[2])),
             ("codec", Ok(count)) => return done(images::measure(&rt, count)),
+            ("core", Ok(count)) => return done(cores::measure(&rt, count)),
             ("evaluate", Ok(count)) => return done(evaluate::measure(&rt, count)),
             ("machine", Ok(count)) => return done(machines::measure(&rt, count)),
             ("open", Ok(count)) => return done(stores::measure(&rt, count)),

@@ -1,0 +1,228 @@
+//! How long a store on files takes for its steps, beside the writes and syncs of the same records alone.
+ghost use Rattle.std.specs.Prelude.{◌≤◌, length};
+ghost use Rattle.terms.specs.declared.key.TheConstants.{MAX_COMPONENTS};
+
+use anyhow::{Error, bail};
+use codec::encode_event;
+use commit::{Core, First, Verdict, run_with};
+use disk::{Disk, DiskError, FileDisk, Side};
+use std::alloc::Global;
+use std::fs;
+use std::io::Print;
+use std::time::Instant;
+use terms::{
+    Addr, Event, Inst, ItemCollection, Key, Put, Puts, StepCollection, Tag, TagCollection,
+};
+
+// Each step by itself; each needs the one before; each needs two.
+const WIDE: &str =
+    "[out: i]; <t: i>; <t> :: (one); (one) -> [out]; env -> <t>; env -> [out]; [out] -> env;
+step one(k) { read { } write { put [out: k] = k; } }";
+
+const CHAIN: &str =
+    "[out: i]; <t: i>; <t> :: (next); [out] -> (next); (next) -> [out]; env -> <t>; env -> [out]; [out] -> env;
+step next(k) { var a; read { get a = [out: k - 1]; } write { put [out: k] = a + 1; } }";
+
+const WAVEFRONT: &str =
+    "[out: i, j]; <t: i, j>; <t> :: (cell); [out] -> (cell); (cell) -> [out]; env -> <t>; env -> [out]; [out] -> env;
+step cell(i, j) { var a, b; read { get a = [out: i - 1, j]; get b = [out: i, j - 1]; } write { if (a < b) { put [out: i, j] = b; } else { put [out: i, j] = a; } } }";
+
+/// Runs so many steps of each of the three graphs, the last one in a square, on the files A and B of the folder that it is run in, which it empties, and
+/// prints the microseconds of one, beside those of a record of as many bytes, which is written behind a closed gate, synced, opened, and synced.
+pub(crate) fn measure(rt: &HostRuntime, steps: u32) -> Result<(), Error> {
+    let side = square(steps);
+    report(rt, "wide", WIDE, &line(rt.alloc(), steps)?, &[])?;
+    report(rt, "chain", CHAIN, &line(rt.alloc(), steps)?, &[key(&[-1])])?;
+    report(
+        rt,
+        "wavefront",
+        WAVEFRONT,
+        &cells(rt.alloc(), side)?,
+        &edges(rt.alloc(), side)?,
+    )
+}
+
+// The greatest side of a square of so many cells.
+fn square(steps: u32) -> i64 {
+    let mut side = 1u16;
+    for next in 2..u16::MAX {
+        let cells = u64::from(next).saturating_mul(u64::from(next));
+        if cells > u64::from(steps) {
+            break;
+        }
+        side = next;
+    }
+    i64::from(side)
+}
+
+// Runs a graph with these tags, over these items, and then the records alone.
+fn report(
+    rt: &HostRuntime,
+    told: &str,
+    text: &str,
+    tags: &[Key],
+    items: &[Key],
+) -> Result<(), Error> {
+    let (run, steps) = ran(rt, text, tags, items)?;
+    let alone = records(rt, tags)?;
+    let one = 1e6 / f64::from(u32::try_from(steps)?.max(1));
+    println!(rt;
+        "{told}: {steps} steps, {:.2} µs each; the records alone {:.2} µs; beyond them {:.2} µs",
+        run * one,
+        alone * one,
+        (run - alone) * one
+    )?;
+    Ok(())
+}
+
+// The seconds of a run, and how many steps it had.
+fn ran(rt: &HostRuntime, text: &str, tags: &[Key], items: &[Key]) -> Result<(f64, usize), Error> {
+    let mut core = created(rt, text)?;
+    filled(&mut core, tags, items)?;
+    let start = Instant::now(rt)?;
+    let (core, verdict) = run(rt.alloc(), core)?;
+    let seconds = start.elapsed(rt)?.as_secs_f64();
+    drop(core);
+    match verdict {
+        Verdict::Complete => Ok((seconds, tags.len())),
+        other => bail!("the run ended as {other:?}"),
+    }
+}
+
+fn run(alloc: Global, core: Core<FileDisk>) -> Result<(Core<FileDisk>, Verdict), Error> {
+    if core.running() != 0 {
+        bail!("an instance runs")
+    }
+    let (core, verdict) = run_with(alloc, core, &mut First, 1_000_000_000);
+    Ok((core, verdict?))
+}
+
+// A new store of a graph.
+fn created(rt: &HostRuntime, text: &str) -> Result<Core<FileDisk>, Error> {
+    let disk = emptied(rt)?;
+    match Core::create(rt.alloc(), disk, text.as_bytes()) {
+        Ok(core) => Ok(core),
+        Err(refused) => bail!("no store was made: {:?}", refused.error),
+    }
+}
+
+// The files, empty.
+fn emptied(rt: &HostRuntime) -> Result<FileDisk, Error> {
+    fs::write(rt, "A", &[])?;
+    fs::write(rt, "B", &[])?;
+    Ok(FileDisk::open(rt.alloc(), rt, ".")?)
+}
+
+// Puts the items, each with 0, and the tags.
+fn filled(core: &mut Core<FileDisk>, tags: &[Key], items: &[Key]) -> Result<(), Error> {
+    for key in items {
+        put_item(core, *key)?;
+    }
+    for key in tags {
+        put_tag(core, *key)?;
+    }
+    Ok(())
+}
+
+fn put_item(core: &mut Core<FileDisk>, key: Key) -> Result<(), Error> {
+    let collection = ItemCollection(0);
+    match core.put_item(Addr { collection, key }, 0) {
+        Ok(()) => Ok(()),
+        Err(error) => bail!("an item was refused: {error}"),
+    }
+}
+
+fn put_tag(core: &mut Core<FileDisk>, key: Key) -> Result<(), Error> {
+    let collection = TagCollection(0);
+    match core.put_tag(Tag { collection, key }) {
+        Ok(()) => Ok(()),
+        Err(error) => bail!("a tag was refused: {error}"),
+    }
+}
+
+// The seconds of as many records, each of the bytes of the end of such a step, with its two syncs.
+fn records(rt: &HostRuntime, tags: &[Key]) -> Result<f64, Error> {
+    let mut disk = emptied(rt)?;
+    let payload = payload_of(rt.alloc(), key_of(tags))?;
+    disk.write_at(Side::A, 0, &[0])?;
+    disk.sync(Side::A)?;
+    let start = Instant::now(rt)?;
+    let mut end = 0u64;
+    for _ in 0..tags.len() {
+        end = record(&mut disk, end, &payload)?;
+    }
+    Ok(start.elapsed(rt)?.as_secs_f64())
+}
+
+// One record, and where the next one begins.
+fn record(disk: &mut FileDisk, end: u64, payload: &[u8]) -> Result<u64, DiskError> {
+    disk.write_at(Side::A, end.saturating_add(1), payload)?;
+    disk.sync(Side::A)?;
+    disk.write_at(Side::A, end, &[1])?;
+    disk.sync(Side::A)?;
+    Ok(end.saturating_add(payload.len() as u64))
+}
+
+// What a record has behind its gate, for the end of an instance with this key that puts one item: the length, the event, and a closed gate.
+fn payload_of(alloc: Global, key: Key) -> Result<Vec<u8>, Error> {
+    let instance = Inst {
+        collection: StepCollection(0),
+        key,
+    };
+    let address = Addr {
+        collection: ItemCollection(0),
+        key,
+    };
+    let mut puts = Vec::new(alloc);
+    puts.push(Put::Item(address, 1))?;
+    let mut event = Vec::new(alloc);
+    encode_event(&mut event, &Event::Done(instance, Puts::new(puts)))?;
+    let mut bytes = Vec::new(alloc);
+    bytes.extend_from_slice(&u32::try_from(event.len())?.to_le_bytes())?;
+    bytes.extend_from_slice(&event)?;
+    bytes.push(0)?;
+    Ok(bytes)
+}
+
+fn key_of(tags: &[Key]) -> Key {
+    match tags.first() {
+        Some(first) => *first,
+        None => key(&[0]),
+    }
+}
+
+fn key(components: &[i64]) -> Key
+    requires { length components.now ≤ MAX_COMPONENTS }
+{
+    Key::new(components)
+}
+
+// The keys from 0 on.
+fn line(alloc: Global, steps: u32) -> Result<Vec<Key>, Error> {
+    let mut keys = Vec::new(alloc);
+    for number in 0..steps {
+        keys.push(key(&[i64::from(number)]))?;
+    }
+    Ok(keys)
+}
+
+// The keys of the cells of a square, row by row.
+fn cells(alloc: Global, side: i64) -> Result<Vec<Key>, Error> {
+    let mut keys = Vec::new(alloc);
+    for row in 0..side {
+        for column in 0..side {
+            keys.push(key(&[row, column]))?;
+        }
+    }
+    Ok(keys)
+}
+
+// The keys of the cells beside it.
+fn edges(alloc: Global, side: i64) -> Result<Vec<Key>, Error> {
+    let mut keys = Vec::new(alloc);
+    for number in 0..side {
+        keys.push(key(&[-1, number]))?;
+        keys.push(key(&[number, -1]))?;
+    }
+    Ok(keys)
+}
