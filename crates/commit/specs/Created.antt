@@ -16,8 +16,8 @@ use Rattle.commit.specs.declared.creation.NotCreated.{NotCreated}
 use Rattle.commit.specs.Core.{Core, graph, facts, environment}
 use Rattle.commit.specs.Opened.{IsOpened}
 
--- A new store: the text reads as its graph, it has no facts, its core is as one that was just opened, and its side is the first one. On an honest disk each file has its first
--- byte.
+-- A new store: the text reads as its graph, it has no facts, its core is as one that was just opened, and its side is the first one. On an honest disk
+-- each file has its first byte.
 pub record IsCreated {D : Type 0} (files : D → Side → File) (honest : Type 0) (text : List ℕ) (c : Core D) : Type 0 where
   pub reads : Reads text (graph c)
   pub facts : (fact : Fact) → facts c fact ≡ false

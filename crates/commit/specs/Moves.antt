@@ -66,6 +66,10 @@ abbrev pub AfterAll : List Move → History → History → Type 0
 AfterAll [] h k = k ≡ h
 AfterAll (move ∷ moves) h k = (mid : History) × After move h mid × AfterAll moves mid k
 
+-- what was made stays in front of what is made behind it, whatever the moves are
+abbrev pub MadeStays : Type 0
+MadeStays = (moves : List Move) (h k : History) → AfterAll moves h k → (more : List Event) × (k.made ≡ h.made ++ more)
+
 -- An example that is refused: behind an event that was acknowledged, a crash and an opening, nothing is there.
 abbrev pub Forgets : Type 0
 Forgets = (g : Graph) (event : Event) (k : History) → AfterAll (commits (event ∷ []) ∷ closes ∷ opens [] ∷ []) (begun g) k → k.made ≡ [] → ⊥

@@ -35,10 +35,7 @@ pub trait Driver {
 pub struct Alone;
 
 impl Driver for Alone {
-    ghost use Rattle.std.specs.Prelude.{◌≡◌, true, false, Ok, IsTrue};
-    ghost use Rattle.commit.specs.declared.verdict.Verdict.TheVariants.{Halted};
-    ghost use Rattle.commit.specs.Core.{is_halted};
-    ghost use Rattle.commit.specs.Runs.{NoneRuns, RunsWithin};
+    ghost use Rattle.std.specs.Prelude.{false};
 
     ghost may_be_asked = { false };
 
@@ -49,12 +46,7 @@ impl Driver for Alone {
         alloc: Global,
         core: Core<D>,
         limit: u64,
-    ) -> (Core<D>, Result<Verdict, RunError>)
-        requires { NoneRuns core }
-        ensures idle { NoneRuns result.0 }
-        ensures halted { is_halted core ≡ true → (result.0 ≡ core) × (result.1 ≡ Ok Halted) }
-        ensures runs { is_halted core ≡ false → RunsWithin D.files D.moment D.left_at D.failures D.refusals (IsTrue D.is_honest) false false core result.0 limit result.1 }
-    {
+    ) -> (Core<D>, Result<Verdict, RunError>) {
         run_with(alloc, core, &mut First, limit)
     }
 }

@@ -3,7 +3,7 @@
 ghost use Rattle.std.specs.Prelude.{IsTrue};
 ghost use Rattle.machine.specs.Machine.{RefusesEnd};
 ghost use Rattle.commit.specs.MoveLaws.{CommitIsMove, CrashLeavesMove, CreationBegins, OpeningIsMove, NeverNothing, OpeningLeaves, RefusedOpeningIsMove, RefusesEvent, RestLeaves, RunIsMove, StepIsMove, TurnIsMove};
-ghost use Rattle.commit.specs.Moves.{Forgets};
+ghost use Rattle.commit.specs.Moves.{Forgets, MadeStays};
 ghost use Rattle.commit.specs.declared.outcome.Committed.{Committed};
 
 use disk::Disk;
@@ -37,7 +37,8 @@ pub fn histories_go_on<D: Disk>()
     one_store();
 }
 
-/// A worked example, with nothing to run: no history forgets an event that was acknowledged.
+/// What was made stays, whatever calls, crashes and openings come behind it; and a worked example, in which an event that was acknowledged is not forgotten.
 pub fn acknowledged_stays()
-    ensures { Forgets }
+    ensures made { MadeStays }
+    ensures example { Forgets }
 {}

@@ -8,12 +8,13 @@
 //! - `items`: calls on a map of items (`item_calls`)
 //! - `machine NAME CHOOSERS`: a story of a store in memory, once for each chooser (`states`)
 //! - `core NUMBERS`: a story of a store on a memory disk with its steps, once for each number (`cores`)
+//! - `crashes FIRST LAST SIDE`: such a story, cut off at each of these calls of the disk, and told on (`crashes`)
 //! - `first`: bytes that begin with a record (`journals`)
 //! - `store NUMBERS`: a story of a store on a memory disk, once for each number (`vault_stories`)
 use crate::names::Names;
 use crate::{
-    bodies, bytes, codecs, cores, graphs, item_calls, journals, orders, states, stories, texts,
-    vaults,
+    bodies, bytes, codecs, cores, crashes, graphs, item_calls, journals, orders, states, stories,
+    texts, vaults,
 };
 use std::alloc::{AllocError, Global};
 
@@ -40,6 +41,7 @@ pub(crate) fn answer(
             None => String::from_str(alloc, "no such name\n"),
         },
         "core" => stories::answer::<cores::Store>(alloc, names, rest, input),
+        "crashes" => crashes::answer(alloc, names, rest, input),
         "machine" => states::answer(alloc, names, rest, input),
         "store" => stories::answer::<vaults::World>(alloc, names, rest, input),
         "rising" => orders::answer(alloc, names, rest, input),

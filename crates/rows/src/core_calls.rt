@@ -20,7 +20,7 @@ pub(crate) fn take(
     match word {
         "tag" => put_tag(alloc, core, rest, told),
         "put" => put_item(alloc, core, rest, told),
-        "get" => get(alloc, core, rest, told),
+        "get" => tell_at(alloc, core, rest, false, told),
         "status" => tell_status(core, told),
         "report" => report(alloc, core, rest, told),
         "counts" => tell_counts(core, told),
@@ -142,21 +142,6 @@ fn tell_fault(
     tell_named(core.graph(), instance, told)
 }
 
-fn get(
-    alloc: Global,
-    core: &Core<MemDisk>,
-    text: &str,
-    told: &mut String,
-) -> Result<(), AllocError> {
-    match address_of(alloc, core.graph(), text)? {
-        Some(address) => {
-            let asked = address;
-            tell_value(core, &address, core.get(asked), told)
-        }
-        None => told.push_str("no address"),
-    }
-}
-
 // What is at each address.
 fn report(
     alloc: Global,
@@ -170,21 +155,28 @@ fn report(
             told.push_str(", ")?;
         }
         is_first = false;
-        report_one(alloc, core, text.trim(), told)?;
+        tell_at(alloc, core, text.trim(), true, told)?;
     }
     Ok(())
 }
 
-fn report_one(
+// What is at an address, as a step reads it, or as the environment gets it.
+fn tell_at(
     alloc: Global,
     core: &Core<MemDisk>,
     text: &str,
+    by_step: bool,
     told: &mut String,
 ) -> Result<(), AllocError> {
     match address_of(alloc, core.graph(), text)? {
         Some(address) => {
             let asked = address;
-            tell_value(core, &address, core.read(asked), told)
+            let value = if by_step {
+                core.read(asked)
+            } else {
+                core.get(asked)
+            };
+            tell_value(core, &address, value, told)
         }
         None => told.push_str("no address"),
     }

@@ -55,8 +55,8 @@ impl World for Store {
     }
 }
 
-// The disk, closed.
-fn closed(world: Store) -> MemDisk {
+/// The disk, closed.
+pub(crate) fn closed(world: Store) -> MemDisk {
     match world {
         Store::Closed(disk) => disk,
         Store::Open(core) => core.into_disk(),

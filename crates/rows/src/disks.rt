@@ -146,8 +146,12 @@ fn read(
     }
 }
 
-// All bytes of a file.
-fn bytes_on(alloc: Global, disk: &mut MemDisk, side: Side) -> Result<Vec<u8>, DiskError> {
+/// All bytes of a file.
+pub(crate) fn bytes_on(
+    alloc: Global,
+    disk: &mut MemDisk,
+    side: Side,
+) -> Result<Vec<u8>, DiskError> {
     let count = disk.len(side)?;
     let mut bytes = vec![in alloc; 0; count as usize]?;
     disk.read(side, 0, &mut bytes)?;

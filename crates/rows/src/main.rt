@@ -12,6 +12,7 @@ mod codecs;
 mod commands;
 mod core_calls;
 mod cores;
+mod crashes;
 mod disks;
 mod graphs;
 mod item_calls;

@@ -49,8 +49,8 @@ fn tell_line<W: World>(
     out.push_str("\n")
 }
 
-// Goes on with a story, and tells what its calls answer.
-fn tell<W: World>(
+/// Goes on with a story, and tells what its calls answer.
+pub(crate) fn tell<W: World>(
     alloc: Global,
     names: &Names,
     world: W,

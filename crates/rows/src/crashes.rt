@@ -1,0 +1,252 @@
+//! Crashes in the midst of a story of a store with its steps: `crashes FIRST LAST SIDE`, and below it the story, a line `then`, and what is told behind
+//! each crash.
+//!
+//! Each call of the disk from the first number to the last fails in turn. Behind it a crash leaves what it may leave of that side: what reads give; where the
+//! length may change, as few bytes as may be left near an end, and these with one or two bytes behind them, or with the bytes named `Forged`; else each byte near an
+//! end that may change as 0, as 1 and as 7. Then the story is told on; its last answer counts. What is answered is that one answer, where it is the same behind all
+//! crashes; else each other one with its call, and each call behind which no crash was left.
+use crate::cores::{Store, closed};
+use crate::disks::bytes_on;
+use crate::names::Names;
+use crate::stories::{World, tell};
+use disk::{Fill, MemDisk, Side};
+use std::alloc::{AllocError, Global};
+
+// What each byte is changed to.
+const CHANGES: [u8; 3] = [0, 1, 7];
+
+// How many bytes at each end of a file are looked at. A record of the stories is shorter.
+const NEAR: usize = 64;
+
+// A story, up to the crash and behind it.
+#[derive(Clone, Copy)]
+struct Plan<'a> {
+    side: Side,
+    before: &'a str,
+    behind: &'a str,
+}
+
+// What was answered.
+#[derive(Drop)]
+struct Seen {
+    // The first answer, and all others.
+    first: String,
+    others: String,
+    // How many crashes were left at this call.
+    left: usize,
+}
+
+/// What is told behind each of the crashes.
+pub(crate) fn answer(
+    alloc: Global,
+    names: &Names,
+    words: &str,
+    lines: &str,
+) -> Result<String, AllocError> {
+    let (first, rest) = words.split_once(' ').unwrap_or((words, ""));
+    let (last, side) = rest.split_once(' ').unwrap_or((rest, ""));
+    let (before, behind) = lines.split_once("then\n").unwrap_or((lines, ""));
+    let plan = Plan {
+        side: if side == "B" { Side::B } else { Side::A },
+        before,
+        behind,
+    };
+    let mut seen = Seen {
+        first: String::new(alloc),
+        others: String::new(alloc),
+        left: 0,
+    };
+    let first = first.parse::<u64>().unwrap_or(1);
+    let last = last.parse::<u64>().unwrap_or(0);
+    for call in first..last.saturating_add(1) {
+        crash_at(alloc, names, plan, call, &mut seen)?;
+    }
+    let Seen {
+        first,
+        others,
+        left: _,
+    } = seen;
+    let mut out = others;
+    out.push_str(first.as_str())?;
+    out.push_str("\n")?;
+    Ok(out)
+}
+
+// All crashes at one call of the disk.
+fn crash_at(
+    alloc: Global,
+    names: &Names,
+    plan: Plan<'_>,
+    call: u64,
+    seen: &mut Seen,
+) -> Result<(), AllocError> {
+    seen.left = 0;
+    let mut disk = story(alloc, names, plan, call)?;
+    let count = bytes_of_side(alloc, &mut disk, plan.side)?.len();
+    leave(alloc, names, plan, call, count, None, seen)?;
+    match shortest(alloc, &mut disk, plan.side)? {
+        Some(kept) => {
+            told(alloc, names, plan, call, disk, seen)?;
+            let forged = names.bytes("Forged").unwrap_or(&[]);
+            for tail in [&[0u8] as &[u8], &[1], &[7], &[255], &[7, 1], forged] {
+                leave(alloc, names, plan, call, kept, Some(tail), seen)?;
+            }
+        }
+        None => change_each(alloc, names, plan, call, disk, seen)?,
+    }
+    if seen.left == 0 {
+        writeln!(seen.others, "call {call}: no crash is left")?;
+    }
+    Ok(())
+}
+
+// The disk of the story, of which the call with this number failed.
+fn story(alloc: Global, names: &Names, plan: Plan<'_>, call: u64) -> Result<MemDisk, AllocError> {
+    let mut passed = String::new(alloc);
+    let mut disk = MemDisk::new(alloc);
+    disk.fail_call(call.max(1));
+    let world = tell(
+        alloc,
+        names,
+        Store::Closed(disk),
+        "0",
+        plan.before,
+        &mut passed,
+    )?;
+    Ok(closed(world))
+}
+
+// Tells the story on, behind a crash.
+fn told(
+    alloc: Global,
+    names: &Names,
+    plan: Plan<'_>,
+    call: u64,
+    disk: MemDisk,
+    seen: &mut Seen,
+) -> Result<(), AllocError> {
+    let mut told = String::new(alloc);
+    let _world = tell(
+        alloc,
+        names,
+        Store::Closed(disk),
+        "0",
+        plan.behind,
+        &mut told,
+    )?;
+    let last = told.as_str().rsplit("; ").next().unwrap_or("");
+    seen.left = seen.left.saturating_add(1);
+    if seen.first.is_empty() {
+        return seen.first.push_str(last);
+    }
+    if seen.first.as_str() != last {
+        writeln!(seen.others, "call {call}: {last}")?;
+    }
+    Ok(())
+}
+
+// A crash that leaves the first so many bytes of the side with these behind them, if one may, and what is told behind it.
+fn leave(
+    alloc: Global,
+    names: &Names,
+    plan: Plan<'_>,
+    call: u64,
+    kept: usize,
+    tail: Option<&[u8]>,
+    seen: &mut Seen,
+) -> Result<(), AllocError> {
+    let mut disk = story(alloc, names, plan, call)?;
+    let mut bytes = bytes_of_side(alloc, &mut disk, plan.side)?;
+    bytes.truncate(kept);
+    bytes.extend_from_slice(tail.unwrap_or(&[]))?;
+    let other = bytes_of_side(alloc, &mut disk, other_side(plan.side))?;
+    if disk.crash(filled(plan.side, bytes, other)).is_ok() {
+        told(alloc, names, plan, call, disk, seen)?;
+    }
+    Ok(())
+}
+
+// A crash that leaves as few bytes of the side as may be left, fewer than reads give; how many these are.
+fn shortest(alloc: Global, disk: &mut MemDisk, side: Side) -> Result<Option<usize>, AllocError> {
+    let bytes = bytes_of_side(alloc, disk, side)?;
+    let other = bytes_of_side(alloc, disk, other_side(side))?;
+    let count = bytes.len();
+    for kept in 0..count {
+        if is_near_an_end(kept, count) {
+            let mut short = copied(alloc, &bytes)?;
+            short.truncate(kept);
+            if disk
+                .crash(filled(side, short, copied(alloc, &other)?))
+                .is_ok()
+            {
+                return Ok(Some(kept));
+            }
+        }
+    }
+    Ok(None)
+}
+
+// Crashes that change one byte each.
+fn change_each(
+    alloc: Global,
+    names: &Names,
+    plan: Plan<'_>,
+    call: u64,
+    disk: MemDisk,
+    seen: &mut Seen,
+) -> Result<(), AllocError> {
+    let mut disk = disk;
+    let bytes = bytes_of_side(alloc, &mut disk, plan.side)?;
+    let other = bytes_of_side(alloc, &mut disk, other_side(plan.side))?;
+    for place in 0..bytes.len() {
+        if !is_near_an_end(place, bytes.len()) {
+            continue;
+        }
+        for change in CHANGES {
+            if bytes[place] == change {
+                continue;
+            }
+            let mut changed = copied(alloc, &bytes)?;
+            if let Some(byte) = changed.get_mut(place) {
+                *byte = change;
+            }
+            let fill = filled(plan.side, changed, copied(alloc, &other)?);
+            if disk.crash(fill).is_ok() {
+                told(alloc, names, plan, call, disk, seen)?;
+                disk = story(alloc, names, plan, call)?;
+            }
+        }
+    }
+    Ok(())
+}
+
+// Whether a place is among the first of so many, or among the last. A write or a cut of a store begins there.
+fn is_near_an_end(place: usize, count: usize) -> bool {
+    place < NEAR || count.saturating_sub(place) <= NEAR
+}
+
+// What reads give of a side; nothing where one fails.
+fn bytes_of_side(alloc: Global, disk: &mut MemDisk, side: Side) -> Result<Vec<u8>, AllocError> {
+    Ok(bytes_on(alloc, disk, side).unwrap_or(Vec::new(alloc)))
+}
+
+fn copied(alloc: Global, bytes: &[u8]) -> Result<Vec<u8>, AllocError> {
+    let mut copy = Vec::new(alloc);
+    copy.extend_from_slice(bytes)?;
+    Ok(copy)
+}
+
+fn other_side(side: Side) -> Side {
+    match side {
+        Side::A => Side::B,
+        Side::B => Side::A,
+    }
+}
+
+// These bytes of a side, and those of the other one.
+fn filled(side: Side, bytes: Vec<u8>, other: Vec<u8>) -> Fill {
+    match side {
+        Side::A => Fill { a: bytes, b: other },
+        Side::B => Fill { a: other, b: bytes },
+    }
+}
