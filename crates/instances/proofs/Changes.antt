@@ -1,15 +1,17 @@
 -- The ways in which an instance comes from one state into another.
-use Rattle.std.proofs.Common.{◌≡◌, ◌∙◌, ap, sym, refl, subst, ℕ, ◌+◌, ◌-◌, ◌<◌, ◌≤◌, min, ℤ, Bool, true, false, cond, List, [], ◌∷◌, ◌++◌, length, get_or, Option, Some, None, is_some, swap_remove, Result, Ok, Err, OnOk, is_ok, arith}
+use Rattle.std.proofs.Common.{◌≡◌, ◌∙◌, ap, sym, refl, subst, ℕ, ◌+◌, ◌-◌, ◌<◌, ◌≤◌, min, ℤ, Bool, true, false, cond, List, [], ◌∷◌, ◌++◌, length, Option, Some, None, is_some, Result, Ok, Err, OnOk, is_ok, arith}
 use Rattle.std.specs.Ordering.{eq_by_cmp}
 use Rattle.std.specs.FinMap.{FinMap, entries, get, insert}
+use Rattle.std.specs.List.Sorted.{IsPermutation}
 use Rattle.std.proofs.lemmas.List.{length_push}
+use Rattle.std.proofs.lemmas.List.Sorted.{length_permutation}
 use Rattle.terms.specs.Key.{key_cmp}
 use Rattle.maps.specs.Keyed.{Keyed, Adds}
 use Rattle.instances.specs.declared.state.State.{State}
 use Rattle.instances.specs.declared.state.State.TheVariants.{Ready, Running, Waiting, Done}
 use Rattle.instances.specs.OfStep.{OfStep, is_ready, is_running, one_if, times, IsKept, IsWaiting, Moves, AddsInstance}
 use Rattle.instances.proofs.Counted.{one_counts, one_fewer}
-use Rattle.instances.proofs.Kept.{Keys, at_key, kept, as_many, one_more, times_pushed, times_removed, stands}
+use Rattle.instances.proofs.Kept.{Keys, at_key, kept, as_many, one_more, times_pushed, times_taken, stood}
 
 -- an instance is ready where it stands among the ready ones
 only_ready : (o : Option State) → 1 ≤ one_if is_ready o → o ≡ Some Ready
@@ -83,23 +85,19 @@ module _ (states : FinMap key_cmp State) (key : List ℤ) (ready : Keys) (runnin
   pub wakes : IsWaiting (get states key) → IsKept (insert states key Ready) (ready ++ key ∷ []) running capacity
   wakes waits = let none = waits_not_ready (get states key) waits in back running none.0 (omega (arith, none.1)) none.2
 
-  -- one that stands among the ready ones runs
-  pub is_one : (at : ℕ) → at < length ready → key ≡ get_or ready at key → get states key ≡ Some Ready
-  is_one at within there = only_ready (get states key) (omega (arith, stands ready at key within there, is.listed key))
+  -- one that is taken out of the ready ones runs
+  pub is_one : (left : Keys) → IsPermutation ready (key ∷ left) → get states key ≡ Some Ready
+  is_one left taken = only_ready (get states key) (omega (arith, stood ready left key taken, is.listed key))
 
-  pub starts : (at : ℕ) → at < length ready → key ≡ get_or ready at key → (new : Keys) → new ≡ swap_remove ready at key → length new + 1 ≡ length ready → IsKept (insert states key Running) new (running + 1) capacity
-  starts at within there new news shorter =
-      let state = is_one at within there in
+  pub starts : (left : Keys) → IsPermutation ready (key ∷ left) → IsKept (insert states key Running) left (running + 1) capacity
+  starts left taken =
+      let state = is_one left taken in
       let was = ap (one_if is_ready) state in
-      kept states key Running ready running capacity is new (running + 1)
-      (λ q. omega (arith, times_removed q key ready at within there, ap (times q) news, ap (at_key q key) was, no_more q key))
-      (omega (arith, was, shorter))
+      kept states key Running ready running capacity is left (running + 1)
+      (λ q. omega (arith, times_taken q key ready left taken, ap (at_key q key) was, no_more q key))
+      (omega (arith, was, length_permutation ready (key ∷ left) taken))
       (omega (arith, ap (one_if is_running) state))
       (omega (arith, as_many states key Running ready running capacity is (ap is_some state), is.enough))
-
-  -- the count has room for one more
-  pub fits : (at : ℕ) → at < length ready → key ≡ get_or ready at key → running + 1 ≤ capacity
-  fits at within there = omega (arith, is.counted, one_fewer is_running states key Ready (is_one at within there) refl, is.enough)
 
   -- one that was not there is ready
   pub comes : get states key ≡ None → length (entries states) + 1 ≤ capacity → IsKept (insert states key Ready) (ready ++ key ∷ []) running capacity

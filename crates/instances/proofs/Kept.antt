@@ -1,9 +1,11 @@
 -- What is kept beside the states stays right while an instance comes from one state into another.
-use Rattle.std.proofs.Common.{◌≡◌, ◌∙◌, ap, sym, refl, subst, ℕ, ◌+◌, ◌<◌, ◌≤◌, ℤ, Bool, true, false, cond, List, [], ◌∷◌, ◌++◌, length, get_or, Some, None, is_some, swap_remove, arith}
+use Rattle.std.proofs.Common.{◌≡◌, ◌∙◌, ap, sym, refl, subst, ℕ, ◌+◌, ◌≤◌, ℤ, Bool, true, false, cond, List, [], ◌∷◌, ◌++◌, length, Some, None, is_some, arith}
 use Rattle.std.specs.Ordering.{eq_by_cmp}
 use Rattle.std.specs.Cmp.{Equal-is, eq_by_cmp_equiv}
 use Rattle.std.specs.FinMap.{FinMap, empty, entries, get, get-empty, get-insert, get_tied, insert, len, len-empty, len-entries, len-insert}
-use Rattle.std.proofs.lemmas.List.Sums.{count_by-le-length, sum_by-append, sum_by-swap_remove}
+use Rattle.std.specs.List.Sorted.{IsPermutation}
+use Rattle.std.proofs.lemmas.List.Sums.{count_by-le-length, sum_by-append}
+use Rattle.std.proofs.lemmas.List.Sorted.{sum_by-IsPermutation}
 use Rattle.terms.specs.Key.{key_cmp}
 use Rattle.maps.specs.PlaceOrder.{keys_total}
 use Rattle.instances.specs.declared.state.State.{State}
@@ -50,24 +52,25 @@ module _ (states : FinMap key_cmp State) (key : List ℤ) (to : State) (ready : 
   pub one_more : get states key ≡ None → length (entries (insert states key to)) ≡ length (entries states) + 1
   one_more gone = sym (len-entries (insert states key to)) ∙ len-insert keys_total states key to ∙ ap (λ o. cond (is_some o) (len states) (len states + 1)) gone ∙ ap (λ n. n + 1) (len-entries states)
 
--- a key more, and one that the last takes the place of
+-- a key more, and one that is taken out
 pub times_pushed : (q key : List ℤ) (keys : Keys) → times q (keys ++ key ∷ []) ≡ times q keys + at_key q key 1
 times_pushed q key keys = omega (arith, sum_by-append (λ k. cond (eq_by_cmp key_cmp q k) 1 0) keys (key ∷ []))
 
-pub times_removed : (q key : List ℤ) (keys : Keys) (at : ℕ) → at < length keys → key ≡ get_or keys at key → times q (swap_remove keys at key) + at_key q key 1 ≡ times q keys
-times_removed q key keys at within is =
-    ap (λ k. times q (swap_remove keys at key) + at_key q k 1) is ∙ sum_by-swap_remove (λ k. cond (eq_by_cmp key_cmp q k) 1 0) keys at key within
+pub times_taken : (q key : List ℤ) (keys left : Keys) → IsPermutation keys (key ∷ left) → at_key q key 1 + times q left ≡ times q keys
+times_taken q key keys left taken =
+    let one : List ℤ → ℕ = λ k. cond (eq_by_cmp key_cmp q k) 1 0 in
+    omega (arith, sum_by-append one (key ∷ []) left, sum_by-IsPermutation one keys (key ∷ left) taken)
 
--- a key that stands in the list is one of a ready instance
-pub stands : (keys : Keys) (at : ℕ) (key : List ℤ) → at < length keys → key ≡ get_or keys at key → 1 ≤ times key keys
-stands keys at key within is = omega (arith, times_removed key key keys at within is, here)
+-- a key that was taken out is one of a ready instance
+pub stood : (keys left : Keys) (key : List ℤ) → IsPermutation keys (key ∷ left) → 1 ≤ times key keys
+stood keys left key taken = omega (arith, times_taken key key keys left taken, here)
   where
     here : at_key key key 1 ≡ 1
     here = ap (λ b. cond b 1 0) ((eq_by_cmp_equiv keys_total).refl key)
 
 -- no instances
-pub kept_none : IsKept empty [] 0 0
-kept_none = record {
+pub kept_none : (capacity : ℕ) → IsKept empty [] 0 capacity
+kept_none capacity = record {
   listed = λ q. sym (ap (one_if is_ready) (get-empty key_cmp q));
   all_listed = sym (no_count is_ready);
   counted = sym (no_count is_running);

@@ -4,6 +4,7 @@ ghost use Rattle.instances.specs.OfStep.{is_done as is_done_state, is_waiting as
 use crate::State;
 use maps::KeyMap;
 use std::alloc::{AllocError, Global};
+use std::collections::VecDeque;
 use std::marker::Model;
 use terms::{Addr, Key};
 
@@ -12,15 +13,16 @@ use terms::{Addr, Key};
 #[derive(Drop)]
 pub struct StepInstances {
     states: KeyMap<State>,
-    // The keys of those that are ready, with room for all.
-    ready: Vec<Key>,
+    // The keys of those that are ready, with room for all. It is a queue, so that they are claimed in the order in which they came:
+    // items are then written in about the order of their keys, which spares moves. No promise speaks of that order.
+    ready: VecDeque<Key>,
     running: usize,
 }
 
 impl Model for StepInstances {
     ghost use Rattle.std.specs.Prelude.{◌-◌, length, min};
     ghost use Rattle.std.specs.FinMap.{entries};
-    ghost use Rattle.std.specs.Vec.{vec_capacity};
+    ghost use Rattle.std.specs.VecDeque.{deque_capacity};
     ghost use Rattle.instances.specs.Codes.{of_step_code};
     ghost use Rattle.instances.specs.OfStep.{OfStep, IsKept};
 
@@ -28,9 +30,9 @@ impl Model for StepInstances {
 
     ghost coded = { of_step_code };
 
-    ghost view = { λ s. record { states = s.states.items; room = min s.states.room (vec_capacity s.ready - length (entries s.states.items)) } };
+    ghost view = { λ s. record { states = s.states.items; room = min s.states.room (deque_capacity s.ready - length (entries s.states.items)) } };
 
-    ghost invariant = { λ s. IsKept s.states.items s.ready.items s.running (vec_capacity s.ready) };
+    ghost invariant = { λ s. IsKept s.states.items s.ready.items s.running (deque_capacity s.ready) };
 }
 
 impl StepInstances {
@@ -45,7 +47,7 @@ impl StepInstances {
     {
         StepInstances {
             states: KeyMap::new(alloc),
-            ready: Vec::new(alloc),
+            ready: VecDeque::new(alloc),
             running: 0,
         }
     }
@@ -146,7 +148,7 @@ impl StepInstances {
         ensures { AddsInstance self.old self.new key Ready }
     {
         if self.states.insert(key, State::Ready).is_ok() {
-            self.ready.push_reserved(key);
+            self.ready.push_back_reserved(key);
         }
     }
 
@@ -165,14 +167,10 @@ impl StepInstances {
         ensures none { how_many is_ready self.old.states ≤ at → (result ≡ None) × (self.new ≡ self.old) }
         ensures claimed { IfSome result (λ key. (get self.old.states key ≡ Some Ready) × Moves self.old self.new key Running) }
     {
-        if at < self.ready.len() {
-            let key = self.ready.swap_remove(at);
-            self.states.set(key, State::Running);
-            self.running += 1;
-            Some(key)
-        } else {
-            None
-        }
+        let key = self.ready.swap_remove_front(at)?;
+        self.states.set(key, State::Running);
+        self.running += 1;
+        Some(key)
     }
 
     /// Ends an instance that runs.
@@ -199,7 +197,7 @@ impl StepInstances {
         ensures { Moves self.old self.new key Ready }
     {
         self.states.set(key, State::Ready);
-        self.ready.push_reserved(key);
+        self.ready.push_back_reserved(key);
         self.running -= 1;
     }
 
@@ -209,7 +207,7 @@ impl StepInstances {
         ensures { Moves self.old self.new key Ready }
     {
         self.states.set(key, State::Ready);
-        self.ready.push_reserved(key);
+        self.ready.push_back_reserved(key);
     }
 }
 

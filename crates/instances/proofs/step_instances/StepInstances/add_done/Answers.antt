@@ -1,6 +1,6 @@
 use Rattle.std.proofs.Common.{◌∙◌, ◌<◌, ap, sym, subst, arith}
 use Rattle.std.specs.FinMap.{get}
-use Rattle.std.specs.Vec.{vec_capacity}
+use Rattle.std.specs.VecDeque.{deque_capacity}
 use Rattle.instances.specs.declared.state.State.TheVariants.{Done}
 use Rattle.instances.proofs.Changes.{adds, adds_done, when_ok}
 use Rattle.instances.proofs.Prescribing.{not_refused}
@@ -12,7 +12,7 @@ invariant_of-self c =
     let gone = ap (λ seen. get seen.states c.args.key) c.self.view_is ∙ c.requires.absent in
     let room : 0 < c.self.inside.states.room = omega (arith, some) in
     let added = when_ok c.insert-added.result c.insert-added.ensures.ok (sym (not_refused _ _ c.insert-added.result gone room c.insert-added.ensures.refused)) in
-    adds_done c.self.inside.states c.insert-added.new.self (vec_capacity c.self.inside.ready) c.args.self.now c.args.key c.self.view_is c.self.inside.ready.items c.self.inside.running c.self.invariant added c.requires.absent c.requires.room
+    adds_done c.self.inside.states c.insert-added.new.self (deque_capacity c.self.inside.ready) c.args.self.now c.args.key c.self.view_is c.self.inside.ready.items c.self.inside.running c.self.invariant added c.requires.absent c.requires.room
 
 pub returns : goal.returns
 returns c =
@@ -20,4 +20,4 @@ returns c =
     let gone = ap (λ seen. get seen.states c.args.key) c.self.view_is ∙ c.requires.absent in
     let room : 0 < c.self.inside.states.room = omega (arith, some) in
     let added = when_ok c.insert-added.result c.insert-added.ensures.ok (sym (not_refused _ _ c.insert-added.result gone room c.insert-added.ensures.refused)) in
-    (adds c.self.inside.states c.insert-added.new.self (vec_capacity c.self.inside.ready) c.args.self.now c.args.key c.self.view_is Done c.self.inside.ready.items c.self.inside.running c.self.invariant added c.requires.absent c.requires.room).0
+    (adds c.self.inside.states c.insert-added.new.self (deque_capacity c.self.inside.ready) c.args.self.now c.args.key c.self.view_is Done c.self.inside.ready.items c.self.inside.running c.self.invariant added c.requires.absent c.requires.room).0
