@@ -1,0 +1,4 @@
+mod ByName
+mod Lines
+mod Names
+mod Reports

@@ -1,0 +1,30 @@
+-- The collections of which the environment may get items, each with its name.
+use Rattle.std.specs.Prelude.{◌≡◌, ℕ, Bool, true, false, ◌==◌, List, [], get_or, take, Some, All}
+use Rattle.std.specs.List.{sum_by}
+use Rattle.std.specs.Borrow.{Bor}
+use Rattle.terms.specs.declared.name.ItemCollection.{ItemCollection}
+use Rattle.steptree.specs.Names.{Text, place_of}
+use Rattle.graph.specs.Graph.{Graph}
+use Rattle.graph.specs.Tree.{names_in}
+
+-- a collection behind its name
+abbrev pub Named : Type 0
+Named = Bor Text × ItemCollection
+
+-- it is the name of the collection, and of no other
+pub record IsNamed (g : Graph) (one : Named) : Type 0 where
+  pub name : get_or (names_in g.items) one.1.0 [] ≡ one.0.now
+  pub once : place_of (names_in g.items) one.0.now ≡ Some one.1.0
+
+abbrev pub how_many : Bool → ℕ
+how_many true = 1
+how_many false = 0
+
+-- how often the collection with this number stands there
+abbrev pub times : ℕ → List Named → ℕ
+times number list = sum_by (λ one. how_many (number == one.1.0)) list
+
+-- each collection with a lower number of which the environment may get items stands there once, and no other; each behind its name
+pub record AreGotBelow (g : Graph) (below : ℕ) (list : List Named) : Type 0 where
+  pub named : All (IsNamed g) list
+  pub once : (number : ℕ) → times number list ≡ how_many (get_or (take below g.environment_gets) number false)

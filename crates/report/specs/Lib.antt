@@ -1,0 +1,4 @@
+pub mod Got
+pub mod Lines
+pub mod Named
+pub mod ReportText

@@ -1,0 +1,30 @@
+-- Addresses, instances and tags by the names of their collections.
+use Rattle.std.specs.Prelude.{ℕ, ℤ, List, [], ◌++◌, map, codes, get_or}
+use Rattle.std.specs.Fmt.{signed_decimal}
+use Rattle.std.specs.List.{flat_map}
+use Rattle.terms.specs.declared.name.Addr.{Addr}
+use Rattle.terms.specs.declared.name.Inst.{Inst}
+use Rattle.graph.specs.Graph.{Graph}
+use Rattle.graph.specs.Tree.{names_in}
+use Rattle.graph.specs.Prescribed.{names_of_steps}
+use Rattle.graph.specs.Canonical.{in_brackets, in_rounds, with_colon}
+
+-- a name, and behind a colon the components of a key; a name without components stands alone
+abbrev pub with_key : List ℕ → List ℤ → List ℕ
+with_key name key = with_colon name (map signed_decimal key)
+
+-- these components, each behind a comma and a blank
+abbrev pub more_components : List ℤ → List ℕ
+more_components components = flat_map (λ text. codes ", " ++ text) (map signed_decimal components)
+
+-- `[c: k, ..]`
+abbrev pub address_text : Graph → Addr → List ℕ
+address_text g address = in_brackets (with_key (get_or (names_in g.items) address.collection.0 []) address.key)
+
+-- `(s: k, ..)`
+abbrev pub instance_text : Graph → Inst → List ℕ
+instance_text g instance = in_rounds (with_key (get_or (names_of_steps g.steps) instance.collection.0 []) instance.key)
+
+-- `[c: k, ..] = v`
+abbrev pub item_text : Graph → Addr → ℤ → List ℕ
+item_text g address value = address_text g address ++ codes " = " ++ signed_decimal value

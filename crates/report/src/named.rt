@@ -1,0 +1,84 @@
+//! Addresses and instances by the names of their collections.
+ghost use Rattle.std.specs.Fmt.{WritesOnOk};
+ghost use Rattle.report.specs.Named.{more_components};
+
+use graph::Graph;
+use std::fmt;
+use terms::{Addr, Inst, Key};
+
+/// An address of a graph, as `[c: k, ..]`.
+#[derive(Clone, Copy)]
+pub struct NamedAddress<'a> {
+    pub graph: &'a Graph,
+    pub address: Addr,
+}
+
+/// An instance of a graph, as `(s: k, ..)`.
+#[derive(Clone, Copy)]
+pub struct NamedInstance<'a> {
+    pub graph: &'a Graph,
+    pub instance: Inst,
+}
+
+/// A name, and behind a colon the components of a key.
+#[derive(Clone, Copy)]
+struct WithKey<'a> {
+    name: &'a str,
+    key: &'a Key,
+}
+
+impl fmt::Display for WithKey<'_> {
+    ghost use Rattle.std.specs.Prelude.{Some};
+    ghost use Rattle.report.specs.Named.{with_key};
+
+    ghost output = { λ named. Some (with_key named.name.now named.key.now) };
+
+    fn fmt<W: fmt::Write>(&self, f: &mut fmt::Formatter<W>) -> fmt::Result {
+        f.write_str(self.name)?;
+        match self.key.components().split_first() {
+            Some((first, more)) => {
+                write!(f, ": {first}")?;
+                write_more(f, more)
+            }
+            None => Ok(()),
+        }
+    }
+}
+
+/// Writes these components, a comma and a blank before each.
+fn write_more<W: fmt::Write>(f: &mut fmt::Formatter<W>, components: &[i64]) -> fmt::Result
+    ensures { WritesOnOk W.write_str_gives f.old result (more_components components.now) f.new }
+{
+    for component in components {
+        write!(f, ", {component}")?;
+    }
+    Ok(())
+}
+
+impl fmt::Display for NamedAddress<'_> {
+    ghost use Rattle.std.specs.Prelude.{Some};
+    ghost use Rattle.report.specs.Named.{address_text};
+
+    ghost output = { λ named. Some (address_text named.graph.now named.address) };
+
+    fn fmt<W: fmt::Write>(&self, f: &mut fmt::Formatter<W>) -> fmt::Result {
+        let name = self.graph.item_name(self.address.collection).unwrap_or("");
+        let key = &self.address.key;
+        let named = WithKey { name, key };
+        write!(f, "[{named}]")
+    }
+}
+
+impl fmt::Display for NamedInstance<'_> {
+    ghost use Rattle.std.specs.Prelude.{Some};
+    ghost use Rattle.report.specs.Named.{instance_text};
+
+    ghost output = { λ named. Some (instance_text named.graph.now named.instance) };
+
+    fn fmt<W: fmt::Write>(&self, f: &mut fmt::Formatter<W>) -> fmt::Result {
+        let name = self.graph.step_name(self.instance.collection).unwrap_or("");
+        let key = &self.instance.key;
+        let named = WithKey { name, key };
+        write!(f, "({named})")
+    }
+}

@@ -1,0 +1,14 @@
+pub mod AsciiLines
+pub mod Asked
+pub mod Chain
+pub mod Example
+pub mod FormTokens
+pub mod Fronts
+pub mod Keys
+pub mod Lines
+pub mod Once
+pub mod OneForm
+pub mod OneScript
+pub mod Puts
+pub mod Runs
+pub mod Values

@@ -1,0 +1,75 @@
+-- What a line of a script asks for, or which fault it has.
+use Rattle.std.specs.Prelude.{◌≡◌, ⊤, ℕ, ℤ, List, [], ◌∷◌, ◌++◌, length, Some, None, FitsSigned}
+use Rattle.std.specs.Int.{w64}
+use Rattle.std.specs.List.{AllByRecursion}
+use Rattle.steptree.specs.Nameable.{Collection}
+use Rattle.steptree.specs.Names.{place_of}
+use Rattle.graph.specs.Graph.{Graph, IsOf}
+use Rattle.graph.specs.Tree.{names_in}
+use Rattle.script.specs.Tokens.{AreSpaces}
+use Rattle.script.specs.Forms.{Form, Spells, put, tag, get, run}
+use Rattle.script.specs.declared.command.Command.{Command}
+use Rattle.script.specs.declared.command.Command.TheVariants as command
+use Rattle.script.specs.declared.error.ScriptFault.{ScriptFault}
+use Rattle.script.specs.declared.error.ScriptFault.TheVariants.{Syntax, Number, UnknownName, Arity, TooLarge}
+
+-- the numbers of a form
+abbrev pub numbers_of : Form → List ℤ
+numbers_of (put name key value) = key ++ value ∷ []
+numbers_of (tag name key) = key
+numbers_of (get name key) = key
+numbers_of run = []
+
+-- each of them is a number of 64 bits
+abbrev pub AreInRange : Form → Type 0
+AreInRange form = AllByRecursion (FitsSigned w64) (numbers_of form)
+
+-- the collection with this name has this number
+abbrev pub IsNamed : List Collection → List ℕ → ℕ → Type 0
+IsNamed collections name number = place_of (names_in collections) name ≡ Some number
+
+-- it has this number, and its keys have as many components as this key
+abbrev pub Finds : List Collection → List ℕ → List ℤ → ℕ → Type 0
+Finds collections name key number = IsNamed collections name number × IsOf collections number (length key)
+
+-- the form names this command
+abbrev pub Names : Graph → Form → Command → Type 0
+Names g (put name key value) (command.Put address v) = Finds g.items name key address.collection.0 × (address.key ≡ key) × (v ≡ value)
+Names g (tag name key) (command.Tag t) = Finds g.tags name key t.collection.0 × (t.key ≡ key)
+Names g (get name key) (command.Get address) = Finds g.items name key address.collection.0 × (address.key ≡ key)
+Names g run command.Run = ⊤
+Names g form other = ⊥
+
+-- the line asks for this command
+abbrev pub Asks : Graph → List ℕ → Command → Type 0
+Asks g line asked = (form : Form) × Spells line form × AreInRange form × Names g form asked
+
+-- ---- faults
+
+-- no collection has this name; it has one, but its keys have another number of components
+abbrev pub IsUnknown : List Collection → List ℕ → Type 0
+IsUnknown collections name = place_of (names_in collections) name ≡ None
+
+abbrev pub HasOtherArity : List Collection → List ℕ → List ℤ → Type 0
+HasOtherArity collections name key = (number : ℕ) × IsNamed collections name number × (IsOf collections number (length key) → ⊥)
+
+abbrev pub NamesNone : Graph → Form → Type 0
+NamesNone g (put name key value) = IsUnknown g.items name
+NamesNone g (tag name key) = IsUnknown g.tags name
+NamesNone g (get name key) = IsUnknown g.items name
+NamesNone g run = ⊥
+
+abbrev pub NamesOther : Graph → Form → Type 0
+NamesOther g (put name key value) = HasOtherArity g.items name key
+NamesOther g (tag name key) = HasOtherArity g.tags name key
+NamesOther g (get name key) = HasOtherArity g.items name key
+NamesOther g run = ⊥
+
+-- The fault of a line, the first of these: it is no form; a number is not one of 64 bits; no collection has that name; its keys have another number of
+-- components. That a script is too large is no line's fault.
+abbrev pub IsFault : Graph → List ℕ → ScriptFault → Type 0
+IsFault g line Syntax = (AreSpaces line → ⊥) × ((form : Form) → Spells line form → ⊥)
+IsFault g line Number = (form : Form) × Spells line form × (AreInRange form → ⊥)
+IsFault g line UnknownName = (form : Form) × Spells line form × AreInRange form × NamesNone g form
+IsFault g line Arity = (form : Form) × Spells line form × AreInRange form × NamesOther g form
+IsFault g line TooLarge = ⊥

@@ -1,0 +1,82 @@
+//! Keys, as they are written.
+ghost use Rattle.std.specs.Prelude.{◌≡◌, ◌≤◌, ◌∷◌, ◌++◌, [], ℤ, List, length, IfSome, Some};
+ghost use Rattle.std.specs.Str.Parse.{IsNumeral, signed_digits_value, without_leading_sign};
+ghost use Rattle.terms.specs.declared.key.TheConstants.{MAX_COMPONENTS};
+ghost use Rattle.script.specs.Lexemes.{IsSoundCursor, left};
+ghost use Rattle.script.specs.Requests.{AnswersKey, HasRead, HasValue, key_of};
+
+use crate::cursor::Cursor;
+use terms::{Key, MAX_COMPONENTS};
+
+/// What is read of the components of a key.
+#[derive(Clone, Copy)]
+pub(crate) enum WrittenKey {
+    /// All of them are numbers of 64 bits, and this is the key.
+    Whole(Key),
+    /// All of them are numbers of 64 bits, and no key has so many.
+    TooLong,
+    /// One of them is not a number of 64 bits.
+    OutOfRange,
+}
+
+impl WrittenKey {
+    // The same with one component more.
+    fn with(self, component: Option<i64>) -> WrittenKey
+        ensures { (components : List ℤ) → (value : ℤ) → HasRead self components → HasValue component value → HasRead result (components ++ value ∷ []) }
+    {
+        match component {
+            None => WrittenKey::OutOfRange,
+            Some(value) => match self {
+                WrittenKey::Whole(key) => longer(key, value),
+                WrittenKey::TooLong => WrittenKey::TooLong,
+                WrittenKey::OutOfRange => WrittenKey::OutOfRange,
+            },
+        }
+    }
+}
+
+// The key with one component more.
+fn longer(key: Key, component: i64) -> WrittenKey
+    ensures { (components : List ℤ) → (value : ℤ) → HasRead (WrittenKey.Whole key) components → HasValue (Some component) value → HasRead result (components ++ value ∷ []) }
+{
+    let before = key.components();
+    let count = before.len();
+    if count == MAX_COMPONENTS {
+        return WrittenKey::TooLong;
+    }
+    let mut components = [0; MAX_COMPONENTS];
+    components[..count].copy_from_slice(before);
+    components[count] = component;
+    WrittenKey::Whole(Key::new(&components[..count + 1]))
+}
+
+/// The number that is written so, or nothing where it is not one of 64 bits.
+pub(crate) fn number(text: &str) -> Option<i64>
+    requires { IsNumeral 10 (without_leading_sign text.now) }
+    ensures { HasValue result (signed_digits_value 10 text.now) }
+{
+    text.parse::<i64>().ok()
+}
+
+/// The key behind a name: the components behind a colon, where there are some, up to a bracket.
+pub(crate) fn written_key(cursor: &mut Cursor<'_, '_>, close: u8) -> Option<WrittenKey>
+    requires { IsSoundCursor cursor.old }
+    ensures key { AnswersKey result (key_of 58 close (left cursor.old)) (left cursor.new) }
+    ensures sound { IsSoundCursor cursor.new }
+{
+    let mut written = WrittenKey::Whole(Key::new(&[]));
+    let mut mark = b':';
+    loop {
+        if cursor.takes(close) {
+            return Some(written);
+        }
+        if !cursor.takes(mark) {
+            return None;
+        }
+        match cursor.number() {
+            Some(component) => written = written.with(component),
+            None => return None,
+        }
+        mark = b',';
+    }
+}

@@ -1,0 +1,23 @@
+ghost use Rattle.script.specs.Forms.{FormsOnce};
+ghost use Rattle.script.specs.Script.{ScriptsOnce};
+ghost use Rattle.script.specs.Tokens.{TokensExample, TokensOnce};
+
+/// A line is one list of tokens at most; and worked examples.
+pub fn tokens_once()
+    ensures once { TokensOnce }
+    ensures example { TokensExample }
+{}
+
+/// A line is one form at most.
+pub fn forms_once()
+    ensures { FormsOnce }
+{
+    tokens_once();
+}
+
+/// A text that is a script has no fault, and one list of commands.
+pub fn scripts_once()
+    ensures { ScriptsOnce }
+{
+    forms_once();
+}

@@ -1,0 +1,152 @@
+//! What a line asks for, by the names and numbers that stand there.
+ghost use Rattle.std.specs.Prelude.{ℤ, List};
+ghost use Rattle.script.specs.Forms.{IsName, run};
+ghost use Rattle.script.specs.Lexemes.{AreSound, IsSoundCursor, left, lexemes_of};
+ghost use Rattle.script.specs.Requests.{Answers, AnswersNamed, HasRead, ended, form_by, form_of, get_of, named_of, put_behind, put_of, sign_of, tag_of};
+
+use crate::cursor::Cursor;
+use crate::key::{WrittenKey, written_key};
+use crate::token::Token;
+use crate::words::reserved_word;
+
+/// What a line asks for.
+#[derive(Clone, Copy)]
+pub(crate) enum Request<'a> {
+    /// To put an item: the name of its collection, its key and its value, nothing where that is not a number of 64 bits.
+    Put(&'a str, WrittenKey, Option<i64>),
+    /// To put a tag.
+    Tag(&'a str, WrittenKey),
+    /// To get an item.
+    Get(&'a str, WrittenKey),
+    /// To run the steps.
+    Run,
+}
+
+/// A name with a key in brackets.
+#[derive(Clone, Copy)]
+pub(crate) struct NamedKey<'a> {
+    pub(crate) name: &'a str,
+    pub(crate) key: WrittenKey,
+}
+
+/// What these tokens ask for, if they have one of the forms.
+pub(crate) fn requested<'a>(tokens: &[Token<'a>]) -> Option<Request<'a>>
+    requires { AreSound tokens.now }
+    ensures { Answers result (form_of (lexemes_of tokens.now)) }
+{
+    let mut cursor = Cursor { tokens };
+    match cursor.word() {
+        Some(verb) => by_verb(verb, &mut cursor),
+        None => None,
+    }
+}
+
+// What is asked for behind the first word.
+fn by_verb<'a>(verb: &str, cursor: &mut Cursor<'_, 'a>) -> Option<Request<'a>>
+    requires { IsSoundCursor cursor.old }
+    ensures { Answers result (form_by verb.now (left cursor.old)) }
+{
+    match verb {
+        "put" => put(cursor),
+        "tag" => tag(cursor),
+        "get" => get(cursor),
+        "run" => steps(cursor),
+        _ => None,
+    }
+}
+
+fn put<'a>(cursor: &mut Cursor<'_, 'a>) -> Option<Request<'a>>
+    requires { IsSoundCursor cursor.old }
+    ensures { Answers result (put_of (left cursor.old)) }
+{
+    match named_key(cursor, b'[', b']') {
+        Some(named) => put_named(named, cursor),
+        None => None,
+    }
+}
+
+// The put behind its name and key.
+fn put_named<'a>(named: NamedKey<'a>, cursor: &mut Cursor<'_, 'a>) -> Option<Request<'a>>
+    requires sound { IsSoundCursor cursor.old }
+    requires kept { IsName named.name.now }
+    ensures { (key : List ℤ) → HasRead named.entry.key key → Answers result (put_behind named.entry.name.now key (sign_of 61 (left cursor.old))) }
+{
+    if !cursor.takes(b'=') {
+        return None;
+    }
+    match cursor.number() {
+        Some(value) => {
+            if cursor.is_at_end() {
+                Some(Request::Put(named.name, named.key, value))
+            } else {
+                None
+            }
+        }
+        None => None,
+    }
+}
+
+fn tag<'a>(cursor: &mut Cursor<'_, 'a>) -> Option<Request<'a>>
+    requires { IsSoundCursor cursor.old }
+    ensures { Answers result (tag_of (left cursor.old)) }
+{
+    match named_key(cursor, b'<', b'>') {
+        Some(named) => {
+            if cursor.is_at_end() {
+                Some(Request::Tag(named.name, named.key))
+            } else {
+                None
+            }
+        }
+        None => None,
+    }
+}
+
+fn get<'a>(cursor: &mut Cursor<'_, 'a>) -> Option<Request<'a>>
+    requires { IsSoundCursor cursor.old }
+    ensures { Answers result (get_of (left cursor.old)) }
+{
+    match named_key(cursor, b'[', b']') {
+        Some(named) => {
+            if cursor.is_at_end() {
+                Some(Request::Get(named.name, named.key))
+            } else {
+                None
+            }
+        }
+        None => None,
+    }
+}
+
+fn steps<'a>(cursor: &Cursor<'_, 'a>) -> Option<Request<'a>>
+    ensures { Answers result (ended run (left cursor.now)) }
+{
+    if cursor.is_at_end() {
+        Some(Request::Run)
+    } else {
+        None
+    }
+}
+
+// A name that is not reserved and a key, between these brackets.
+fn named_key<'a>(cursor: &mut Cursor<'_, 'a>, open: u8, close: u8) -> Option<NamedKey<'a>>
+    requires { IsSoundCursor cursor.old }
+    ensures named { AnswersNamed result (named_of «open» close (left cursor.old)) (left cursor.new) }
+    ensures sound { IsSoundCursor cursor.new }
+{
+    if !cursor.takes(open) {
+        return None;
+    }
+    match cursor.word() {
+        Some(name) => {
+            if reserved_word(name).is_some() {
+                return None;
+            }
+            match written_key(cursor, close) {
+                Some(key) => Some(NamedKey { name, key }),
+                None => None,
+            }
+        }
+        None => None,
+    }
+}

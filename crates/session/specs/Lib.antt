@@ -1,0 +1,4 @@
+pub mod Answers
+pub mod Fails
+pub mod Replies
+pub mod Session
