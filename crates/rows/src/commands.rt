@@ -9,12 +9,13 @@
 //! - `machine NAME CHOOSERS`: a story of a store in memory, once for each chooser (`states`)
 //! - `core NUMBERS`: a story of a store on a memory disk with its steps, once for each number (`cores`)
 //! - `crashes FIRST LAST SIDE`: such a story, cut off at each of these calls of the disk, and told on (`crashes`)
+//! - `session NAME LIMIT`: scripts that are run on a store (`sessions`)
 //! - `first`: bytes that begin with a record (`journals`)
 //! - `store NUMBERS`: a story of a store on a memory disk, once for each number (`vault_stories`)
 use crate::names::Names;
 use crate::{
-    bodies, bytes, codecs, cores, crashes, graphs, item_calls, journals, orders, states, stories,
-    texts, vaults,
+    bodies, bytes, codecs, cores, crashes, graphs, item_calls, journals, orders, sessions, states,
+    stories, texts, vaults,
 };
 use std::alloc::{AllocError, Global};
 
@@ -42,6 +43,7 @@ pub(crate) fn answer(
         },
         "core" => stories::answer::<cores::Store>(alloc, names, rest, input),
         "crashes" => crashes::answer(alloc, names, rest, input),
+        "session" => sessions::answer(alloc, names, rest, input),
         "machine" => states::answer(alloc, names, rest, input),
         "store" => stories::answer::<vaults::World>(alloc, names, rest, input),
         "rising" => orders::answer(alloc, names, rest, input),

@@ -23,6 +23,7 @@ mod names;
 mod orders;
 mod reopening;
 mod running;
+mod sessions;
 mod states;
 mod stories;
 mod telling;
