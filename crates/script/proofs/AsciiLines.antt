@@ -5,7 +5,7 @@ use Rattle.std.specs.Str.{IsAscii}
 use Rattle.std.proofs.lemmas.Bool.Decides.{nat_tests}
 use Rattle.std.proofs.lemmas.List.{append-nil}
 use Rattle.syntax.specs.Tokens.{AreDigits, IsWordText, is_digit, is_letter}
-use Rattle.script.proofs.Runs.{ascii}
+use Rattle.syntax.proofs.Runs.{ascii}
 use Rattle.script.specs.Forms.{Form, put, tag, get, run, key_tokens, more_tokens, tokens_of}
 use Rattle.script.specs.Tokens.{AreSpaces, AreTokens, IsInteger, Lexeme, word, number, sign, unknown, Stands, is_sign}
 

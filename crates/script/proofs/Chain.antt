@@ -7,7 +7,7 @@ use Rattle.syntax.specs.Tokens.{BeginsWithout}
 use Rattle.script.specs.Lexemes.{AreSound, IsSound, lexeme_of, lexemes_of}
 use Rattle.script.specs.Tokens.{AreSpaces, AreTokens, Lexeme, Stands, is_space}
 use Rattle.script.specs.declared.token.Token.{Token}
-use Rattle.script.proofs.Runs.{passes, stops}
+use Rattle.syntax.proofs.Runs.{passes, stops}
 
 -- whatever is read from this place on goes on with what was read before it
 abbrev pub SoFar : List ℕ → ℕ → List Lexeme → Type 0

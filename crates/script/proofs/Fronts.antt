@@ -1,34 +1,14 @@
--- What stands in front of a text that begins with a letter, a digit or a hyphen.
-use Rattle.std.proofs.Common.{◌≡◌, ◌≢◌, ℕ, zero, suc, ◌+◌, ◌-◌, ◌<◌, ◌≤◌, Bool, true, ◌||◌, List, [], ◌∷◌, length, get_or, take, drop, inl, inr, refl, sym, ap, subst, ◌∙◌, arith, one-add, add-one, length-drop, take-append-drop}
+-- What stands in front of a text that begins with a digit or a hyphen.
+use Rattle.std.proofs.Common.{◌≡◌, ◌≢◌, ℕ, zero, suc, ◌+◌, ◌-◌, ◌<◌, ◌≤◌, true, List, [], ◌∷◌, length, get_or, take, drop, inl, inr, refl, sym, ap, subst, ◌∙◌, arith, one-add, add-one, length-drop, take-append-drop}
 use Rattle.std.specs.List.{prefix_len}
 use Rattle.std.proofs.lemmas.List.{take_all}
 use Rattle.std.proofs.lemmas.List.Sums.{prefix_len-le-length}
 use Rattle.std.specs.Str.Parse.{IsNumeral as IsDigits, digits_value, signed_digits_value, without_leading_sign}
-use Rattle.syntax.specs.Tokens.{AreDigits, BeginsWithout, IsNumeral, IsWhole, IsWordText, is_digit, is_letter}
+use Rattle.syntax.specs.Tokens.{AreDigits, BeginsWithout, IsNumeral, is_digit}
 use Rattle.script.specs.Tokens.{Stands, number}
-use Rattle.script.proofs.Runs.{passes, stops}
+use Rattle.syntax.proofs.Fronts.{has_digits}
+use Rattle.syntax.proofs.Runs.{stops}
 use Rattle.script.proofs.Values.{all_digits, plain_text, plain_value}
-
-abbrev pub is_word_part : ℕ → Bool
-is_word_part byte = is_letter byte || is_digit byte
-
-pub letter_part : (byte : ℕ) → is_letter byte ≡ true → is_word_part byte ≡ true
-letter_part byte h = rw h refl
-
-word_front : (first : ℕ) (rest : List ℕ) (n : ℕ) → n ≡ prefix_len is_word_part (first ∷ rest) → is_letter first ≡ true → IsWordText (take n (first ∷ rest))
-word_front first rest n e h =
-    let is : n ≡ 1 + prefix_len is_word_part rest = rw (letter_part first h) at e in
-    subst (λ k. IsWordText (take k (first ∷ rest))) (sym is) (rw one-add (h, passes is_word_part rest))
-
-pub whole_front : (text : List ℕ) (n : ℕ) → n ≡ prefix_len is_word_part text → 0 < length text → is_letter (get_or text 0 0) ≡ true → IsWhole (take n text) (drop n text)
-whole_front [] n e some h = absurd (omega arith)
-whole_front (first ∷ rest) n e some h =
-    (word_front first rest n e h, subst (λ k. BeginsWithout is_word_part (drop k (first ∷ rest))) (sym e) (stops is_word_part (first ∷ rest)))
-
--- ---- digits
-
-has_digits : (text : List ℕ) (n : ℕ) → n ≡ prefix_len is_digit text → AreDigits (take n text)
-has_digits text n e = subst (λ k. AreDigits (take k text)) (sym e) (passes is_digit text)
 
 some_front : (text : List ℕ) (n : ℕ) → 0 < n → 0 < length text → take n text ≢ []
 some_front [] n more some empty = omega arith

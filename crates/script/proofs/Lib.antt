@@ -10,5 +10,4 @@ pub mod Once
 pub mod OneForm
 pub mod OneScript
 pub mod Puts
-pub mod Runs
 pub mod Values

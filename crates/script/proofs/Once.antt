@@ -5,8 +5,8 @@ use Rattle.std.proofs.lemmas.Bool.Decides.{nat_tests}
 use Rattle.std.proofs.lemmas.List.{append-nil}
 use Rattle.syntax.specs.Tokens.{AreDigits, BeginsWithout, IsNumeral, IsWhole, IsWordText, is_digit, is_letter}
 use Rattle.script.specs.Tokens.{AreSpaces, AreTokens, BeginsNone, IsInteger, IsLoneHyphen, Lexeme, word, number, sign, unknown, Stands, is_sign, is_space}
-use Rattle.script.proofs.Fronts.{is_word_part, letter_part}
-use Rattle.script.proofs.Runs.{Passes, split_once}
+use Rattle.syntax.proofs.Fronts.{is_word_part, letter_part}
+use Rattle.syntax.proofs.Runs.{Passes, split_once}
 
 -- ---- the first character
 

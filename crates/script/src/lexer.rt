@@ -5,11 +5,10 @@ ghost use Rattle.script.specs.Lexemes.{AreSound, IsSound, lexeme_of, lexemes_of}
 ghost use Rattle.script.specs.Tokens.{AreTokens, Stands, is_sign, is_space};
 ghost use Rattle.syntax.specs.Tokens.{is_digit, is_letter};
 
-use crate::characters::{
-    is_digit, is_letter, is_sign, leading_digits, leading_spaces, leading_word,
-};
+use crate::characters::{is_sign, leading_spaces};
 use crate::token::Token;
 use std::alloc::AllocError;
+use syntax::{is_digit, is_letter, leading_digits, leading_word};
 
 /// Puts the tokens of a line, which is ASCII, in the place of those that were there, up to the first that is unknown.
 pub(crate) fn tokenize<'a>(tokens: &mut Vec<Token<'a>>, line: &'a str) -> Result<(), AllocError>

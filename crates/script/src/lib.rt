@@ -16,7 +16,6 @@ mod names;
 mod parser;
 mod request;
 mod token;
-mod words;
 
 pub use command::Command;
 pub use error::{ScriptError, ScriptFault};

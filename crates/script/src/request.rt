@@ -7,7 +7,7 @@ ghost use Rattle.script.specs.Requests.{Answers, AnswersNamed, HasRead, ended, f
 use crate::cursor::Cursor;
 use crate::key::{WrittenKey, written_key};
 use crate::token::Token;
-use crate::words::reserved_word;
+use syntax::reserved_word;
 
 /// What a line asks for.
 #[derive(Clone, Copy)]

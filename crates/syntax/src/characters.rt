@@ -9,14 +9,15 @@ fn is_blank(byte: u8) -> bool
     byte == b' ' || byte == b'\t' || byte == b'\r' || byte == b'\n'
 }
 
-pub(crate) fn is_digit(byte: u8) -> bool
+/// Whether it is a decimal digit.
+pub fn is_digit(byte: u8) -> bool
     ensures { result ≡ is_digit byte }
 {
     byte >= b'0' && byte <= b'9'
 }
 
 /// Whether it is a letter or `_`.
-pub(crate) fn is_letter(byte: u8) -> bool
+pub fn is_letter(byte: u8) -> bool
     ensures { result ≡ is_letter byte }
 {
     byte >= b'A' && byte <= b'Z' || byte >= b'a' && byte <= b'z' || byte == b'_'
@@ -30,14 +31,14 @@ pub(crate) fn leading_blanks(bytes: &[u8]) -> usize
 }
 
 /// How many digits these bytes begin with.
-pub(crate) fn leading_digits(bytes: &[u8]) -> usize
+pub fn leading_digits(bytes: &[u8]) -> usize
     ensures { result ≡ prefix_len is_digit bytes.now }
 {
     bytes.iter().take_while(|byte| is_digit(**byte)).count()
 }
 
 /// How many letters and digits these bytes begin with.
-pub(crate) fn leading_word(bytes: &[u8]) -> usize
+pub fn leading_word(bytes: &[u8]) -> usize
     ensures { result ≡ prefix_len (λ byte. is_letter byte || is_digit byte) bytes.now }
 {
     bytes

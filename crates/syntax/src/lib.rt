@@ -34,6 +34,7 @@ mod token;
 mod tree;
 mod words;
 
+pub use characters::{is_digit, is_letter, leading_digits, leading_word};
 pub use fault::{TreeError, TreeFault};
 pub use grammar::grammar_example;
 pub use law::{derived_may_come, grammar_limits, one_derivation, read_without_fault, tokens_once};
@@ -42,3 +43,4 @@ pub use limits::{MOST_BRACES, MOST_BRACKETS, MOST_DEPTH, MOST_NAME_BYTES};
 pub use parser::read_tree;
 pub use token::{Placed, Symbol, Token, Word};
 pub use tree::{Declaration, Relation, Tree};
+pub use words::reserved_word;

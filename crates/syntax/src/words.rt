@@ -6,7 +6,7 @@ ghost use Rattle.syntax.specs.declared.token.Word.{Word};
 use crate::Word;
 
 /// The reserved word that this text is, if it is one.
-pub(crate) fn reserved_word(text: &str) -> Option<Word>
+pub fn reserved_word(text: &str) -> Option<Word>
     ensures { MatchOption result ((kept : Word) → text.now ≢ word_text kept)
         (λ kept. text.now ≡ word_text kept) }
 {

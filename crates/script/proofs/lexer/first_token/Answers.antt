@@ -3,8 +3,9 @@ use Rattle.std.proofs.lemmas.Slice.{between_from_start}
 use Rattle.std.specs.Str.Parse.{IsNumeral, signed_digits_value, without_leading_sign}
 use Rattle.syntax.specs.Tokens.{is_digit}
 use Rattle.script.specs.Tokens.{Stands, number}
-use Rattle.script.proofs.Runs.{boundary, run_within}
-use Rattle.script.proofs.Fronts.{is_word_part, whole_front, digit_more, number_stands, number_sound}
+use Rattle.syntax.proofs.Runs.{boundary, run_within}
+use Rattle.syntax.proofs.Fronts.{is_word_part, whole_front}
+use Rattle.script.proofs.Fronts.{digit_more, number_stands, number_sound}
 use Rattle.script.proofs.lexer.first_token.Goals as goal
 
 pub range-requires-clause-end_boundary : goal.range-requires-clause-end_boundary

@@ -3,7 +3,7 @@ use Rattle.std.proofs.lemmas.Slice.{between_from_start}
 use Rattle.std.specs.Str.Parse.{IsNumeral, signed_digits_value, without_leading_sign}
 use Rattle.script.specs.Tokens.{Stands, number}
 use Rattle.script.proofs.Fronts.{behind_first, negative_sound, negative_stands, negative_within}
-use Rattle.script.proofs.Runs.{boundary}
+use Rattle.syntax.proofs.Runs.{boundary}
 use Rattle.script.proofs.lexer.negative_or_unknown.Goals as goal
 
 pub overflow_add-digits : goal.overflow_add-digits

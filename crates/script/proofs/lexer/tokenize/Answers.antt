@@ -3,7 +3,7 @@ use Rattle.std.proofs.ResultArms.{chosen}
 use Rattle.std.specs.List.{prefix_len}
 use Rattle.script.specs.Lexemes.{lexemes_of}
 use Rattle.script.specs.Tokens.{is_space}
-use Rattle.script.proofs.Runs.{boundary}
+use Rattle.syntax.proofs.Runs.{boundary}
 use Rattle.script.proofs.Chain.{spaces_within, not_space, finished, token_read, SoFar-pushed, sound_pushed}
 use Rattle.script.proofs.lexer.tokenize.Goals as goal
 
