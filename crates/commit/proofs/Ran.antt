@@ -7,6 +7,7 @@ use Rattle.terms.specs.declared.name.Inst.{Inst}
 use Rattle.terms.specs.Facts.{tag, item}
 use Rattle.steptree.specs.Nameable.{Collection}
 use Rattle.steplang.specs.Running.{Running, IsDue, reads_with}
+use Rattle.graph.specs.Graph.{Graph}
 use Rattle.graph.specs.Fits.{AddressIsOf, InstanceIsOf, FitsState, IsAbsent}
 use Rattle.machine.specs.declared.refusal.Refusal.{Refusal}
 use Rattle.machine.specs.declared.refusal.Refusal.TheVariants.{NoSuchCollection, NotFromEnvironment, WrongArity, AlreadyPut, Stopped, Repeat}
@@ -35,18 +36,18 @@ not_true : (b : Bool) → (b ≡ true → ⊥) → b ≡ false
 not_true false never = refl
 not_true true never = elim (never refl) [ ]
 
-refutes : (m : Machine) (address : Addr) (refusal : Refusal) → RefusesRead m address refusal → AddressIsOf m.graph address → ⊥
-refutes m address NoSuchCollection refuses there = false≢true (ap is_some (sym refuses ∙ there.1))
-refutes m address WrongArity refuses there = refuses.2 (ap (λ (c : Collection). c.components) (same_collection (sym refuses.1 ∙ there.1)) ∙ there.2)
-refutes m address NotFromEnvironment refuses there = refuses
-refutes m address (Stopped instance kind) refuses there = refuses
-refutes m address (AlreadyPut value) refuses there = refuses
-refutes m address Repeat refuses there = refuses
+refutes : (g : Graph) (address : Addr) (refusal : Refusal) → RefusesRead g address refusal → AddressIsOf g address → ⊥
+refutes g address NoSuchCollection refuses there = false≢true (ap is_some (sym refuses ∙ there.1))
+refutes g address WrongArity refuses there = refuses.2 (ap (λ (c : Collection). c.components) (same_collection (sym refuses.1 ∙ there.1)) ∙ there.2)
+refutes g address NotFromEnvironment refuses there = refuses
+refutes g address (Stopped instance kind) refuses there = refuses
+refutes g address (AlreadyPut value) refuses there = refuses
+refutes g address Repeat refuses there = refuses
 
 -- where no item may be read there is none
-pub refused_is_absent : (m : Machine) → FitsState m.graph (environment m) (facts m) → (address : Addr) (refusal : Refusal) → RefusesRead m address refusal → IsAbsent (facts m) address
+pub refused_is_absent : (m : Machine) → FitsState m.graph (environment m) (facts m) → (address : Addr) (refusal : Refusal) → RefusesRead m.graph address refusal → IsAbsent (facts m) address
 refused_is_absent m fits address refusal refuses value by =
-    not_true (facts m (item address value by)) (λ there. refutes m address refusal refuses (fits.of_graph (item address value by) there))
+    not_true (facts m (item address value by)) (λ there. refutes m.graph address refusal refuses (fits.of_graph (item address value by) there))
 
 -- ---- a run
 

@@ -177,7 +177,7 @@ module _ {D : Type 0} (files : D → Side → File) (moment : D → ℕ) (left_a
       memory e refuses is = (subst (λ (x : CoreError). Refuses old causes end x) is refuses).1
 
   pub refused : {T : Type 0} → (honest → AppendLeaves files moment left_at) → (honest → RestLeaves files moment left_at) → (honest → GatesRest files moment left_at) → (old new : Core D) (instance : Inst) (end : Event) (error : CoreError)
-      → is_halted old ≡ false → old.in_doubt ≡ [] → 0 < old.allowance → (honest → IsKept files old) → IsEnd end → GivesBack old new instance → Commits {T = T} files moment left_at honest old new (RefusesEnd old.machine) end (Err error)
+      → is_halted old ≡ false → old.in_doubt ≡ [] → 0 < old.allowance → (honest → IsKept files old) → IsEnd end → GivesBack old new instance → Commits {T = T} files moment left_at honest old new (RefusesEnd (facts old)) end (Err error)
       → Halts {T = T} failures refusals old new (Err error) → Runs files moment left_at failures refusals honest old new []
   refused {T} leaves rest_leaves gates_rest old new instance end error working settled allowed kept is back commits halts = at (is_halted new) refl
     where
@@ -196,7 +196,7 @@ module _ {D : Type 0} (files : D → Side → File) (moment : D → ℕ) (left_a
       at true stops =
           let doubt : new.in_doubt ≡ end ∷ [] = commits.doubt working stops in
           let erred : HasErred failures refusals old.vault.disk new.vault.disk = elim (halts.halts.0 stops) [ inl before ↦ absurd (false≢true (sym working ∙ before)) | inr it ↦ it ] in
-          let legal = legal_in_doubt old new (RefusesEnd old.machine) end error commits.refused halts erred in
+          let legal = legal_in_doubt old new (RefusesEnd (facts old)) end error commits.refused halts erred in
           record {
             are_ends = subst (λ (events : List Event). AllByRecursion IsEnd events) (sym doubt) (is, tt);
             legal = subst (λ (events : List Event). AreLegalFrom (graph old) (facts old) events) (sym doubt) (legal, tt);
@@ -215,7 +215,7 @@ module _ {D : Type 0} (files : D → Side → File) (moment : D → ℕ) (left_a
 
   -- why it ends the run
   pub ends_early : {T : Type 0} (old new : Core D) (instance : Inst) (end : Event) (error : CoreError) → is_halted old ≡ false → 0 < old.allowance → HasNoFault (facts old) → IsEnd end → GivesBack old new instance
-      → Refuses old (RefusesEnd old.machine) end error → Halts {T = T} failures refusals old new (Err error) → EndsEarly new error
+      → Refuses old (RefusesEnd (facts old)) end error → Halts {T = T} failures refusals old new (Err error) → EndsEarly new error
   ends_early {T} old new instance end error working allowed none is back why halts goes = at error why refl
     where
       same : IsSame old.vault new.vault × (new.in_doubt ≡ old.in_doubt)
@@ -224,7 +224,7 @@ module _ {D : Type 0} (files : D → Side → File) (moment : D → ℕ) (left_a
       outside : {cause : CoreError} → error ≡ cause → ◌≡◌ {A = Result T CoreError} (Err error) (Err cause)
       outside is = cc
 
-      at : (e : CoreError) → Refuses old (RefusesEnd old.machine) end e → error ≡ e → (error ≡ Store NoMemory) ⊎ ((error ≡ Store Full) × IsFull new × (0 < new.allowance))
+      at : (e : CoreError) → Refuses old (RefusesEnd (facts old)) end e → error ≡ e → (error ≡ Store NoMemory) ⊎ ((error ≡ Store Full) × IsFull new × (0 < new.allowance))
       at (Refused (Stopped stopped kind)) refuses told = absurd (false≢true (sym (none stopped kind) ∙ refuses.1))
       at (Refused NoSuchCollection) refuses told = absurd refuses.1
       at (Refused NotFromEnvironment) refuses told = absurd refuses.1

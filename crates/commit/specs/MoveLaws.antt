@@ -25,10 +25,10 @@ use Rattle.commit.specs.Turning.{TurnLeaves}
 
 -- why an event of the environment, or of an instance, may not come
 abbrev pub RefusesEvent : {D : Type 0} → Core D → Event → Refusal → Type 0
-RefusesEvent c (EnvItem address value) = RefusesItem c.machine address
-RefusesEvent c (EnvTag name) = RefusesTag c.machine name
-RefusesEvent c (Done instance puts) = RefusesEnd c.machine
-RefusesEvent c (Stopped instance kind) = RefusesEnd c.machine
+RefusesEvent c (EnvItem address value) = RefusesItem (graph c) (facts c) address
+RefusesEvent c (EnvTag name) = RefusesTag (graph c) (facts c) name
+RefusesEvent c (Done instance puts) = RefusesEnd (facts c)
+RefusesEvent c (Stopped instance kind) = RefusesEnd (facts c)
 
 -- a call that commits nothing is one of these moves
 abbrev pub IsIdle : Move → Type 0

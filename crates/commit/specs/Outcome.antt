@@ -41,12 +41,12 @@ Tells (Stopped kind) end = (instance : Inst) × (end ≡ event.Stopped instance 
 pub record EndsGiven {D : Type 0} (files : D → Side → File) (moment : D → ℕ) (left_at : D → ℕ → Contents → Type 0) (honest : Type 0) (old new : Core D) (instance : Inst) (puts : List Put) (result : Result Committed CoreError) : Type 0 where
   pub end : Event
   pub is_end : IsEndOfGiven instance puts end
-  pub commits : Commits files moment left_at honest old new (RefusesEnd old.machine) end result
+  pub commits : Commits files moment left_at honest old new (RefusesEnd (facts old)) end result
   pub told : IfOk result (λ committed. Tells committed end)
 
 -- An end of the instance is committed at `Ok`, as the answer tells, or refused.
 pub record Finishes {D : Type 0} (files : D → Side → File) (moment : D → ℕ) (left_at : D → ℕ → Contents → Type 0) (honest : Type 0) (old new : Core D) (instance : Inst) (outcome : Outcome) (result : Result Committed CoreError) : Type 0 where
   pub end : Event
   pub is_end : IsEndOf outcome instance end
-  pub commits : Commits files moment left_at honest old new (RefusesEnd old.machine) end result
+  pub commits : Commits files moment left_at honest old new (RefusesEnd (facts old)) end result
   pub told : IfOk result (λ committed. Tells committed end)

@@ -72,7 +72,7 @@ impl<D: Disk> Core<D> {
         requires running { state_of self.old task ≡ Some Running }
         requires working { is_halted self.old ≡ false }
         requires faults { BodyFaults (graph self.old) (facts self.old) task kind }
-        ensures commits { Commits D.files D.moment D.left_at (IsTrue D.is_honest) self.old self.new (RefusesEnd self.old.machine) (Stopped task kind) result }
+        ensures commits { Commits D.files D.moment D.left_at (IsTrue D.is_honest) self.old self.new (RefusesEnd (facts self.old)) (Stopped task kind) result }
         ensures told { IfOk result (λ told. told ≡ committed.Stopped kind) }
         ensures err { OnErr result (GivesBack self.old self.new task) }
         ensures halts { Halts D.failures D.refusals self.old self.new result }

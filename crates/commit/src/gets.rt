@@ -15,7 +15,7 @@ impl<D: Disk> Core<D> {
     pub fn get(&self, addr: Addr) -> Result<Option<i64>, CoreError>
         ensures allowed { OnOk result ((is_halted self.now ≡ false) × EnvironmentMayGet (graph self.now) addr) }
         ensures value { IfOk result (IsValueAt (facts self.now) addr) }
-        ensures refused { IfErr result (RefusesOrHalted self.now (RefusesGet self.now.machine addr)) }
+        ensures refused { IfErr result (RefusesOrHalted self.now (RefusesGet (graph self.now) addr)) }
     {
         if self.vault.is_halted() {
             return Err(CoreError::Store(VaultError::Halted));
@@ -30,7 +30,7 @@ impl<D: Disk> Core<D> {
     pub fn read(&self, addr: Addr) -> Result<Option<i64>, CoreError>
         ensures allowed { OnOk result ((is_halted self.now ≡ false) × AddressIsOf (graph self.now) addr) }
         ensures value { IfOk result (IsValueAt (facts self.now) addr) }
-        ensures refused { IfErr result (RefusesOrHalted self.now (RefusesRead self.now.machine addr)) }
+        ensures refused { IfErr result (RefusesOrHalted self.now (RefusesRead (graph self.now) addr)) }
     {
         if self.vault.is_halted() {
             return Err(CoreError::Store(VaultError::Halted));

@@ -2,6 +2,7 @@
 //! opening behind any crash gives a beginning with all that was acknowledged.
 ghost use Rattle.std.specs.Prelude.{IsTrue};
 ghost use Rattle.machine.specs.Machine.{RefusesEnd};
+ghost use Rattle.commit.specs.Core.{facts};
 ghost use Rattle.commit.specs.MoveLaws.{CommitIsMove, CrashLeavesMove, CreationBegins, OpeningIsMove, NeverNothing, OpeningLeaves, RefusedOpeningIsMove, RefusesEvent, RestLeaves, RunIsMove, StepIsMove, TurnIsMove};
 ghost use Rattle.commit.specs.Moves.{Forgets, MadeStays};
 ghost use Rattle.commit.specs.declared.outcome.Committed.{Committed};
@@ -13,7 +14,7 @@ use vault::{one_store, stores_go_on};
 /// A call that commits one event is a move, and so are a turnover, a run, and a call that keeps the store as it is; and a crash at any moment of one is one.
 pub fn calls_are_moves<D: Disk>()
     ensures puts { CommitIsMove D.files D.moment D.left_at D.failures D.refusals (IsTrue D.is_honest) (Unit {0}) RefusesEvent }
-    ensures ends { CommitIsMove D.files D.moment D.left_at D.failures D.refusals (IsTrue D.is_honest) Committed (λ c _. RefusesEnd c.machine) }
+    ensures ends { CommitIsMove D.files D.moment D.left_at D.failures D.refusals (IsTrue D.is_honest) Committed (λ c _. RefusesEnd (facts c)) }
     ensures turns { IsTrue D.is_honest → TurnIsMove D.files D.moment D.left_at D.failures D.refusals }
     ensures runs { RunIsMove D.files D.moment D.left_at D.failures D.refusals (IsTrue D.is_honest) }
     ensures steps { IsTrue D.is_honest → StepIsMove D.files D.moment D.left_at }

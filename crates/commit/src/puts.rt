@@ -20,7 +20,7 @@ impl<D: Disk> Core<D> {
     pub fn put_item(&mut self, addr: Addr, value: i64) -> Result<(), CoreError>
         ensures ok { OnOk result (Takes self.old self.new (EnvItem addr value)) }
         ensures err { OnErr result (IsUnchanged self.old self.new) }
-        ensures refused { IfErr result (Refuses self.old (RefusesItem self.old.machine addr) (EnvItem addr value)) }
+        ensures refused { IfErr result (Refuses self.old (RefusesItem (graph self.old) (facts self.old) addr) (EnvItem addr value)) }
         ensures full { TellsFull self.old (EnvItem addr value) result }
         ensures halts { Halts D.failures D.refusals self.old self.new result }
         ensures doubt { IsInDoubt self.old self.new (EnvItem addr value) result }
@@ -42,7 +42,7 @@ impl<D: Disk> Core<D> {
     pub fn put_tag(&mut self, tag: Tag) -> Result<(), CoreError>
         ensures ok { OnOk result (Takes self.old self.new (EnvTag tag)) }
         ensures err { OnErr result (IsUnchanged self.old self.new) }
-        ensures refused { IfErr result (Refuses self.old (RefusesTag self.old.machine tag) (EnvTag tag)) }
+        ensures refused { IfErr result (Refuses self.old (RefusesTag (graph self.old) (facts self.old) tag) (EnvTag tag)) }
         ensures full { TellsFull self.old (EnvTag tag) result }
         ensures halts { Halts D.failures D.refusals self.old self.new result }
         ensures doubt { IsInDoubt self.old self.new (EnvTag tag) result }
@@ -62,7 +62,7 @@ impl<D: Disk> Core<D> {
         ensures working { OnOk result (is_halted self.old ≡ false) }
         ensures legal { OnOk result (IsLegal (graph self.new) (facts self.new) (EnvItem addr value)) }
         ensures room { OnOk result (HasRoom self.new.machine (Item addr value ∷ [])) }
-        ensures refused { IfErr result (RefusesFirst self.old (RefusesItem self.old.machine addr) (EnvItem addr value)) }
+        ensures refused { IfErr result (RefusesFirst self.old (RefusesItem (graph self.old) (facts self.old) addr) (EnvItem addr value)) }
         ensures same { GivesRoom self.old self.new }
     {
         if self.vault.is_halted() {
@@ -79,7 +79,7 @@ impl<D: Disk> Core<D> {
         ensures working { OnOk result (is_halted self.old ≡ false) }
         ensures legal { OnOk result (IsLegal (graph self.new) (facts self.new) (EnvTag tag)) }
         ensures room { OnOk result (HasRoom self.new.machine (Name tag ∷ [])) }
-        ensures refused { IfErr result (RefusesFirst self.old (RefusesTag self.old.machine tag) (EnvTag tag)) }
+        ensures refused { IfErr result (RefusesFirst self.old (RefusesTag (graph self.old) (facts self.old) tag) (EnvTag tag)) }
         ensures same { GivesRoom self.old self.new }
     {
         if self.vault.is_halted() {

@@ -2,11 +2,12 @@
 use Rattle.std.proofs.Common.{Result, Ok, Err, IfOk, ◌≡◌, ◌↔◌, ◌⊎◌, ◌∙◌, ap, sym, refl, subst, inl, inr, ℕ, ℤ, ◌==◌, Bool, true, false, ◌&&◌, List, Option, Some, None, is_some}
 use Rattle.std.proofs.lemmas.Bool.{false≢true}
 use Rattle.std.specs.Cmp.{IsTotalOrder, unsigned_Decides}
-use Rattle.std.specs.FinMap.{IsAntisymmetric}
+use Rattle.std.specs.FinMap.{IsAntisymmetric, find}
 use Rattle.std.specs.Option.{option_map}
 use Rattle.std.specs.Ordering.{eq_by_cmp, is_eq}
 use Rattle.std.proofs.lemmas.Cmp.{tied_itself}
 use Rattle.terms.specs.Key.{key_cmp}
+use Rattle.terms.specs.Name.{inst_cmp}
 use Rattle.terms.specs.declared.name.Addr.{Addr}
 use Rattle.terms.specs.declared.name.Inst.{Inst}
 use Rattle.terms.specs.declared.name.Tag.{Tag}
@@ -83,7 +84,16 @@ module _ (total : IsTotalOrder key_cmp) (tie : IsAntisymmetric key_cmp) (g : Gra
       each = waiting.each;
       waits = λ i address found. (let here = (waiting.each i address).0 found in
           record { prescribed = prescribed i (Waiting address) here; not_done = ap is_done here; needs = is.needs i address here });
+      all = λ idle i it unfinished. at idle i unfinished (state_at m.instances i) refl (there.together it.0 i (kept it.0 i it.2) ∙ it.1);
     }
+      where
+        at : NoneIsActive (record { graph = g; memory = m }) → (i : Inst) → facts_of m (done i) ≡ false → (o : Option State) → state_at m.instances i ≡ o → is_some (state_at m.instances i) ≡ true
+            → (address : Addr) × (find inst_cmp i list ≡ Some address)
+        at idle i unfinished None here some = absurd (false≢true (ap is_some (sym here) ∙ some))
+        at idle i unfinished (Some Ready) here some = absurd ((idle i).0 here)
+        at idle i unfinished (Some Running) here some = absurd ((idle i).1 here)
+        at idle i unfinished (Some (Waiting address)) here some = (address, (waiting.each i address).1 here)
+        at idle i unfinished (Some Done) here some = absurd (false≢true (sym unfinished ∙ ap is_done here))
 
 -- ---- who is active
 

@@ -158,40 +158,40 @@ abbrev pub HasOther : List Collection → ℕ → ℕ → Type 0
 HasOther collections number components = (collection : Collection) × (slice_get collections number ≡ Some collection) × (collection.components ≢ components)
 
 -- why there may be no second item: there is one, with this value
-abbrev pub RefusesSecond : Machine → Addr → Refusal → Type 0
-RefusesSecond m address (AlreadyPut value) = items (facts m) address value
-RefusesSecond m address NoSuchCollection = ⊥
-RefusesSecond m address WrongArity = ⊥
-RefusesSecond m address NotFromEnvironment = ⊥
-RefusesSecond m address (Stopped instance kind) = ⊥
-RefusesSecond m address Repeat = ⊥
+abbrev pub RefusesSecond : Facts → Addr → Refusal → Type 0
+RefusesSecond X address (AlreadyPut value) = items X address value
+RefusesSecond X address NoSuchCollection = ⊥
+RefusesSecond X address WrongArity = ⊥
+RefusesSecond X address NotFromEnvironment = ⊥
+RefusesSecond X address (Stopped instance kind) = ⊥
+RefusesSecond X address Repeat = ⊥
 
 -- why the environment may not put an item: the first of these that is so
-abbrev pub RefusesItem : Machine → Addr → Refusal → Type 0
-RefusesItem m address NoSuchCollection = slice_get m.graph.items address.collection.0 ≡ None
-RefusesItem m address WrongArity = HasOther m.graph.items address.collection.0 (length address.key)
-RefusesItem m address NotFromEnvironment = AddressIsOf m.graph address × (get_or m.graph.environment_item_puts address.collection.0 false ≡ false)
-RefusesItem m address (Stopped instance kind) = EnvironmentMayPutItem m.graph address × (facts m (bad instance kind) ≡ true)
-RefusesItem m address (AlreadyPut value) = EnvironmentMayPutItem m.graph address × HasNoFault (facts m) × items (facts m) address value
-RefusesItem m address Repeat = ⊥
+abbrev pub RefusesItem : Graph → Facts → Addr → Refusal → Type 0
+RefusesItem g X address NoSuchCollection = slice_get g.items address.collection.0 ≡ None
+RefusesItem g X address WrongArity = HasOther g.items address.collection.0 (length address.key)
+RefusesItem g X address NotFromEnvironment = AddressIsOf g address × (get_or g.environment_item_puts address.collection.0 false ≡ false)
+RefusesItem g X address (Stopped instance kind) = EnvironmentMayPutItem g address × (X (bad instance kind) ≡ true)
+RefusesItem g X address (AlreadyPut value) = EnvironmentMayPutItem g address × HasNoFault X × items X address value
+RefusesItem g X address Repeat = ⊥
 
 -- why it may not put a tag
-abbrev pub RefusesTag : Machine → Tag → Refusal → Type 0
-RefusesTag m name NoSuchCollection = slice_get m.graph.tags name.collection.0 ≡ None
-RefusesTag m name WrongArity = HasOther m.graph.tags name.collection.0 (length name.key)
-RefusesTag m name NotFromEnvironment = TagIsOf m.graph name × (get_or m.graph.environment_tag_puts name.collection.0 false ≡ false)
-RefusesTag m name (Stopped instance kind) = EnvironmentMayPutTag m.graph name × (facts m (bad instance kind) ≡ true)
-RefusesTag m name Repeat = EnvironmentMayPutTag m.graph name × HasNoFault (facts m) × (facts m (tag name) ≡ true)
-RefusesTag m name (AlreadyPut value) = ⊥
+abbrev pub RefusesTag : Graph → Facts → Tag → Refusal → Type 0
+RefusesTag g X name NoSuchCollection = slice_get g.tags name.collection.0 ≡ None
+RefusesTag g X name WrongArity = HasOther g.tags name.collection.0 (length name.key)
+RefusesTag g X name NotFromEnvironment = TagIsOf g name × (get_or g.environment_tag_puts name.collection.0 false ≡ false)
+RefusesTag g X name (Stopped instance kind) = EnvironmentMayPutTag g name × (X (bad instance kind) ≡ true)
+RefusesTag g X name Repeat = EnvironmentMayPutTag g name × HasNoFault X × (X (tag name) ≡ true)
+RefusesTag g X name (AlreadyPut value) = ⊥
 
 -- why an instance may not end: the store has a fault
-abbrev pub RefusesEnd : Machine → Refusal → Type 0
-RefusesEnd m (Stopped instance kind) = facts m (bad instance kind) ≡ true
-RefusesEnd m NoSuchCollection = ⊥
-RefusesEnd m WrongArity = ⊥
-RefusesEnd m NotFromEnvironment = ⊥
-RefusesEnd m (AlreadyPut value) = ⊥
-RefusesEnd m Repeat = ⊥
+abbrev pub RefusesEnd : Facts → Refusal → Type 0
+RefusesEnd X (Stopped instance kind) = X (bad instance kind) ≡ true
+RefusesEnd X NoSuchCollection = ⊥
+RefusesEnd X WrongArity = ⊥
+RefusesEnd X NotFromEnvironment = ⊥
+RefusesEnd X (AlreadyPut value) = ⊥
+RefusesEnd X Repeat = ⊥
 
 -- the event by which an instance ends whose body gave these puts
 abbrev pub event_of : End → Inst → List Put → Event
@@ -206,19 +206,19 @@ IsValueAt X address None = IsAbsent X address
 IsValueAt X address (Some value) = items X address value
 
 -- why a step may not read an item: the first of these that is so
-abbrev pub RefusesRead : Machine → Addr → Refusal → Type 0
-RefusesRead m address NoSuchCollection = slice_get m.graph.items address.collection.0 ≡ None
-RefusesRead m address WrongArity = HasOther m.graph.items address.collection.0 (length address.key)
-RefusesRead m address NotFromEnvironment = ⊥
-RefusesRead m address (Stopped instance kind) = ⊥
-RefusesRead m address (AlreadyPut value) = ⊥
-RefusesRead m address Repeat = ⊥
+abbrev pub RefusesRead : Graph → Addr → Refusal → Type 0
+RefusesRead g address NoSuchCollection = slice_get g.items address.collection.0 ≡ None
+RefusesRead g address WrongArity = HasOther g.items address.collection.0 (length address.key)
+RefusesRead g address NotFromEnvironment = ⊥
+RefusesRead g address (Stopped instance kind) = ⊥
+RefusesRead g address (AlreadyPut value) = ⊥
+RefusesRead g address Repeat = ⊥
 
 -- why the environment may not get one
-abbrev pub RefusesGet : Machine → Addr → Refusal → Type 0
-RefusesGet m address NoSuchCollection = slice_get m.graph.items address.collection.0 ≡ None
-RefusesGet m address WrongArity = HasOther m.graph.items address.collection.0 (length address.key)
-RefusesGet m address NotFromEnvironment = AddressIsOf m.graph address × (get_or m.graph.environment_gets address.collection.0 false ≡ false)
-RefusesGet m address (Stopped instance kind) = ⊥
-RefusesGet m address (AlreadyPut value) = ⊥
-RefusesGet m address Repeat = ⊥
+abbrev pub RefusesGet : Graph → Addr → Refusal → Type 0
+RefusesGet g address NoSuchCollection = slice_get g.items address.collection.0 ≡ None
+RefusesGet g address WrongArity = HasOther g.items address.collection.0 (length address.key)
+RefusesGet g address NotFromEnvironment = AddressIsOf g address × (get_or g.environment_gets address.collection.0 false ≡ false)
+RefusesGet g address (Stopped instance kind) = ⊥
+RefusesGet g address (AlreadyPut value) = ⊥
+RefusesGet g address Repeat = ⊥

@@ -5,8 +5,8 @@ use Rattle.terms.specs.Name.{inst_cmp}
 use Rattle.terms.specs.declared.name.Addr.{Addr}
 use Rattle.terms.specs.declared.name.Inst.{Inst}
 use Rattle.terms.specs.declared.fault.FaultKind.{FaultKind}
-use Rattle.terms.specs.Facts.{bad}
-use Rattle.graph.specs.Fits.{HasNoFault}
+use Rattle.terms.specs.Facts.{bad, done}
+use Rattle.graph.specs.Fits.{HasNoFault, IsPrescribed}
 use Rattle.instances.specs.declared.state.State.{State}
 use Rattle.instances.specs.declared.state.State.TheVariants.{Ready, Running, Waiting}
 use Rattle.machine.specs.Meaning.{IsClean}
@@ -25,11 +25,12 @@ NoneIsActive m = (instance : Inst) → (state_of m instance ≡ Some Ready → �
 abbrev pub IsAllOfMeaning : Machine → Type 0
 IsAllOfMeaning m = IsReached m.graph (environment m) (facts m) → IsMeaning m.graph (environment m) (facts m) × IsClean m.graph (environment m)
 
--- the instances that wait, each with the address of the item that it needs, in order
+-- The instances that wait, each with the address of the item that it needs, in order. Where none is active, they are all that are prescribed and not done.
 pub record AreBlocked (m : Machine) (list : List (Inst × Addr)) : Type 0 where
   pub rises : T (is_sorted inst_cmp list)
   pub each : (instance : Inst) (address : Addr) → (find inst_cmp instance list ≡ Some address) ↔ (state_of m instance ≡ Some (Waiting address))
   pub waits : (instance : Inst) (address : Addr) → find inst_cmp instance list ≡ Some address → Waits m.graph (facts m) instance address
+  pub all : NoneIsActive m → (instance : Inst) → IsPrescribed m.graph (facts m) instance → facts m (done instance) ≡ false → (address : Addr) × (find inst_cmp instance list ≡ Some address)
 
 -- where nothing is left to do, and the facts are reached, they are those that the meaning leaves unfinished, each with the item that it needs
 abbrev pub AreUnfinished : Machine → List (Inst × Addr) → Type 0

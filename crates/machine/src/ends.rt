@@ -32,7 +32,7 @@ impl Machine {
         requires gives { BodyGives self.old.graph (facts self.old) task.now puts.now }
         ensures legal { IfOk result (λ end. IsLegal self.old.graph (facts self.old) (event_of end task.now puts.now)) }
         ensures illegal { OnErr result ((event : Event) → IsLegal self.old.graph (facts self.old) event → ⊥) }
-        ensures refused { IfErr result (RefusesEnd self.old) }
+        ensures refused { IfErr result (RefusesEnd (facts self.old)) }
         ensures same { self.new ≡ self.old }
     {
         self.memory.instances.are_there_together();
@@ -51,7 +51,7 @@ impl Machine {
         requires faults { BodyFaults self.now.graph (facts self.now) task.now kind }
         ensures legal { OnOk result (IsLegal self.now.graph (facts self.now) (Stopped task.now kind)) }
         ensures illegal { OnErr result ((event : Event) → IsLegal self.now.graph (facts self.now) event → ⊥) }
-        ensures refused { IfErr result (RefusesEnd self.now) }
+        ensures refused { IfErr result (RefusesEnd (facts self.now)) }
     {
         self.memory.instances.are_there_together();
         self.is_working()

@@ -12,7 +12,7 @@ impl Machine {
     pub fn may_put_item(&self, addr: Addr) -> Result<(), Refusal>
         ensures legal { OnOk result ((value : ℤ) → IsLegal self.now.graph (facts self.now) (EnvItem addr value)) }
         ensures illegal { OnErr result ((value : ℤ) → IsLegal self.now.graph (facts self.now) (EnvItem addr value) → ⊥) }
-        ensures refused { IfErr result (RefusesItem self.now addr) }
+        ensures refused { IfErr result (RefusesItem self.now.graph (facts self.now) addr) }
     {
         let place = addr;
         self.is_address(place)?;
@@ -27,7 +27,7 @@ impl Machine {
     pub fn may_put_tag(&self, tag: Tag) -> Result<(), Refusal>
         ensures legal { OnOk result (IsLegal self.now.graph (facts self.now) (EnvTag tag)) }
         ensures illegal { OnErr result (IsLegal self.now.graph (facts self.now) (EnvTag tag) → ⊥) }
-        ensures refused { IfErr result (RefusesTag self.now tag) }
+        ensures refused { IfErr result (RefusesTag self.now.graph (facts self.now) tag) }
     {
         let Some(components) = self.graph.tag_components(tag.collection) else {
             return Err(Refusal::NoSuchCollection);
@@ -48,7 +48,7 @@ impl Machine {
     // Whether no item is at the address.
     fn is_absent(&self, addr: Addr) -> Result<(), Refusal>
         ensures absent { OnOk result (IsAbsent (facts self.now) addr) }
-        ensures there { IfErr result (RefusesSecond self.now addr) }
+        ensures there { IfErr result (RefusesSecond (facts self.now) addr) }
     {
         facts_are_told_apart();
         match self.memory.items.get(addr) {
@@ -60,7 +60,7 @@ impl Machine {
     // Whether the store has no fault.
     pub(crate) fn is_working(&self) -> Result<(), Refusal>
         ensures working { OnOk result (HasNoFault (facts self.now)) }
-        ensures stopped { IfErr result (RefusesEnd self.now) }
+        ensures stopped { IfErr result (RefusesEnd (facts self.now)) }
     {
         facts_are_told_apart();
         match self.memory.fault {

@@ -20,7 +20,7 @@ impl Machine {
     pub fn get(&self, addr: Addr) -> Result<Option<i64>, Refusal>
         ensures allowed { OnOk result (EnvironmentMayGet self.now.graph addr) }
         ensures value { IfOk result (IsValueAt (facts self.now) addr) }
-        ensures refused { IfErr result (RefusesGet self.now addr) }
+        ensures refused { IfErr result (RefusesGet self.now.graph addr) }
     {
         let place = addr;
         self.is_address(place)?;
@@ -34,7 +34,7 @@ impl Machine {
     pub fn read(&self, addr: Addr) -> Result<Option<i64>, Refusal>
         ensures allowed { OnOk result (AddressIsOf self.now.graph addr) }
         ensures value { IfOk result (IsValueAt (facts self.now) addr) }
-        ensures refused { IfErr result (RefusesRead self.now addr) }
+        ensures refused { IfErr result (RefusesRead self.now.graph addr) }
     {
         let place = addr;
         self.is_address(place)?;
@@ -45,7 +45,7 @@ impl Machine {
     pub(crate) fn is_address(&self, addr: Addr) -> Result<(), Refusal>
         ensures address { OnOk result (AddressIsOf self.now.graph addr) }
         ensures other { OnErr result (AddressIsOf self.now.graph addr → ⊥) }
-        ensures refused { IfErr result (RefusesRead self.now addr) }
+        ensures refused { IfErr result (RefusesRead self.now.graph addr) }
     {
         match self.graph.item_components(addr.collection) {
             None => Err(Refusal::NoSuchCollection),

@@ -53,7 +53,7 @@ returns-in-Ok-Done-clause-ends g c =
     record {
       end = event;
       is_end = inl refl;
-      commits = with_cause g.D.Disk.files g.D.Disk.moment g.D.Disk.left_at (IsTrue g.D.Disk.is_honest) old c.commit_done.new.self (RefusesEnd old.machine) event c.commit_done.result commits;
+      commits = with_cause g.D.Disk.files g.D.Disk.moment g.D.Disk.left_at (IsTrue g.D.Disk.is_honest) old c.commit_done.new.self (RefusesEnd (facts old)) event c.commit_done.result commits;
       told = if_ok c.commit_done.result (λ (told : Committed). told ≡ committed.Done) (λ (told : Committed). Tells told event) (λ told is. subst (λ (t : Committed). Tells t event) (sym is) (c.args.task, c.args.puts, refl)) c.commit_done.ensures.told;
     }
 
@@ -72,7 +72,7 @@ returns-in-Ok-DoublePut-clause-ends g c =
     record {
       end = event;
       is_end = inr refl;
-      commits = with_cause g.D.Disk.files g.D.Disk.moment g.D.Disk.left_at (IsTrue g.D.Disk.is_honest) old c.commit_fault.new.self (RefusesEnd old.machine) event c.commit_fault.result commits;
+      commits = with_cause g.D.Disk.files g.D.Disk.moment g.D.Disk.left_at (IsTrue g.D.Disk.is_honest) old c.commit_fault.new.self (RefusesEnd (facts old)) event c.commit_fault.result commits;
       told = if_ok c.commit_fault.result (λ (told : Committed). told ≡ committed.Stopped DoublePut) (λ (told : Committed). Tells told event) (λ told is. subst (λ (t : Committed). Tells t event) (sym is) (c.args.task, refl)) c.commit_fault.ensures.told;
     }
 
@@ -81,14 +81,14 @@ returns-in-Err-clause-ends g c =
     let old = c.args.self.now in
     let new = c.release.new.self in
     let event : Event = Done c.args.task c.args.puts in
-    let why = subst (λ (core : Core g.row.D.Denot). RefusesEnd core.machine c.in-Err.refusal) c.self.view_is c.in-Err.ensures.refused in
+    let why = subst (λ (core : Core g.row.D.Denot). RefusesEnd (facts core) c.in-Err.refusal) c.self.view_is c.in-Err.ensures.refused in
     let illegal = subst (λ (core : Core g.row.D.Denot). IsLegal (graph core) (facts core) event → ⊥) c.self.view_is (c.in-Err.ensures.illegal event) in
     let vault : new.vault ≡ old.vault = c.release.ensures.vault ∙ ap (λ (core : Core g.row.D.Denot). core.vault) c.self.view_is in
     record {
       end = event;
       is_end = inl refl;
       commits =
-          refused_first g.D.Disk.files g.D.Disk.moment g.D.Disk.left_at (IsTrue g.D.Disk.is_honest) old new (RefusesEnd old.machine) event (Refused c.in-Err.refusal)
+          refused_first g.D.Disk.files g.D.Disk.moment g.D.Disk.left_at (IsTrue g.D.Disk.is_honest) old new (RefusesEnd (facts old)) event (Refused c.in-Err.refusal)
           (c.requires.working, why) (λ legal. absurd (illegal legal)) (ap (λ (v : Vault g.row.D.Denot). v.halted) vault)
           (λ honest working. rests g.D.Disk.files g.D.Disk.moment g.D.Disk.left_at old new (event ∷ []) (c.stores_go_on.ensures.held_leaves honest) (c.stores_go_on.ensures.gates_rest honest) (c.is_kept.ensures.kept honest) working vault);
       told = tt;

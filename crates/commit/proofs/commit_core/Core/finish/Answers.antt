@@ -5,7 +5,7 @@ use Rattle.terms.specs.declared.event.Event.TheVariants.{Done, Stopped}
 use Rattle.machine.specs.Machine.{RefusesEnd}
 use Rattle.commit.specs.declared.outcome.Outcome.{Outcome}
 use Rattle.commit.specs.declared.outcome.Outcome.TheVariants.{Gave, Fault}
-use Rattle.commit.specs.Core.{Core, is_halted}
+use Rattle.commit.specs.Core.{Core, facts, is_halted}
 use Rattle.commit.specs.Doubt.{events_in}
 use Rattle.commit.specs.Outcome.{IsEndOf}
 use Rattle.commit.proofs.Moving.{SameFacts, of_move}
@@ -36,6 +36,6 @@ returns-then-is_halted-clause-finishes g c =
     record {
       end = end.0;
       is_end = end.1;
-      commits = refused_halted g.D.Disk.files g.D.Disk.moment g.D.Disk.left_at (IsTrue g.D.Disk.is_honest) old new (RefusesEnd old.machine) end.0 halted;
+      commits = refused_halted g.D.Disk.files g.D.Disk.moment g.D.Disk.left_at (IsTrue g.D.Disk.is_honest) old new (RefusesEnd (facts old)) end.0 halted;
       told = tt;
     }

@@ -3,6 +3,7 @@ use Rattle.std.proofs.lemmas.Int.{to_z-of_z}
 use Rattle.terms.specs.declared.event.Event.{Event}
 use Rattle.terms.specs.declared.event.Event.TheVariants.{EnvItem}
 use Rattle.machine.specs.Machine.{RefusesItem}
+use Rattle.commit.specs.Core.{facts, graph}
 use Rattle.commit.specs.Calls.{Takes, Refuses, NoCause, CrashLeaves}
 use Rattle.commit.proofs.Answered.{on_ok, if_err}
 use Rattle.commit.proofs.Roomy.{takes, refuses, moments, rests}
@@ -22,7 +23,7 @@ returns-in-Ok-clause-refused g c =
     let event : Event = EnvItem c.args.addr c.args.value in
     let old = c.args.self.now in
     let mid = c.make_ready_for_item.new.self in
-    if_err c.commit_put.result (Refuses mid NoCause event) (Refuses old (RefusesItem c.args.self.now.machine c.args.addr) event) (refuses old mid c.make_ready_for_item.ensures.same (RefusesItem c.args.self.now.machine c.args.addr) event)
+    if_err c.commit_put.result (Refuses mid NoCause event) (Refuses old (RefusesItem (graph c.args.self.now) (facts c.args.self.now) c.args.addr) event) (refuses old mid c.make_ready_for_item.ensures.same (RefusesItem (graph c.args.self.now) (facts c.args.self.now) c.args.addr) event)
     (subst (λ (e : Event). IfErr c.commit_put.result (Refuses mid NoCause e)) (λ i. EnvItem c.args.addr (to_z-of_z w64 c.args.value c.ranges.value i)) (c.commit_put.ensures.refused))
 
 pub returns-in-Ok-clause-moments : goal.returns-in-Ok-clause-moments

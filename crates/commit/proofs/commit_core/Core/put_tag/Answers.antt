@@ -2,6 +2,7 @@ use Rattle.std.proofs.Common.{[], ◌∷◌}
 use Rattle.terms.specs.declared.event.Event.{Event}
 use Rattle.terms.specs.declared.event.Event.TheVariants.{EnvTag}
 use Rattle.machine.specs.Machine.{RefusesTag}
+use Rattle.commit.specs.Core.{facts, graph}
 use Rattle.commit.specs.Calls.{Takes, Refuses, NoCause}
 use Rattle.commit.proofs.Answered.{on_ok, if_err}
 use Rattle.commit.proofs.Roomy.{takes, refuses, moments, rests}
@@ -21,7 +22,7 @@ returns-in-Ok-clause-refused g c =
     let event : Event = EnvTag c.args.tag in
     let old = c.args.self.now in
     let mid = c.make_ready_for_tag.new.self in
-    if_err c.commit_put.result (Refuses mid NoCause event) (Refuses old (RefusesTag c.args.self.now.machine c.args.tag) event) (refuses old mid c.make_ready_for_tag.ensures.same (RefusesTag c.args.self.now.machine c.args.tag) event)
+    if_err c.commit_put.result (Refuses mid NoCause event) (Refuses old (RefusesTag (graph c.args.self.now) (facts c.args.self.now) c.args.tag) event) (refuses old mid c.make_ready_for_tag.ensures.same (RefusesTag (graph c.args.self.now) (facts c.args.self.now) c.args.tag) event)
     (c.commit_put.ensures.refused)
 
 pub returns-in-Ok-clause-moments : goal.returns-in-Ok-clause-moments
