@@ -55,7 +55,7 @@ impl<D: Disk> Core<D> {
         ensures halted { is_halted self.old ≡ true → (self.new ≡ self.old) × (result ≡ Ok Halted) }
         ensures runs { is_halted self.old ≡ false → RunsWithin D.files D.moment D.left_at D.failures D.refusals (IsTrue D.is_honest) false false self.old self.new limit result }
     {
-        self.are_counted();
+        self.is_kept();
         match self.allow(limit) {
             Ok(()) => {
                 let went = self.run_allowed(alloc, chooser);
@@ -183,7 +183,7 @@ impl<D: Disk> Core<D> {
         requires err { IfErr went (EndsEarly self.now) }
         ensures { (limit count : ℕ) → self.now.allowance + count ≡ limit → TellsVerdict false false self.now limit count result }
     {
-        self.are_counted();
+        self.is_kept();
         match self.status() {
             Ok(Status::Stopped(instance, kind)) => Ok(Verdict::Stopped(instance, kind)),
             Ok(Status::Quiet { blocked }) => {

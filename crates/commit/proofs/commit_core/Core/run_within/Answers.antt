@@ -8,7 +8,7 @@ use Rattle.commit.proofs.commit_core.Core.run_within.Goals as goal
 pub returns-in-Ok-clause-runs : goal.returns-in-Ok-clause-runs
 returns-in-Ok-clause-runs g c _ =
     let old = c.args.self.now in
-    let none : running_count old ≡ 0 = let here = (none_runs old.machine c.are_counted.ensures).1 c.requires.idle in omega (arith, here) in
+    let none : running_count old ≡ 0 = let here = (none_runs old.machine c.is_kept.ensures.machine.counted).1 c.requires.idle in omega (arith, here) in
     let exact : max c.args.limit (running_count old) ≡ c.args.limit = omega (arith, none) in
     let allowed : c.allow.new.self ≡ with_allowance old c.args.limit = c.in-Ok.ensures.ok.1 ∙ ap (λ n. with_allowance old n) exact in
     let it = c.run_allowed-went.ensures.runs in
