@@ -1,6 +1,6 @@
 -- What a run keeps from one instance to the next.
-use Rattle.std.proofs.Common.{◌≡◌, ◌≢◌, ◌∙◌, ◌<◌, ◌≤◌, subst, sym, inl, inr, ℕ, false, [], Option, Some, IfSome, arith}
-use Rattle.std.proofs.lemmas.Bool.{cases_lt}
+use Rattle.std.proofs.Common.{◌≡◌, ◌≢◌, ◌∙◌, ◌<◌, ◌≤◌, ◌-◌, ◌^◌, min, subst, sym, inl, inr, ℕ, false, [], Option, None, Some, IfSome, IsSome, arith}
+use Rattle.std.proofs.lemmas.Bool.{cases_lt, false≢true}
 use Rattle.disk.specs.declared.side.Side.{Side}
 use Rattle.disk.specs.File.{File}
 use Rattle.disk.specs.Time.{Contents}
@@ -33,6 +33,12 @@ pub record Driven {D : Type 0} (files : D → Side → File) (moment : D → ℕ
 -- where none ran, the one that was claimed runs alone
 pub alone : {D : Type 0} (old new : Core D) (task : Inst) → NoneRuns old → Moves old new task Running → (instance : Inst) → instance ≢ task → state_of new instance ≢ Some Running
 alone old new task idle moves instance other runs = idle instance (sym (moves.machine.others instance other) ∙ runs)
+
+-- where none is claimed of those that are ready, the first may not be claimed either
+pub claims_none : {D : Type 0} (old new : Core D) (at ready : ℕ) (claimed : Option Inst) → claimed ≡ None → (MayClaim old at → IsSome claimed) → new ≡ old → at < ready → ready ≡ min (ready_count old.machine) (2 ^ 64 - 1) → MayClaim new 0 → ⊥
+claims_none {D} old new at ready claimed none some same below counted may =
+    let first = subst (λ (c : Core D). MayClaim c 0) same may in
+    absurd (false≢true (subst (λ (o : Option Inst). IsSome o) none (some (record { below = omega (arith, below, counted); allowed = first.allowed; working = first.working }))))
 
 -- what is promised of the one that was claimed
 pub of_claim : {D : Type 0} (old new : Core D) (at : ℕ) (claimed : Option Inst) (task : Inst) → claimed ≡ Some task → IfSome claimed (λ one. MayClaim old at × (state_of old one ≡ Some Ready) × Moves old new one Running)

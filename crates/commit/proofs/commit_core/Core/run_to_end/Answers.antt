@@ -1,6 +1,8 @@
-use Rattle.std.proofs.Common.{◌∙◌, IsTrue}
+use Rattle.std.proofs.Common.{◌∙◌, IsTrue, ap}
+use Rattle.std.proofs.lemmas.Bool.{false≢true}
 use Rattle.terms.specs.Facts.{bad}
-use Rattle.commit.proofs.Driven.{begins, driven_on, of_claim, runs_on}
+use Rattle.commit.specs.Core.{is_halted}
+use Rattle.commit.proofs.Driven.{begins, claims_none, driven_on, of_claim, runs_on}
 use Rattle.commit.proofs.commit_core.Core.run_to_end.Goals as goal
 
 pub loop-alloc-init : goal.loop-alloc-init
@@ -25,3 +27,10 @@ loop-alloc-preserved g c =
 pub returns-in-Err-run_task-clause-runs : goal.returns-in-Err-run_task-clause-runs
 returns-in-Err-run_task-clause-runs g c =
     runs_on g.D.Disk.files g.D.Disk.moment g.D.Disk.left_at g.D.Disk.failures g.D.Disk.refusals (IsTrue g.D.Disk.is_honest) c.facts_are_told_apart.ensures.among c.stores_go_on.ensures.gates_stay c.stores_go_on.ensures.rest_leaves c.stores_go_on.ensures.gates_rest c.args.graph.now c.args.self.now c.loop-alloc.self c.claim.new.self c.run_task.new.self c.in-Ok-Some.task c.loop-alloc.invariant c.is_kept-in-loop-alloc.ensures.kept (of_claim c.loop-alloc.self c.claim.new.self c.pick.result _ c.in-Ok-Some.task c.in-Ok-Some.field-0-is c.in-Ok-Some.ensures.claimed).2 c.in-Err-run_task.ensures.runs
+
+pub returns-in-Ok-None-clause-ok : goal.returns-in-Ok-None-clause-ok
+returns-in-Ok-None-clause-ok g c =
+    let it = c.in-Ok-None.ensures in
+    let same = it.none.1 c.in-Ok-None.field-0-is in
+    (ap is_halted same ∙ it.none.0, ap (λ core. core.in_doubt) same ∙ c.loop-alloc.invariant.settled, λ ended. absurd (false≢true ended),
+        λ _. claims_none c.loop-alloc.self c.claim.new.self c.pick.result c.ready-ready.result c.in-Ok-None.field-0 c.in-Ok-None.field-0-is it.some same c.pick.ensures c.ready-ready.ensures)
