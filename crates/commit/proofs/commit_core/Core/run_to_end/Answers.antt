@@ -31,6 +31,9 @@ returns-in-Err-run_task-clause-runs g c =
 pub returns-in-Ok-None-clause-ok : goal.returns-in-Ok-None-clause-ok
 returns-in-Ok-None-clause-ok g c =
     let it = c.in-Ok-None.ensures in
-    let same = it.none.1 c.in-Ok-None.field-0-is in
-    (ap is_halted same ∙ it.none.0, ap (λ core. core.in_doubt) same ∙ c.loop-alloc.invariant.settled, λ ended. absurd (false≢true ended),
-        λ _. claims_none c.loop-alloc.self c.claim.new.self c.pick.result c.ready-ready.result c.in-Ok-None.field-0 c.in-Ok-None.field-0-is it.some same c.pick.ensures c.ready-ready.ensures)
+    let same = it.none.1 c.in-Ok-None.field-0-is in (
+      ap is_halted same ∙ it.none.0,
+      ap (λ core. core.in_doubt) same ∙ c.loop-alloc.invariant.settled,
+      λ ended. absurd (false≢true ended),
+      λ _. claims_none c.loop-alloc.self c.claim.new.self c.pick.result c.ready-ready.result c.in-Ok-None.field-0 c.in-Ok-None.field-0-is it.some same c.pick.ensures c.ready-ready.ensures,
+    )
