@@ -1,8 +1,7 @@
 -- What a line asks for by its tokens, or its fault.
 use Rattle.std.proofs.Common.{◌≡◌, ◌≢◌, ℕ, true, false, nat_eq, eq-eqb, length, List, [], ◌∷◌, Some, refl, sym, ap, subst, ◌∙◌}
 use Rattle.graph.specs.Graph.{Graph}
-use Rattle.script.specs.Answered.{IsFormFault}
-use Rattle.script.specs.Faults.{IsFault}
+use Rattle.script.specs.Faults.{IsFault, IsFormFault}
 use Rattle.script.specs.Forms.{Form, HasName, Spells, tokens_of}
 use Rattle.script.specs.Lexemes.{lexemes_of}
 use Rattle.script.specs.Requests.{form_of}
@@ -38,7 +37,7 @@ some_token line items are some spaces = some_lexeme items some (sym (once line [
 
 pub line_fault : (g : Graph) (line : List ℕ) (form : Form) (fault : ScriptFault) → Spells line form → IsFormFault g form fault → IsFault g line fault
 line_fault g line form Number spells h = (form, spells, h)
-line_fault g line form UnknownName spells h = (form, spells, h.0, h.1)
-line_fault g line form Arity spells h = (form, spells, h.0, h.1)
+line_fault g line form UnknownName spells h = (form, spells, h)
+line_fault g line form Arity spells h = (form, spells, h)
 line_fault g line form Syntax spells h = absurd h
 line_fault g line form TooLarge spells h = absurd h

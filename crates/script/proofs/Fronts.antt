@@ -1,10 +1,10 @@
 -- What stands in front of a text that begins with a digit or a hyphen.
-use Rattle.std.proofs.Common.{◌≡◌, ◌≢◌, ℕ, zero, suc, ◌+◌, ◌-◌, ◌<◌, ◌≤◌, true, List, [], ◌∷◌, length, get_or, take, drop, inl, inr, refl, sym, ap, subst, ◌∙◌, arith, one-add, add-one, length-drop, take-append-drop}
+use Rattle.std.proofs.Common.{◌≡◌, ◌≢◌, ℕ, zero, suc, ◌+◌, ◌-◌, ◌<◌, ◌≤◌, true, List, [], ◌∷◌, length, get_or, take, drop, inl, inr, refl, sym, ap, subst, ◌∙◌, arith, add-one, length-drop, take-append-drop}
 use Rattle.std.specs.List.{prefix_len}
 use Rattle.std.proofs.lemmas.List.{take_all}
 use Rattle.std.proofs.lemmas.List.Sums.{prefix_len-le-length}
 use Rattle.std.specs.Str.Parse.{IsNumeral as IsDigits, digits_value, signed_digits_value, without_leading_sign}
-use Rattle.syntax.specs.Tokens.{AreDigits, BeginsWithout, IsNumeral, is_digit}
+use Rattle.syntax.specs.Tokens.{BeginsWithout, IsNumeral, is_digit}
 use Rattle.script.specs.Tokens.{Stands, number}
 use Rattle.syntax.proofs.Fronts.{has_digits}
 use Rattle.syntax.proofs.Runs.{stops}

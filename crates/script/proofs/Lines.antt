@@ -107,7 +107,7 @@ refused g text left line number commands behind (At other UnknownName) small so_
     subst (λ (n : ℕ). IsFirstFault g text n UnknownName) (sym h.0) (first_fault g text left line number commands behind UnknownName small so_far none is h.1)
 refused g text left line number commands behind (At other Arity) small so_far none is h =
     subst (λ (n : ℕ). IsFirstFault g text n Arity) (sym h.0) (first_fault g text left line number commands behind Arity small so_far none is h.1)
-refused g text left line number commands behind (At other TooLarge) small so_far none is h = absurd h.1
+refused g text left line number commands behind (At other TooLarge) small so_far none is h = absurd h.1.2
 refused g text left line number commands behind NoMemory small so_far none is h = tt
 
 -- ---- what stands behind a line

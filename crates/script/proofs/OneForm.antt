@@ -6,7 +6,7 @@ use Rattle.terms.specs.declared.name.Addr.{Addr}
 use Rattle.terms.specs.declared.name.Tag.{Tag}
 use Rattle.script.specs.declared.command.Command.{Command}
 use Rattle.script.specs.declared.command.Command.TheVariants as command
-use Rattle.script.specs.Faults.{Asks, AreInRange, Finds, HasOtherArity, IsFault, IsNamed, IsUnknown, Names, NamesNone, NamesOther}
+use Rattle.script.specs.Faults.{Asks, AreInRange, Finds, HasOtherArity, IsFault, HasNumber, IsUnknown, Names, NamesNone, NamesOther}
 use Rattle.script.specs.declared.error.ScriptFault.{ScriptFault}
 use Rattle.script.specs.declared.error.ScriptFault.TheVariants.{Syntax, Number, UnknownName, Arity, TooLarge}
 use Rattle.script.specs.Forms.{Form, put, tag, get, run, Spells, tokens_of}
@@ -35,7 +35,7 @@ no_form line form spaces spells = some_token form (once line [] (tokens_of form)
 
 -- ---- commands
 
-same_number : (collections : List Collection) (name : List ℕ) (one two : ℕ) → IsNamed collections name one → IsNamed collections name two → one ≡ two
+same_number : (collections : List Collection) (name : List ℕ) (one two : ℕ) → HasNumber collections name one → HasNumber collections name two → one ≡ two
 same_number collections name one two x y =
     let same : Some one ≡ Some two = sym x ∙ y in
     cc
@@ -92,7 +92,7 @@ one_command g line one two x y = same_command g x.0 one two x.3 (subst (λ (form
 
 -- ---- what names a command has no fault
 
-named_once : (collections : List Collection) (name : List ℕ) (number : ℕ) → IsNamed collections name number → IsUnknown collections name → ⊥
+named_once : (collections : List Collection) (name : List ℕ) (number : ℕ) → HasNumber collections name number → IsUnknown collections name → ⊥
 named_once collections name number is none =
     let never : Some number ≡ None = sym is ∙ none in
     absurd (cc)
@@ -136,11 +136,11 @@ spaces_without_fault g line Syntax spaces h = h.0 spaces
 spaces_without_fault g line Number spaces h = no_form line h.0 spaces h.1
 spaces_without_fault g line UnknownName spaces h = no_form line h.0 spaces h.1
 spaces_without_fault g line Arity spaces h = no_form line h.0 spaces h.1
-spaces_without_fault g line TooLarge spaces h = h
+spaces_without_fault g line TooLarge spaces h = h.2
 
 pub asked_without_fault : (g : Graph) (line : List ℕ) (fault : ScriptFault) (one : Command) → Asks g line one → IsFault g line fault → ⊥
 asked_without_fault g line Syntax one x h = h.1 x.0 x.1
 asked_without_fault g line Number one x h = h.2 (subst AreInRange (one_form line x.0 h.0 x.1 h.1) x.2)
-asked_without_fault g line UnknownName one x h = names_some g x.0 one x.3 (subst (NamesNone g) (one_form line h.0 x.0 h.1 x.1) h.3)
-asked_without_fault g line Arity one x h = names_fitting g x.0 one x.3 (subst (NamesOther g) (one_form line h.0 x.0 h.1 x.1) h.3)
-asked_without_fault g line TooLarge one x h = h
+asked_without_fault g line UnknownName one x h = names_some g x.0 one x.3 (subst (NamesNone g) (one_form line h.0 x.0 h.1 x.1) h.2.1)
+asked_without_fault g line Arity one x h = names_fitting g x.0 one x.3 (subst (NamesOther g) (one_form line h.0 x.0 h.1 x.1) h.2.1)
+asked_without_fault g line TooLarge one x h = h.2

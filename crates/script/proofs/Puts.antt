@@ -2,8 +2,7 @@
 use denote.Bor.{Bor}
 use Rattle.std.proofs.Common.{◌≡◌, ℕ, ℤ, List, Option, Result, MatchResult, subst}
 use Rattle.graph.specs.Graph.{Graph}
-use Rattle.script.specs.Answered.{IsFormFault}
-use Rattle.script.specs.Faults.{AreInRange, Names}
+use Rattle.script.specs.Faults.{AreInRange, IsFormFault, Names}
 use Rattle.script.specs.Forms.{Form, put, tag, get, run}
 use Rattle.script.specs.Requests.{HasRead, HasValue, IsRequest}
 use Rattle.script.specs.declared.command.Command.{Command}

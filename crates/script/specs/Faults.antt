@@ -20,17 +20,21 @@ numbers_of (tag name key) = key
 numbers_of (get name key) = key
 numbers_of run = []
 
--- each of them is a number of 64 bits
+-- each of these is a number of 64 bits
+abbrev pub AreFitting : List ℤ → Type 0
+AreFitting numbers = AllByRecursion (FitsSigned w64) numbers
+
+-- each number of the form is one of 64 bits
 abbrev pub AreInRange : Form → Type 0
-AreInRange form = AllByRecursion (FitsSigned w64) (numbers_of form)
+AreInRange form = AreFitting (numbers_of form)
 
 -- the collection with this name has this number
-abbrev pub IsNamed : List Collection → List ℕ → ℕ → Type 0
-IsNamed collections name number = place_of (names_in collections) name ≡ Some number
+abbrev pub HasNumber : List Collection → List ℕ → ℕ → Type 0
+HasNumber collections name number = place_of (names_in collections) name ≡ Some number
 
 -- it has this number, and its keys have as many components as this key
 abbrev pub Finds : List Collection → List ℕ → List ℤ → ℕ → Type 0
-Finds collections name key number = IsNamed collections name number × IsOf collections number (length key)
+Finds collections name key number = HasNumber collections name number × IsOf collections number (length key)
 
 -- the form names this command
 abbrev pub Names : Graph → Form → Command → Type 0
@@ -51,7 +55,7 @@ abbrev pub IsUnknown : List Collection → List ℕ → Type 0
 IsUnknown collections name = place_of (names_in collections) name ≡ None
 
 abbrev pub HasOtherArity : List Collection → List ℕ → List ℤ → Type 0
-HasOtherArity collections name key = (number : ℕ) × IsNamed collections name number × (IsOf collections number (length key) → ⊥)
+HasOtherArity collections name key = (number : ℕ) × HasNumber collections name number × (IsOf collections number (length key) → ⊥)
 
 abbrev pub NamesNone : Graph → Form → Type 0
 NamesNone g (put name key value) = IsUnknown g.items name
@@ -65,11 +69,20 @@ NamesOther g (tag name key) = HasOtherArity g.tags name key
 NamesOther g (get name key) = HasOtherArity g.items name key
 NamesOther g run = ⊥
 
--- The fault of a line, the first of these: it is no form; a number is not one of 64 bits; no collection has that name; its keys have another number of
--- components. That a script is too large is no line's fault.
+-- The order of the faults of a form. `Number` is told where a number is not one of 64 bits; `UnknownName` where all of them are, and no collection has that name;
+-- `Arity` where all of them are, and a collection has that name, but its keys have another number of components. A form has no other fault.
+abbrev pub IsFirstOf : (fitting unknown other_arity : Type 0) → ScriptFault → Type 0
+IsFirstOf fitting unknown other_arity Number = fitting → ⊥
+IsFirstOf fitting unknown other_arity UnknownName = fitting × unknown
+IsFirstOf fitting unknown other_arity Arity = fitting × other_arity
+IsFirstOf fitting unknown other_arity Syntax = ⊥
+IsFirstOf fitting unknown other_arity TooLarge = ⊥
+
+-- the fault of a form
+abbrev pub IsFormFault : Graph → Form → ScriptFault → Type 0
+IsFormFault g form fault = IsFirstOf (AreInRange form) (NamesNone g form) (NamesOther g form) fault
+
+-- The fault of a line. `Syntax` is told where it has a token and is no form, and else the fault of its form. That a script is too large is no line's fault.
 abbrev pub IsFault : Graph → List ℕ → ScriptFault → Type 0
 IsFault g line Syntax = (AreSpaces line → ⊥) × ((form : Form) → Spells line form → ⊥)
-IsFault g line Number = (form : Form) × Spells line form × (AreInRange form → ⊥)
-IsFault g line UnknownName = (form : Form) × Spells line form × AreInRange form × NamesNone g form
-IsFault g line Arity = (form : Form) × Spells line form × AreInRange form × NamesOther g form
-IsFault g line TooLarge = ⊥
+IsFault g line fault = (form : Form) × Spells line form × IsFormFault g form fault

@@ -1,4 +1,5 @@
--- What a line may ask for, as it is written: by names, and by whole numbers of any size.
+-- What a line may ask for, as it is written: by names, and by whole numbers of any size. A sign is the number of its character: `[` is 91, `]` 93, `<` 60,
+-- `>` 62, `:` 58, `,` 44 and `=` 61.
 use Rattle.std.specs.Prelude.{◌≡◌, ◌≢◌, ⊤, ℕ, ℤ, List, [], ◌∷◌, ◌++◌, codes}
 use Rattle.syntax.specs.declared.token.Word.{Word}
 use Rattle.syntax.specs.Tokens.{word_text}

@@ -1,4 +1,4 @@
--- What the tokens of a line ask for: the form that they are, and what the program keeps of it.
+-- What the tokens of a line ask for: the form that they are, and what the program keeps of it. Signs are written by the numbers that `Forms` lists.
 use Rattle.std.specs.Prelude.{◌≡◌, ⊤, ◌<◌, ℕ, ℤ, ◌==◌, List, [], ◌∷◌, ◌++◌, length, Option, Some, None, FitsSigned, if◌then◌else◌, codes}
 use Rattle.std.specs.Int.{w64}
 use Rattle.std.specs.List.{AllByRecursion}

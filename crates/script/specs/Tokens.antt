@@ -3,7 +3,7 @@ use Rattle.std.specs.Prelude.{◌≡◌, ◌⊎◌, ℕ, ℤ, Bool, true, false,
 use Rattle.std.specs.List.{AllByRecursion}
 use Rattle.syntax.specs.Tokens.{is_letter, is_digit, IsNumeral, IsWhole}
 
--- a token: letters and digits of which the first is a letter, a whole number of any size, a sign, or what is none of these
+-- a token: letters and digits of which the first is a letter (`_` is one of the letters), a whole number of any size, a sign, or what is none of these
 pub data Lexeme : Type 0 where
   word : List ℕ → Lexeme
   number : ℤ → Lexeme
@@ -17,16 +17,16 @@ is_space byte = byte == 32
 abbrev pub AreSpaces : List ℕ → Type 0
 AreSpaces bytes = AllByRecursion (λ byte. is_space byte ≡ true) bytes
 
--- one of `[ ] < > : , =`
+-- one of the signs `[` (91), `]` (93), `<` (60), `>` (62), `:` (58), `,` (44) and `=` (61)
 abbrev pub is_sign : ℕ → Bool
 is_sign byte = (((byte == 91) || (byte == 93)) || ((byte == 60) || (byte == 62))) || (((byte == 58) || (byte == 44)) || (byte == 61))
 
--- digits, behind a hyphen or not, none of them left out at their end, with this value
+-- In front of the rest stands a whole number in decimal, with this value: a hyphen (45) or none, and then one digit or more. The rest does not begin with a digit.
 abbrev pub IsInteger : List ℕ → ℤ → List ℕ → Type 0
 IsInteger bytes value rest = (digits : List ℕ) × (size : ℕ) × IsNumeral digits size rest
     × (((bytes ≡ digits ++ rest) × (value ≡ pos size)) ⊎ ((bytes ≡ 45 ∷ digits ++ rest) × (value ≡ neg_ℤ (pos size))))
 
--- a hyphen in front of no digit
+-- a hyphen (45) with no digit behind it
 abbrev pub IsLoneHyphen : List ℕ → Type 0
 IsLoneHyphen [] = ⊥
 IsLoneHyphen (first ∷ []) = first ≡ 45

@@ -4,10 +4,11 @@ ghost use Rattle.script.specs.declared.error.ScriptError.TheVariants.{NoMemory};
 use std::alloc::{AllocError, AllocFailed};
 use thiserror::Error;
 
-/// What is wrong with a line of a script.
+/// What is wrong with a line of a script, in the order in which faults are told: where a line has several of the first four, the first of them is told.
+/// `TooLarge` is told before any of them.
 #[derive(Clone, Copy, Debug, PartialEq, Eq)]
 pub enum ScriptFault {
-    /// It has none of the forms.
+    /// The line has none of the forms.
     Syntax,
     /// A number is not one of 64 bits with a sign.
     Number,
@@ -15,7 +16,7 @@ pub enum ScriptFault {
     UnknownName,
     /// The key has another number of components than those of its collection.
     Arity,
-    /// The script has more than 1,048,576 bytes. It is told of line 1.
+    /// The script has more than 1,048,576 bytes. It is told with line 1, whatever its lines are, also where one of them is at fault.
     TooLarge,
 }
 
@@ -40,7 +41,8 @@ impl ScriptFault {
 /// Why a text is no script of a graph.
 #[derive(Clone, Copy, Debug, PartialEq, Eq, Error)]
 pub enum ScriptError {
-    /// The line with this number, counted from 1, is the first at fault, and this is its fault.
+    /// The line with this number is the first at fault, and this is its fault. Lines are counted from 1, and lines without a token count too. With
+    /// `TooLarge` the number is 1, and no line was looked at.
     #[error("line {0} of the script is at fault")]
     At(usize, ScriptFault),
     /// A growth was refused.

@@ -1,6 +1,13 @@
+ghost use Rattle.std.specs.Prelude.{◌≡◌};
 ghost use Rattle.script.specs.Forms.{FormsOnce};
 ghost use Rattle.script.specs.Script.{ScriptsOnce};
 ghost use Rattle.script.specs.Tokens.{TokensExample, TokensOnce};
+ghost use Rattle.script.specs.declared.parser.TheConstants.{MOST_BYTES};
+
+/// The greatest number of bytes of a script, as a number.
+pub fn script_limit()
+    ensures { MOST_BYTES ≡ 1048576 }
+{}
 
 /// A line is one list of tokens at most; and worked examples.
 pub fn tokens_once()

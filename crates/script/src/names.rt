@@ -1,7 +1,7 @@
 //! The names of a request, looked up in the graph.
 ghost use Rattle.std.specs.Prelude.{◌≡◌, ℤ, List, MatchResult};
-ghost use Rattle.script.specs.Answered.{AreFitting, IsFormFault, IsKeyFault};
-ghost use Rattle.script.specs.Faults.{AreInRange, Finds, Names};
+ghost use Rattle.script.specs.Answered.{IsKeyFault};
+ghost use Rattle.script.specs.Faults.{AreFitting, AreInRange, Finds, IsFormFault, Names};
 ghost use Rattle.script.specs.Forms.{Form, put};
 ghost use Rattle.script.specs.Requests.{HasRead, HasValue, IsRequest};
 

@@ -13,8 +13,14 @@ pub const MOST_BYTES: usize = 1_048_576;
 /// The commands of a script for a graph, in their order.
 ///
 /// A script is lines, each ended by a line feed, the last perhaps without one. Any spaces may stand between tokens, and a line without a token asks for
-/// nothing. The forms are `put [c: k, ..] = v`, `tag <t: k, ..>`, `get [c: k, ..]` and `run`. Of several lines at fault the first is told, and of several faults
-/// of it the first in the order of `ScriptFault`.
+/// nothing. The forms are `put [c: k, ..] = v`, `tag <t: k, ..>`, `get [c: k, ..]` and `run`.
+///
+/// # Errors
+///
+/// - `At(1, TooLarge)`: the script has more than 1,048,576 bytes. This comes before any other fault, also where a line is at fault.
+/// - `At(n, fault)`: line `n`, counted from 1, is the first at fault. Of several faults of that line the first in this order is told: `Syntax`, `Number`,
+///   `UnknownName`, `Arity`.
+/// - `NoMemory`: a growth was refused.
 pub fn parse_script(alloc: Global, graph: &Graph, text: &[u8]) -> Result<Vec<Command>, ScriptError>
     ensures commands { IfOk result (λ commands. IsScript graph.now text.now commands.items) }
     ensures refused { IfErr result (IsRefused graph.now text.now) }

@@ -1,9 +1,10 @@
 use Rattle.std.proofs.Common.{drop, sym, subst, take-append-drop, ◌∙◌}
 use Rattle.std.proofs.lemmas.Slice.{between_from_start}
+use Rattle.std.proofs.lemmas.Str.{IsCharBoundary-from_ascii}
 use Rattle.std.specs.Str.Parse.{IsNumeral, signed_digits_value, without_leading_sign}
 use Rattle.syntax.specs.Tokens.{is_digit}
 use Rattle.script.specs.Tokens.{Stands, number}
-use Rattle.syntax.proofs.Runs.{boundary, run_within}
+use Rattle.syntax.proofs.Runs.{run_within}
 use Rattle.syntax.proofs.Fronts.{is_word_part, whole_front}
 use Rattle.script.proofs.Fronts.{digit_more, number_stands, number_sound}
 use Rattle.script.proofs.lexer.first_token.Goals as goal
@@ -11,12 +12,12 @@ use Rattle.script.proofs.lexer.first_token.Goals as goal
 pub range-requires-clause-end_boundary : goal.range-requires-clause-end_boundary
 range-requires-clause-end_boundary c =
     let longest = rw c.as_bytes-bytes.ensures.value at c.leading_word-length.ensures in
-    boundary c.args.text.now _ c.requires.ascii (run_within is_word_part _ _ longest)
+    IsCharBoundary-from_ascii c.args.text.now _ c.requires.ascii (run_within is_word_part _ _ longest)
 
 pub range-requires-then-is_digit-clause-end_boundary : goal.range-requires-then-is_digit-clause-end_boundary
 range-requires-then-is_digit-clause-end_boundary c =
     let longest = rw c.as_bytes-bytes.ensures.value at c.leading_digits-length.ensures in
-    boundary c.args.text.now _ c.requires.ascii (run_within is_digit _ _ longest)
+    IsCharBoundary-from_ascii c.args.text.now _ c.requires.ascii (run_within is_digit _ _ longest)
 
 pub returns-then-is_letter-clause-stands : goal.returns-then-is_letter-clause-stands
 returns-then-is_letter-clause-stands c =

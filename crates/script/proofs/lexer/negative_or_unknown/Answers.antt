@@ -1,9 +1,9 @@
 use Rattle.std.proofs.Common.{◌+◌, drop, sym, subst, ◌∙◌, arith}
 use Rattle.std.proofs.lemmas.Slice.{between_from_start}
 use Rattle.std.specs.Str.Parse.{IsNumeral, signed_digits_value, without_leading_sign}
+use Rattle.std.proofs.lemmas.Str.{IsCharBoundary-from_ascii}
 use Rattle.script.specs.Tokens.{Stands, number}
 use Rattle.script.proofs.Fronts.{behind_first, negative_sound, negative_stands, negative_within}
-use Rattle.syntax.proofs.Runs.{boundary}
 use Rattle.script.proofs.lexer.negative_or_unknown.Goals as goal
 
 pub overflow_add-digits : goal.overflow_add-digits
@@ -15,7 +15,7 @@ overflow_add-digits c =
 pub range-requires-clause-end_boundary : goal.range-requires-clause-end_boundary
 range-requires-clause-end_boundary c =
     let longest = behind_first c.args.text.now _ (rw c.as_bytes-bytes.ensures.value at c.leading_digits-digits.ensures) in
-    boundary c.args.text.now _ c.requires.ascii (negative_within c.args.text.now _ longest c.if-digits-gt0.true)
+    IsCharBoundary-from_ascii c.args.text.now _ c.requires.ascii (negative_within c.args.text.now _ longest c.if-digits-gt0.true)
 
 pub returns-then-digits-gt0-clause-stands : goal.returns-then-digits-gt0-clause-stands
 returns-then-digits-gt0-clause-stands c =

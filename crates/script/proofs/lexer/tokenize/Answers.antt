@@ -1,9 +1,9 @@
 use Rattle.std.proofs.Common.{is_ok, ap, ◌∙◌, arith}
 use Rattle.std.proofs.ResultArms.{chosen}
 use Rattle.std.specs.List.{prefix_len}
+use Rattle.std.proofs.lemmas.Str.{IsCharBoundary-from_ascii}
 use Rattle.script.specs.Lexemes.{lexemes_of}
 use Rattle.script.specs.Tokens.{is_space}
-use Rattle.syntax.proofs.Runs.{boundary}
 use Rattle.script.proofs.Chain.{spaces_within, not_space, finished, token_read, SoFar-pushed, sound_pushed}
 use Rattle.script.proofs.lexer.tokenize.Goals as goal
 
@@ -20,7 +20,7 @@ returns-then-place-line-clause-tokens c =
 pub range_from-requires-in-loop-place : goal.range_from-requires-in-loop-place
 range_from-requires-in-loop-place c = λ _.
     let spaces = c.leading_spaces-place.ensures ∙ ap (prefix_len is_space) (c.as_bytes.ensures.value ∙ c.range_from.ensures.value) in
-    boundary c.args.line.now _ c.requires.ascii (spaces_within c.args.line.now c.loop-place.place _ spaces c.loop-place.invariant.within)
+    IsCharBoundary-from_ascii c.args.line.now _ c.requires.ascii (spaces_within c.args.line.now c.loop-place.place _ spaces c.loop-place.invariant.within)
 
 pub first_token-length-requires-clause-not_space : goal.first_token-length-requires-clause-not_space
 first_token-length-requires-clause-not_space c =
