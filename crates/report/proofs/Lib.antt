@@ -1,4 +1,6 @@
 mod ByName
 mod Lines
 mod Names
+mod OneReport
 mod Reports
+mod SameMembers

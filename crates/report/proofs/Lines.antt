@@ -9,9 +9,8 @@ use Rattle.terms.specs.declared.name.ItemCollection.{ItemCollection}
 use Rattle.terms.specs.Sets.{Facts}
 use Rattle.graph.specs.Graph.{Graph}
 use Rattle.machine.specs.Counts.{AreItemsOf}
-use Rattle.report.specs.Lines.{item_lines}
 use Rattle.report.specs.Named.{instance_text}
-use Rattle.report.specs.ReportText.{AreItemLines, line, stopped_text}
+use Rattle.report.specs.ReportText.{AreItemLines, item_lines, line, stopped_text}
 
 -- those of one more collection stand behind
 pub one_more : (g : Graph) (X : Facts) (collections : List ItemCollection) (collection : ItemCollection) (text : List ℕ) (items : List (Addr × ℤ))

@@ -1,4 +1,4 @@
--- The collections of which the environment may get items, each with its name.
+-- The collections of which the environment may get items, as the program lists them: each with its name.
 use Rattle.std.specs.Prelude.{◌≡◌, ℕ, Bool, true, false, ◌==◌, List, [], get_or, take, Some, All}
 use Rattle.std.specs.List.{sum_by}
 use Rattle.std.specs.Borrow.{Bor}
@@ -7,11 +7,11 @@ use Rattle.steptree.specs.Names.{Text, place_of}
 use Rattle.graph.specs.Graph.{Graph}
 use Rattle.graph.specs.Tree.{names_in}
 
--- a collection behind its name
+-- A collection with its name. The name stands first, so that pairs in order are in the order of their names.
 abbrev pub Named : Type 0
 Named = Bor Text × ItemCollection
 
--- it is the name of the collection, and of no other
+-- the collection has this name, and it is the one that the name leads to
 pub record IsNamed (g : Graph) (one : Named) : Type 0 where
   pub name : get_or (names_in g.items) one.1.0 [] ≡ one.0.now
   pub once : place_of (names_in g.items) one.0.now ≡ Some one.1.0
@@ -24,7 +24,7 @@ how_many false = 0
 abbrev pub times : ℕ → List Named → ℕ
 times number list = sum_by (λ one. how_many (number == one.1.0)) list
 
--- each collection with a lower number of which the environment may get items stands there once, and no other; each behind its name
+-- each collection with a lower number of which the environment may get items stands there once, with its name, and no other collection does
 pub record AreGotBelow (g : Graph) (below : ℕ) (list : List Named) : Type 0 where
   pub named : All (IsNamed g) list
   pub once : (number : ℕ) → times number list ≡ how_many (get_or (take below g.environment_gets) number false)

@@ -1,4 +1,3 @@
 pub mod Got
-pub mod Lines
 pub mod Named
 pub mod ReportText

@@ -34,11 +34,15 @@ pub record AreGot (g : Graph) (collections : List ItemCollection) : Type 0 where
   pub rises : IsStrictlySortedBy (name_cmp g) collections
   pub each : (collection : ItemCollection) → (list_any (λ other. collection.0 == other.0) collections ≡ true) ↔ (get_or g.environment_gets collection.0 false ≡ true)
 
+-- a line for each of these items
+abbrev pub item_lines : Graph → List (Addr × ℤ) → List ℕ
+item_lines g items = flat_map (λ item. line (item_text g item.0 item.1)) items
+
 -- the lines of the items of these collections, collection by collection, and in each in the order of the keys
 abbrev pub AreItemLines : Graph → Facts → List ItemCollection → List ℕ → Type 0
 AreItemLines g X [] text = text ≡ []
 AreItemLines g X (collection ∷ more) text = (items : List (Addr × ℤ)) × (rest : List ℕ) × AreItemsOf X collection items × AreItemLines g X more rest
-    × (text ≡ flat_map (λ item. line (item_text g item.0 item.1)) items ++ rest)
+    × (text ≡ item_lines g items ++ rest)
 
 -- ---- counts and faults
 
@@ -50,10 +54,14 @@ counts_text counts = decimal counts.items ++ codes " items, " ++ decimal counts.
 abbrev pub stopped_text : Graph → Inst → FaultKind → List ℕ
 stopped_text g instance kind = codes "stopped by fault " ++ decimal (fault_number kind) ++ codes " at " ++ instance_text g instance
 
+-- this is the one fault among the facts, or there is none
+abbrev pub IsOnlyFault : Facts → Option (Inst × FaultKind) → Type 0
+IsOnlyFault X fault = (instance : Inst) (kind : FaultKind) → (X (bad instance kind) ≡ true) ↔ (fault ≡ Some (instance, kind))
+
 -- the line of the fault, if there is one
-abbrev pub IsFaultLine : Graph → Facts → Option (Inst × FaultKind) → List ℕ → Type 0
-IsFaultLine g X None text = ((instance : Inst) (kind : FaultKind) → X (bad instance kind) ≡ false) × (text ≡ [])
-IsFaultLine g X (Some (instance, kind)) text = (X (bad instance kind) ≡ true) × (text ≡ line (stopped_text g instance kind))
+abbrev pub fault_line : Graph → Option (Inst × FaultKind) → List ℕ
+fault_line g None = []
+fault_line g (Some fault) = line (stopped_text g fault.0 fault.1)
 
 -- ---- the report
 
@@ -62,10 +70,13 @@ pub record IsReport (g : Graph) (X : Facts) (text : List ℕ) : Type 0 where
   pub collections : List ItemCollection
   pub got : AreGot g collections
   pub items : List ℕ
-  pub item_lines : AreItemLines g X collections items
+  pub listed : AreItemLines g X collections items
   pub counts : Counts
   pub counted : AreCountsOf g X counts
   pub fault : Option (Inst × FaultKind)
-  pub stopped : List ℕ
-  pub fault_line : IsFaultLine g X fault stopped
-  pub whole : text ≡ items ++ line (counts_text counts) ++ stopped
+  pub only : IsOnlyFault X fault
+  pub whole : text ≡ items ++ line (counts_text counts) ++ fault_line g fault
+
+-- a graph and a set of facts have one report at most
+abbrev pub ReportsOnce : Type 0
+ReportsOnce = (g : Graph) (X : Facts) (one other : List ℕ) → IsReport g X one → IsReport g X other → one ≡ other

@@ -7,7 +7,7 @@ use graph::Graph;
 use std::alloc::{AllocError, Global};
 use terms::ItemCollection;
 
-/// A collection behind its name, if the environment may get items of it.
+/// A collection with its name, if the environment may get items of it.
 fn got(graph: &Graph, collection: ItemCollection) -> Option<(&str, ItemCollection)>
     ensures some { IfSome result (λ one. (one.1 ≡ collection) × IsNamed graph.now one) }
     ensures may { IfSome result (λ _. get_or graph.now.environment_gets collection.0 false ≡ true) }
@@ -22,7 +22,7 @@ fn got(graph: &Graph, collection: ItemCollection) -> Option<(&str, ItemCollectio
     }
 }
 
-/// The collections of which the environment may get items, each behind its name, by their numbers.
+/// The collections of which the environment may get items, each with its name, by their numbers.
 fn got_by_number(alloc: Global, graph: &Graph) -> Result<Vec<(&str, ItemCollection)>, AllocError>
     ensures { IfOk result (λ list. AreGotBelow graph.now (length graph.now.items) list.items) }
 {
@@ -36,7 +36,7 @@ fn got_by_number(alloc: Global, graph: &Graph) -> Result<Vec<(&str, ItemCollecti
     Ok(list)
 }
 
-/// The collections of which the environment may get items, each behind its name, in the order of the names.
+/// The collections of which the environment may get items, each with its name, in the order of the names.
 pub(crate) fn got_by_name(
     alloc: Global,
     graph: &Graph,

@@ -1,14 +1,16 @@
 //! Reports: what a store holds, as a text that its graph and its facts alone give.
 //!
-//! `IsReport` is that text. The layer above stands on `write_report`, which writes it, and on `NamedAddress` and `NamedInstance`, which spell names as it
-//! does.
+//! `IsReport` is that text, and the law `reports_once` says that there is one at most. The layer above stands on `write_report`, which writes it, and on
+//! `NamedAddress` and `NamedInstance`, which spell names as it does.
 #![tactic(auto)]
 
 mod error;
 mod got;
+mod law;
 mod named;
 mod report;
 
 pub use error::ReportError;
+pub use law::reports_once;
 pub use named::{NamedAddress, NamedInstance};
 pub use report::write_report;

@@ -2,8 +2,7 @@
 ghost use Rattle.std.specs.Prelude.{List, map, OnOk, ℕ};
 ghost use Rattle.std.specs.Io.KnownBytes.{Appends};
 ghost use Rattle.commit.specs.Core.{facts, graph};
-ghost use Rattle.report.specs.Lines.{fault_line, item_lines};
-ghost use Rattle.report.specs.ReportText.{AreItemLines, IsReport, counts_text, line};
+ghost use Rattle.report.specs.ReportText.{AreItemLines, IsReport, counts_text, fault_line, item_lines, line};
 
 use crate::got::got_by_name;
 use crate::{NamedAddress, NamedInstance, ReportError};

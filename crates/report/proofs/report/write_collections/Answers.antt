@@ -6,8 +6,7 @@ use Rattle.terms.specs.declared.name.ItemCollection.{ItemCollection}
 use Rattle.graph.specs.Graph.{Graph}
 use Rattle.commit.specs.Core.{facts, graph}
 use Rattle.report.specs.Got.{Named}
-use Rattle.report.specs.Lines.{item_lines}
-use Rattle.report.specs.ReportText.{AreItemLines}
+use Rattle.report.specs.ReportText.{AreItemLines, item_lines}
 use Rattle.report.proofs.Lines.{one_more}
 use Rattle.report.proofs.report.write_collections.Goals as goal
 

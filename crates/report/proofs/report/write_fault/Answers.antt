@@ -2,7 +2,7 @@ use Rattle.std.proofs.Common.{Option, sym, subst}
 use Rattle.std.specs.Io.KnownBytes.{Appends}
 use Rattle.terms.specs.declared.name.Inst.{Inst}
 use Rattle.terms.specs.declared.fault.FaultKind.{FaultKind}
-use Rattle.report.specs.Lines.{fault_line}
+use Rattle.report.specs.ReportText.{fault_line}
 use Rattle.report.proofs.Lines.{fault_written}
 use Rattle.report.proofs.report.write_fault.Goals as goal
 

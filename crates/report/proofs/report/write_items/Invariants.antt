@@ -1,6 +1,6 @@
 use Rattle.std.proofs.Common.{◌≡◌, ◌++◌}
 use Rattle.std.specs.Io.KnownBytes.{Appends}
-use Rattle.report.specs.Lines.{item_lines}
+use Rattle.report.specs.ReportText.{item_lines}
 use Rattle.report.proofs.report.write_items.Given as goal
 
 -- the lines of the items so far are written, and the others are left

@@ -5,8 +5,7 @@ use Rattle.std.specs.Io.KnownBytes.{Appends}
 use Rattle.graph.specs.Graph.{Graph}
 use Rattle.commit.specs.Core.{facts, graph}
 use Rattle.report.specs.Got.{Named}
-use Rattle.report.specs.Lines.{fault_line}
-use Rattle.report.specs.ReportText.{AreGot, AreItemLines, counts_text, line}
+use Rattle.report.specs.ReportText.{AreGot, AreItemLines, counts_text, fault_line, line}
 use Rattle.report.proofs.Reports.{is_report}
 use Rattle.report.proofs.report.write_report.Goals as goal
 
