@@ -1,6 +1,10 @@
 pub mod ByName
+pub mod Coming
 pub mod Lines
+pub mod Listed
+pub mod Puts
 pub mod Ran
 pub mod Taken
 pub mod Told
+pub mod Turns
 pub mod Went

@@ -1,41 +1,23 @@
--- What a run of a driver adds, as a session tells it.
-use Rattle.std.proofs.Common.{◌≡◌, refl, ℕ, Bool, true, false, ◌||◌, List, [], ◌∷◌, ◌++◌}
-use Rattle.std.specs.List.{AllByRecursion}
-use Rattle.disk.specs.declared.side.Side.{Side}
-use Rattle.disk.specs.File.{File}
-use Rattle.disk.specs.Time.{Contents}
+-- What one call tells of a session: its first events are legal, and its cause to stop is one of the whole.
+use Rattle.std.proofs.Common.{◌≤◌, ◌++◌, ℕ, List, [], ◌∷◌, arith}
 use Rattle.terms.specs.declared.event.Event.{Event}
 use Rattle.terms.specs.Facts.{event_facts}
 use Rattle.terms.specs.Sets.{Facts, with_facts}
 use Rattle.graph.specs.Graph.{Graph}
-use Rattle.machine.specs.Machine.{Machine}
 use Rattle.machine.specs.State.{AreLegalFrom}
 use Rattle.commit.specs.Core.{Core}
-use Rattle.commit.specs.Runs.{IsEnd, with_allowance}
-use Rattle.commit.specs.Runs as of_core
-use Rattle.session.specs.Answers.{Runs}
+use Rattle.session.specs.declared.ending.Stop.{Stop}
+use Rattle.std.specs.Prelude.{Option}
+use Rattle.session.specs.Went.{HasCauseToStop}
 
-front_ends : (ends more : List Event) → AllByRecursion IsEnd (ends ++ more) → AllByRecursion IsEnd ends
-front_ends [] more are = tt
-front_ends (end ∷ ends) more are = (are.0, front_ends ends more are.1)
-
-front_legal : (g : Graph) (X : Facts) (ends more : List Event) → AreLegalFrom g X (ends ++ more) → AreLegalFrom g X ends
+pub front_legal : (g : Graph) (X : Facts) (first more : List Event) → AreLegalFrom g X (first ++ more) → AreLegalFrom g X first
 front_legal g X [] more are = tt
-front_legal g X (end ∷ ends) more are = (are.0, front_legal g (with_facts X (event_facts end)) ends more are.1)
+front_legal g X (event ∷ first) more are = (are.0, front_legal g (with_facts X (event_facts event)) first more are.1)
 
-pub ran : {D : Type 0} (files : D → Side → File) (moment : D → ℕ) (left_at : D → ℕ → Contents → Type 0) (failures refusals : D → ℕ) (honest : Type 0) (old new : Core D) (limit : ℕ) (ends : List Event) →
-    of_core.Runs files moment left_at failures refusals honest (with_allowance old limit) new ends → Runs old.machine new.machine ends
-ran files moment left_at failures refusals honest old new limit ends runs = record {
-  are_ends = front_ends ends new.in_doubt runs.are_ends;
-  legal = front_legal _ _ ends new.in_doubt runs.legal;
-  graph = runs.graph;
-  facts = runs.facts;
-  environment = runs.environment;
-}
+-- a cause that a core alone gives is one of the calls before it
+pub stop_before : {D : Type 0} (failures : D → ℕ) (old new : Core D) (end : Option Stop) → HasCauseToStop failures new new end → HasCauseToStop failures old new end
+stop_before failures old new end it = record { halted = it.halted; device = λ is. absurd (let never = it.device is in omega (arith, never)) }
 
-or_false : (b : Bool) → b ≡ b || false
-or_false true = refl
-or_false false = refl
-
-pub ran_nothing : (m : Machine) → Runs m m []
-ran_nothing m = record { are_ends = tt; legal = tt; graph = refl; facts = λ fact. or_false _; environment = λ fact. refl }
+-- and one of a call is one of those before it and of it
+pub stop_behind : {D : Type 0} (failures : D → ℕ) (old mid new : Core D) (end : Option Stop) → failures old.vault.disk ≤ failures mid.vault.disk → HasCauseToStop failures mid new end → HasCauseToStop failures old new end
+stop_behind failures old mid new end later it = record { halted = it.halted; device = λ is. let grew = it.device is in omega (arith, later, grew) }

@@ -7,9 +7,9 @@ use Rattle.graph.specs.Graph.{Graph}
 use Rattle.script.specs.declared.parser.TheConstants.{MOST_BYTES}
 use Rattle.session.specs.declared.error.SessionError.{SessionError}
 use Rattle.session.specs.declared.error.SessionError.TheVariants.{Read, Write, Script, NoMemory}
-use Rattle.session.specs.Fails.{FailsToRead, IsAllOf, IsEnoughOf, IsRefusedAs}
+use Rattle.session.specs.Fails.{FailsToRead, IsAllOf, IsAllOrTooLarge, IsRefusedAs}
 
--- what a reader gave that reads no more than one byte beyond the greatest script
+-- what a reader gave that reads no more than so many bytes
 abbrev pub IsTaken : Option (List ℕ) → ℕ → List ℕ → Type 0
 IsTaken known limit text = IfSome (option_map (take limit) known) (λ bytes. text ≡ bytes)
 
@@ -23,14 +23,14 @@ parts (suc count) [] = refl
 parts (suc count) (first ∷ rest) = ap (λ more. first ∷ more) (parts count rest)
 
 -- the rest is nothing, or what was taken is too large
-pub enough : (known : Option (List ℕ)) (limit : ℕ) (text : List ℕ) → limit ≡ MOST_BYTES + 1 → IsTaken known limit text → IsEnoughOf known text
-enough None limit text is taken = tt
-enough (Some bytes) limit text is taken = (drop limit bytes, whole, by_rest (drop limit bytes) refl)
+pub enough : (most : ℕ) (known : Option (List ℕ)) (limit : ℕ) (text : List ℕ) → limit ≡ most + 1 → IsTaken known limit text → IsAllOrTooLarge most known text
+enough most None limit text is taken = tt
+enough most (Some bytes) limit text is taken = (drop limit bytes, whole, by_rest (drop limit bytes) refl)
   where
     whole : bytes ≡ text ++ drop limit bytes
     whole = parts limit bytes ∙ ap (λ front. front ++ drop limit bytes) (sym taken)
 
-    by_rest : (rest : List ℕ) → drop limit bytes ≡ rest → (drop limit bytes ≡ []) ⊎ (MOST_BYTES < length text)
+    by_rest : (rest : List ℕ) → drop limit bytes ≡ rest → (drop limit bytes ≡ []) ⊎ (most < length text)
     by_rest [] here = inl here
     by_rest (first ∷ rest) here =
         inr (omega (arith, is, ap length taken, length-take limit bytes, ap length whole, length-append text (drop limit bytes), ap length here))
@@ -39,7 +39,7 @@ pub all : (known : Option (List ℕ)) (limit : ℕ) (text : List ℕ) → limit 
 all None limit text is taken small = tt
 all (Some bytes) limit text is taken small = sym (take_all limit bytes (omega (arith, is, ap length taken, length-take limit bytes, small))) ∙ sym taken
 
-pub fails : (g : Graph) (known : Option (List ℕ)) (text : List ℕ) (error : SessionError) → IsEnoughOf known text → IsRefusedAs g text error → FailsToRead g known error
+pub fails : (g : Graph) (known : Option (List ℕ)) (text : List ℕ) (error : SessionError) → IsAllOrTooLarge MOST_BYTES known text → IsRefusedAs g text error → FailsToRead g known error
 fails g known text (Script number fault) is refused = (text, is, refused)
 fails g known text NoMemory is refused = tt
 fails g known text Read is refused = absurd refused

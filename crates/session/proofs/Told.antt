@@ -1,42 +1,62 @@
--- What is told where nothing is left to do: which instances wait, and that some do.
-use Rattle.std.proofs.Common.{◌≡◌, ◌≢◌, ◌∙◌, ap, refl, sym, subst, ℕ, true, false, List, [], ◌∷◌, length, Option, Some, None, arith}
-use Rattle.std.proofs.lemmas.List.Sorted.{IsPermutation-refl, length_permutation}
+-- What is told of a store by its facts: that each instance is done, and which wait.
+use Rattle.std.proofs.Common.{◌≡◌, ◌≢◌, ◌∙◌, ap, refl, sym, subst, ℕ, Bool, true, false, List, [], ◌∷◌, length, Option, Some, None, is_some, Ok, arith}
+use Rattle.std.proofs.lemmas.Bool.{false≢true}
+use Rattle.std.proofs.lemmas.List.Sorted.{All-permutation, Contains-permutation, length_permutation}
+use Rattle.std.specs.Cmp.{IsTotalOrder}
+use Rattle.std.specs.FinMap.{IsAntisymmetric}
+use Rattle.std.specs.List.Sorted.{IsPermutation, IsSortedBy}
+use Rattle.std.specs.Ordering.{is_lt}
 use Rattle.terms.specs.declared.name.Addr.{Addr}
 use Rattle.terms.specs.declared.name.Inst.{Inst}
-use Rattle.graph.specs.Fits.{HasNoFault}
+use Rattle.terms.specs.Facts.{done}
+use Rattle.terms.specs.Name.{inst_cmp}
+use Rattle.graph.specs.Fits.{IsPrescribed}
 use Rattle.instances.specs.declared.state.State.{State}
 use Rattle.instances.specs.declared.state.State.TheVariants.{Ready, Running, Waiting, Done}
 use Rattle.instances.specs.OfStep.{is_waiting}
 use Rattle.machine.specs.Machine.{Machine, facts, state_of, waiting_count}
-use Rattle.machine.specs.Status.{AreBlocked, AreCounted, NoneIsActive}
+use Rattle.machine.specs.Promise.{IsKept}
+use Rattle.machine.specs.State.{Waits}
+use Rattle.machine.specs.Status.{AreBlocked, NoneIsActive}
+use Rattle.commit.specs.declared.verdict.Verdict.TheVariants.{Complete, Blocked}
+use Rattle.commit.specs.Core.{Core, graph}
+use Rattle.commit.specs.Core as core
+use Rattle.commit.specs.Runs.{TellsVerdict}
 use Rattle.session.specs.declared.reply.Reply.{Reply}
 use Rattle.session.specs.declared.reply.Reply.TheVariants as replied
-use Rattle.session.specs.Answers.{AreWaiting, TellsBlocked, TellsRun}
+use Rattle.session.specs.declared.ending.Stop.TheVariants as stop
+use Rattle.session.specs.Answers.{AreAllDone, AreWaiting, TellsBlocked, TellsRun, drive_of, instance_cmp}
+use Rattle.session.specs.Session.{stop_of}
+use Rattle.session.specs.Went.{HasCauseToStop}
+use Rattle.session.proofs.Listed.{found, listed}
+use Rattle.session.proofs.Puts.{no_stop, other_stop}
 
--- no instance waits
-abbrev NoneWaits : Machine → Type 0
-NoneWaits m = (instance : Inst) (address : Addr) → state_of m instance ≡ Some (Waiting address) → ⊥
+-- ---- states and facts
 
-none_waits : (m : Machine) → AreCounted m → waiting_count m ≡ 0 → NoneWaits m
-none_waits m counted none instance address waits = apart ((counted is_waiting).0 none instance (Waiting address) waits)
+state_is : (m : Machine) → IsKept m → (instance : Inst) → IsPrescribed m.graph (facts m) instance → (state : State) × (state_of m instance ≡ Some state)
+state_is m kept instance prescribed = at (state_of m instance) refl ((kept.prescribed instance).1 prescribed)
   where
-    apart : true ≡ false → ⊥
-    apart same = cc
+    at : (o : Option State) → state_of m instance ≡ o → is_some (state_of m instance) ≡ true → (state : State) × (state_of m instance ≡ Some state)
+    at None is some = absurd (false≢true (sym (ap is_some is) ∙ some))
+    at (Some state) is some = (state, is)
+
+apart : true ≡ false → ⊥
+apart same = cc
+
+-- where none is active and none waits, each is done
+pub all_done : (m : Machine) → IsKept m → NoneIsActive m → waiting_count m ≡ 0 → AreAllDone m.graph (facts m)
+all_done m kept idle none instance prescribed = let it = state_is m kept instance prescribed in at it.0 it.1
+  where
+    at : (state : State) → state_of m instance ≡ Some state → facts m (done instance) ≡ true
+    at Ready is = absurd ((idle instance).0 is)
+    at Running is = absurd ((idle instance).1 is)
+    at (Waiting address) is = absurd (apart ((kept.counted is_waiting).0 none instance (Waiting address) is))
+    at Done is = (kept.done instance).0 is
+
+-- ---- those that wait
 
 no_address : (address : Addr) → ◌≡◌ {A = Option Addr} None (Some address) → ⊥
 no_address address same = cc
-
-pub nothing_waits : (m : Machine) → AreCounted m → waiting_count m ≡ 0 → AreWaiting m []
-nothing_waits m counted none = record {
-  blocked = [];
-  are_blocked = record {
-    rises = tt;
-    each = λ instance address. (λ found. absurd (no_address address found), λ waits. absurd (none_waits m counted none instance address waits));
-    waits = λ instance address found. absurd (no_address address found);
-  };
-  same = IsPermutation-refl [];
-  rises = λ k d low high. absurd (omega (arith, high));
-}
 
 -- where the list of those that wait is empty, none is counted
 fails : (m : Machine) → AreBlocked m [] → (instance : Inst) (state : State) → state_of m instance ≡ Some state → is_waiting state ≡ false
@@ -45,28 +65,62 @@ fails m are instance Running is = refl
 fails m are instance Done is = refl
 fails m are instance (Waiting address) is = absurd (no_address address ((are.each instance address).1 is))
 
-none_counted : (m : Machine) → AreCounted m → (blocked : List (Inst × Addr)) → AreBlocked m blocked → blocked ≡ [] → waiting_count m ≡ 0
-none_counted m counted blocked are empty = (counted is_waiting).1 (fails m (subst (AreBlocked m) empty are))
-
 is_empty : {X : Type 0} (list : List X) → length list ≡ 0 → list ≡ []
 is_empty [] none = refl
 is_empty (first ∷ rest) none = absurd (omega (arith, none))
 
-pub told_blocked : (m : Machine) (reply : Reply) (most count : ℕ) → HasNoFault (facts m) → NoneIsActive m → waiting_count m ≢ 0 → AreCounted m → TellsBlocked m reply → TellsRun m most count reply
-told_blocked m (replied.Blocked waiting) most count fault active some counted told = (
-  (fault, active, told),
-  λ empty. some (none_counted m counted told.blocked told.are_blocked (is_empty told.blocked (sym (length_permutation told.blocked waiting.items told.same) ∙ ap length empty))),
+-- all that are not done wait, and some do
+pub told_waiting :
+    IsTotalOrder inst_cmp → IsAntisymmetric inst_cmp → (m : Machine) → IsKept m → NoneIsActive m → waiting_count m ≢ 0 → (blocked list : List (Inst × Addr)) → AreBlocked m blocked → IsPermutation blocked list
+    → IsSortedBy (λ one two. is_lt (instance_cmp m.graph one.0 two.0)) list → AreWaiting m.graph (facts m) list × (list ≢ [])
+told_waiting total one_key m kept idle some blocked list are same rises = (
+  record {
+    wait = All-permutation (λ (entry : Inst × Addr). Waits m.graph (facts m) entry.0 entry.1) blocked list same (λ place entry within. are.waits _ _ (found inst_cmp total blocked are.rises place entry within));
+    all = λ instance it unfinished. (let at = are.all idle instance it unfinished in (at.0, Contains-permutation blocked list (instance, at.0) same (listed inst_cmp one_key blocked instance at.0 at.1)));
+    rises = rises;
+  },
+  λ empty. some ((kept.counted is_waiting).1 (fails m (subst (AreBlocked m) (is_empty blocked (sym (length_permutation blocked list same) ∙ ap length empty)) are))),
 )
-told_blocked m replied.NoMemory most count fault active some counted told = fault
-told_blocked m replied.Done most count fault active some counted told = absurd told
-told_blocked m (replied.Value address value) most count fault active some counted told = absurd told
-told_blocked m (replied.Absent address) most count fault active some counted told = absurd told
-told_blocked m replied.Complete most count fault active some counted told = absurd told
-told_blocked m (replied.Stopped instance kind) most count fault active some counted told = absurd told
-told_blocked m replied.Limit most count fault active some counted told = absurd told
-told_blocked m replied.Asked most count fault active some counted told = absurd told
-told_blocked m (replied.Refused refusal) most count fault active some counted told = absurd told
-told_blocked m replied.Full most count fault active some counted told = absurd told
-told_blocked m replied.Halted most count fault active some counted told = absurd told
-told_blocked m replied.Device most count fault active some counted told = absurd told
-told_blocked m replied.NoThread most count fault active some counted told = absurd told
+
+-- ---- verdicts
+
+pub told_complete : {D : Type 0} (c : Core D) → IsKept c.machine → (asked spawn halted : Bool) (limit count : ℕ) → TellsVerdict asked spawn c limit count (Ok Complete)
+    → TellsRun (graph c) (drive_of limit asked spawn halted) (core.facts c) count replied.Complete
+told_complete c kept asked spawn halted limit count is = (is.2.0, all_done c.machine kept is.1.1 (omega (arith, is.1.2)))
+
+pub told_blocked : {D : Type 0} (c : Core D) (asked spawn halted : Bool) (limit count : ℕ) (blocked : ℕ) (reply : Reply) → TellsVerdict asked spawn c limit count (Ok (Blocked blocked))
+    → (core.is_halted c ≡ false → NoneIsActive c.machine → waiting_count c.machine ≢ 0 → TellsBlocked (graph c) (core.facts c) reply) → TellsRun (graph c) (drive_of limit asked spawn halted) (core.facts c) count reply
+told_blocked c asked spawn halted limit count blocked reply is tells_it = at reply (tells_it is.0.0 is.0.1.1 (λ none. is.1 (is.0.1.2 ∙ omega (arith, none))))
+  where
+    at : (r : Reply) → TellsBlocked (graph c) (core.facts c) r → TellsRun (graph c) (drive_of limit asked spawn halted) (core.facts c) count r
+    at (replied.Blocked waiting) told = (is.0.2.0, told.0, told.1)
+    at replied.NoMemory told = is.0.1.0
+    at replied.Done told = absurd told
+    at (replied.Value address value) told = absurd told
+    at (replied.Absent address) told = absurd told
+    at replied.Complete told = absurd told
+    at (replied.Stopped instance kind) told = absurd told
+    at replied.Limit told = absurd told
+    at replied.Asked told = absurd told
+    at (replied.Refused refusal) told = absurd told
+    at replied.Full told = absurd told
+    at replied.Halted told = absurd told
+    at replied.Device told = absurd told
+    at replied.NoThread told = absurd told
+
+-- and neither ends a session by a halt or the device
+pub blocked_stops : {D : Type 0} (failures : D → ℕ) (c : Core D) (reply : Reply) → TellsBlocked (graph c) (core.facts c) reply → HasCauseToStop failures c c (stop_of reply)
+blocked_stops failures c (replied.Blocked waiting) told = no_stop failures c c
+blocked_stops failures c replied.NoMemory told = other_stop failures c c stop.NoMemory (λ one. cc) (λ one. cc)
+blocked_stops failures c replied.Done told = absurd told
+blocked_stops failures c (replied.Value address value) told = absurd told
+blocked_stops failures c (replied.Absent address) told = absurd told
+blocked_stops failures c replied.Complete told = absurd told
+blocked_stops failures c (replied.Stopped instance kind) told = absurd told
+blocked_stops failures c replied.Limit told = absurd told
+blocked_stops failures c replied.Asked told = absurd told
+blocked_stops failures c (replied.Refused refusal) told = absurd told
+blocked_stops failures c replied.Full told = absurd told
+blocked_stops failures c replied.Halted told = absurd told
+blocked_stops failures c replied.Device told = absurd told
+blocked_stops failures c replied.NoThread told = absurd told

@@ -1,7 +1,7 @@
--- What the lines of a script come to: what is replied to each, and the state behind it.
-use Rattle.std.specs.Prelude.{◌≡◌, ◌≢◌, ⊤, ℕ, true, List, [], length, get_or, Some, None}
-use Rattle.std.specs.List.{AllByRecursion}
-use Rattle.std.specs.List.Sorted.{IsPermutation, IsSortedBy}
+-- What the lines of a script come to: the events that each of them commits, and what is replied to it, by the graph and the facts that are there before it.
+use Rattle.std.specs.Prelude.{◌≡◌, ◌≢◌, ◌↔◌, ⊤, ◌≤◌, ℕ, Bool, true, false, List, [], ◌∷◌, length, get_or, Some, None, Result, Ok, Err, All}
+use Rattle.std.specs.List.{AllByRecursion, Contains}
+use Rattle.std.specs.List.Sorted.{IsSortedBy}
 use Rattle.std.specs.Ordering.{nat_cmp, is_lt, ordering_then}
 use Rattle.std.specs.Cmp.Lexicographic.{slice_cmp}
 use Rattle.std.specs.declared.cmp.Ordering.{Ordering}
@@ -9,62 +9,116 @@ use Rattle.terms.specs.declared.name.Addr.{Addr}
 use Rattle.terms.specs.declared.name.Inst.{Inst}
 use Rattle.terms.specs.declared.event.Event.{Event}
 use Rattle.terms.specs.declared.event.Event.TheVariants.{EnvItem, EnvTag}
-use Rattle.terms.specs.Facts.{Fact, bad, event_facts, environment_facts}
+use Rattle.terms.specs.Facts.{bad, done}
 use Rattle.terms.specs.Facts as stated
 use Rattle.terms.specs.Key.{key_cmp}
-use Rattle.terms.specs.Sets.{with_facts}
+use Rattle.terms.specs.Sets.{Facts, with_facts}
 use Rattle.graph.specs.Graph.{Graph, EnvironmentMayGet}
-use Rattle.graph.specs.Fits.{HasNoFault}
+use Rattle.graph.specs.Fits.{HasNoFault, IsPrescribed}
 use Rattle.graph.specs.Prescribed.{names_of_steps}
 use Rattle.machine.specs.declared.refusal.Refusal.{Refusal}
-use Rattle.machine.specs.Legal.{IsLegal}
-use Rattle.machine.specs.Machine.{Machine, facts, environment, IsValueAt, RefusesGet, RefusesItem, RefusesTag}
-use Rattle.machine.specs.State.{AreLegalFrom}
-use Rattle.machine.specs.Status.{AreBlocked, NoneIsActive}
-use Rattle.commit.specs.Runs.{IsEnd}
+use Rattle.machine.specs.Legal.{IsLegal, IsQuiet}
+use Rattle.machine.specs.Machine.{IsValueAt, RefusesGet, RefusesItem, RefusesTag}
+use Rattle.machine.specs.State.{AreLegalFrom, Waits}
 use Rattle.vault.specs.declared.error.VaultError.TheVariants as store
 use Rattle.commit.specs.declared.error.CoreError.{CoreError}
 use Rattle.commit.specs.declared.error.CoreError.TheVariants as core
+use Rattle.commit.specs.Runs.{IsEnd}
 use Rattle.script.specs.declared.command.Command.{Command}
 use Rattle.script.specs.declared.command.Command.TheVariants.{Put, Tag, Get, Run}
 use Rattle.session.specs.declared.reply.Reply.{Reply}
 use Rattle.session.specs.declared.reply.Reply.TheVariants as replied
 
--- ---- states
+-- how a session runs: how many ends of instances a run may commit, whether it may be asked to stop, whether it starts threads, which may be refused, and whether
+-- the store was halted when it began
+pub record Drive : Type 0 where
+  pub most : ℕ
+  pub may_be_asked : Bool
+  pub may_spawn : Bool
+  pub was_halted : Bool
 
--- the graph and the facts are the same
-pub record IsSame (old new : Machine) : Type 0 where
-  pub graph : new.graph ≡ old.graph
-  pub facts : (fact : Fact) → facts new fact ≡ facts old fact
-  pub environment : (fact : Fact) → environment new fact ≡ environment old fact
+abbrev pub drive_of : (most : ℕ) (may_be_asked may_spawn was_halted : Bool) → Drive
+drive_of most may_be_asked may_spawn was_halted = record { most = most; may_be_asked = may_be_asked; may_spawn = may_spawn; was_halted = was_halted }
 
--- the event was legal, and has come
-pub record Adds (old new : Machine) (event : Event) : Type 0 where
-  pub legal : IsLegal old.graph (facts old) event
-  pub graph : new.graph ≡ old.graph
-  pub facts : (fact : Fact) → facts new fact ≡ with_facts (facts old) (event_facts event) fact
-  pub environment : (fact : Fact) → environment new fact ≡ with_facts (environment old) (environment_facts event) fact
+-- ---- puts and gets
 
--- these ends of instances were legal, one after another, and have come; the environment put nothing
-pub record Runs (old new : Machine) (ends : List Event) : Type 0 where
-  pub are_ends : AllByRecursion IsEnd ends
-  pub legal : AreLegalFrom old.graph (facts old) ends
-  pub graph : new.graph ≡ old.graph
-  pub facts : (fact : Fact) → facts new fact ≡ with_facts (facts old) (stated.facts ends) fact
-  pub environment : (fact : Fact) → environment new fact ≡ environment old fact
+-- a put of this event, for which the environment may be refused so; this came by it
+abbrev pub RepliesPut : Graph → Facts → (Refusal → Type 0) → Event → List Event → Reply → Type 0
+RepliesPut g X why event came replied.Done = (came ≡ event ∷ []) × IsLegal g X event
+RepliesPut g X why event came (replied.Refused cause) = (came ≡ []) × why cause
+RepliesPut g X why event came replied.Full = (came ≡ []) × IsLegal g X event
+RepliesPut g X why event came replied.Device = (came ≡ []) × IsLegal g X event
+RepliesPut g X why event came replied.NoMemory = (came ≡ []) × IsLegal g X event
+RepliesPut g X why event came replied.Halted = came ≡ []
+RepliesPut g X why event came other = ⊥
 
--- ---- replies to a line
+-- a get at this address
+abbrev pub RepliesGet : Graph → Facts → Addr → List Event → Reply → Type 0
+RepliesGet g X address came (replied.Value at v) = (came ≡ []) × (at ≡ address) × EnvironmentMayGet g address × IsValueAt X address (Some v)
+RepliesGet g X address came (replied.Absent at) = (came ≡ []) × (at ≡ address) × EnvironmentMayGet g address × IsValueAt X address None
+RepliesGet g X address came (replied.Refused cause) = (came ≡ []) × RefusesGet g address cause
+RepliesGet g X address came replied.Halted = came ≡ []
+RepliesGet g X address came other = ⊥
+
+-- ---- runs
+
+-- each prescribed instance is done
+abbrev pub AreAllDone : Graph → Facts → Type 0
+AreAllDone g X = (instance : Inst) → IsPrescribed g X instance → X (done instance) ≡ true
+
+-- there is no fault, and not each prescribed instance is done
+abbrev pub HasMoreToDo : Graph → Facts → Type 0
+HasMoreToDo g X = HasNoFault X × (AreAllDone g X → ⊥)
 
 -- two instances by the name of their step, in the order of the bytes, and then by key
 abbrev pub instance_cmp : Graph → Inst → Inst → Ordering
 instance_cmp g one two = ordering_then (slice_cmp nat_cmp (get_or (names_of_steps g.steps) one.collection.0 []) (get_or (names_of_steps g.steps) two.collection.0 [])) (key_cmp one.key two.key)
 
--- the instances that wait, each with the address of the item that it needs, by the name of the step and then by key
-pub record AreWaiting (m : Machine) (list : List (Inst × Addr)) : Type 0 where
-  pub blocked : List (Inst × Addr)
-  pub are_blocked : AreBlocked m blocked
-  pub same : IsPermutation blocked list
-  pub rises : IsSortedBy (λ one two. is_lt (instance_cmp m.graph one.0 two.0)) list
+-- all instances that are prescribed and not done, each with the address of the item that it needs, by the name of the step and then by key
+pub record AreWaiting (g : Graph) (X : Facts) (list : List (Inst × Addr)) : Type 0 where
+  pub wait : All (λ entry. Waits g X entry.0 entry.1) list
+  pub all : (instance : Inst) → IsPrescribed g X instance → X (done instance) ≡ false → (address : Addr) × Contains list (instance, address)
+  pub rises : IsSortedBy (λ one two. is_lt (instance_cmp g one.0 two.0)) list
+
+-- what is told behind a run that committed so many ends, by the facts behind it
+abbrev pub TellsRun : Graph → Drive → Facts → (count : ℕ) → Reply → Type 0
+TellsRun g drive X count replied.Complete = IsQuiet g X × AreAllDone g X
+TellsRun g drive X count (replied.Blocked waiting) = IsQuiet g X × AreWaiting g X waiting.items × (waiting.items ≢ [])
+TellsRun g drive X count (replied.Stopped instance kind) = X (bad instance kind) ≡ true
+TellsRun g drive X count replied.Limit = HasMoreToDo g X × (count ≡ drive.most)
+TellsRun g drive X count replied.Asked = HasMoreToDo g X × (drive.may_be_asked ≡ true) × (count ≢ drive.most)
+TellsRun g drive X count replied.Full = HasMoreToDo g X
+TellsRun g drive X count replied.NoThread = HasMoreToDo g X × (drive.may_spawn ≡ true)
+TellsRun g drive X count replied.NoMemory = HasNoFault X
+TellsRun g drive X count replied.Halted = ⊤
+TellsRun g drive X count other = ⊥
+
+-- a run commits ends of instances, which are legal one after another, and no more than it may; its reply tells what they led to
+pub record RepliesRun (g : Graph) (drive : Drive) (X : Facts) (came : List Event) (reply : Reply) : Type 0 where
+  pub are_ends : AllByRecursion IsEnd came
+  pub legal : AreLegalFrom g X came
+  pub within : length came ≤ drive.most
+  pub told : TellsRun g drive (with_facts X (stated.facts came)) (length came) reply
+
+-- ---- commands
+
+-- a command by its kind
+abbrev pub RepliesTo : Graph → Drive → Facts → Command → List Event → Reply → Type 0
+RepliesTo g drive X (Put address v) came reply = RepliesPut g X (RefusesItem g X address) (EnvItem address v) came reply
+RepliesTo g drive X (Tag name) came reply = RepliesPut g X (RefusesTag g X name) (EnvTag name) came reply
+RepliesTo g drive X (Get address) came reply = RepliesGet g X address came reply
+RepliesTo g drive X Run came reply = RepliesRun g drive X came reply
+
+-- A store that was halted says so, and a put or a get says so of no other. Of a store that was not, a run may find the device failing.
+abbrev pub TellsHalt : Bool → Command → Reply → Type 0
+TellsHalt was_halted Run reply = was_halted ≡ true → reply ≡ replied.Halted
+TellsHalt was_halted other reply = (reply ≡ replied.Halted) ↔ (was_halted ≡ true)
+
+-- the reply to a command where these facts are there, and the events that came by it
+abbrev pub Replies : Graph → Drive → Facts → Command → List Event → Reply → Type 0
+Replies g drive X command came reply = RepliesTo g drive X command came reply × TellsHalt drive.was_halted command reply
+
+-- ---- what single calls answer
 
 -- the reply to an error of a put or a get
 abbrev pub reply_of : CoreError → Reply
@@ -74,54 +128,13 @@ reply_of (core.Store store.Device) = replied.Device
 reply_of (core.Store store.NoMemory) = replied.NoMemory
 reply_of (core.Store other) = replied.Halted
 
--- a put of this event, for which the environment may be refused so
-abbrev pub RepliesPut : Machine → Machine → (Refusal → Type 0) → Event → Reply → Type 0
-RepliesPut old new why event replied.Done = Adds old new event
-RepliesPut old new why event (replied.Refused cause) = why cause × IsSame old new
-RepliesPut old new why event replied.Full = IsLegal old.graph (facts old) event × IsSame old new
-RepliesPut old new why event replied.Halted = IsSame old new
-RepliesPut old new why event replied.Device = IsSame old new
-RepliesPut old new why event replied.NoMemory = IsSame old new
-RepliesPut old new why event other = ⊥
+-- and to a put
+abbrev pub put_reply : {T : Type 0} → Result T CoreError → Reply
+put_reply (Ok value) = replied.Done
+put_reply (Err error) = reply_of error
 
--- a get at this address
-abbrev pub RepliesGet : Machine → Machine → Addr → Reply → Type 0
-RepliesGet old new address (replied.Value at v) = (at ≡ address) × EnvironmentMayGet old.graph address × IsValueAt (facts old) address (Some v) × IsSame old new
-RepliesGet old new address (replied.Absent at) = (at ≡ address) × EnvironmentMayGet old.graph address × IsValueAt (facts old) address None × IsSame old new
-RepliesGet old new address (replied.Refused cause) = RefusesGet old address cause × IsSame old new
-RepliesGet old new address replied.Halted = IsSame old new
-RepliesGet old new address other = ⊥
-
--- nothing is left to do, and these wait
-abbrev pub IsQuietWith : Machine → List (Inst × Addr) → Type 0
-IsQuietWith m waiting = HasNoFault (facts m) × NoneIsActive m × AreWaiting m waiting
-
--- an instance is ready or runs, and there is no fault
-abbrev pub IsWorking : Machine → Type 0
-IsWorking m = HasNoFault (facts m) × (NoneIsActive m → ⊥)
-
--- what is told behind a run that committed so many ends, by the state behind it
-abbrev pub TellsRun : Machine → (most count : ℕ) → Reply → Type 0
-TellsRun m most count replied.Complete = IsQuietWith m []
-TellsRun m most count (replied.Blocked waiting) = IsQuietWith m waiting.items × (waiting.items ≢ [])
-TellsRun m most count (replied.Stopped instance kind) = facts m (bad instance kind) ≡ true
-TellsRun m most count replied.Limit = IsWorking m × (count ≡ most)
-TellsRun m most count replied.Asked = IsWorking m
-TellsRun m most count replied.Full = IsWorking m
-TellsRun m most count replied.Halted = ⊤
-TellsRun m most count replied.NoMemory = HasNoFault (facts m)
-TellsRun m most count replied.NoThread = IsWorking m
-TellsRun m most count other = ⊥
-
--- those that wait are told, unless memory was refused
-abbrev pub TellsBlocked : Machine → Reply → Type 0
-TellsBlocked m (replied.Blocked waiting) = AreWaiting m waiting.items
-TellsBlocked m replied.NoMemory = ⊤
-TellsBlocked m other = ⊥
-
--- the reply to a command, with this limit for a run, from this state to that one
-abbrev pub Replies : ℕ → Machine → Machine → Command → Reply → Type 0
-Replies most old new (Put address v) reply = RepliesPut old new (RefusesItem old address) (EnvItem address v) reply
-Replies most old new (Tag name) reply = RepliesPut old new (RefusesTag old name) (EnvTag name) reply
-Replies most old new (Get address) reply = RepliesGet old new address reply
-Replies most old new Run reply = (ends : List Event) × Runs old new ends × TellsRun new most (length ends) reply
+-- those that wait are told, and some do, unless memory was refused
+abbrev pub TellsBlocked : Graph → Facts → Reply → Type 0
+TellsBlocked g X (replied.Blocked waiting) = AreWaiting g X waiting.items × (waiting.items ≢ [])
+TellsBlocked g X replied.NoMemory = ⊤
+TellsBlocked g X other = ⊥

@@ -20,7 +20,7 @@ waiting_text g entry = instance_text g entry.0 ++ codes " waits at " ++ address_
 abbrev pub waiting_lines : Graph → List (Inst × Addr) → List ℕ
 waiting_lines g waiting = flat_map (λ entry. line (waiting_text g entry)) waiting
 
--- a script names each collection with its arity, so the first two come to none of its lines
+-- a script names collections of the graph, each with its arity, so the refusals 1 and 3 come to none of its lines
 abbrev pub refusal_text : Graph → Refusal → List ℕ
 refusal_text g refusal.NoSuchCollection = codes "refused 1: no such collection"
 refusal_text g refusal.NotFromEnvironment = codes "refused 2: not from the environment"

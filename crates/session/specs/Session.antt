@@ -1,8 +1,10 @@
--- A session: the lines of a script, one after another, what is replied to them, and the state behind them.
+-- A session: the lines of a script, one after another, the events that come by them, and what is replied.
 use Rattle.std.specs.Prelude.{◌≡◌, ◌≢◌, ◌⊎◌, ◌||◌, ◌++◌, ℕ, Bool, true, false, List, [], ◌∷◌, Option, Some, None}
 use Rattle.std.specs.List.{flat_map}
+use Rattle.terms.specs.declared.event.Event.{Event}
+use Rattle.terms.specs.Facts as stated
+use Rattle.terms.specs.Sets.{Facts, with_facts}
 use Rattle.graph.specs.Graph.{Graph}
-use Rattle.machine.specs.Machine.{Machine, facts}
 use Rattle.report.specs.ReportText.{IsReport}
 use Rattle.script.specs.declared.command.Command.{Command}
 use Rattle.script.specs.declared.command.Command.TheVariants.{Run}
@@ -11,7 +13,7 @@ use Rattle.session.specs.declared.ending.Stop.{Stop}
 use Rattle.session.specs.declared.ending.Stop.TheVariants as stop
 use Rattle.session.specs.declared.reply.Reply.{Reply}
 use Rattle.session.specs.declared.reply.Reply.TheVariants as replied
-use Rattle.session.specs.Answers.{IsSame, Replies}
+use Rattle.session.specs.Answers.{Drive, Replies}
 use Rattle.session.specs.Replies.{reply_text}
 
 -- the reply that ends a session
@@ -22,12 +24,13 @@ stop_of replied.NoMemory = Some stop.NoMemory
 stop_of replied.NoThread = Some stop.NoThread
 stop_of other = None
 
--- the replies to the commands in order, each from the state that the one before left; one that ends the session is the last
-abbrev pub AreReplies : ℕ → Machine → List Command → List Reply → Machine → Type 0
-AreReplies most old [] replies new = (replies ≡ []) × IsSame old new
-AreReplies most old (command ∷ more) [] new = ⊥
-AreReplies most old (command ∷ more) (reply ∷ rest) new = (between : Machine) × Replies most old between command reply
-    × (((stop_of reply ≡ None) × AreReplies most between more rest new) ⊎ ((stop_of reply ≢ None) × (rest ≡ []) × IsSame between new))
+-- The replies to the commands in order, and the events that came by them, where these facts are there. Each command finds the facts of those before it; a reply
+-- that ends the session is the last.
+abbrev pub AreReplies : Graph → Drive → Facts → List Command → List Reply → List Event → Type 0
+AreReplies g drive X [] replies events = (replies ≡ []) × (events ≡ [])
+AreReplies g drive X (command ∷ more) [] events = ⊥
+AreReplies g drive X (command ∷ more) (reply ∷ rest) events = (came : List Event) × (later : List Event) × (events ≡ came ++ later) × Replies g drive X command came reply
+    × (((stop_of reply ≡ None) × AreReplies g drive (with_facts X (stated.facts came)) more rest later) ⊎ ((stop_of reply ≢ None) × (rest ≡ []) × (later ≡ [])))
 
 -- ---- endings
 
@@ -69,25 +72,25 @@ replies_text g replies = flat_map (reply_text g) replies
 -- ---- sessions
 
 -- the report, unless a reply ended the session
-abbrev pub IsClosing : Machine → Option Stop → List ℕ → Type 0
-IsClosing m None text = IsReport m.graph (facts m) text
-IsClosing m (Some end) text = text ≡ []
+abbrev pub IsClosing : Graph → Facts → Option Stop → List ℕ → Type 0
+IsClosing g X None text = IsReport g X text
+IsClosing g X (Some end) text = text ≡ []
 
--- a session: the replies to the commands, and then the report; what is written, how it ended, and the state that it leaves
-pub record IsSession (most : ℕ) (old new : Machine) (commands : List Command) (ending : Ending) (text : List ℕ) : Type 0 where
+-- A session of these commands where these facts are there: the replies, and then the report. The events that came, how it ended, and what is written.
+pub record IsSession (g : Graph) (drive : Drive) (X : Facts) (commands : List Command) (events : List Event) (ending : Ending) (text : List ℕ) : Type 0 where
   pub replies : List Reply
-  pub answered : AreReplies most old commands replies new
+  pub answered : AreReplies g drive X commands replies events
   pub ends : ending ≡ ending_of commands replies
   pub closing : List ℕ
-  pub closes : IsClosing new ending.stop closing
-  pub whole : text ≡ replies_text old.graph replies ++ closing
+  pub closes : IsClosing g (with_facts X (stated.facts events)) ending.stop closing
+  pub whole : text ≡ replies_text g replies ++ closing
 
 -- ---- what is left of a session whose output failed
 
 -- some first commands were answered, and no further one
-pub record HasBegun (most : ℕ) (old new : Machine) (commands : List Command) : Type 0 where
+pub record HasBegun (g : Graph) (drive : Drive) (X : Facts) (commands : List Command) (events : List Event) : Type 0 where
   pub begun : List Command
   pub left : List Command
   pub split : commands ≡ begun ++ left
   pub replies : List Reply
-  pub answered : AreReplies most old begun replies new
+  pub answered : AreReplies g drive X begun replies events

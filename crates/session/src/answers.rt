@@ -1,11 +1,17 @@
 //! What a command comes to in a store.
-ghost use Rattle.std.specs.Prelude.{◌≡◌, Bool, false, ℕ};
+ghost use Rattle.std.specs.Prelude.{◌≡◌, ◌≢◌, ◌↔◌, Bool, List, [], false, true, ℕ, None, Ok, IsTrue};
+ghost use Rattle.commit.specs.declared.verdict.Verdict.TheVariants.{Halted as AllHalted};
+ghost use Rattle.session.specs.declared.reply.Reply.TheVariants.{Halted};
 ghost use Rattle.terms.specs.declared.event.Event.TheVariants.{EnvItem, EnvTag};
-ghost use Rattle.machine.specs.Machine.{RefusesItem, RefusesTag};
-ghost use Rattle.commit.specs.Core.{is_halted};
+ghost use Rattle.terms.specs.declared.event.Event.{Event as Came};
+ghost use Rattle.machine.specs.Machine.{RefusesItem, RefusesTag, waiting_count};
+ghost use Rattle.machine.specs.Status.{NoneIsActive};
+ghost use Rattle.commit.specs.Core.{facts, graph, is_halted};
 ghost use Rattle.commit.specs.Runs.{NoneRuns, TellsVerdict};
 ghost use Rattle.script.specs.declared.command.Command.TheVariants.{Run};
-ghost use Rattle.session.specs.Answers.{Replies, RepliesGet, RepliesPut, TellsBlocked, TellsRun, reply_of};
+ghost use Rattle.session.specs.Answers.{Replies, RepliesGet, RepliesPut, RepliesRun, TellsBlocked, TellsRun, drive_of, put_reply, reply_of};
+ghost use Rattle.session.specs.Session.{stop_of};
+ghost use Rattle.session.specs.Went.{GoesOn, HasCauseToStop};
 
 use crate::reply::Reply;
 use crate::waiting::sort_by_name;
@@ -13,8 +19,8 @@ use commit::{Core, CoreError, Driver, RunError, Verdict};
 use disk::Disk;
 use script::Command;
 use std::alloc::Global;
-use terms::{Addr, Tag};
-use vault::VaultError;
+use terms::{Addr, Tag, orders_are_total};
+use vault::{VaultError, stores_go_on};
 
 /// Does what a command asks for, and gives the store back with the reply.
 pub(crate) fn answer<D: Disk + Send, V: Driver>(
@@ -26,7 +32,10 @@ pub(crate) fn answer<D: Disk + Send, V: Driver>(
 ) -> (Core<D>, Reply)
     requires idle { NoneRuns core }
     ensures idle { NoneRuns result.0 }
-    ensures replies { Replies limit core.machine result.0.machine command result.1 }
+    ensures replies { (came : List Came) × GoesOn D.files D.moment D.left_at D.failures D.refusals (IsTrue D.is_honest) core result.0 came
+        × Replies (graph core) (drive_of limit V.may_be_asked V.may_spawn (is_halted core)) (facts core) command came result.1 }
+    ensures stops { HasCauseToStop D.failures core result.0 (stop_of result.1) }
+    ensures stays { stop_of result.1 ≡ None → is_halted result.0 ≡ is_halted core }
 {
     match command {
         Command::Run => run(alloc, core, driver, limit),
@@ -51,29 +60,63 @@ pub(crate) fn answer<D: Disk + Send, V: Driver>(
 fn put_item<D: Disk>(core: &mut Core<D>, address: Addr, value: i64) -> Reply
     requires idle { NoneRuns core.old }
     ensures idle { NoneRuns core.new }
-    ensures replies { RepliesPut core.old.machine core.new.machine (RefusesItem core.old.machine address) (EnvItem address value) result }
+    ensures replies { (came : List Came) × GoesOn D.files D.moment D.left_at D.failures D.refusals (IsTrue D.is_honest) core.old core.new came
+        × RepliesPut (graph core.old) (facts core.old) (RefusesItem (graph core.old) (facts core.old) address) (EnvItem address value) came result }
+    ensures stops { HasCauseToStop D.failures core.old core.new (stop_of result) }
+    ensures halt { (result ≡ Halted) ↔ (is_halted core.old ≡ true) }
+    ensures stays { stop_of result ≡ None → is_halted core.new ≡ is_halted core.old }
 {
-    match core.put_item(address, value) {
-        Ok(()) => Reply::Done,
-        Err(error) => refusal(error),
-    }
+    stores_go_on::<D>();
+    core.is_kept();
+    let put = core.put_item(address, value);
+    core.is_kept();
+    put_reply(put)
 }
 
 // Puts a tag of the environment.
 fn put_tag<D: Disk>(core: &mut Core<D>, tag: Tag) -> Reply
     requires idle { NoneRuns core.old }
     ensures idle { NoneRuns core.new }
-    ensures replies { RepliesPut core.old.machine core.new.machine (RefusesTag core.old.machine tag) (EnvTag tag) result }
+    ensures replies { (came : List Came) × GoesOn D.files D.moment D.left_at D.failures D.refusals (IsTrue D.is_honest) core.old core.new came
+        × RepliesPut (graph core.old) (facts core.old) (RefusesTag (graph core.old) (facts core.old) tag) (EnvTag tag) came result }
+    ensures stops { HasCauseToStop D.failures core.old core.new (stop_of result) }
+    ensures halt { (result ≡ Halted) ↔ (is_halted core.old ≡ true) }
+    ensures stays { stop_of result ≡ None → is_halted core.new ≡ is_halted core.old }
 {
-    match core.put_tag(tag) {
+    stores_go_on::<D>();
+    core.is_kept();
+    let put = core.put_tag(tag);
+    core.is_kept();
+    put_reply(put)
+}
+
+// The reply to a put.
+fn put_reply(put: Result<(), CoreError>) -> Reply
+    ensures { result ≡ put_reply put }
+{
+    match put {
         Ok(()) => Reply::Done,
         Err(error) => refusal(error),
     }
 }
 
-// Gets an item for the environment.
+// Gets an item for the environment. Nothing comes by it.
 fn get<D: Disk>(core: &Core<D>, address: Addr) -> Reply
-    ensures { RepliesGet core.now.machine core.now.machine address result }
+    ensures goes_on { GoesOn D.files D.moment D.left_at D.failures D.refusals (IsTrue D.is_honest) core.now core.now [] }
+    ensures replies { RepliesGet (graph core.now) (facts core.now) address [] result }
+    ensures stops { HasCauseToStop D.failures core.now core.now (stop_of result) }
+    ensures halt { (result ≡ Halted) ↔ (is_halted core.now ≡ true) }
+{
+    stores_go_on::<D>();
+    core.is_kept();
+    got(core, address)
+}
+
+// The reply to a get.
+fn got<D: Disk>(core: &Core<D>, address: Addr) -> Reply
+    ensures replies { RepliesGet (graph core.now) (facts core.now) address [] result }
+    ensures stops { HasCauseToStop D.failures core.now core.now (stop_of result) }
+    ensures halt { (result ≡ Halted) ↔ (is_halted core.now ≡ true) }
 {
     let asked = address;
     match core.get(asked) {
@@ -106,18 +149,28 @@ fn run<D: Disk + Send, V: Driver>(
 ) -> (Core<D>, Reply)
     requires idle { NoneRuns core }
     ensures idle { NoneRuns result.0 }
-    ensures replies { Replies limit core.machine result.0.machine Run result.1 }
+    ensures replies { (came : List Came) × GoesOn D.files D.moment D.left_at D.failures D.refusals (IsTrue D.is_honest) core result.0 came
+        × RepliesRun (graph core) (drive_of limit V.may_be_asked V.may_spawn (is_halted core)) (facts core) came result.1 }
+    ensures stops { HasCauseToStop D.failures core result.0 (stop_of result.1) }
+    ensures halt { is_halted core ≡ true → result.1 ≡ Halted }
+    ensures stays { stop_of result.1 ≡ None → is_halted result.0 ≡ is_halted core }
 {
+    stores_go_on::<D>();
+    core.is_kept();
     let (core, verdict) = driver.run(alloc, core, limit);
+    core.is_kept();
     let reply = told(alloc, &core, verdict);
     (core, reply)
 }
 
 // The reply to a run that ended so.
 fn told<D: Disk>(alloc: Global, core: &Core<D>, verdict: Result<Verdict, RunError>) -> Reply
-    ensures { (may_be_asked may_spawn : Bool) (limit count : ℕ) → TellsVerdict may_be_asked may_spawn core.now limit count verdict → TellsRun core.now.machine limit count result }
+    ensures tells { (may_be_asked may_spawn was_halted : Bool) (limit count : ℕ) → TellsVerdict may_be_asked may_spawn core.now limit count verdict → TellsRun (graph core.now) (drive_of limit may_be_asked may_spawn was_halted) (facts core.now) count result }
+    ensures stops { (may_be_asked may_spawn : Bool) (limit count : ℕ) → TellsVerdict may_be_asked may_spawn core.now limit count verdict → HasCauseToStop D.failures core.now core.now (stop_of result) }
+    ensures halt { verdict ≡ Ok AllHalted → result ≡ Halted }
+    ensures stays { (may_be_asked may_spawn : Bool) (limit count : ℕ) → TellsVerdict may_be_asked may_spawn core.now limit count verdict → stop_of result ≡ None → is_halted core.now ≡ false }
 {
-    core.are_counted();
+    core.is_kept();
     match verdict {
         Ok(Verdict::Complete) => Reply::Complete,
         Ok(Verdict::Blocked(_)) => blocked(alloc, core),
@@ -133,8 +186,10 @@ fn told<D: Disk>(alloc: Global, core: &Core<D>, verdict: Result<Verdict, RunErro
 
 // The reply where nothing is left to do and instances wait: these by the names of their steps, and then by key.
 fn blocked<D: Disk>(alloc: Global, core: &Core<D>) -> Reply
-    ensures { is_halted core.now ≡ false → TellsBlocked core.now.machine result }
+    ensures { is_halted core.now ≡ false → NoneIsActive core.now.machine → waiting_count core.now.machine ≢ 0 → TellsBlocked (graph core.now) (facts core.now) result }
 {
+    orders_are_total();
+    core.is_kept();
     match core.blocked(alloc) {
         Ok(waiting) => {
             let mut waiting = waiting;

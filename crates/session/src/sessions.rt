@@ -1,12 +1,14 @@
 //! A script from its bytes to what is replied.
-ghost use Rattle.std.specs.Prelude.{◌≡◌, List, IfErr, IfOk, ℕ};
+ghost use Rattle.std.specs.Prelude.{◌≡◌, List, IfErr, IfOk, IsTrue, ℕ};
 ghost use Rattle.std.specs.Io.KnownBytes.{Appends};
-ghost use Rattle.script.specs.declared.command.Command.{Command as Asked};
+ghost use Rattle.terms.specs.declared.event.Event.{Event as Came};
 ghost use Rattle.script.specs.Script.{IsScript};
-ghost use Rattle.commit.specs.Core.{graph};
+ghost use Rattle.commit.specs.Core.{facts, graph, is_halted};
 ghost use Rattle.commit.specs.Runs.{NoneRuns};
-ghost use Rattle.session.specs.Fails.{Fails, FailsBehind, FailsToRead, IsAllOf, IsOfOutput, IsRefusedAs};
-ghost use Rattle.session.specs.Session.{IsClosing, IsSession};
+ghost use Rattle.session.specs.Answers.{drive_of};
+ghost use Rattle.session.specs.Fails.{Answers, FailsToRead, IsAllOf, IsOfOutput, IsRefusedAs};
+ghost use Rattle.session.specs.Session.{HasBegun, IsClosing, IsSession};
+ghost use Rattle.session.specs.Went.{GoesOn, HasCauseToStop};
 
 use crate::commands::run_commands;
 use crate::{Ending, SessionError};
@@ -17,11 +19,13 @@ use report::{ReportError, write_report};
 use script::{Command, MOST_BYTES, ScriptError, parse_script};
 use std::alloc::Global;
 use std::io::{ErrorKind, Read, Write};
+use vault::stores_go_on;
 
 /// Runs a script on a store: reads it whole, does what its lines ask for one after another, and writes what is replied, and then the report.
 ///
 /// A run of the steps is the driver's, with this limit. A reply of `refused 8`, `9` or `10`, or that a thread could not be started, ends the session without a
-/// report. An error before the first line leaves the store as it was; behind one later, what was committed stays.
+/// report. An error before the first line leaves the store as it was; behind one later, what was committed stays. At each moment a crash leaves what the first of
+/// the commits state.
 pub fn session<D: Disk + Send, R: Read, W: Write, V: Driver>(
     alloc: Global,
     core: Core<D>,
@@ -32,10 +36,10 @@ pub fn session<D: Disk + Send, R: Read, W: Write, V: Driver>(
 ) -> (Core<D>, Result<Ending, SessionError>)
     requires idle { NoneRuns core }
     ensures idle { NoneRuns result.0 }
-    ensures session { IfOk result.1 (λ ending. (script : List ℕ) × (commands : List Asked) × (text : List ℕ) × IsAllOf (R.remaining input.old) script
-        × IsScript (graph core) script commands × IsSession limit core.machine result.0.machine commands ending text × Appends (W.contents out.old) (W.contents out.new) text) }
-    ensures fails { IfErr result.1 (Fails limit (R.remaining input.old) core.machine result.0.machine) }
+    ensures answers { Answers D.files D.moment D.left_at D.failures D.refusals (IsTrue D.is_honest) (drive_of limit V.may_be_asked V.may_spawn (is_halted core)) (R.remaining input.old) (W.contents out.old) (W.contents out.new) core result.0 result.1 }
 {
+    stores_go_on::<D>();
+    core.is_kept();
     match read_script(alloc, core.graph(), input) {
         Ok(commands) => run_script(alloc, core, commands.as_slice(), out, driver, limit),
         Err(error) => (core, Err(error)),
@@ -84,8 +88,10 @@ fn run_script<D: Disk + Send, W: Write, V: Driver>(
 ) -> (Core<D>, Result<Ending, SessionError>)
     requires idle { NoneRuns core }
     ensures idle { NoneRuns result.0 }
-    ensures session { IfOk result.1 (λ ending. (text : List ℕ) × IsSession limit core.machine result.0.machine commands.now ending text × Appends (W.contents out.old) (W.contents out.new) text) }
-    ensures fails { IfErr result.1 (FailsBehind limit core.machine result.0.machine commands.now) }
+    ensures answers { (events : List Came) × GoesOn D.files D.moment D.left_at D.failures D.refusals (IsTrue D.is_honest) core result.0 events
+        × IfOk result.1 (λ ending. (text : List ℕ) × IsSession (graph core) (drive_of limit V.may_be_asked V.may_spawn (is_halted core)) (facts core) commands.now events ending text
+        × Appends (W.contents out.old) (W.contents out.new) text × HasCauseToStop D.failures core result.0 ending.stop)
+        × IfErr result.1 (λ error. IsOfOutput error × HasBegun (graph core) (drive_of limit V.may_be_asked V.may_spawn (is_halted core)) (facts core) commands.now events) }
 {
     let (core, went) = run_commands(alloc, core, commands, out, driver, limit);
     match went {
@@ -104,7 +110,7 @@ fn close<D: Disk, W: Write>(
     ending: Ending,
     out: &mut W,
 ) -> Result<Ending, SessionError>
-    ensures closed { IfOk result (λ closed. (closed ≡ ending) × ((text : List ℕ) × IsClosing core.now.machine ending.stop text × Appends (W.contents out.old) (W.contents out.new) text)) }
+    ensures closed { IfOk result (λ closed. (closed ≡ ending) × ((text : List ℕ) × IsClosing (graph core.now) (facts core.now) ending.stop text × Appends (W.contents out.old) (W.contents out.new) text)) }
     ensures err { IfErr result IsOfOutput }
 {
     if ending.stop.is_some() {

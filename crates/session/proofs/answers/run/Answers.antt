@@ -1,29 +1,76 @@
-use Rattle.std.proofs.Common.{◌≡◌, refl, sym, subst, Bool, true, false, List, [], length}
+use Rattle.std.proofs.Common.{ap, ◌≡◌, ◌∙◌, refl, sym, subst, Bool, true, false, List, [], length, arith, IsTrue}
+use Rattle.std.proofs.lemmas.Bool.{false≢true}
 use Rattle.std.specs.Prelude.{Result}
 use Rattle.terms.specs.declared.event.Event.{Event}
+use Rattle.terms.specs.Sets.{Facts, with_facts}
+use Rattle.terms.specs.Facts as stated
+use Rattle.graph.specs.Graph.{Graph}
 use Rattle.commit.specs.declared.verdict.RunError.{RunError}
 use Rattle.commit.specs.declared.verdict.Verdict.{Verdict}
-use Rattle.commit.specs.Core.{Core, is_halted}
+use Rattle.commit.specs.Core.{Core, facts, graph, is_halted}
 use Rattle.commit.specs.Runs.{TellsVerdict}
-use Rattle.session.specs.Answers.{Runs, TellsRun}
-use Rattle.session.proofs.Ran.{ran, ran_nothing}
+use Rattle.commit.proofs.Lists.{first_ends, with_nothing}
+use Rattle.session.specs.Answers.{RepliesRun, TellsRun, drive_of}
+use Rattle.session.specs.Session.{stop_of}
+use Rattle.session.specs.Went.{GoesOn, HasCauseToStop}
+use Rattle.session.proofs.Coming.{nothing_came, of_run}
+use Rattle.session.proofs.Ran.{front_legal, stop_before}
 use Rattle.session.proofs.answers.run.Goals as goal
 
 pub returns-clause-replies : goal.returns-clause-replies
 returns-clause-replies g c = by_halted (is_halted c.args.core) refl
   where
     by_halted : (b : Bool) → is_halted c.args.core ≡ b →
-        (ends : List Event) × Runs c.args.core.machine c.run-core.result.0.machine ends × TellsRun c.run-core.result.0.machine c.args.limit (length ends) c.told-reply.result
+        (came : List Event) × GoesOn g.D.Disk.files g.D.Disk.moment g.D.Disk.left_at g.D.Disk.failures g.D.Disk.refusals (IsTrue g.D.Disk.is_honest) c.args.core c.run-core.result.0 came × RepliesRun (graph c.args.core) (drive_of c.args.limit g.V.Driver.may_be_asked g.V.Driver.may_spawn (is_halted c.args.core)) (facts c.args.core) came c.told-reply.result
     by_halted true halted =
-        let same = c.run-core.ensures.halted halted in (
+        let same = c.run-core.ensures.halted halted in
+        let verdict = subst (λ (r : Result Verdict RunError). TellsVerdict g.V.Driver.may_be_asked g.V.Driver.may_spawn c.run-core.result.0 c.args.limit 0 r) (sym same.1) (subst (λ (core : Core g.row.D.Denot). is_halted core ≡ true) (sym same.0) halted) in
+        let told = subst (λ (core : Core g.row.D.Denot). TellsRun (graph core) (drive_of c.args.limit g.V.Driver.may_be_asked g.V.Driver.may_spawn (is_halted c.args.core)) (facts core) 0 c.told-reply.result) same.0 (c.told-reply.ensures.tells g.V.Driver.may_be_asked g.V.Driver.may_spawn (is_halted c.args.core) c.args.limit 0 verdict) in (
           [],
-          subst (λ (core : Core g.row.D.Denot). Runs c.args.core.machine core.machine []) (sym same.0) (ran_nothing c.args.core.machine),
-          c.told-reply.ensures false false c.args.limit 0
-              (subst (λ (r : Result Verdict RunError). TellsVerdict false false c.run-core.result.0 c.args.limit 0 r) (sym same.1) (subst (λ (core : Core g.row.D.Denot). is_halted core ≡ true) (sym same.0) halted)),
+          subst (λ (core : Core g.row.D.Denot). GoesOn g.D.Disk.files g.D.Disk.moment g.D.Disk.left_at g.D.Disk.failures g.D.Disk.refusals (IsTrue g.D.Disk.is_honest) c.args.core core []) (sym same.0)
+              (nothing_came g.D.Disk.files g.D.Disk.moment g.D.Disk.left_at g.D.Disk.failures g.D.Disk.refusals (IsTrue g.D.Disk.is_honest) c.stores_go_on.ensures.rest_leaves c.stores_go_on.ensures.gates_rest c.args.core c.is_kept.ensures.kept c.is_kept.ensures.settled),
+          record {
+            are_ends = tt;
+            legal = tt;
+            within = omega arith;
+            told = subst (λ (X : Facts). TellsRun (graph c.args.core) (drive_of c.args.limit g.V.Driver.may_be_asked g.V.Driver.may_spawn (is_halted c.args.core)) X 0 c.told-reply.result) (sym (with_nothing (facts c.args.core))) told;
+          },
         )
     by_halted false working =
-        let within = c.run-core.ensures.runs working in (
-          within.ends,
-          ran _ _ _ _ _ _ c.args.core c.run-core.result.0 c.args.limit within.ends within.runs,
-          c.told-reply.ensures _ _ c.args.limit (length within.ends) within.told,
+        let it = c.run-core.ensures.runs working in
+        let all : facts c.run-core.result.0 ≡ with_facts (facts c.args.core) (stated.facts it.ends) = λ i fact. it.runs.facts fact i in (
+          it.ends,
+          record { went = λ _. of_run g.D.Disk.files g.D.Disk.moment g.D.Disk.left_at g.D.Disk.failures g.D.Disk.refusals (IsTrue g.D.Disk.is_honest) c.args.core c.run-core.result.0 c.args.limit it.ends it.runs; stays = λ halted. absurd (false≢true (sym working ∙ halted)); settled = c.is_kept-2.ensures.settled; later = it.runs.later },
+          record {
+            are_ends = first_ends it.ends c.run-core.result.0.in_doubt it.runs.are_ends;
+            legal = front_legal _ _ it.ends c.run-core.result.0.in_doubt it.runs.legal;
+            within = omega (arith, it.runs.spent);
+            told = subst (λ (h : Graph). TellsRun h (drive_of c.args.limit g.V.Driver.may_be_asked g.V.Driver.may_spawn (is_halted c.args.core)) (with_facts (facts c.args.core) (stated.facts it.ends)) (length it.ends) c.told-reply.result) it.runs.graph
+                (subst (λ (X : Facts). TellsRun (graph c.run-core.result.0) (drive_of c.args.limit g.V.Driver.may_be_asked g.V.Driver.may_spawn (is_halted c.args.core)) X (length it.ends) c.told-reply.result) all (c.told-reply.ensures.tells g.V.Driver.may_be_asked g.V.Driver.may_spawn (is_halted c.args.core) c.args.limit (length it.ends) it.told));
+          },
         )
+
+pub returns-clause-stops : goal.returns-clause-stops
+returns-clause-stops g c = by_halted (is_halted c.args.core) refl
+  where
+    by_halted : (b : Bool) → is_halted c.args.core ≡ b → HasCauseToStop g.D.Disk.failures c.args.core c.run-core.result.0 (stop_of c.told-reply.result)
+    by_halted true halted =
+        let same = c.run-core.ensures.halted halted in
+        stop_before g.D.Disk.failures c.args.core c.run-core.result.0 _ (c.told-reply.ensures.stops g.V.Driver.may_be_asked g.V.Driver.may_spawn c.args.limit 0
+        (subst (λ (r : Result Verdict RunError). TellsVerdict g.V.Driver.may_be_asked g.V.Driver.may_spawn c.run-core.result.0 c.args.limit 0 r) (sym same.1)
+        (subst (λ (core : Core g.row.D.Denot). is_halted core ≡ true) (sym same.0) halted)))
+    by_halted false working =
+        let it = c.run-core.ensures.runs working in
+        stop_before g.D.Disk.failures c.args.core c.run-core.result.0 _ (c.told-reply.ensures.stops g.V.Driver.may_be_asked g.V.Driver.may_spawn c.args.limit (length it.ends) it.told)
+
+pub returns-clause-halt : goal.returns-clause-halt
+returns-clause-halt g c halted = c.told-reply.ensures.halt (c.run-core.ensures.halted halted).1
+
+pub returns-clause-stays : goal.returns-clause-stays
+returns-clause-stays g c none = by_halted (is_halted c.args.core) refl
+  where
+    by_halted : (b : Bool) → is_halted c.args.core ≡ b → is_halted c.run-core.result.0 ≡ is_halted c.args.core
+    by_halted true halted = ap is_halted (c.run-core.ensures.halted halted).0
+    by_halted false working =
+        let it = c.run-core.ensures.runs working in
+        c.told-reply.ensures.stays g.V.Driver.may_be_asked g.V.Driver.may_spawn c.args.limit (length it.ends) it.told none ∙ sym working

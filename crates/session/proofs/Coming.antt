@@ -1,0 +1,292 @@
+-- How a core goes on by a call, and by several, one behind another.
+use Rattle.std.proofs.Common.{◌≡◌, ◌≢◌, ◌∙◌, ◌≤◌, ◌++◌, ap, refl, sym, subst, inl, inr, ℕ, Bool, true, false, List, [], ◌∷◌, Result, Err, arith}
+use Rattle.std.proofs.lemmas.Bool.{cases_lt, false≢true}
+use Rattle.std.proofs.lemmas.Grind.{flat_map-append}
+use Rattle.std.proofs.lemmas.List.{append_assoc, append-nil}
+use Rattle.disk.specs.declared.side.Side.{Side}
+use Rattle.disk.specs.File.{File}
+use Rattle.disk.specs.Moments.{joined}
+use Rattle.disk.specs.Time.{Contents, LeavesOnly, HasErred}
+use Rattle.terms.specs.declared.event.Event.{Event}
+use Rattle.terms.specs.Commits.{Commit, facts_behind, environment_behind}
+use Rattle.terms.specs.Facts.{Fact, event_facts, environment_facts}
+use Rattle.terms.specs.Facts as stated
+use Rattle.terms.specs.Sets.{Facts, AmongBoth, with_facts}
+use Rattle.graph.specs.Graph.{Graph}
+use Rattle.machine.specs.declared.refusal.Refusal.{Refusal}
+use Rattle.machine.specs.State.{AreLegalFrom}
+use Rattle.vault.specs.Commits.{AppendLeaves, GatesRest, GatesStay, RestLeaves, StandsForBeginning}
+use Rattle.vault.specs.Stands.{Stands}
+use Rattle.vault.specs.Store.{HasGates}
+use Rattle.commit.specs.declared.error.CoreError.{CoreError}
+use Rattle.commit.specs.Calls.{CrashLeaves, Halts, IsInDoubt, IsUnchanged, Refuses, Takes}
+use Rattle.commit.specs.Core.{Core, graph, facts, environment, is_halted}
+use Rattle.commit.specs.Kept.{IsKept}
+use Rattle.commit.specs.MoveLaws.{KeepsStore}
+use Rattle.commit.specs.Runs.{Runs, one_by_one, with_allowance}
+use Rattle.commit.proofs.Lists.{with_nothing, with_both, one_by_one_joined, facts_joined, environment_joined, first_ends, put_nothing, legal_joined}
+use Rattle.commit.proofs.Running.{begins, legal_in_doubt, rests}
+use Rattle.script.specs.declared.command.Command.{Command}
+use Rattle.session.specs.declared.reply.Reply.{Reply}
+use Rattle.session.specs.Answers.{Drive, Replies}
+use Rattle.session.specs.Went.{GoesOn, Went}
+
+-- ---- errors of a disk
+
+-- a number that is not another than one is that one
+same_number : (n m : ℕ) → (n ≢ m → ⊥) → n ≡ m
+same_number n m never = elim (cases_lt n m) [
+  | inl above ↦ elim (cases_lt m n) [
+    | inl below ↦ absurd (never (λ is. omega (arith, below, is)))
+    | inr not_below ↦ omega (arith, above, not_below)
+  ]
+  | inr not_above ↦ elim (cases_lt m n) [
+    | inl below ↦ absurd (never (λ is. omega (arith, below, is)))
+    | inr not_below ↦ omega (arith, not_above, not_below)
+  ]
+]
+
+module _ {D : Type 0} (failures refusals : D → ℕ) where
+  -- where no call answered an error before, what erred since erred from the beginning on, and the other way round
+  later_erred : (old mid new : D) → failures old ≤ failures mid → (HasErred failures refusals old mid → ⊥) → HasErred failures refusals mid new → HasErred failures refusals old new
+  later_erred old mid new later calm (inl grew) = inl (omega (arith, later, grew))
+  later_erred old mid new later calm (inr changed) = inr (λ is. changed (is ∙ sym (same_number (refusals mid) (refusals old) (λ differs. calm (inr differs)))))
+
+  erred_later : (old mid new : D) → failures old ≤ failures mid → (HasErred failures refusals old mid → ⊥) → HasErred failures refusals old new → HasErred failures refusals mid new
+  erred_later old mid new later calm (inl grew) = elim (cases_lt (failures old) (failures mid)) [
+    | inl before ↦ absurd (calm (inl before))
+    | inr not_before ↦ inl (omega (arith, not_before, grew))
+  ]
+  erred_later old mid new later calm (inr changed) = inr (λ is. changed (is ∙ same_number (refusals mid) (refusals old) (λ differs. calm (inr differs))))
+
+-- ---- what a crash leaves
+
+-- what some of the first of these commits leave is a beginning of them all
+extended : (g : Graph) (E X : Facts) (some more : List Commit) (contents : Contents) → StandsForBeginning g E X [] some contents → StandsForBeginning g E X [] (some ++ more) contents
+extended g E X some more contents it =
+    record { made = it.made; later = it.later ++ more; beginning = ap (λ (list : List Commit). list ++ more) it.beginning ∙ append_assoc it.made it.later more; stands = it.stands }
+
+-- and so is what some commits leave behind them
+behind : AmongBoth → (g h : Graph) (E F X Y : Facts) (came : List Event) (more : List Commit) (contents : Contents) → h ≡ g → F ≡ with_facts E (stated.environment came) → Y ≡ with_facts X (stated.facts came)
+    → StandsForBeginning h F Y [] more contents → StandsForBeginning g E X [] (one_by_one came ++ more) contents
+behind both g h E F X Y came more contents graph given all it =
+    let of_graph = subst (λ (k : Graph). Stands contents k (environment_behind F it.made) (facts_behind Y it.made)) graph it.stands in
+    let of_given : Stands contents g (environment_behind E (one_by_one came ++ it.made)) (facts_behind Y it.made) =
+    subst (λ (S : Facts). Stands contents g S (facts_behind Y it.made)) (ap (λ (S : Facts). environment_behind S it.made) given ∙ sym (environment_joined both E came it.made)) of_graph
+    in
+    record {
+      made = one_by_one came ++ it.made;
+      later = it.later;
+      beginning = ap (λ (list : List Commit). one_by_one came ++ list) it.beginning ∙ sym (append_assoc (one_by_one came) it.made it.later);
+      stands =
+          subst (λ (S : Facts). Stands contents g (environment_behind E (one_by_one came ++ it.made)) S)
+          (ap (λ (S : Facts). facts_behind S it.made) all ∙ sym (facts_joined both X came it.made)) of_given;
+    }
+
+module _ {D : Type 0} (files : D → Side → File) (moment : D → ℕ) (left_at : D → ℕ → Contents → Type 0) (failures refusals : D → ℕ) (honest : Type 0) where
+  -- ---- one behind another
+
+  module _ (both : AmongBoth) (gates_stay : honest → GatesStay files moment left_at) (old mid new : Core D) (first second : List Event) where
+    went_on : is_halted mid ≡ false → mid.in_doubt ≡ [] → failures old.vault.disk ≤ failures mid.vault.disk
+        → Went files moment left_at failures refusals honest old mid first → Went files moment left_at failures refusals honest mid new second → Went files moment left_at failures refusals honest old new (first ++ second)
+    went_on working settled later one two =
+        let all_of_first = subst (λ (events : List Event). first ++ events ≡ first) (sym settled) (append-nil first) in
+        let sets : facts mid ≡ with_facts (facts old) (stated.facts first) = λ i fact. one.facts fact i in
+        let given : environment mid ≡ with_facts (environment old) (stated.environment first) = λ i fact. one.environment fact i in
+        let order = append_assoc first second new.in_doubt in
+        let pending : one_by_one (first ++ second ++ new.in_doubt) ≡ one_by_one first ++ one_by_one (second ++ new.in_doubt) = ap one_by_one order ∙ one_by_one_joined first (second ++ new.in_doubt) in
+        let calm : HasErred failures refusals old.vault.disk mid.vault.disk → ⊥ = λ erred. false≢true (sym working ∙ one.halts.1 erred) in
+        record {
+          legal =
+              subst (λ (events : List Event). AreLegalFrom (graph old) (facts old) events) (sym order)
+              (legal_joined both (graph old) (facts old) first (second ++ new.in_doubt) (subst (λ (events : List Event). AreLegalFrom (graph old) (facts old) events) all_of_first one.legal)
+              (subst (λ (g : Graph). AreLegalFrom g (with_facts (facts old) (stated.facts first)) (second ++ new.in_doubt)) one.graph
+              (subst (λ (S : Facts). AreLegalFrom (graph mid) S (second ++ new.in_doubt)) sets two.legal)));
+          graph = two.graph ∙ one.graph;
+          facts = λ fact.
+              two.facts fact ∙ ap (λ (S : Facts). with_facts S (stated.facts second) fact) sets
+              ∙ ap (λ (S : Facts). S fact) (sym (ap (λ (list : List Fact). with_facts (facts old) list) (flat_map-append event_facts first second) ∙ with_both both (facts old) (stated.facts first) (stated.facts second)));
+          environment = λ fact.
+              two.environment fact ∙ ap (λ (S : Facts). with_facts S (stated.environment second) fact) given
+              ∙ ap (λ (S : Facts). S fact) (sym (ap (λ (list : List Fact). with_facts (environment old) list) (flat_map-append environment_facts first second) ∙ with_both both (environment old) (stated.environment first) (stated.environment second)));
+          crashes = λ on.
+              subst (λ (commits : List Commit). LeavesOnly moment left_at old.vault.disk new.vault.disk (StandsForBeginning (graph old) (environment old) (facts old) [] commits)) (sym pending)
+              (joined moment left_at old.vault.disk mid.vault.disk new.vault.disk
+              (StandsForBeginning (graph old) (environment old) (facts old) [] (one_by_one (first ++ mid.in_doubt)))
+              (StandsForBeginning (graph mid) (environment mid) (facts mid) [] (one_by_one (second ++ new.in_doubt)))
+              (StandsForBeginning (graph old) (environment old) (facts old) [] (one_by_one first ++ one_by_one (second ++ new.in_doubt)))
+              (one.crashes on) (two.crashes on)
+              (λ contents stands.
+              extended (graph old) (environment old) (facts old) (one_by_one first) (one_by_one (second ++ new.in_doubt)) contents
+              (subst (λ (events : List Event). StandsForBeginning (graph old) (environment old) (facts old) [] (one_by_one events) contents) all_of_first stands))
+              (λ contents stands.
+              behind both (graph old) (graph mid) (environment old) (environment mid) (facts old) (facts mid) first (one_by_one (second ++ new.in_doubt)) contents one.graph given sets stands));
+          gates = λ on has.
+              let here = one.gates on has in
+              joined moment left_at old.vault.disk mid.vault.disk new.vault.disk HasGates HasGates HasGates here (two.gates on (gates_stay on old.vault.disk mid.vault.disk here)) (λ c so. so) (λ c so. so);
+          halts = (
+            λ is. later_erred failures refusals old.vault.disk mid.vault.disk new.vault.disk later calm (two.halts.0 is),
+            λ erred. two.halts.1 (erred_later failures refusals old.vault.disk mid.vault.disk new.vault.disk later calm erred),
+          );
+        }
+
+    -- nothing comes behind a halt
+    went_still : second ≡ [] → KeepsStore mid new → Went files moment left_at failures refusals honest old mid first → Went files moment left_at failures refusals honest old new (first ++ second)
+    went_still nothing same one =
+        let all : first ++ second ≡ first = ap (λ (events : List Event). first ++ events) nothing ∙ append-nil first in
+        let doubt : first ++ mid.in_doubt ≡ (first ++ second) ++ new.in_doubt = ap (λ (events : List Event). events ++ mid.in_doubt) (sym all) ∙ ap (λ (events : List Event). (first ++ second) ++ events) (sym same.in_doubt) in
+        record {
+          legal = subst (λ (events : List Event). AreLegalFrom (graph old) (facts old) events) doubt one.legal;
+          graph = same.graph ∙ one.graph;
+          facts = λ fact. same.facts fact ∙ one.facts fact ∙ ap (λ (events : List Event). with_facts (facts old) (stated.facts events) fact) (sym all);
+          environment = λ fact. same.environment fact ∙ one.environment fact ∙ ap (λ (events : List Event). with_facts (environment old) (stated.environment events) fact) (sym all);
+          crashes = λ on.
+              subst (λ (d : D). LeavesOnly moment left_at old.vault.disk d (StandsForBeginning (graph old) (environment old) (facts old) [] (one_by_one ((first ++ second) ++ new.in_doubt)))) (sym same.disk)
+              (subst (λ (events : List Event). LeavesOnly moment left_at old.vault.disk mid.vault.disk (StandsForBeginning (graph old) (environment old) (facts old) [] (one_by_one events))) doubt (one.crashes on));
+          gates = λ on has. subst (λ (d : D). LeavesOnly moment left_at old.vault.disk d HasGates) (sym same.disk) (one.gates on has);
+          halts = (
+            λ is. subst (λ (d : D). HasErred failures refusals old.vault.disk d) (sym same.disk) (one.halts.0 (sym same.halted ∙ is)),
+            λ erred. same.halted ∙ one.halts.1 (subst (λ (d : D). HasErred failures refusals old.vault.disk d) same.disk erred),
+          );
+        }
+
+    -- a call behind others
+    pub joined_on : GoesOn files moment left_at failures refusals honest old mid first → GoesOn files moment left_at failures refusals honest mid new second → GoesOn files moment left_at failures refusals honest old new (first ++ second)
+    joined_on one two = record { went = λ working. at working (is_halted mid) refl; stays = λ halted. still halted; settled = two.settled; later = omega (arith, one.later, two.later) }
+      where
+        at : is_halted old ≡ false → (b : Bool) → is_halted mid ≡ b → Went files moment left_at failures refusals honest old new (first ++ second)
+        at working false goes = went_on goes (one.settled goes) one.later (one.went working) (two.went goes)
+        at working true stops = let last = two.stays stops in went_still last.1 last.0 (one.went working)
+
+        still : is_halted old ≡ true → KeepsStore old new × (first ++ second ≡ [])
+        still halted =
+            let before = one.stays halted in
+            let last = two.stays (before.0.halted ∙ halted) in (
+              record {
+                graph = last.0.graph ∙ before.0.graph;
+                facts = λ fact. last.0.facts fact ∙ before.0.facts fact;
+                environment = λ fact. last.0.environment fact ∙ before.0.environment fact;
+                disk = last.0.disk ∙ before.0.disk;
+                halted = last.0.halted ∙ before.0.halted;
+                in_doubt = last.0.in_doubt ∙ before.0.in_doubt;
+              },
+              ap (λ (events : List Event). events ++ second) before.1 ∙ last.1,
+            )
+
+  -- ---- runs
+
+  pub of_run : (old new : Core D) (limit : ℕ) (ends : List Event) → Runs files moment left_at failures refusals honest (with_allowance old limit) new ends → Went files moment left_at failures refusals honest old new ends
+  of_run old new limit ends runs = record {
+    legal = runs.legal;
+    graph = runs.graph;
+    facts = runs.facts;
+    environment = λ fact. runs.environment fact ∙ ap (λ (S : Facts). S fact) (sym (ap (λ (list : List Fact). with_facts (environment old) list) (put_nothing ends (first_ends ends new.in_doubt runs.are_ends)) ∙ with_nothing (environment old)));
+    crashes = runs.crashes;
+    gates = runs.gates;
+    halts = runs.halts;
+  }
+
+  -- ---- nothing
+
+  module _ (leaves : honest → RestLeaves files moment left_at) (gates_rest : honest → GatesRest files moment left_at) where
+    -- a core that is as it was
+    pub nothing_came : (core : Core D) → (honest → IsKept files core) → (is_halted core ≡ false → core.in_doubt ≡ []) → GoesOn files moment left_at failures refusals honest core core []
+    nothing_came core kept settled = record {
+      went = λ working.
+          of_run core core core.allowance []
+          (rests files moment left_at failures refusals honest leaves gates_rest (with_allowance core core.allowance) core working kept
+          (record { graph = refl; facts = λ _. refl; environment = λ _. refl; allowance = refl; disk = refl; halted = working; settled = settled working }));
+      stays = λ halted. (record { graph = refl; facts = λ _. refl; environment = λ _. refl; disk = refl; halted = refl; in_doubt = refl }, refl);
+      settled = settled;
+      later = omega arith;
+    }
+
+    -- ---- puts
+
+    module _ {T : Type 0} (append : honest → AppendLeaves files moment left_at) (old new : Core D) (event : Event) (why : Refusal → Type 0) (kept : honest → IsKept files old) (settled : is_halted old ≡ false → old.in_doubt ≡ []) where
+      -- the put was committed
+      pub committed : (result : Result T CoreError) → Takes old new event → new.in_doubt ≡ [] → (is_halted old ≡ false → honest → CrashLeaves files moment left_at old new (event ∷ [])) → Halts failures refusals old new result
+          → GoesOn files moment left_at failures refusals honest old new (event ∷ [])
+      committed result takes none moments halts =
+          let one : event ∷ [] ++ new.in_doubt ≡ event ∷ [] = ap (λ (events : List Event). event ∷ events) none in
+          record {
+            went = λ working. record {
+              legal = subst (λ (events : List Event). AreLegalFrom (graph old) (facts old) events) (sym one) (takes.legal, tt);
+              graph = takes.takes.graph;
+              facts = λ fact. takes.takes.facts fact ∙ ap (λ (list : List Fact). with_facts (facts old) list fact) (sym (append-nil (event_facts event)));
+              environment = λ fact. takes.takes.environment fact ∙ ap (λ (list : List Fact). with_facts (environment old) list fact) (sym (append-nil (environment_facts event)));
+              crashes = λ on.
+                  subst (λ (events : List Event). LeavesOnly moment left_at old.vault.disk new.vault.disk (StandsForBeginning (graph old) (environment old) (facts old) [] (one_by_one events))) (sym one)
+                  (begins files moment left_at failures refusals honest append old new event on (moments working on));
+              gates = λ on has. (moments working on).gates has;
+              halts = (λ halted. elim (halts.halts.0 halted) [ inl before ↦ absurd (false≢true (sym working ∙ before)) | inr erred ↦ erred ], λ erred. halts.halts.1 (inr erred));
+            };
+            stays = λ halted. absurd (false≢true (sym takes.working.0 ∙ halted));
+            settled = λ _. none;
+            later = halts.disk.later;
+          }
+
+      -- it was refused
+      pub refused : (error : CoreError) → IsUnchanged old new → Refuses old why event error → IsInDoubt {T = T} old new event (Err error) → (is_halted old ≡ false → honest → CrashLeaves files moment left_at old new (event ∷ []))
+          → Halts {T = T} failures refusals old new (Err error) → GoesOn files moment left_at failures refusals honest old new []
+      refused error same refuses doubt moments halts =
+          record { went = λ working. at working (is_halted new) refl; stays = λ halted. (still halted, refl); settled = λ goes. by_old goes (is_halted old) refl; later = halts.disk.later }
+        where
+          still : is_halted old ≡ true → KeepsStore old new
+          still halted =
+              let stops : is_halted new ≡ true = halts.halts.1 (inl halted) in
+              let kept_so = halts.same (stops ∙ sym halted) in
+              record { graph = same.stays.graph; facts = same.stays.facts; environment = same.stays.environment; disk = kept_so.0.disk; halted = stops ∙ sym halted; in_doubt = kept_so.1 }
+
+          by_old : is_halted new ≡ false → (b : Bool) → is_halted old ≡ b → new.in_doubt ≡ []
+          by_old goes false working = (halts.same (goes ∙ sym working)).1 ∙ settled working
+          by_old goes true halted = absurd (false≢true (sym goes ∙ halts.halts.1 (inl halted)))
+
+          at : is_halted old ≡ false → (b : Bool) → is_halted new ≡ b → Went files moment left_at failures refusals honest old new []
+          at working false goes =
+              let kept_so = halts.same (goes ∙ sym working) in
+              of_run old new new.allowance []
+              (rests files moment left_at failures refusals honest leaves gates_rest (with_allowance old new.allowance) new working (λ on. record { holds = (kept on).holds; left = (kept on).left })
+              (record { graph = same.stays.graph; facts = same.stays.facts; environment = same.stays.environment; allowance = refl; disk = kept_so.0.disk; halted = goes; settled = kept_so.1 ∙ settled working }))
+          at working true stops =
+              let in_doubt : new.in_doubt ≡ event ∷ [] = doubt working stops in
+              let erred : HasErred failures refusals old.vault.disk new.vault.disk = elim (halts.halts.0 stops) [ inl before ↦ absurd (false≢true (sym working ∙ before)) | inr it ↦ it ] in
+              let legal = legal_in_doubt files moment left_at failures refusals honest old new why event error refuses halts erred in
+              record {
+                legal = subst (λ (events : List Event). AreLegalFrom (graph old) (facts old) events) (sym in_doubt) (legal, tt);
+                graph = same.stays.graph;
+                facts = λ fact. same.stays.facts fact ∙ ap (λ (S : Facts). S fact) (sym (with_nothing (facts old)));
+                environment = λ fact. same.stays.environment fact ∙ ap (λ (S : Facts). S fact) (sym (with_nothing (environment old)));
+                crashes = λ on.
+                    subst (λ (events : List Event). LeavesOnly moment left_at old.vault.disk new.vault.disk (StandsForBeginning (graph old) (environment old) (facts old) [] (one_by_one events))) (sym in_doubt)
+                    (begins files moment left_at failures refusals honest append old new event on (moments working on));
+                gates = λ on has. (moments working on).gates has;
+                halts = (λ _. erred, λ _. stops);
+              }
+
+-- ---- what is there behind
+
+module _ {D : Type 0} (files : D → Side → File) (moment : D → ℕ) (left_at : D → ℕ → Contents → Type 0) (failures refusals : D → ℕ) (honest : Type 0) (old new : Core D) (events : List Event)
+    (goes : GoesOn files moment left_at failures refusals honest old new events) where
+  pub graph_behind : graph new ≡ graph old
+  graph_behind = at (is_halted old) refl
+    where
+      at : (b : Bool) → is_halted old ≡ b → graph new ≡ graph old
+      at false working = (goes.went working).graph
+      at true halted = (goes.stays halted).0.graph
+
+  pub facts_behind_it : facts new ≡ with_facts (facts old) (stated.facts events)
+  facts_behind_it = at (is_halted old) refl
+    where
+      at : (b : Bool) → is_halted old ≡ b → facts new ≡ with_facts (facts old) (stated.facts events)
+      at false working = λ i fact. (goes.went working).facts fact i
+      at true halted =
+          let same = goes.stays halted in
+          let still : facts new ≡ facts old = λ i fact. same.0.facts fact i in
+          still ∙ sym (ap (λ (list : List Event). with_facts (facts old) (stated.facts list)) same.1 ∙ with_nothing (facts old))
+
+  -- an answer at what is there is one behind these events
+  pub answered_there : (drive : Drive) (command : Command) (came : List Event) (reply : Reply) → Replies (graph new) drive (facts new) command came reply
+      → Replies (graph old) drive (with_facts (facts old) (stated.facts events)) command came reply
+  answered_there drive command came reply is =
+      subst (λ (g : Graph). Replies g drive (with_facts (facts old) (stated.facts events)) command came reply) graph_behind (subst (λ (X : Facts). Replies (graph new) drive X command came reply) facts_behind_it is)

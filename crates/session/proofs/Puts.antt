@@ -1,0 +1,139 @@
+-- What is replied to a put, and to a get that is refused.
+use Rattle.std.proofs.Common.{◌≡◌, ◌≢◌, ◌∙◌, ◌↔◌, ap, refl, sym, inl, inr, ℕ, Bool, true, false, List, [], ◌∷◌, Option, Some, None, Result, Ok, Err, OnOk, OnErr, IfErr}
+use Rattle.std.proofs.lemmas.Bool.{false≢true}
+use Rattle.disk.specs.declared.side.Side.{Side}
+use Rattle.disk.specs.File.{File}
+use Rattle.disk.specs.Time.{Contents, HasErred}
+use Rattle.terms.specs.declared.event.Event.{Event}
+use Rattle.vault.specs.Commits.{AppendLeaves, GatesRest, RestLeaves}
+use Rattle.vault.specs.declared.error.VaultError.TheVariants as store
+use Rattle.machine.specs.declared.refusal.Refusal.{Refusal}
+use Rattle.commit.specs.declared.error.CoreError.{CoreError}
+use Rattle.commit.specs.declared.error.CoreError.TheVariants.{Refused, Store}
+use Rattle.commit.specs.Calls.{CrashLeaves, Halts, IsInDoubt, IsUnchanged, Refuses, Takes}
+use Rattle.commit.specs.Core.{Core, graph, facts, is_halted}
+use Rattle.commit.specs.Kept.{IsKept}
+use Rattle.session.specs.declared.ending.Stop.{Stop}
+use Rattle.session.specs.declared.ending.Stop.TheVariants as stop
+use Rattle.session.specs.declared.reply.Reply.TheVariants as replied
+use Rattle.session.specs.Answers.{RepliesPut, put_reply, reply_of}
+use Rattle.session.specs.Session.{stop_of}
+use Rattle.session.specs.Went.{GoesOn, HasCauseToStop}
+use Rattle.session.proofs.Coming.{committed, refused}
+
+-- ---- refusals
+
+pub refused_reply : {D : Type 0} (c : Core D) (why : Refusal → Type 0) (event : Event) (error : CoreError) → Refuses c why event error → RepliesPut (graph c) (facts c) why event [] (reply_of error)
+refused_reply c why event (Refused cause) is = (refl, is.1)
+refused_reply c why event (Store store.Full) is = (refl, is.1)
+refused_reply c why event (Store store.Device) is = (refl, is.1)
+refused_reply c why event (Store store.NoMemory) is = (refl, is.1)
+refused_reply c why event (Store store.Halted) is = refl
+refused_reply c why event (Store (store.Damaged side place)) is = absurd is
+refused_reply c why event (Store store.NotAStore) is = absurd is
+refused_reply c why event (Store store.Exists) is = absurd is
+
+-- ---- stops
+
+none_is_some : (end : Stop) → ◌≡◌ {A = Option Stop} None (Some end) → ⊥
+none_is_some end is = cc
+
+not_halted : {end : Stop} → end ≢ stop.Halted → ◌≡◌ {A = Option Stop} (Some end) (Some stop.Halted) → ⊥
+not_halted differs is = differs (cc)
+
+not_device : {end : Stop} → end ≢ stop.Device → ◌≡◌ {A = Option Stop} (Some end) (Some stop.Device) → ⊥
+not_device differs is = differs (cc)
+
+-- no reply that goes on has a cause to tell
+pub no_stop : {D : Type 0} (failures : D → ℕ) (old new : Core D) → HasCauseToStop failures old new None
+no_stop failures old new = record { halted = λ is. absurd (none_is_some stop.Halted is); device = λ is. absurd (none_is_some stop.Device is) }
+
+pub halted_stop : {D : Type 0} (failures : D → ℕ) (old new : Core D) → is_halted new ≡ true → HasCauseToStop failures old new (Some stop.Halted)
+halted_stop failures old new halted = record { halted = λ _. halted; device = λ is. absurd (not_device (λ same. cc) is) }
+
+pub other_stop : {D : Type 0} (failures : D → ℕ) (old new : Core D) (end : Stop) → end ≢ stop.Halted → end ≢ stop.Device → HasCauseToStop failures old new (Some end)
+other_stop failures old new end not_halt not_fail = record { halted = λ is. absurd (not_halted not_halt is); device = λ is. absurd (not_device not_fail is) }
+
+pub refused_stop : {D T : Type 0} (failures refusals : D → ℕ) (old new : Core D) (why : Refusal → Type 0) (event : Event) (error : CoreError) → Refuses old why event error → Halts {T = T} failures refusals old new (Err error)
+    → HasCauseToStop failures old new (stop_of (reply_of error))
+refused_stop failures refusals old new why event (Refused cause) is halts = no_stop failures old new
+refused_stop failures refusals old new why event (Store store.Full) is halts = no_stop failures old new
+refused_stop failures refusals old new why event (Store store.Device) is halts = record { halted = λ same. absurd (not_halted (λ one. cc) same); device = λ _. halts.disk.device.0 refl }
+refused_stop failures refusals old new why event (Store store.NoMemory) is halts = other_stop failures old new stop.NoMemory (λ one. cc) (λ one. cc)
+refused_stop failures refusals old new why event (Store store.Halted) is halts = halted_stop failures old new (halts.halts.1 (inl is))
+refused_stop failures refusals old new why event (Store (store.Damaged side place)) is halts = absurd is
+refused_stop failures refusals old new why event (Store store.NotAStore) is halts = absurd is
+refused_stop failures refusals old new why event (Store store.Exists) is halts = absurd is
+
+-- ---- puts
+
+module _ {D T : Type 0} (files : D → Side → File) (moment : D → ℕ) (left_at : D → ℕ → Contents → Type 0) (failures refusals : D → ℕ) (honest : Type 0)
+    (leaves : honest → RestLeaves files moment left_at) (gates_rest : honest → GatesRest files moment left_at) (append : honest → AppendLeaves files moment left_at)
+    (old new : Core D) (event : Event) (why : Refusal → Type 0) (kept : honest → IsKept files old) (settled : is_halted old ≡ false → old.in_doubt ≡ []) where
+  pub replied_put : (result : Result T CoreError) → OnOk result (Takes old new event) → OnErr result (IsUnchanged old new) → IfErr result (Refuses old why event) → IsInDoubt old new event result
+      → (honest → is_halted old ≡ false → CrashLeaves files moment left_at old new (event ∷ [])) → Halts failures refusals old new result
+      → (came : List Event) × GoesOn files moment left_at failures refusals honest old new came × RepliesPut (graph old) (facts old) why event came (put_reply result)
+  replied_put (Ok done) takes same refuses doubt moments halts =
+      (event ∷ [], committed files moment left_at failures refusals honest leaves gates_rest {T = T} append old new event why kept settled (Ok done) takes halts.settled (λ working on. moments on working) halts, (refl, takes.legal))
+  replied_put (Err error) takes same refuses doubt moments halts =
+      ([], refused files moment left_at failures refusals honest leaves gates_rest {T = T} append old new event why kept settled error same refuses doubt (λ working on. moments on working) halts, refused_reply old why event error refuses)
+
+pub put_stops : {D T : Type 0} (failures refusals : D → ℕ) (old new : Core D) (why : Refusal → Type 0) (event : Event) (result : Result T CoreError) → IfErr result (Refuses old why event) → Halts failures refusals old new result
+    → HasCauseToStop failures old new (stop_of (put_reply result))
+put_stops failures refusals old new why event (Ok done) refuses halts = no_stop failures old new
+put_stops failures refusals old new why event (Err error) refuses halts = refused_stop failures refusals old new why event error refuses halts
+
+-- ---- halts
+
+-- of the errors, a halt alone is told so
+halted_before : {D : Type 0} (c : Core D) (why : Refusal → Type 0) (event : Event) (error : CoreError) → Refuses c why event error → reply_of error ≡ replied.Halted → is_halted c ≡ true
+halted_before c why event (Refused cause) is told = absurd (cc)
+halted_before c why event (Store store.Full) is told = absurd (cc)
+halted_before c why event (Store store.Device) is told = absurd (cc)
+halted_before c why event (Store store.NoMemory) is told = absurd (cc)
+halted_before c why event (Store store.Halted) is told = is
+halted_before c why event (Store (store.Damaged side place)) is told = absurd is
+halted_before c why event (Store store.NotAStore) is told = absurd is
+halted_before c why event (Store store.Exists) is told = absurd is
+
+-- a put is told to be refused by a halt exactly where the core was halted
+pub put_halt : {D T : Type 0} (failures refusals : D → ℕ) (old new : Core D) (why : Refusal → Type 0) (event : Event) (result : Result T CoreError) → OnOk result (Takes old new event) → IfErr result (Refuses old why event)
+    → Halts failures refusals old new result → (put_reply result ≡ replied.Halted) ↔ (is_halted old ≡ true)
+put_halt failures refusals old new why event (Ok done) takes refuses halts = (λ told. absurd (cc), λ halted. absurd (false≢true (sym takes.working.0 ∙ halted)))
+put_halt failures refusals old new why event (Err error) takes refuses halts = (halted_before old why event error refuses, λ halted. ap put_reply (halts.halted.1 halted))
+
+module _ {D T : Type 0} (failures refusals : D → ℕ) (old new : Core D) (error : CoreError) (halts : Halts {T = T} failures refusals old new (Err error)) where
+  error_is : {cause : CoreError} → ◌≡◌ {A = Result T CoreError} (Err error) (Err cause) → error ≡ cause
+  error_is is = cc
+
+  -- an error that is not the disk's halts nothing
+  calm : error ≢ Store store.Device → error ≢ Store store.NoMemory → is_halted old ≡ false → is_halted new ≡ is_halted old
+  calm not_device not_memory working = at (is_halted new) refl
+    where
+      erred : HasErred failures refusals old.vault.disk new.vault.disk → ⊥
+      erred (inl grew) = not_device (error_is (halts.disk.device.1 grew))
+      erred (inr changed) = not_memory (error_is (halts.disk.refused changed))
+
+      at : (b : Bool) → is_halted new ≡ b → is_halted new ≡ is_halted old
+      at false goes = goes ∙ sym working
+      at true stops = elim (halts.halts.0 stops) [ inl before ↦ stops ∙ sym before | inr it ↦ absurd (erred it) ]
+
+some_is_none : (end : Stop) → ◌≡◌ {A = Option Stop} (Some end) None → ⊥
+some_is_none end is = cc
+
+-- a put whose reply ends no session leaves the core halted or not, as it was
+error_stays : {D T : Type 0} (failures refusals : D → ℕ) (old new : Core D) (why : Refusal → Type 0) (event : Event) (error : CoreError) → Refuses old why event error → Halts {T = T} failures refusals old new (Err error)
+    → stop_of (reply_of error) ≡ None → is_halted new ≡ is_halted old
+error_stays {T = T} failures refusals old new why event (Refused cause) is halts none = calm {T = T} failures refusals old new (Refused cause) halts (λ same. cc) (λ same. cc) is.0
+error_stays {T = T} failures refusals old new why event (Store store.Full) is halts none = calm {T = T} failures refusals old new (Store store.Full) halts (λ same. cc) (λ same. cc) is.0
+error_stays failures refusals old new why event (Store store.Device) is halts none = absurd (some_is_none stop.Device none)
+error_stays failures refusals old new why event (Store store.NoMemory) is halts none = absurd (some_is_none stop.NoMemory none)
+error_stays failures refusals old new why event (Store store.Halted) is halts none = absurd (some_is_none stop.Halted none)
+error_stays failures refusals old new why event (Store (store.Damaged side place)) is halts none = absurd is
+error_stays failures refusals old new why event (Store store.NotAStore) is halts none = absurd is
+error_stays failures refusals old new why event (Store store.Exists) is halts none = absurd is
+
+pub put_stays : {D T : Type 0} (failures refusals : D → ℕ) (old new : Core D) (why : Refusal → Type 0) (event : Event) (result : Result T CoreError) → OnOk result (Takes old new event) → IfErr result (Refuses old why event)
+    → Halts failures refusals old new result → stop_of (put_reply result) ≡ None → is_halted new ≡ is_halted old
+put_stays failures refusals old new why event (Ok done) takes refuses halts none = takes.working.1 ∙ sym takes.working.0
+put_stays failures refusals old new why event (Err error) takes refuses halts none = error_stays failures refusals old new why event error refuses halts none

@@ -1,0 +1,41 @@
+use Rattle.std.proofs.Common.{◌≡◌, ◌↔◌, List, None, true, sym, subst, w64, IsTrue}
+use Rattle.std.proofs.lemmas.Int.{to_z-of_z}
+use Rattle.terms.specs.declared.event.Event.{Event}
+use Rattle.terms.specs.declared.event.Event.TheVariants.{EnvItem}
+use Rattle.machine.specs.Machine.{RefusesItem}
+use Rattle.commit.specs.Core.{facts, graph, is_halted}
+use Rattle.session.specs.declared.reply.Reply.{Reply}
+use Rattle.session.specs.declared.reply.Reply.TheVariants.{Halted}
+use Rattle.session.specs.Answers.{RepliesPut, put_reply}
+use Rattle.session.specs.Session.{stop_of}
+use Rattle.session.specs.Went.{GoesOn, HasCauseToStop}
+use Rattle.session.proofs.Puts.{put_halt, put_stays, put_stops, replied_put}
+use Rattle.session.proofs.answers.put_item.Goals as goal
+
+pub returns-clause-replies : goal.returns-clause-replies
+returns-clause-replies g c =
+    let old = c.args.core.now in
+    let new = c.put_item-put.new.self in
+    let it = c.put_item-put.ensures in
+    let at = λ (event : Event) (reply : Reply). (came : List Event) × GoesOn g.D.Disk.files g.D.Disk.moment g.D.Disk.left_at g.D.Disk.failures g.D.Disk.refusals (IsTrue g.D.Disk.is_honest) old new came
+    × RepliesPut (graph old) (facts old) (RefusesItem (graph old) (facts old) c.args.address) event came reply in
+    subst (at (EnvItem c.args.address c.args.value)) (sym c.put_reply.ensures)
+    (subst (λ (event : Event). at event (put_reply c.put_item-put.result)) (λ i. EnvItem c.args.address (to_z-of_z w64 c.args.value c.ranges.value i))
+    (replied_put g.D.Disk.files g.D.Disk.moment g.D.Disk.left_at g.D.Disk.failures g.D.Disk.refusals (IsTrue g.D.Disk.is_honest) c.stores_go_on.ensures.rest_leaves c.stores_go_on.ensures.gates_rest (λ _. c.stores_go_on.ensures.append_leaves)
+    old new _ (RefusesItem (graph old) (facts old) c.args.address) c.is_kept.ensures.kept c.is_kept.ensures.settled
+    c.put_item-put.result it.ok it.err it.refused it.doubt it.moments it.halts))
+
+pub returns-clause-stops : goal.returns-clause-stops
+returns-clause-stops g c =
+    subst (λ (reply : Reply). HasCauseToStop g.D.Disk.failures c.args.core.now c.put_item-put.new.self (stop_of reply)) (sym c.put_reply.ensures)
+    (put_stops g.D.Disk.failures g.D.Disk.refusals c.args.core.now c.put_item-put.new.self (RefusesItem (graph c.args.core.now) (facts c.args.core.now) c.args.address) _ c.put_item-put.result c.put_item-put.ensures.refused c.put_item-put.ensures.halts)
+
+pub returns-clause-halt : goal.returns-clause-halt
+returns-clause-halt g c =
+    subst (λ (reply : Reply). (reply ≡ Halted) ↔ (is_halted c.args.core.now ≡ true)) (sym c.put_reply.ensures)
+    (put_halt g.D.Disk.failures g.D.Disk.refusals c.args.core.now c.put_item-put.new.self (RefusesItem (graph c.args.core.now) (facts c.args.core.now) c.args.address) _ c.put_item-put.result c.put_item-put.ensures.ok c.put_item-put.ensures.refused c.put_item-put.ensures.halts)
+
+pub returns-clause-stays : goal.returns-clause-stays
+returns-clause-stays g c =
+    subst (λ (reply : Reply). stop_of reply ≡ None → is_halted c.put_item-put.new.self ≡ is_halted c.args.core.now) (sym c.put_reply.ensures)
+    (put_stays g.D.Disk.failures g.D.Disk.refusals c.args.core.now c.put_item-put.new.self (RefusesItem (graph c.args.core.now) (facts c.args.core.now) c.args.address) _ c.put_item-put.result c.put_item-put.ensures.ok c.put_item-put.ensures.refused c.put_item-put.ensures.halts)

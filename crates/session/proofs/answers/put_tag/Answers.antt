@@ -1,0 +1,37 @@
+use Rattle.std.proofs.Common.{◌≡◌, ◌↔◌, List, None, true, sym, subst, IsTrue}
+use Rattle.terms.specs.declared.event.Event.{Event}
+use Rattle.terms.specs.declared.event.Event.TheVariants.{EnvTag}
+use Rattle.machine.specs.Machine.{RefusesTag}
+use Rattle.commit.specs.Core.{facts, graph, is_halted}
+use Rattle.session.specs.declared.reply.Reply.{Reply}
+use Rattle.session.specs.declared.reply.Reply.TheVariants.{Halted}
+use Rattle.session.specs.Answers.{RepliesPut}
+use Rattle.session.specs.Session.{stop_of}
+use Rattle.session.specs.Went.{GoesOn, HasCauseToStop}
+use Rattle.session.proofs.Puts.{put_halt, put_stays, put_stops, replied_put}
+use Rattle.session.proofs.answers.put_tag.Goals as goal
+
+pub returns-clause-replies : goal.returns-clause-replies
+returns-clause-replies g c =
+    let old = c.args.core.now in
+    let it = c.put_tag-put.ensures in
+    subst (λ (reply : Reply). (came : List Event) × GoesOn g.D.Disk.files g.D.Disk.moment g.D.Disk.left_at g.D.Disk.failures g.D.Disk.refusals (IsTrue g.D.Disk.is_honest) old c.put_tag-put.new.self came
+    × RepliesPut (graph old) (facts old) (RefusesTag (graph c.args.core.now) (facts c.args.core.now) c.args.tag) (EnvTag c.args.tag) came reply) (sym c.put_reply.ensures)
+    (replied_put g.D.Disk.files g.D.Disk.moment g.D.Disk.left_at g.D.Disk.failures g.D.Disk.refusals (IsTrue g.D.Disk.is_honest) c.stores_go_on.ensures.rest_leaves c.stores_go_on.ensures.gates_rest (λ _. c.stores_go_on.ensures.append_leaves)
+    old c.put_tag-put.new.self (EnvTag c.args.tag) (RefusesTag (graph c.args.core.now) (facts c.args.core.now) c.args.tag) c.is_kept.ensures.kept c.is_kept.ensures.settled
+    c.put_tag-put.result it.ok it.err it.refused it.doubt it.moments it.halts)
+
+pub returns-clause-stops : goal.returns-clause-stops
+returns-clause-stops g c =
+    subst (λ (reply : Reply). HasCauseToStop g.D.Disk.failures c.args.core.now c.put_tag-put.new.self (stop_of reply)) (sym c.put_reply.ensures)
+    (put_stops g.D.Disk.failures g.D.Disk.refusals c.args.core.now c.put_tag-put.new.self (RefusesTag (graph c.args.core.now) (facts c.args.core.now) c.args.tag) (EnvTag c.args.tag) c.put_tag-put.result c.put_tag-put.ensures.refused c.put_tag-put.ensures.halts)
+
+pub returns-clause-halt : goal.returns-clause-halt
+returns-clause-halt g c =
+    subst (λ (reply : Reply). (reply ≡ Halted) ↔ (is_halted c.args.core.now ≡ true)) (sym c.put_reply.ensures)
+    (put_halt g.D.Disk.failures g.D.Disk.refusals c.args.core.now c.put_tag-put.new.self (RefusesTag (graph c.args.core.now) (facts c.args.core.now) c.args.tag) (EnvTag c.args.tag) c.put_tag-put.result c.put_tag-put.ensures.ok c.put_tag-put.ensures.refused c.put_tag-put.ensures.halts)
+
+pub returns-clause-stays : goal.returns-clause-stays
+returns-clause-stays g c =
+    subst (λ (reply : Reply). stop_of reply ≡ None → is_halted c.put_tag-put.new.self ≡ is_halted c.args.core.now) (sym c.put_reply.ensures)
+    (put_stays g.D.Disk.failures g.D.Disk.refusals c.args.core.now c.put_tag-put.new.self (RefusesTag (graph c.args.core.now) (facts c.args.core.now) c.args.tag) (EnvTag c.args.tag) c.put_tag-put.result c.put_tag-put.ensures.ok c.put_tag-put.ensures.refused c.put_tag-put.ensures.halts)

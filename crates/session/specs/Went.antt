@@ -1,0 +1,44 @@
+-- How a core goes on by the lines of a script: the events that came, and what a crash leaves of them at each moment.
+use Rattle.std.specs.Prelude.{◌≡◌, ◌≤◌, ◌<◌, ◌↔◌, ℕ, true, false, List, [], ◌++◌, Option, Some}
+use Rattle.disk.specs.declared.side.Side.{Side}
+use Rattle.disk.specs.File.{File}
+use Rattle.disk.specs.Time.{Contents, HasErred, LeavesOnly}
+use Rattle.terms.specs.declared.event.Event.{Event}
+use Rattle.terms.specs.Facts.{Fact}
+use Rattle.terms.specs.Facts as stated
+use Rattle.terms.specs.Sets.{with_facts}
+use Rattle.machine.specs.State.{AreLegalFrom}
+use Rattle.vault.specs.Commits.{StandsForBeginning}
+use Rattle.vault.specs.Opened.{contents_of}
+use Rattle.vault.specs.Store.{HasGates}
+use Rattle.commit.specs.Core.{Core, is_halted}
+use Rattle.commit.specs.Core as core
+use Rattle.commit.specs.MoveLaws.{KeepsStore}
+use Rattle.commit.specs.Runs.{one_by_one}
+use Rattle.session.specs.declared.ending.Stop.{Stop}
+use Rattle.session.specs.declared.ending.Stop.TheVariants as stop
+
+module _ {D : Type 0} (files : D → Side → File) (moment : D → ℕ) (left_at : D → ℕ → Contents → Type 0) (failures refusals : D → ℕ) (honest : Type 0) where
+  -- From a core that is not halted these events came, one after another, each as a commit of its own; and where it is halted now, those in doubt may have come
+  -- behind them. They were legal, and state all that is new. At each moment a crash leaves what some of the first of them state. The core is halted exactly
+  -- where a call of the disk answered an error.
+  pub record Went (old new : Core D) (events : List Event) : Type 0 where
+    pub legal : AreLegalFrom (core.graph old) (core.facts old) (events ++ new.in_doubt)
+    pub graph : core.graph new ≡ core.graph old
+    pub facts : (fact : Fact) → core.facts new fact ≡ with_facts (core.facts old) (stated.facts events) fact
+    pub environment : (fact : Fact) → core.environment new fact ≡ with_facts (core.environment old) (stated.environment events) fact
+    pub crashes : honest → LeavesOnly moment left_at old.vault.disk new.vault.disk (StandsForBeginning (core.graph old) (core.environment old) (core.facts old) [] (one_by_one (events ++ new.in_doubt)))
+    pub gates : honest → HasGates (contents_of (files old.vault.disk)) → LeavesOnly moment left_at old.vault.disk new.vault.disk HasGates
+    pub halts : (is_halted new ≡ true) ↔ HasErred failures refusals old.vault.disk new.vault.disk
+
+  -- A core that is halted stays as it was, and nothing comes. Where it is not halted behind, nothing is in doubt.
+  pub record GoesOn (old new : Core D) (events : List Event) : Type 0 where
+    pub went : is_halted old ≡ false → Went old new events
+    pub stays : is_halted old ≡ true → KeepsStore old new × (events ≡ [])
+    pub settled : is_halted new ≡ false → new.in_doubt ≡ []
+    pub later : failures old.vault.disk ≤ failures new.vault.disk
+
+-- where a reply of `refused 8` ended a session the core is halted, and where `refused 9` did the device failed meanwhile
+pub record HasCauseToStop {D : Type 0} (failures : D → ℕ) (old new : Core D) (end : Option Stop) : Type 0 where
+  pub halted : end ≡ Some stop.Halted → is_halted new ≡ true
+  pub device : end ≡ Some stop.Device → failures old.vault.disk < failures new.vault.disk
