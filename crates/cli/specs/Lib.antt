@@ -1,12 +1,3 @@
-pub mod Answers
-pub mod Causes
-pub mod Cells
-pub mod Clap
-pub mod Fault
-pub mod Journal
-pub mod Line
-pub mod Maps
-pub mod Reply
-pub mod Rounds
-pub mod Store
+pub mod Obeyed
+pub mod Outcomes
 pub mod Words

@@ -1,21 +1,13 @@
-//! The program `cnc` as a library: it reads the words of a command, works on a store, and replies.
+//! The program `cnc` as a library: it reads the words of a command, and obeys it on a disk.
 //!
-//! Its model is `HoldsCells`: the cells that the bytes of file A stand for, each a key and a value, in the order in which
-//! they were put. An empty file A holds none; any other is a journal whose payloads are items of `[cell]`, no key twice.
-//! What a crash at a moment of a command may leave is `CommandLeaves`.
-//! The program stands on `read_words`, which answers the command that the words ask for, and on `cell`: its reply is as the
-//! cells allow (`comes`), and a crash at any moment of a put leaves the cells from before it or those with the new one, from
-//! `ok` on only the latter (`moments`). `histories_keep` carries both through any list of commands and crashes.
+//! A command makes a store of a graph, runs a script on one, writes its report, or turns it over (`Obeys`). The program stands on `read_words`, which answers
+//! the command that the words ask for, and on `obey`, which does it, writes what is to be told, and answers the status.
 #![tactic(auto)]
 
-mod command;
-mod history;
-mod item;
-mod reply;
-mod store;
+mod obeying;
+mod outcome;
 mod words;
 
-pub use command::cell;
-pub use history::histories_keep;
-pub use reply::{Refusal, Reply};
-pub use words::{Command, collect_words, read_words, usage_status};
+pub use obeying::{Errors, obey};
+pub use outcome::{Failure, Left, Outcome};
+pub use words::{Command, MOST_LIMIT, collect_words, read_words, usage_status};

@@ -1,11 +1,23 @@
 //! The program: it does what its words ask for, and ends with the status that says how that went.
 #![tactic(auto)]
 
+mod console;
+mod progress;
+
 use clap::Error;
-use cli::{Reply, cell, collect_words, read_words, usage_status};
-use disk::FileDisk;
-use std::io::Write;
+use cli::{Command, collect_words, obey, read_words, usage_status};
+use commit::{Alone, Driver};
+use console::{Console, Kept};
+use disk::{DiskError, FileDisk};
+use progress::Telling;
+use std::fs::File;
+use std::io::{IsTerminal, LineWriter, Read, Write};
 use std::process::ExitCode;
+
+// The statuses of a file that cannot be read, and of a device, a memory or an output that fails.
+const CANNOT_READ: u8 = 2;
+
+const FAILED: u8 = 5;
 
 fn main(rt: HostRuntime) -> ExitCode {
     let status = match run(&rt) {
@@ -25,14 +37,73 @@ fn main(rt: HostRuntime) -> ExitCode {
 fn run(rt: &HostRuntime) -> Result<u8, Error> {
     let words = collect_words(rt)?;
     let command = read_words(rt.alloc(), words.as_slice())?;
-    let mut out = rt.stdout();
-    let mut err = rt.stderr();
+    Ok(with_input(rt, &command))
+}
+
+// Opens the input of a command, and does it. A command that reads nothing has an empty one.
+fn with_input(rt: &HostRuntime, command: &Command<'_>) -> u8 {
+    let path = command.input();
+    match path {
+        "" => with_disk(rt, command, &mut [].as_slice()),
+        "-" => with_disk(rt, command, &mut rt.stdin()),
+        _ => match File::open(rt, path) {
+            Ok(mut file) => with_disk(rt, command, &mut file),
+            Err(_) => {
+                let _ = writeln!(rt.stderr(), "cannot read {path}");
+                CANNOT_READ
+            }
+        },
+    }
+}
+
+// Opens the directory of a command, and does it. Where a person looks at the error output, a fault is pointed at, and a long run tells how far it is.
+fn with_disk<R: Read>(rt: &HostRuntime, command: &Command<'_>, input: &mut R) -> u8 {
     match FileDisk::open(rt.alloc(), rt, command.directory()) {
-        Ok(disk) => Ok(cell(rt.alloc(), &command, disk, &mut out, &mut err).1),
-        Err(error) => {
-            let reply = Reply::Refused(error.into());
-            let _ = err.writeln(reply);
-            Ok(reply.status())
+        Ok(disk) => {
+            if rt.stderr().is_terminal() {
+                let mut input = Kept::new(rt.alloc(), input);
+                let (status, place) = done(rt, command, disk, &mut input, &mut Telling { rt });
+                if let Some((line, column)) = place {
+                    input.point(rt, line, column);
+                }
+                status
+            } else {
+                done(rt, command, disk, input, &mut Alone).0
+            }
         }
+        Err(DiskError::Device) => refused(rt, "device failed"),
+        Err(DiskError::NoMemory) => refused(rt, "no memory"),
+    }
+}
+
+// Does a command: its status, and the place of its fault, if it has one.
+fn done<R: Read, V: Driver>(
+    rt: &HostRuntime,
+    command: &Command<'_>,
+    disk: FileDisk,
+    input: &mut R,
+    driver: &mut V,
+) -> (u8, Option<(usize, usize)>) {
+    let Ok(mut out) = LineWriter::new(rt.alloc(), rt.stdout()) else {
+        return (refused(rt, "no memory"), None);
+    };
+    let mut err = Console::new(rt);
+    let (disk, status) = obey(rt.alloc(), command, disk, input, &mut out, &mut err, driver);
+    drop(disk);
+    (flushed(&mut out, status), err.place())
+}
+
+// Tells why a command was not begun.
+fn refused(rt: &HostRuntime, why: &str) -> u8 {
+    let _ = writeln!(rt.stderr(), "{why}");
+    FAILED
+}
+
+// The status of a command of which some output may still be held back: where that fails, the output failed, unless something was refused before.
+fn flushed<W: Write>(out: &mut W, status: u8) -> u8 {
+    match out.flush() {
+        Ok(()) => status,
+        Err(_) if status == CANNOT_READ => status,
+        Err(_) => FAILED,
     }
 }

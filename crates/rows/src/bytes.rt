@@ -4,7 +4,7 @@
 //! - `u16:5`, `u32:5`, `u64:5` and `i64:-5` are numbers, the lowest byte first
 //! - `NAME` is what the file has named so, and `NAME..10` its first 10 bytes
 //! - `40[ .. ]` are the words within, 40 times; there `turn` is the number of the turn, from 0, as an `i64`
-use crate::names::Names;
+use cases::Names;
 use std::alloc::{AllocError, Global};
 
 /// The bytes that these words stand for, if each of them is one.

@@ -9,18 +9,35 @@
 //! - `machine NAME CHOOSERS`: a story of a store in memory, once for each chooser (`states`)
 //! - `core NUMBERS`: a story of a store on a memory disk with its steps, once for each number (`cores`)
 //! - `crashes FIRST LAST SIDE`: such a story, cut off at each of these calls of the disk, and told on (`crashes`)
-//! - `session NAME LIMIT`: scripts that are run on a store (`sessions`)
 //! - `first`: bytes that begin with a record (`journals`)
 //! - `store NUMBERS`: a story of a store on a memory disk, once for each number (`vault_stories`)
-use crate::names::Names;
 use crate::{
-    bodies, bytes, codecs, cores, crashes, graphs, item_calls, journals, orders, sessions, states,
-    stories, texts, vaults,
+    bodies, bytes, codecs, cores, crashes, graphs, item_calls, journals, orders, states, stories,
+    vaults,
 };
+use cases::{Answers, Names, texts};
 use std::alloc::{AllocError, Global};
 
-/// What a command answers to its input.
-pub(crate) fn answer(
+/// The commands, with the names that a file has given.
+#[derive(Drop)]
+pub(crate) struct Commands {
+    names: Names,
+}
+
+impl Answers for Commands {
+    fn new(alloc: Global) -> Self {
+        Commands {
+            names: Names::new(alloc),
+        }
+    }
+
+    fn answer(&mut self, alloc: Global, command: &str, input: &str) -> Result<String, AllocError> {
+        answer(alloc, &mut self.names, command, input)
+    }
+}
+
+// What a command answers to its input.
+fn answer(
     alloc: Global,
     names: &mut Names,
     command: &str,
@@ -43,7 +60,6 @@ pub(crate) fn answer(
         },
         "core" => stories::answer::<cores::Store>(alloc, names, rest, input),
         "crashes" => crashes::answer(alloc, names, rest, input),
-        "session" => sessions::answer(alloc, names, rest, input),
         "machine" => states::answer(alloc, names, rest, input),
         "store" => stories::answer::<vaults::World>(alloc, names, rest, input),
         "rising" => orders::answer(alloc, names, rest, input),

@@ -3,9 +3,9 @@
 //! `create NAME`, `open`; `tag <n: 2>`, `put [fib: 0] = 0`, `get [fib: 1]`; `run CHOOSER LIMIT`, where the chooser is one of `choosers`; `status`,
 //! `report ADDRESS; ADDRESS..`, `items NAME`, `counts`, `turn`. `fail NUMBER`: the call of the disk with this number from now on fails. All other words are calls on the two
 //! files, which close the store (`disks`).
-use crate::names::Names;
 use crate::stories::World;
 use crate::{core_calls as calls, disks};
+use cases::Names;
 use commit::{Core, NotCreated};
 use disk::MemDisk;
 use std::alloc::{AllocError, Global};

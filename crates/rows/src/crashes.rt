@@ -7,8 +7,8 @@
 //! crashes; else each other one with its call, and each call behind which no crash was left.
 use crate::cores::{Store, closed};
 use crate::disks::bytes_on;
-use crate::names::Names;
 use crate::stories::{World, tell};
+use cases::Names;
 use disk::{Fill, MemDisk, Side};
 use std::alloc::{AllocError, Global};
 

@@ -1,7 +1,7 @@
 //! The calls of a memory disk.
 use crate::bytes::bytes_of;
 use crate::journals;
-use crate::names::Names;
+use cases::Names;
 use disk::{Disk, DiskError, Fill, MemDisk, Side};
 use std::alloc::{AllocError, Global};
 

@@ -6,7 +6,7 @@
 //! - `graph`: what its graph tells of its collections, and of one more of each kind
 //! - `beginnings`: the lengths of its beginnings that are graphs
 //! - `refuses BYTES`: at how many places one of these characters can stand in place of what the text has there
-use crate::names::Names;
+use cases::Names;
 use graph::{Graph, canonical, parse};
 use std::alloc::{AllocError, Global};
 use syntax::tokens;

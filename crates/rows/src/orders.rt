@@ -3,7 +3,7 @@
 //! `rising puts` and `rising instances` have the ends of instances by their bytes, a line each, the puts with one put;
 //! `rising addresses` and `rising tags` events of the environment, `rising producers` images of one item.
 use crate::bytes::bytes_of;
-use crate::names::Names;
+use cases::Names;
 use codec::{decode_event, decode_image};
 use std::alloc::{AllocError, Global};
 use terms::{Addr, Event, Inst, Producer, Put, Tag};

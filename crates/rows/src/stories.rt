@@ -1,6 +1,6 @@
 //! Stories: a line for each call. A story is told once for each of the numbers, which `$` stands for, or once where there are none. What the calls
 //! answer is a line for each time.
-use crate::names::Names;
+use cases::Names;
 use std::alloc::{AllocError, Global};
 
 /// What a story is told of.

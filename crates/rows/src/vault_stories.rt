@@ -4,9 +4,9 @@
 //! `length SIDE`, `read SIDE PLACE LENGTH`, `has SIDE BYTES`, `crash BYTES | BYTES`, and those of `journals`.
 //! `fail NUMBER`: the call of the disk with this number from now on fails. Calls of a store: `create NAME`, `open`, `facts`,
 //! `append BYTES`, and `turn`, which writes the image that the last `open` gave.
-use crate::names::Names;
 use crate::stories::World;
 use crate::{disks, vaults};
+use cases::Names;
 use disk::MemDisk;
 use std::alloc::{AllocError, Global};
 use vaults::World as Store;

@@ -7,8 +7,8 @@ ghost use Rattle.disk.specs.MemDisk.{files_of};
 ghost use Rattle.vault.specs.Store.{IsCanonical, IsReady};
 
 use crate::bytes::bytes_of;
-use crate::names::Names;
 use crate::telling::tell_image;
+use cases::Names;
 use codec::{Image, decode_event, decode_image, encode_image};
 use disk::MemDisk;
 use graph::{canonical, parse};

@@ -1,0 +1,168 @@
+//! What a file of cases is: blocks with blank lines between them.
+//!
+//! A block is a command and its input, a line `----`, and what must come. Where the line is `---- not` something else must
+//! come: such a case shows that a difference is seen. A line that begins with `# ` is a comment.
+use anyhow::{Error, bail};
+use std::alloc::{AllocError, Global};
+use std::io::Print;
+use std::{env, fs};
+
+/// Who answers the commands of a file.
+pub trait Answers {
+    /// One who knows no name yet.
+    fn new(alloc: Global) -> Self;
+
+    /// What a command answers to its input.
+    fn answer(&mut self, alloc: Global, command: &str, input: &str) -> Result<String, AllocError>;
+}
+
+/// How many cases a file has, and how many of them differ.
+#[derive(Clone, Copy, Debug)]
+pub struct Tally {
+    pub cases: u64,
+    pub differ: u64,
+}
+
+// A block as far as it was read.
+#[derive(Drop)]
+struct Block {
+    // The number of the line behind it.
+    line: usize,
+    asked: String,
+    wanted: String,
+    // Whether the line between the two was read, and whether it wants something else.
+    is_answered: bool,
+    is_refuted: bool,
+}
+
+impl Block {
+    fn new(alloc: Global) -> Self {
+        Block {
+            line: 0,
+            asked: String::new(alloc),
+            wanted: String::new(alloc),
+            is_answered: false,
+            is_refuted: false,
+        }
+    }
+
+    // Takes a line that is not blank.
+    fn take(&mut self, line: &str) -> Result<(), AllocError> {
+        if line.starts_with("# ") {
+            return Ok(());
+        }
+        if line == "----" || line == "---- not" {
+            self.is_answered = true;
+            self.is_refuted = line == "---- not";
+            return Ok(());
+        }
+        let text = if self.is_answered {
+            &mut self.wanted
+        } else {
+            &mut self.asked
+        };
+        text.push_str(line)?;
+        text.push_str("\n")
+    }
+}
+
+/// Runs the files that are named by the arguments of the program, and prints of each which of its cases differ, and how many it has.
+pub fn run_files<A: Answers + Drop>(rt: &HostRuntime) -> Result<(), Error> {
+    let mut differ = 0u64;
+    for path in env::args(rt)?.skip(1) {
+        let tally = run_file::<A>(rt, path.as_str())?;
+        differ = differ.saturating_add(tally.differ);
+    }
+    if differ > 0 {
+        bail!("{differ} cases differ");
+    }
+    Ok(())
+}
+
+/// Runs the cases of a file, and prints those that differ, and how many there are.
+pub fn run_file<A: Answers + Drop>(rt: &HostRuntime, path: &str) -> Result<Tally, Error> {
+    let text = fs::read_to_string(rt, path)?;
+    let mut told = String::new(rt.alloc());
+    let tally = run_cases::<A>(rt.alloc(), path, text.as_str(), &mut told)?;
+    rt.print(told.as_str())?;
+    Ok(tally)
+}
+
+/// Runs the cases of a file with this text, and tells of those that differ, and how many there are.
+pub fn run_cases<A: Answers + Drop>(
+    alloc: Global,
+    path: &str,
+    text: &str,
+    told: &mut String,
+) -> Result<Tally, AllocError> {
+    let mut answers = A::new(alloc);
+    let mut tally = Tally {
+        cases: 0,
+        differ: 0,
+    };
+    let mut block = Block::new(alloc);
+    for (number, line) in text.lines().enumerate() {
+        if line.is_empty() {
+            run_block(alloc, path, &mut answers, &block, &mut tally, told)?;
+            block = Block::new(alloc);
+        } else {
+            block.line = number;
+            block.take(line)?;
+        }
+    }
+    run_block(alloc, path, &mut answers, &block, &mut tally, told)?;
+    writeln!(
+        told,
+        "{path}: {} cases, {} differ",
+        tally.cases, tally.differ
+    )?;
+    Ok(tally)
+}
+
+// Runs a block, if it has a command, and tells of it if it differs.
+fn run_block<A: Answers>(
+    alloc: Global,
+    path: &str,
+    answers: &mut A,
+    block: &Block,
+    tally: &mut Tally,
+    told: &mut String,
+) -> Result<(), AllocError> {
+    let (command, input) = block
+        .asked
+        .as_str()
+        .split_once('\n')
+        .unwrap_or((block.asked.as_str(), ""));
+    if command.is_empty() {
+        return Ok(());
+    }
+    let came = answers.answer(alloc, command, input)?;
+    if !block.is_answered && came.is_empty() {
+        return Ok(());
+    }
+    tally.cases = tally.cases.saturating_add(1);
+    let is_same = came.as_str() == block.wanted.as_str();
+    if is_same == block.is_refuted || !block.is_answered {
+        tally.differ = tally.differ.saturating_add(1);
+        tell_difference(path, block, came.as_str(), told)?;
+    }
+    Ok(())
+}
+
+// Tells of a block from which something else came than must.
+fn tell_difference(
+    path: &str,
+    block: &Block,
+    came: &str,
+    told: &mut String,
+) -> Result<(), AllocError> {
+    let last = block.line.saturating_add(1);
+    let wanted = block.wanted.as_str();
+    let but = if block.is_refuted {
+        " anything but"
+    } else {
+        ""
+    };
+    writeln!(told, "{path}: the case that ends at line {last} differs")?;
+    writeln!(told, "wanted{but}:\n{wanted}came:\n{came}")
+}

@@ -1,0 +1,34 @@
+//! The names of a file of cases.
+use std::alloc::{AllocError, Global};
+use std::collections::BTreeMap;
+
+/// The bytes and texts that a file has named.
+#[derive(Drop)]
+pub struct Names {
+    alloc: Global,
+    bytes: BTreeMap<String, Vec<u8>>,
+}
+
+impl Names {
+    pub fn new(alloc: Global) -> Self {
+        Names {
+            alloc,
+            bytes: BTreeMap::new(alloc),
+        }
+    }
+
+    /// Names these bytes, in place of what the name had.
+    pub fn give(&mut self, name: &str, bytes: Vec<u8>) -> Result<(), AllocError> {
+        let name = String::from_str(self.alloc, name)?;
+        self.bytes.insert(name, bytes)?;
+        Ok(())
+    }
+
+    /// What a name stands for, if it is given.
+    pub fn bytes(&self, name: &str) -> Option<&[u8]> {
+        match self.bytes.get(name) {
+            Some(bytes) => Some(bytes.as_slice()),
+            None => None,
+        }
+    }
+}

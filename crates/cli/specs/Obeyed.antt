@@ -1,0 +1,130 @@
+-- What a command did with a store, what it wrote, and what it came to.
+use Rattle.std.specs.Prelude.{◌≡◌, ◌⊎◌, ◌<◌, ◌↔◌, ℕ, true, List, ◌++◌, codes, Option, Result, Ok, Err, MatchResult, IfOk, IfErr, OnErr, OnOk}
+use Rattle.std.specs.Fmt.{decimal}
+use Rattle.std.specs.Io.KnownBytes.{Appends}
+use Rattle.disk.specs.declared.side.Side.{Side}
+use Rattle.disk.specs.File.{File}
+use Rattle.disk.specs.Time.{Contents}
+use Rattle.terms.specs.Facts.{bad}
+use Rattle.terms.specs.declared.name.Inst.{Inst}
+use Rattle.terms.specs.declared.fault.FaultKind.{FaultKind}
+use Rattle.graph.specs.declared.limits.TheConstants.{MOST_TEXT}
+use Rattle.machine.specs.Counts.{AreCountsOf}
+use Rattle.machine.specs.declared.counts.Counts.{Counts}
+use Rattle.vault.specs.Opened.{IsOfOpening, OnlyReads}
+use Rattle.vault.specs.declared.error.VaultError.{VaultError}
+use Rattle.commit.specs.declared.creation.NotCreated.{NotCreated}
+use Rattle.commit.specs.declared.error.CoreError.{CoreError}
+use Rattle.commit.specs.Core.{Core, facts, graph}
+use Rattle.commit.specs.Created.{IsCreated, TellsCreation, disk_of}
+use Rattle.commit.specs.Calls.{IsUnchanged}
+use Rattle.commit.specs.Opened.{Finds, IsOpened}
+use Rattle.commit.specs.Turning.{RefusesTurn, Turns}
+use Rattle.report.specs.declared.error.ReportError.{ReportError}
+use Rattle.report.specs.ReportText.{IsReport, line}
+use Rattle.session.specs.declared.ending.Ending.{Ending}
+use Rattle.session.specs.declared.error.SessionError.{SessionError}
+use Rattle.session.specs.Answers.{Drive}
+use Rattle.session.specs.Fails.{Answers, IsAllOrTooLarge}
+use Rattle.cli.specs.declared.outcome.Failure.TheVariants as failure
+use Rattle.cli.specs.declared.outcome.Left.{Left}
+use Rattle.cli.specs.declared.outcome.Outcome.{Outcome}
+use Rattle.cli.specs.declared.outcome.Outcome.TheVariants.{Created, Ran, Reported, Turned, Failed}
+use Rattle.cli.specs.declared.words.Command.{Command}
+use Rattle.cli.specs.declared.words.Command.TheVariants as asked
+use Rattle.cli.specs.Outcomes.{failure_of_creation, failure_of_report, failure_of_session, failure_of_turn}
+
+-- the store has a fault where this says so, and fewer of its instances are done than are prescribed where that does
+pub record IsLeft {D : Type 0} (c : Core D) (left : Left) : Type 0 where
+  pub stopped : (left.is_stopped ≡ true) ↔ ((instance : Inst) × (kind : FaultKind) × (facts c (bad instance kind) ≡ true))
+  pub counts : Counts
+  pub are_counts : AreCountsOf (graph c) (facts c) counts
+  pub unfinished : (left.is_unfinished ≡ true) ↔ (counts.done < counts.prescribed)
+
+-- this was written, a line
+abbrev pub Writes : Option (List ℕ) → Option (List ℕ) → List ℕ → Type 0
+Writes before behind text = Appends before behind (line text)
+
+-- what was said of a command that did its work, or the output failed
+abbrev pub SaysOrFails : Option (List ℕ) → Option (List ℕ) → List ℕ → Outcome → Outcome → Type 0
+SaysOrFails before behind text done outcome = ((outcome ≡ done) × Writes before behind text) ⊎ (outcome ≡ Failed failure.Output)
+
+-- what a session came to, and what it left
+abbrev pub TellsSession : {D : Type 0} → Core D → Result Ending SessionError → Outcome → Type 0
+TellsSession core (Ok ending) outcome = (left : Left) × (outcome ≡ Ran ending left) × IsLeft core left
+TellsSession core (Err error) outcome = outcome ≡ Failed (failure_of_session error)
+
+-- what a report came to
+abbrev pub TellsReport : {D : Type 0} → Core D → Result (Unit {0}) ReportError → Outcome → Type 0
+TellsReport core (Ok done) outcome = (left : Left) × (outcome ≡ Reported left) × IsLeft core left
+TellsReport core (Err error) outcome = outcome ≡ Failed (failure_of_report error)
+
+-- what a turnover came to
+abbrev pub TellsTurn : (before behind : Option (List ℕ)) → Result ℕ CoreError → Outcome → Type 0
+TellsTurn before behind (Ok generation) outcome = SaysOrFails before behind (codes "turned, generation " ++ decimal generation) (Turned generation) outcome
+TellsTurn before behind (Err error) outcome = outcome ≡ Failed (failure_of_turn error)
+
+module _ {D : Type 0} (files : D → Side → File) (moment : D → ℕ) (left_at : D → ℕ → Contents → Type 0) (failures refusals : D → ℕ) (honest : Type 0) where
+  -- ---- a creation
+
+  -- a store was made of the text, or none was made, for its cause
+  pub record Creates (text : List ℕ) (before behind : Option (List ℕ)) (old new : D) (outcome : Outcome) : Type 0 where
+    pub answer : Result (Core D) (NotCreated D)
+    pub is : MatchResult answer (IsCreated files honest text) (TellsCreation text old)
+    pub disk : new ≡ disk_of answer
+    pub told : MatchResult answer (λ core. SaysOrFails before behind (codes "created") Created outcome) (λ refused. outcome ≡ Failed (failure_of_creation refused.error))
+
+  -- the text was not read, and then the disk is as it was
+  abbrev pub CreatesOrNot : (input before behind : Option (List ℕ)) → D → D → Outcome → Type 0
+  CreatesOrNot input before behind old new outcome =
+      (((outcome ≡ Failed failure.CannotRead) ⊎ (outcome ≡ Failed failure.NoMemory)) × (new ≡ old))
+      ⊎ ((text : List ℕ) × IsAllOrTooLarge MOST_TEXT input text × Creates text before behind old new outcome)
+
+  -- ---- an open store
+
+  -- the store could not be opened, for this cause; nothing was written to its files
+  abbrev pub IsNotOpened : D → D → Outcome → Type 0
+  IsNotOpened old new outcome = (error : VaultError) × (outcome ≡ Failed (failure.Store error)) × IsOfOpening error × (honest → OnlyReads files moment left_at old new)
+
+  -- the store was opened: with all that the files stand for
+  pub record WasOpened (old : D) (core : Core D) : Type 0 where
+    pub opened : IsOpened core
+    pub finds : honest → Finds files old core
+    pub only_reads : honest → OnlyReads files moment left_at old core.vault.disk
+
+  pub record Runs (drive : Drive) (input before behind : Option (List ℕ)) (old new : D) (outcome : Outcome) : Type 0 where
+    pub first : Core D
+    pub last : Core D
+    pub opened : WasOpened old first
+    pub answer : Result Ending SessionError
+    pub session : Answers files moment left_at failures refusals honest drive input before behind first last answer
+    pub told : TellsSession last answer outcome
+    pub disk : new ≡ last.vault.disk
+
+  pub record Reports (before behind : Option (List ℕ)) (old new : D) (outcome : Outcome) : Type 0 where
+    pub core : Core D
+    pub opened : WasOpened old core
+    pub answer : Result (Unit {0}) ReportError
+    pub written : OnOk answer ((text : List ℕ) × IsReport (graph core) (facts core) text × Appends before behind text)
+    pub told : TellsReport core answer outcome
+    pub disk : new ≡ core.vault.disk
+
+  pub record TurnsOver (before behind : Option (List ℕ)) (old new : D) (outcome : Outcome) : Type 0 where
+    pub first : Core D
+    pub last : Core D
+    pub opened : WasOpened old first
+    pub answer : Result ℕ CoreError
+    pub turns : IfOk answer (Turns first last)
+    pub unchanged : OnErr answer (IsUnchanged first last)
+    pub refused : IfErr answer (RefusesTurn first)
+    pub told : TellsTurn before behind answer outcome
+    pub disk : new ≡ last.vault.disk
+
+  -- ---- commands
+
+  -- what the command did, and what it came to
+  abbrev pub Obeys : Drive → Command → (input before behind : Option (List ℕ)) → D → D → Outcome → Type 0
+  Obeys drive (asked.Create text directory) input before behind old new outcome = CreatesOrNot input before behind old new outcome
+  Obeys drive (asked.Run directory script limit) input before behind old new outcome = IsNotOpened old new outcome ⊎ Runs (record drive { most = limit }) input before behind old new outcome
+  Obeys drive (asked.Report directory) input before behind old new outcome = IsNotOpened old new outcome ⊎ Reports before behind old new outcome
+  Obeys drive (asked.Turn directory) input before behind old new outcome = IsNotOpened old new outcome ⊎ TurnsOver before behind old new outcome

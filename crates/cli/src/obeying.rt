@@ -1,0 +1,251 @@
+//! Commands, as they are obeyed.
+ghost use Rattle.std.specs.Prelude.{◌≡◌, ◌⊎◌, ◌++◌, false, IfOk, IfErr, IsTrue, codes};
+ghost use Rattle.std.specs.Fmt.{decimal};
+ghost use Rattle.graph.specs.declared.limits.TheConstants.{MOST_TEXT};
+ghost use Rattle.session.specs.Answers.{drive_of};
+ghost use Rattle.session.specs.Fails.{IsAllOrTooLarge};
+ghost use Rattle.cli.specs.Obeyed.{CreatesOrNot, IsLeft, IsNotOpened, Obeys, Reports, Runs, SaysOrFails, TellsReport, TellsSession, TellsTurn, TurnsOver};
+ghost use Rattle.cli.specs.Outcomes.{status_of};
+ghost use Rattle.cli.specs.declared.outcome.Failure.TheVariants as failure;
+ghost use Rattle.cli.specs.declared.outcome.Outcome.{Outcome as Came};
+ghost use Rattle.cli.specs.declared.outcome.Outcome.TheVariants.{Created, Turned};
+ghost use Rattle.cli.specs.declared.words.TheConstants.{MOST_LIMIT};
+
+use crate::outcome::NamedFailure;
+use crate::words::MOST_LIMIT;
+use crate::{Command, Failure, Left, Outcome};
+use commit::{Core, CoreError, Driver, NotCreated};
+use disk::Disk;
+use graph::MOST_TEXT;
+use report::{ReportError, write_report};
+use session::{Ending, SessionError, session};
+use std::alloc::Global;
+use std::io::{ErrorKind, Read, Write};
+use vault::Refused;
+
+/// Where failures are told.
+pub trait Errors: Write {
+    /// The place in the graph or the script of the fault that was told: its line and its column, from 1; column 0 where the line alone is known.
+    fn point(&mut self, line: usize, column: usize);
+}
+
+impl Errors for Vec<u8> {
+    // The text alone is kept.
+    fn point(&mut self, _line: usize, _column: usize) {}
+}
+
+/// Does what a command asks for on a disk, and answers the disk and the status.
+///
+/// The input is the graph or the script. What the command says goes to `out`, and why it failed to `err`: nothing where the output failed, or a reply ended the
+/// session. A store is opened before its script is read. Statuses, the first that holds: 2 where the graph or the script is refused or cannot be read; 5 where
+/// the device failed, memory was refused, the store is halted, or the output failed; 4 where the store is refused, or a put or a run met that it is full; 3 where
+/// a fault stopped the store; 6 where the last `run` met its limit; 1 where a prescribed instance is not done; else 0.
+pub fn obey<D: Disk + Send, R: Read, W: Write, E: Errors, V: Driver>(
+    alloc: Global,
+    command: &Command<'_>,
+    disk: D,
+    input: &mut R,
+    out: &mut W,
+    err: &mut E,
+    driver: &mut V,
+) -> (D, u8)
+    ensures { (outcome : Came) × (result.1 ≡ status_of outcome)
+        × Obeys D.files D.moment D.left_at D.failures D.refusals (IsTrue D.is_honest) (drive_of MOST_LIMIT V.may_be_asked V.may_spawn false) command.now (R.remaining input.old) (W.contents out.old) (W.contents out.new) disk result.0 outcome }
+{
+    let (disk, outcome) = obeyed(alloc, command, disk, input, out, driver);
+    if let Outcome::Failed(failure) = &outcome {
+        tell(failure, command.input(), err);
+    }
+    (disk, outcome.status())
+}
+
+// Does what a command asks for.
+fn obeyed<D: Disk + Send, R: Read, W: Write, V: Driver>(
+    alloc: Global,
+    command: &Command<'_>,
+    disk: D,
+    input: &mut R,
+    out: &mut W,
+    driver: &mut V,
+) -> (D, Outcome)
+    ensures { Obeys D.files D.moment D.left_at D.failures D.refusals (IsTrue D.is_honest) (drive_of MOST_LIMIT V.may_be_asked V.may_spawn false) command.now (R.remaining input.old) (W.contents out.old) (W.contents out.new) disk result.0 result.1 }
+{
+    match *command {
+        Command::Create { .. } => create(alloc, disk, input, out),
+        Command::Run { limit, .. } => run(alloc, disk, input, out, driver, limit),
+        Command::Report { .. } => report(alloc, disk, out),
+        Command::Turn { .. } => turn(alloc, disk, out),
+    }
+}
+
+// Tells why a command failed. Of an output that failed nothing is told.
+fn tell<E: Errors>(failure: &Failure, input: &str, err: &mut E) {
+    if let Failure::Output = failure {
+        return;
+    }
+    // A text that cannot be written has no reader, and the status says as much.
+    let _ = err.writeln(NamedFailure { failure, input });
+    match failure {
+        Failure::Graph(fault) => err.point(fault.line, fault.column),
+        Failure::Script(line, _) => err.point(*line, 0),
+        _ => {}
+    }
+}
+
+// Makes a store of the graph that a reader gives.
+fn create<D: Disk, R: Read, W: Write>(
+    alloc: Global,
+    disk: D,
+    input: &mut R,
+    out: &mut W,
+) -> (D, Outcome)
+    ensures { CreatesOrNot D.files D.moment D.left_at D.failures D.refusals (IsTrue D.is_honest) (R.remaining input.old) (W.contents out.old) (W.contents out.new) disk result.0 result.1 }
+{
+    let text = match read_text(alloc, input) {
+        Ok(text) => text,
+        Err(failure) => return (disk, Outcome::Failed(failure)),
+    };
+    match Core::create(alloc, disk, text.as_slice()) {
+        Ok(core) => (core.into_disk(), created(out)),
+        Err(refused) => {
+            let NotCreated { disk, error } = refused;
+            (disk, Outcome::Failed(Failure::of_creation(error)))
+        }
+    }
+}
+
+// The text that a reader gives. No more is read than one byte beyond the greatest graph text.
+fn read_text<R: Read>(alloc: Global, input: &mut R) -> Result<Vec<u8>, Failure>
+    ensures read { IfOk result (λ text. IsAllOrTooLarge MOST_TEXT (R.remaining input.old) text.items) }
+    ensures fails { IfErr result (λ why. (why ≡ failure.CannotRead) ⊎ (why ≡ failure.NoMemory)) }
+{
+    let mut text = Vec::new(alloc);
+    match input.take(MOST_TEXT as u64 + 1).read_to_end(&mut text) {
+        Ok(_) => Ok(text),
+        Err(error) => match error.kind() {
+            ErrorKind::OutOfMemory => Err(Failure::NoMemory),
+            _ => Err(Failure::CannotRead),
+        },
+    }
+}
+
+// Tells that a store was made.
+fn created<W: Write>(out: &mut W) -> Outcome
+    ensures { SaysOrFails (W.contents out.old) (W.contents out.new) (codes "created") Created result }
+{
+    match writeln!(out, "created") {
+        Ok(()) => Outcome::Created,
+        Err(_) => Outcome::Failed(Failure::Output),
+    }
+}
+
+// What a session came to.
+fn ran<D: Disk>(core: &Core<D>, answer: Result<Ending, SessionError>) -> Outcome
+    ensures { TellsSession core.now answer result }
+{
+    match answer {
+        Ok(ending) => Outcome::Ran(ending, left(core)),
+        Err(error) => Outcome::Failed(Failure::of_session(error)),
+    }
+}
+
+// What a report came to.
+fn reported<D: Disk>(core: &Core<D>, answer: Result<(), ReportError>) -> Outcome
+    ensures { TellsReport core.now answer result }
+{
+    match answer {
+        Ok(()) => Outcome::Reported(left(core)),
+        Err(error) => Outcome::Failed(Failure::of_report(error)),
+    }
+}
+
+// What a turnover came to, of which the new generation is told.
+fn turned<W: Write>(answer: Result<u64, CoreError>, out: &mut W) -> Outcome
+    ensures { TellsTurn (W.contents out.old) (W.contents out.new) answer result }
+{
+    match answer {
+        Ok(generation) => told_generation(generation, out),
+        Err(error) => Outcome::Failed(Failure::of_turn(error)),
+    }
+}
+
+// Tells the generation of a store that was turned over.
+fn told_generation<W: Write>(generation: u64, out: &mut W) -> Outcome
+    ensures { SaysOrFails (W.contents out.old) (W.contents out.new) (codes "turned, generation " ++ decimal generation) (Turned generation) result }
+{
+    match writeln!(out, "turned, generation {generation}") {
+        Ok(()) => Outcome::Turned(generation),
+        Err(_) => Outcome::Failed(Failure::Output),
+    }
+}
+
+// Runs a script on a store.
+fn run<D: Disk + Send, R: Read, W: Write, V: Driver>(
+    alloc: Global,
+    disk: D,
+    input: &mut R,
+    out: &mut W,
+    driver: &mut V,
+    limit: u64,
+) -> (D, Outcome)
+    ensures { IsNotOpened D.files D.moment D.left_at D.failures D.refusals (IsTrue D.is_honest) disk result.0 result.1
+        ⊎ Runs D.files D.moment D.left_at D.failures D.refusals (IsTrue D.is_honest) (drive_of limit V.may_be_asked V.may_spawn false) (R.remaining input.old) (W.contents out.old) (W.contents out.new) disk result.0 result.1 }
+{
+    match Core::open(alloc, disk) {
+        Ok(core) => {
+            let (core, answer) = session(alloc, core, input, out, driver, limit);
+            let outcome = ran(&core, answer);
+            (core.into_disk(), outcome)
+        }
+        Err(refused) => {
+            let Refused { disk, error } = refused;
+            (disk, Outcome::Failed(Failure::Store(error)))
+        }
+    }
+}
+
+// Writes the report of a store.
+fn report<D: Disk, W: Write>(alloc: Global, disk: D, out: &mut W) -> (D, Outcome)
+    ensures { IsNotOpened D.files D.moment D.left_at D.failures D.refusals (IsTrue D.is_honest) disk result.0 result.1
+        ⊎ Reports D.files D.moment D.left_at D.failures D.refusals (IsTrue D.is_honest) (W.contents out.old) (W.contents out.new) disk result.0 result.1 }
+{
+    match Core::open(alloc, disk) {
+        Ok(core) => {
+            let outcome = reported(&core, write_report(alloc, &core, out));
+            (core.into_disk(), outcome)
+        }
+        Err(refused) => {
+            let Refused { disk, error } = refused;
+            (disk, Outcome::Failed(Failure::Store(error)))
+        }
+    }
+}
+
+// Turns a store over.
+fn turn<D: Disk, W: Write>(alloc: Global, disk: D, out: &mut W) -> (D, Outcome)
+    ensures { IsNotOpened D.files D.moment D.left_at D.failures D.refusals (IsTrue D.is_honest) disk result.0 result.1
+        ⊎ TurnsOver D.files D.moment D.left_at D.failures D.refusals (IsTrue D.is_honest) (W.contents out.old) (W.contents out.new) disk result.0 result.1 }
+{
+    match Core::open(alloc, disk) {
+        Ok(core) => {
+            let mut core = core;
+            let outcome = turned(core.turn(alloc), out);
+            (core.into_disk(), outcome)
+        }
+        Err(refused) => {
+            let Refused { disk, error } = refused;
+            (disk, Outcome::Failed(Failure::Store(error)))
+        }
+    }
+}
+
+// How a store is left.
+fn left<D: Disk>(core: &Core<D>) -> Left
+    ensures { IsLeft core.now result }
+{
+    let counts = core.counts();
+    Left {
+        is_stopped: core.fault().is_some(),
+        is_unfinished: counts.done < counts.prescribed,
+    }
+}

@@ -1,0 +1,85 @@
+//! The error output of a person, and the text at which it points.
+use cli::Errors;
+use std::alloc::Global;
+use std::io::{self, Read, Stderr, Write};
+
+/// The error output, with the place of the fault that was told on it.
+#[derive(Drop)]
+pub(crate) struct Console {
+    err: Stderr,
+    place: Option<(usize, usize)>,
+}
+
+impl Console {
+    pub(crate) fn new(rt: &HostRuntime) -> Self {
+        Console {
+            err: rt.stderr(),
+            place: None,
+        }
+    }
+
+    /// The line and the column of the fault, from 1; column 0 where the line alone is known.
+    pub(crate) fn place(&self) -> Option<(usize, usize)> {
+        self.place
+    }
+}
+
+impl Write for Console {
+    fn write(&mut self, buf: &[u8]) -> io::Result<usize> {
+        self.err.write(buf)
+    }
+
+    fn flush(&mut self) -> io::Result<()> {
+        self.err.flush()
+    }
+}
+
+impl Errors for Console {
+    fn point(&mut self, line: usize, column: usize) {
+        self.place = Some((line, column));
+    }
+}
+
+/// A reader that keeps what was read.
+#[derive(Drop)]
+pub(crate) struct Kept<'a, R: Read> {
+    inner: &'a mut R,
+    text: Vec<u8>,
+}
+
+impl<'a, R: Read> Kept<'a, R> {
+    pub(crate) fn new(alloc: Global, inner: &'a mut R) -> Self {
+        Kept {
+            inner,
+            text: Vec::new(alloc),
+        }
+    }
+
+    /// Prints a line of the text, and below it a caret under this column, or under its first character.
+    pub(crate) fn point(&self, rt: &HostRuntime, line: usize, column: usize) {
+        let text = str::from_utf8(self.text.as_slice()).unwrap_or("");
+        let Some(line) = text.split('\n').nth(line.saturating_sub(1)) else {
+            return;
+        };
+        let blanks = line.len() - line.trim_start().len();
+        let column = if column == 0 { blanks } else { column - 1 };
+        let _ = writeln!(rt.stderr(), "  {line}");
+        let _ = write!(rt.stderr(), "  ");
+        for letter in line.chars().take(column) {
+            let blank = if letter == '\t' { "\t" } else { " " };
+            let _ = write!(rt.stderr(), "{blank}");
+        }
+        let _ = writeln!(rt.stderr(), "^");
+    }
+}
+
+impl<'a, R: Read> Read for Kept<'a, R> {
+    fn read(&mut self, buf: &mut [u8]) -> io::Result<usize> {
+        let count = self.inner.read(buf)?;
+        let read = buf.get(..count).unwrap_or(&[]);
+        match self.text.extend_from_slice(read) {
+            Ok(()) => Ok(count),
+            Err(_) => Err(io::Error::from(io::ErrorKind::OutOfMemory)),
+        }
+    }
+}

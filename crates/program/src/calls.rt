@@ -1,0 +1,107 @@
+//! A call of the program, with all that it wrote.
+use cases::Names;
+use cli::{Command, obey, read_words, usage_status};
+use commit::Alone;
+use disk::MemDisk;
+use std::alloc::{AllocError, Global};
+use std::io::{self, Read, Write};
+
+/// Whether the input and the output of a call work.
+#[derive(Clone, Copy, Debug, PartialEq, Eq)]
+pub(crate) enum Streams {
+    Work,
+    InputFails,
+    OutputFails,
+}
+
+// A reader and a writer that answer an error to each call.
+#[derive(Drop)]
+struct Failing;
+
+impl Read for Failing {
+    fn read(&mut self, _buf: &mut [u8]) -> io::Result<usize> {
+        Err(io::Error::from(io::ErrorKind::IsADirectory))
+    }
+}
+
+impl Write for Failing {
+    fn write(&mut self, _buf: &[u8]) -> io::Result<usize> {
+        Err(io::Error::from(io::ErrorKind::StorageFull))
+    }
+
+    fn flush(&mut self) -> io::Result<()> {
+        Ok(())
+    }
+}
+
+/// Reads the words, does what they ask for on the disk, and tells what was written, and the status where that is not 0.
+pub(crate) fn call(
+    alloc: Global,
+    names: &Names,
+    line: &str,
+    text: &str,
+    streams: Streams,
+    disk: MemDisk,
+) -> Result<(MemDisk, String), AllocError> {
+    let words: Vec<&str> = line.split(' ').collect(alloc)?;
+    match read_words(alloc, words.as_slice()) {
+        Ok(command) => obeyed(alloc, names, &command, text, streams, disk),
+        Err(error) => {
+            let mut told = String::new(alloc);
+            writeln!(told, "usage: status {}", usage_status(&error))?;
+            Ok((disk, told))
+        }
+    }
+}
+
+/// Does a command on the disk, and tells what was written, and the status where that is not 0.
+pub(crate) fn obeyed(
+    alloc: Global,
+    names: &Names,
+    command: &Command<'_>,
+    text: &str,
+    streams: Streams,
+    disk: MemDisk,
+) -> Result<(MemDisk, String), AllocError> {
+    let mut input = match names.bytes(command.input()) {
+        Some(bytes) => bytes,
+        None => text.as_bytes(),
+    };
+    let mut out = Vec::new(alloc);
+    let mut err = Vec::new(alloc);
+    let (disk, status) = match streams {
+        Streams::Work => obey(
+            alloc, command, disk, &mut input, &mut out, &mut err, &mut Alone,
+        ),
+        Streams::InputFails => obey(
+            alloc,
+            command,
+            disk,
+            &mut Failing,
+            &mut out,
+            &mut err,
+            &mut Alone,
+        ),
+        Streams::OutputFails => obey(
+            alloc,
+            command,
+            disk,
+            &mut input,
+            &mut Failing,
+            &mut err,
+            &mut Alone,
+        ),
+    };
+    let mut told = String::new(alloc);
+    told.push_str(str::from_utf8(out.as_slice()).unwrap_or("no text\n"))?;
+    for line in str::from_utf8(err.as_slice())
+        .unwrap_or("no text\n")
+        .lines()
+    {
+        writeln!(told, "! {line}")?;
+    }
+    if status != 0 {
+        writeln!(told, "status {status}")?;
+    }
+    Ok((disk, told))
+}

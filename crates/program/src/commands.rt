@@ -1,0 +1,117 @@
+//! The commands.
+//!
+//! - `text NAME`: names what stands below it
+//! - `new`: an empty disk in place of the one that was there
+//! - `cnc WORDS`: the program with these words on the disk. `GRAPH` is the name of a text; `-` reads what stands below. It answers what the program wrote, what it
+//!   wrote on its error output behind `! `, and a line with its status where that is not 0
+//! - `full WORDS`: the same, where each write of the output fails
+//! - `unreadable WORDS`: the same, where each read of the input fails
+//! - `fail N`: the call of the disk that comes as the N-th from now fails
+//! - `byte SIDE PLACE VALUE`: this byte is changed
+//! - `sizes`: how many bytes the two files have
+use crate::calls;
+use cases::{Answers, Names, texts};
+use disk::{Disk, DiskError, MemDisk, Side};
+use std::alloc::{AllocError, Global};
+use std::mem;
+
+/// The commands, with the names that a file has given and its disk.
+#[derive(Drop)]
+pub(crate) struct Commands {
+    names: Names,
+    disk: MemDisk,
+}
+
+impl Answers for Commands {
+    fn new(alloc: Global) -> Self {
+        Commands {
+            names: Names::new(alloc),
+            disk: MemDisk::new(alloc),
+        }
+    }
+
+    fn answer(&mut self, alloc: Global, command: &str, input: &str) -> Result<String, AllocError> {
+        let (word, rest) = command.split_once(' ').unwrap_or((command, ""));
+        match word {
+            "text" => {
+                let text = texts::lines_of(alloc, input)?;
+                self.names.give(rest, text.into_bytes())?;
+                Ok(String::new(alloc))
+            }
+            "new" => {
+                self.disk = MemDisk::new(alloc);
+                Ok(String::new(alloc))
+            }
+            "cnc" => self.call(alloc, command, input, calls::Streams::Work),
+            "full" => self.call(alloc, command, input, calls::Streams::OutputFails),
+            "unreadable" => self.call(alloc, command, input, calls::Streams::InputFails),
+            _ => self.on_disk(alloc, word, rest),
+        }
+    }
+}
+
+impl Commands {
+    // Calls the program on the disk.
+    fn call(
+        &mut self,
+        alloc: Global,
+        words: &str,
+        input: &str,
+        streams: calls::Streams,
+    ) -> Result<String, AllocError> {
+        let text = texts::lines_of(alloc, input)?;
+        let disk = mem::replace(&mut self.disk, MemDisk::new(alloc));
+        let (disk, told) = calls::call(alloc, &self.names, words, text.as_str(), streams, disk)?;
+        self.disk = disk;
+        Ok(told)
+    }
+
+    // A command on the disk itself.
+    fn on_disk(&mut self, alloc: Global, word: &str, rest: &str) -> Result<String, AllocError> {
+        match word {
+            "fail" => match rest.parse::<u64>() {
+                Ok(number) => {
+                    self.disk.fail_call(number);
+                    Ok(String::new(alloc))
+                }
+                Err(_) => String::from_str(alloc, "no number\n"),
+            },
+            "byte" => self.change(alloc, rest),
+            "sizes" => self.sizes(alloc),
+            _ => String::from_str(alloc, "no such command\n"),
+        }
+    }
+
+    // Changes a byte: `SIDE PLACE VALUE`.
+    fn change(&mut self, alloc: Global, words: &str) -> Result<String, AllocError> {
+        let (side, rest) = words.split_once(' ').unwrap_or((words, ""));
+        let (place, value) = rest.split_once(' ').unwrap_or((rest, ""));
+        let side = if side == "B" { Side::B } else { Side::A };
+        match (place.parse::<u64>(), value.parse::<u8>()) {
+            (Ok(place), Ok(value)) => match write(&mut self.disk, side, place, value) {
+                Ok(()) => Ok(String::new(alloc)),
+                Err(error) => error.to_string(alloc),
+            },
+            _ => String::from_str(alloc, "no numbers\n"),
+        }
+    }
+
+    // How many bytes the files have.
+    fn sizes(&mut self, alloc: Global) -> Result<String, AllocError> {
+        let mut told = String::new(alloc);
+        match (self.disk.len(Side::A), self.disk.len(Side::B)) {
+            (Ok(a), Ok(b)) => writeln!(told, "A {a}, B {b}")?,
+            _ => told.push_str("no length\n")?,
+        }
+        Ok(told)
+    }
+}
+
+// Changes a byte that is there.
+fn write(disk: &mut MemDisk, side: Side, place: u64, value: u8) -> Result<(), DiskError> {
+    if place >= disk.len(side)? {
+        return Err(DiskError::Device);
+    }
+    disk.write_at(side, place, &[value])?;
+    disk.sync(side)
+}
