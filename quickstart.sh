@@ -1,38 +1,55 @@
 #!/bin/sh
-# Builds the program and runs its main job on real files, in a directory of its own.
+# Builds the program, makes a store of an example in a directory of its own, runs a script on it, prints the report, turns the store over, and runs again.
+# Every crate of the program is proved before. With --unproved none is: the example is shown on a disk in memory.
 set -eu
 cd "$(dirname "$0")"
+example=$PWD/examples/fibonacci
 
-echo "Building cnc: the crates below it are proved first, which takes some minutes the first time."
-(cd crates/cnc && rt run -- --help) >/dev/null
-cnc=$PWD/crates/cnc/out/cnc
+if [ "${1:-}" = --unproved ]; then
+    echo "Nothing is proved here: the program is compiled, which takes a minute or two, and run on a disk in memory."
+    cd crates/program
+    rt try --data example/graph="$example/graph" --data example/script="$example/script" -- --show=example 2>/dev/null
+    exit
+fi
 
+log=$(mktemp)
 directory=$(mktemp -d)
 trap 'rm -rf "$directory"' EXIT
-echo "The store is in $directory. Each command is a process of its own."
 
-# expect STATUS LINE WORD..: runs cnc with these words, and stops unless it ends so and prints that line
-expect() {
-    status=$1
-    line=$2
-    shift 2
+# The crates that stand above `cnc` in crates.txt, lowest first, are those that it is made of, and a program that it is not stands below.
+crates=$(sed -n '/^cnc:/q; s/^\([a-z_]*\):.*/\1/p' crates.txt)
+count=$(echo "$crates" | wc -l)
+number=0
+echo "What the prover says goes to $log."
+for crate in $crates; do
+    number=$((number + 1))
+    if (cd "crates/$crate" && rt lib) >>"$log" 2>&1; then
+        echo "proved: $crate ($((count - number)) crates left)"
+    else
+        echo "quickstart: $crate was not proved; see $log" >&2
+        exit 1
+    fi
+done
+(cd crates/cnc && rt run -- --help) >>"$log" 2>&1
+echo "proved: cnc, the program"
+cnc=$PWD/crates/cnc/out/cnc
+
+# step STATUS WORD..: runs cnc with these words, and stops unless it ends with that status
+step() {
+    wanted=$1
+    shift
     echo "> cnc $*"
     found=0
-    printed=$("$cnc" "$@") || found=$?
-    echo "$printed"
-    if [ "$printed" != "$line" ] || [ "$found" != "$status" ]; then
-        echo "quickstart: expected '$line' and status $status, not status $found" >&2
+    "$cnc" "$@" || found=$?
+    if [ "$found" != "$wanted" ]; then
+        echo "quickstart: status $found in place of $wanted" >&2
         exit 1
     fi
 }
 
-expect 0 "ok" put "$directory" cell 3 5
-echo "File A now holds one record behind an open gate, and a closed gate behind it:"
-bytes=$(od -An -v -tx1 "$directory/A" | tr -d ' \n')
-echo "$bytes"
-[ "$bytes" = 0114000000010000010300000000000000050000000000000000 ]
-
-expect 0 "[cell: 3] = 5" get "$directory" cell 3
-expect 1 "refused 4: already put as 5" put "$directory" cell 3 5
-expect 1 "[cell: 4] absent" get "$directory" cell 4
-echo "Done: a value put by one process was on the disk for the next."
+step 0 create "$example/graph" "$directory"
+step 0 run "$directory" "$example/script"
+step 0 report "$directory"
+step 0 turn "$directory"
+echo run | step 0 run "$directory" -
+echo "Done: each command was a process of its own, and what one put on the disk was there for the next."
