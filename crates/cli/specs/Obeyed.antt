@@ -8,11 +8,15 @@ use Rattle.disk.specs.Time.{Contents}
 use Rattle.terms.specs.Facts.{bad}
 use Rattle.terms.specs.declared.name.Inst.{Inst}
 use Rattle.terms.specs.declared.fault.FaultKind.{FaultKind}
+use Rattle.graph.specs.Graph.{Graph}
+use Rattle.graph.specs.Reads.{HasCause, Reads}
+use Rattle.graph.specs.declared.fault.GraphFault.{GraphFault}
 use Rattle.graph.specs.declared.limits.TheConstants.{MOST_TEXT}
 use Rattle.machine.specs.Counts.{AreCountsOf}
 use Rattle.machine.specs.declared.counts.Counts.{Counts}
 use Rattle.vault.specs.Opened.{IsOfOpening, OnlyReads}
 use Rattle.vault.specs.declared.error.VaultError.{VaultError}
+use Rattle.commit.specs.declared.creation.CreateError.TheVariants as creation
 use Rattle.commit.specs.declared.creation.NotCreated.{NotCreated}
 use Rattle.commit.specs.declared.error.CoreError.{CoreError}
 use Rattle.commit.specs.Core.{Core, facts, graph}
@@ -29,7 +33,7 @@ use Rattle.session.specs.Fails.{Answers, IsAllOrTooLarge}
 use Rattle.cli.specs.declared.outcome.Failure.TheVariants as failure
 use Rattle.cli.specs.declared.outcome.Left.{Left}
 use Rattle.cli.specs.declared.outcome.Outcome.{Outcome}
-use Rattle.cli.specs.declared.outcome.Outcome.TheVariants.{Created, Ran, Reported, Turned, Failed}
+use Rattle.cli.specs.declared.outcome.Outcome.TheVariants.{Created, Ran, Reported, Turned, Drawn, Failed}
 use Rattle.cli.specs.declared.words.Command.{Command}
 use Rattle.cli.specs.declared.words.Command.TheVariants as asked
 use Rattle.cli.specs.Outcomes.{failure_of_creation, failure_of_report, failure_of_session, failure_of_turn}
@@ -63,6 +67,17 @@ TellsReport core (Err error) outcome = outcome ≡ Failed (failure_of_report err
 abbrev pub TellsTurn : (before behind : Option (List ℕ)) → Result ℕ CoreError → Outcome → Type 0
 TellsTurn before behind (Ok generation) outcome = SaysOrFails before behind (codes "turned, generation " ++ decimal generation) (Turned generation) outcome
 TellsTurn before behind (Err error) outcome = outcome ≡ Failed (failure_of_turn error)
+
+-- ---- a drawing
+
+-- the text was a graph, which was drawn, or the output failed; or it was none, for this cause
+abbrev pub DrawsText : List ℕ → Outcome → Type 0
+DrawsText text outcome = ((g : Graph) × Reads text g × ((outcome ≡ Drawn) ⊎ (outcome ≡ Failed failure.Output)))
+    ⊎ ((fault : GraphFault) × HasCause text fault × (outcome ≡ Failed (failure_of_creation (creation.Graph fault))))
+
+-- or it was not read
+abbrev pub Draws : Option (List ℕ) → Outcome → Type 0
+Draws input outcome = ((outcome ≡ Failed failure.CannotRead) ⊎ (outcome ≡ Failed failure.NoMemory)) ⊎ ((text : List ℕ) × IsAllOrTooLarge MOST_TEXT input text × DrawsText text outcome)
 
 module _ {D : Type 0} (files : D → Side → File) (moment : D → ℕ) (left_at : D → ℕ → Contents → Type 0) (failures refusals : D → ℕ) (honest : Type 0) where
   -- ---- a creation
@@ -128,3 +143,4 @@ module _ {D : Type 0} (files : D → Side → File) (moment : D → ℕ) (left_a
   Obeys drive (asked.Run directory script limit) input before behind old new outcome = IsNotOpened old new outcome ⊎ Runs (record drive { most = limit }) input before behind old new outcome
   Obeys drive (asked.Report directory) input before behind old new outcome = IsNotOpened old new outcome ⊎ Reports before behind old new outcome
   Obeys drive (asked.Turn directory) input before behind old new outcome = IsNotOpened old new outcome ⊎ TurnsOver before behind old new outcome
+  Obeys drive (asked.Draw text) input before behind old new outcome = (new ≡ old) × Draws input outcome

@@ -4,19 +4,20 @@ ghost use Rattle.std.specs.Fmt.{decimal};
 ghost use Rattle.graph.specs.declared.limits.TheConstants.{MOST_TEXT};
 ghost use Rattle.session.specs.Answers.{drive_of};
 ghost use Rattle.session.specs.Fails.{IsAllOrTooLarge};
-ghost use Rattle.cli.specs.Obeyed.{CreatesOrNot, IsLeft, IsNotOpened, Obeys, Reports, Runs, SaysOrFails, TellsReport, TellsSession, TellsTurn, TurnsOver};
+ghost use Rattle.cli.specs.Obeyed.{CreatesOrNot, Draws, IsLeft, IsNotOpened, Obeys, Reports, Runs, SaysOrFails, TellsReport, TellsSession, TellsTurn, TurnsOver};
 ghost use Rattle.cli.specs.Outcomes.{status_of};
 ghost use Rattle.cli.specs.declared.outcome.Failure.TheVariants as failure;
 ghost use Rattle.cli.specs.declared.outcome.Outcome.{Outcome as Came};
-ghost use Rattle.cli.specs.declared.outcome.Outcome.TheVariants.{Created, Turned};
+ghost use Rattle.cli.specs.declared.outcome.Outcome.TheVariants.{Created, Drawn, Failed, Turned};
 ghost use Rattle.cli.specs.declared.words.TheConstants.{MOST_LIMIT};
 
 use crate::outcome::NamedFailure;
 use crate::words::MOST_LIMIT;
 use crate::{Command, Failure, Left, Outcome};
-use commit::{Core, CoreError, Driver, NotCreated};
+use commit::{Core, CoreError, CreateError, Driver, NotCreated};
 use disk::Disk;
-use graph::MOST_TEXT;
+use drawing::draw_graph;
+use graph::{Graph, MOST_TEXT, parse};
 use report::{ReportError, write_report};
 use session::{Ending, SessionError, session};
 use std::alloc::Global;
@@ -75,6 +76,7 @@ fn obeyed<D: Disk + Send, R: Read, W: Write, V: Driver>(
         Command::Run { limit, .. } => run(alloc, disk, input, out, driver, limit),
         Command::Report { .. } => report(alloc, disk, out),
         Command::Turn { .. } => turn(alloc, disk, out),
+        Command::Draw { .. } => (disk, draw(alloc, input, out)),
     }
 }
 
@@ -111,6 +113,30 @@ fn create<D: Disk, R: Read, W: Write>(
             let NotCreated { disk, error } = refused;
             (disk, Outcome::Failed(Failure::of_creation(error)))
         }
+    }
+}
+
+// Draws the graph that a reader gives.
+fn draw<R: Read, W: Write>(alloc: Global, input: &mut R, out: &mut W) -> Outcome
+    ensures { Draws (R.remaining input.old) result }
+{
+    let text = match read_text(alloc, input) {
+        Ok(text) => text,
+        Err(failure) => return Outcome::Failed(failure),
+    };
+    match parse(alloc, text.as_slice()) {
+        Ok(graph) => drawn(&graph, out),
+        Err(fault) => Outcome::Failed(Failure::of_creation(CreateError::Graph(fault))),
+    }
+}
+
+// Writes the drawing of a graph.
+fn drawn<W: Write>(graph: &Graph, out: &mut W) -> Outcome
+    ensures { (result ≡ Drawn) ⊎ (result ≡ Failed failure.Output) }
+{
+    match draw_graph(graph, out) {
+        Ok(()) => Outcome::Drawn,
+        Err(_) => Outcome::Failed(Failure::Output),
     }
 }
 

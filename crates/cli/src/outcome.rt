@@ -34,6 +34,8 @@ pub enum Outcome {
     Reported(Left),
     /// The store was turned over, and has this generation.
     Turned(u64),
+    /// The graph was drawn.
+    Drawn,
     /// The command failed.
     Failed(Failure),
 }
@@ -61,7 +63,7 @@ impl Outcome {
         ensures { result ≡ status_of self.now }
     {
         match self {
-            Outcome::Created | Outcome::Turned(_) => 0,
+            Outcome::Created | Outcome::Turned(_) | Outcome::Drawn => 0,
             Outcome::Ran(ending, left) => run_status(ending, left),
             Outcome::Reported(left) => report_status(left),
             Outcome::Failed(failure) => failure.status(),

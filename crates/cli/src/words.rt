@@ -36,23 +36,28 @@ pub enum Command<'a> {
     Turn {
         directory: &'a str,
     },
+    /// Draw the graph in this file as Graphviz text. It needs no store.
+    Draw {
+        graph: &'a str,
+    },
 }
 
 impl<'a> Command<'a> {
-    /// Where the store is.
+    /// Where the store is, or nothing where none is needed.
     pub fn directory(&self) -> &'a str {
         match self {
             Command::Create { directory, .. }
             | Command::Run { directory, .. }
             | Command::Report { directory }
             | Command::Turn { directory } => directory,
+            Command::Draw { .. } => "",
         }
     }
 
     /// The path of the file that it reads, or nothing where it reads none. `-` is the standard input.
     pub fn input(&self) -> &'a str {
         match self {
-            Command::Create { graph, .. } => graph,
+            Command::Create { graph, .. } | Command::Draw { graph } => graph,
             Command::Run { script, .. } => script,
             Command::Report { .. } | Command::Turn { .. } => "",
         }
@@ -105,6 +110,10 @@ fn command_in<'a>(matches: &ArgMatches<'a>) -> Option<Command<'a>>
     ensures { IfSome result IsInRange }
 {
     let (name, found) = matches.subcommand()?;
+    if name == "draw" {
+        let graph = found.get_str("GRAPH")?;
+        return Some(Command::Draw { graph });
+    }
     let directory = found.get_str("DIR")?;
     match name {
         "create" => {
@@ -140,18 +149,15 @@ fn command_line<'a>(alloc: Global) -> Result<clap::Command<'a>, AllocError> {
         .subcommand(create_line(alloc)?)?
         .subcommand(run_line(alloc)?)?
         .subcommand(report_line(alloc)?)?
-        .subcommand(turn_line(alloc)?)
+        .subcommand(turn_line(alloc)?)?
+        .subcommand(draw_line(alloc)?)
 }
 
 fn create_line<'a>(alloc: Global) -> Result<clap::Command<'a>, AllocError> {
     clap::Command::new(alloc, "create")
         .about("Make a store of a graph in a directory that has none")
         .after_help("Example: cnc create fib.graph store")
-        .arg(wanted(
-            alloc,
-            "GRAPH",
-            "The file with the text of the graph; - is the standard input",
-        ))?
+        .arg(graph(alloc))?
         .arg(directory(alloc))
 }
 
@@ -193,6 +199,21 @@ fn turn_line<'a>(alloc: Global) -> Result<clap::Command<'a>, AllocError> {
         .about("Write a store anew into its other file, without the records that it no more needs")
         .after_help("Example: cnc turn store")
         .arg(directory(alloc))
+}
+
+fn draw_line<'a>(alloc: Global) -> Result<clap::Command<'a>, AllocError> {
+    clap::Command::new(alloc, "draw")
+        .about("Print a graph as Graphviz text")
+        .after_help("Example: cnc draw fib.graph | dot -Tsvg > fib.svg")
+        .arg(graph(alloc))
+}
+
+fn graph<'a>(alloc: Global) -> Arg<'a> {
+    wanted(
+        alloc,
+        "GRAPH",
+        "The file with the text of the graph; - is the standard input",
+    )
 }
 
 fn directory<'a>(alloc: Global) -> Arg<'a> {

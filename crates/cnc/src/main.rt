@@ -8,7 +8,7 @@ use clap::Error;
 use cli::{Command, collect_words, obey, read_words, usage_status};
 use commit::{Alone, Driver};
 use console::{Console, Kept};
-use disk::{DiskError, FileDisk};
+use disk::{Disk, DiskError, FileDisk, MemDisk};
 use progress::Telling;
 use std::fs::File;
 use std::io::{IsTerminal, LineWriter, Read, Write};
@@ -56,31 +56,41 @@ fn with_input(rt: &HostRuntime, command: &Command<'_>) -> u8 {
     }
 }
 
-// Opens the directory of a command, and does it. Where a person looks at the error output, a fault is pointed at, and a long run tells how far it is.
+// Opens the directory of a command, if it needs one, and does it.
 fn with_disk<R: Read>(rt: &HostRuntime, command: &Command<'_>, input: &mut R) -> u8 {
+    if let Command::Draw { .. } = command {
+        return pointed(rt, command, MemDisk::new(rt.alloc()), input);
+    }
     match FileDisk::open(rt.alloc(), rt, command.directory()) {
-        Ok(disk) => {
-            if rt.stderr().is_terminal() {
-                let mut input = Kept::new(rt.alloc(), input);
-                let (status, place) = done(rt, command, disk, &mut input, &mut Telling { rt });
-                if let Some((line, column)) = place {
-                    input.point(rt, line, column);
-                }
-                status
-            } else {
-                done(rt, command, disk, input, &mut Alone).0
-            }
-        }
+        Ok(disk) => pointed(rt, command, disk, input),
         Err(DiskError::Device) => refused(rt, "device failed"),
         Err(DiskError::NoMemory) => refused(rt, "no memory"),
     }
 }
 
-// Does a command: its status, and the place of its fault, if it has one.
-fn done<R: Read, V: Driver>(
+// Does a command on a disk. Where a person looks at the error output, a fault is pointed at, and a long run tells how far it is.
+fn pointed<D: Disk + Send + Drop, R: Read>(
     rt: &HostRuntime,
     command: &Command<'_>,
-    disk: FileDisk,
+    disk: D,
+    input: &mut R,
+) -> u8 {
+    if !rt.stderr().is_terminal() {
+        return done(rt, command, disk, input, &mut Alone).0;
+    }
+    let mut input = Kept::new(rt.alloc(), input);
+    let (status, place) = done(rt, command, disk, &mut input, &mut Telling { rt });
+    if let Some((line, column)) = place {
+        input.point(rt, line, column);
+    }
+    status
+}
+
+// Does a command: its status, and the place of its fault, if it has one.
+fn done<D: Disk + Send + Drop, R: Read, V: Driver>(
+    rt: &HostRuntime,
+    command: &Command<'_>,
+    disk: D,
     input: &mut R,
     driver: &mut V,
 ) -> (u8, Option<(usize, usize)>) {
