@@ -1,10 +1,10 @@
 -- What a command did with a store, what it wrote, and what it came to.
-use Rattle.std.specs.Prelude.{◌≡◌, ◌⊎◌, ◌<◌, ◌↔◌, ℕ, true, List, ◌++◌, codes, Option, Result, Ok, Err, MatchResult, IfOk, IfErr, OnErr, OnOk}
+use Rattle.std.specs.Prelude.{◌≡◌, ◌⊎◌, ◌<◌, ◌↔◌, ℕ, true, false, List, ◌++◌, codes, Option, Result, Ok, Err, MatchResult, IfOk, IfErr, OnErr, OnOk}
 use Rattle.std.specs.Fmt.{decimal}
 use Rattle.std.specs.Io.KnownBytes.{Appends}
 use Rattle.disk.specs.declared.side.Side.{Side}
 use Rattle.disk.specs.File.{File}
-use Rattle.disk.specs.Time.{Contents}
+use Rattle.disk.specs.Time.{Contents, HasCauses, HasErred}
 use Rattle.terms.specs.Facts.{bad}
 use Rattle.terms.specs.declared.name.Inst.{Inst}
 use Rattle.terms.specs.declared.fault.FaultKind.{FaultKind}
@@ -14,16 +14,17 @@ use Rattle.graph.specs.declared.fault.GraphFault.{GraphFault}
 use Rattle.graph.specs.declared.limits.TheConstants.{MOST_TEXT}
 use Rattle.machine.specs.Counts.{AreCountsOf}
 use Rattle.machine.specs.declared.counts.Counts.{Counts}
-use Rattle.vault.specs.Opened.{IsOfOpening, OnlyReads}
+use Rattle.vault.specs.Opened.{IsOfOpening, OnlyReads, TellsWhy, contents_of}
 use Rattle.vault.specs.declared.error.VaultError.{VaultError}
+use Rattle.vault.specs.declared.error.VaultError.TheVariants as vault
 use Rattle.commit.specs.declared.creation.CreateError.TheVariants as creation
 use Rattle.commit.specs.declared.creation.NotCreated.{NotCreated}
 use Rattle.commit.specs.declared.error.CoreError.{CoreError}
-use Rattle.commit.specs.Core.{Core, facts, graph}
-use Rattle.commit.specs.Created.{IsCreated, TellsCreation, disk_of}
-use Rattle.commit.specs.Calls.{IsUnchanged}
+use Rattle.commit.specs.Core.{Core, facts, graph, is_halted}
+use Rattle.commit.specs.Created.{IsCreated, LeavesOthers, TellsCreation, answer_of, disk_of}
+use Rattle.commit.specs.Calls.{Halts, IsUnchanged}
 use Rattle.commit.specs.Opened.{Finds, IsOpened}
-use Rattle.commit.specs.Turning.{RefusesTurn, Turns}
+use Rattle.commit.specs.Turning.{RefusesTurn, TellsLast, TurnLeaves, Turns}
 use Rattle.report.specs.declared.error.ReportError.{ReportError}
 use Rattle.report.specs.ReportText.{IsReport, line}
 use Rattle.session.specs.declared.ending.Ending.{Ending}
@@ -44,6 +45,10 @@ pub record IsLeft {D : Type 0} (c : Core D) (left : Left) : Type 0 where
   pub counts : Counts
   pub are_counts : AreCountsOf (graph c) (facts c) counts
   pub unfinished : (left.is_unfinished ≡ true) ↔ (counts.done < counts.prescribed)
+
+-- an opening that was refused so
+abbrev pub refusal_of : {D : Type 0} → VaultError → Result (Core D) VaultError
+refusal_of error = Err error
 
 -- this was written, a line
 abbrev pub Writes : Option (List ℕ) → Option (List ℕ) → List ℕ → Type 0
@@ -66,18 +71,26 @@ TellsReport core (Err error) outcome = outcome ≡ Failed (failure_of_report err
 -- what a turnover came to
 abbrev pub TellsTurn : (before behind : Option (List ℕ)) → Result ℕ CoreError → Outcome → Type 0
 TellsTurn before behind (Ok generation) outcome = SaysOrFails before behind (codes "turned, generation " ++ decimal generation) (Turned generation) outcome
-TellsTurn before behind (Err error) outcome = outcome ≡ Failed (failure_of_turn error)
+TellsTurn before behind (Err error) outcome = (outcome ≡ Failed (failure_of_turn error)) × (behind ≡ before)
+
+-- the text was not read, and nothing was written
+abbrev pub IsNotRead : (before behind : Option (List ℕ)) → Outcome → Type 0
+IsNotRead before behind outcome = ((outcome ≡ Failed failure.CannotRead) ⊎ (outcome ≡ Failed failure.NoMemory)) × (behind ≡ before)
 
 -- ---- a drawing
 
+-- it was drawn, or the output failed
+abbrev pub IsDrawn : Outcome → Type 0
+IsDrawn outcome = (outcome ≡ Drawn) ⊎ (outcome ≡ Failed failure.Output)
+
 -- the text was a graph, which was drawn, or the output failed; or it was none, for this cause
-abbrev pub DrawsText : List ℕ → Outcome → Type 0
-DrawsText text outcome = ((g : Graph) × Reads text g × ((outcome ≡ Drawn) ⊎ (outcome ≡ Failed failure.Output)))
-    ⊎ ((fault : GraphFault) × HasCause text fault × (outcome ≡ Failed (failure_of_creation (creation.Graph fault))))
+abbrev pub DrawsText : List ℕ → (before behind : Option (List ℕ)) → Outcome → Type 0
+DrawsText text before behind outcome = ((g : Graph) × Reads text g × IsDrawn outcome)
+    ⊎ ((fault : GraphFault) × HasCause text fault × (outcome ≡ Failed (failure_of_creation (creation.Graph fault))) × (behind ≡ before))
 
 -- or it was not read
-abbrev pub Draws : Option (List ℕ) → Outcome → Type 0
-Draws input outcome = ((outcome ≡ Failed failure.CannotRead) ⊎ (outcome ≡ Failed failure.NoMemory)) ⊎ ((text : List ℕ) × IsAllOrTooLarge MOST_TEXT input text × DrawsText text outcome)
+abbrev pub Draws : (input before behind : Option (List ℕ)) → Outcome → Type 0
+Draws input before behind outcome = IsNotRead before behind outcome ⊎ ((text : List ℕ) × IsAllOrTooLarge MOST_TEXT input text × DrawsText text before behind outcome)
 
 module _ {D : Type 0} (files : D → Side → File) (moment : D → ℕ) (left_at : D → ℕ → Contents → Type 0) (failures refusals : D → ℕ) (honest : Type 0) where
   -- ---- a creation
@@ -87,19 +100,28 @@ module _ {D : Type 0} (files : D → Side → File) (moment : D → ℕ) (left_a
     pub answer : Result (Core D) (NotCreated D)
     pub is : MatchResult answer (IsCreated files honest text) (TellsCreation text old)
     pub disk : new ≡ disk_of answer
-    pub told : MatchResult answer (λ core. SaysOrFails before behind (codes "created") Created outcome) (λ refused. outcome ≡ Failed (failure_of_creation refused.error))
+    pub others : honest → LeavesOthers files moment left_at old (disk_of answer) (answer_of answer)
+    pub causes : HasCauses failures refusals (creation.Store vault.Device) (creation.Store vault.NoMemory) old (disk_of answer) (answer_of answer)
+    pub told : MatchResult answer (λ core. SaysOrFails before behind (codes "created") Created outcome) (λ refused. (outcome ≡ Failed (failure_of_creation refused.error)) × (behind ≡ before))
 
   -- the text was not read, and then the disk is as it was
   abbrev pub CreatesOrNot : (input before behind : Option (List ℕ)) → D → D → Outcome → Type 0
   CreatesOrNot input before behind old new outcome =
-      (((outcome ≡ Failed failure.CannotRead) ⊎ (outcome ≡ Failed failure.NoMemory)) × (new ≡ old))
+      (IsNotRead before behind outcome × (new ≡ old))
       ⊎ ((text : List ℕ) × IsAllOrTooLarge MOST_TEXT input text × Creates text before behind old new outcome)
 
   -- ---- an open store
 
-  -- the store could not be opened, for this cause; nothing was written to its files
-  abbrev pub IsNotOpened : D → D → Outcome → Type 0
-  IsNotOpened old new outcome = (error : VaultError) × (outcome ≡ Failed (failure.Store error)) × IsOfOpening error × (honest → OnlyReads files moment left_at old new)
+  -- The store could not be opened, and this is told: why the files stand for none, or the device failed, or memory was refused. Nothing was written, neither to
+  -- its files nor to the output.
+  pub record IsNotOpened (before behind : Option (List ℕ)) (old new : D) (outcome : Outcome) : Type 0 where
+    pub error : VaultError
+    pub told : outcome ≡ Failed (failure.Store error)
+    pub of_opening : IsOfOpening error
+    pub only_reads : honest → OnlyReads files moment left_at old new
+    pub why : honest → TellsWhy (contents_of (files old)) (HasErred failures refusals old new) (refusal_of {D = D} error)
+    pub causes : HasCauses failures refusals vault.Device vault.NoMemory old new (refusal_of {D = D} error)
+    pub nothing_written : behind ≡ before
 
   -- the store was opened: with all that the files stand for
   pub record WasOpened (old : D) (core : Core D) : Type 0 where
@@ -132,15 +154,26 @@ module _ {D : Type 0} (files : D → Side → File) (moment : D → ℕ) (left_a
     pub turns : IfOk answer (Turns first last)
     pub unchanged : OnErr answer (IsUnchanged first last)
     pub refused : IfErr answer (RefusesTurn first)
+    pub full : TellsLast first answer
+    pub halts : Halts failures refusals first last answer
+    pub moments : honest → is_halted first ≡ false → TurnLeaves files moment left_at first last
     pub told : TellsTurn before behind answer outcome
     pub disk : new ≡ last.vault.disk
+
+  -- it was drawn, or the output failed, or memory was refused; its disk is as the opening left it
+  pub record DrawsStore (old new : D) (outcome : Outcome) : Type 0 where
+    pub core : Core D
+    pub opened : WasOpened old core
+    pub told : IsDrawn outcome ⊎ (outcome ≡ Failed failure.NoMemory)
+    pub disk : new ≡ core.vault.disk
 
   -- ---- commands
 
   -- what the command did, and what it came to
   abbrev pub Obeys : Drive → Command → (input before behind : Option (List ℕ)) → D → D → Outcome → Type 0
   Obeys drive (asked.Create text directory) input before behind old new outcome = CreatesOrNot input before behind old new outcome
-  Obeys drive (asked.Run directory script limit) input before behind old new outcome = IsNotOpened old new outcome ⊎ Runs (record drive { most = limit }) input before behind old new outcome
-  Obeys drive (asked.Report directory) input before behind old new outcome = IsNotOpened old new outcome ⊎ Reports before behind old new outcome
-  Obeys drive (asked.Turn directory) input before behind old new outcome = IsNotOpened old new outcome ⊎ TurnsOver before behind old new outcome
-  Obeys drive (asked.Draw text) input before behind old new outcome = (new ≡ old) × Draws input outcome
+  Obeys drive (asked.Run directory script limit) input before behind old new outcome = IsNotOpened before behind old new outcome ⊎ Runs (record drive { most = limit }) input before behind old new outcome
+  Obeys drive (asked.Report directory) input before behind old new outcome = IsNotOpened before behind old new outcome ⊎ Reports before behind old new outcome
+  Obeys drive (asked.Turn directory) input before behind old new outcome = IsNotOpened before behind old new outcome ⊎ TurnsOver before behind old new outcome
+  Obeys drive (asked.Draw text) input before behind old new outcome = (new ≡ old) × Draws input before behind outcome
+  Obeys drive (asked.DrawStore directory) input before behind old new outcome = IsNotOpened before behind old new outcome ⊎ DrawsStore old new outcome

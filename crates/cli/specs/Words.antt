@@ -3,7 +3,7 @@ use Rattle.std.specs.Prelude.{◌≤◌, ⊤, ℕ}
 use Rattle.clap.specs.declared.error.kind.ErrorKind.{ErrorKind}
 use Rattle.clap.specs.declared.error.kind.ErrorKind.TheVariants as kind
 use Rattle.cli.specs.declared.words.Command.{Command}
-use Rattle.cli.specs.declared.words.Command.TheVariants.{Create, Run, Report, Turn, Draw}
+use Rattle.cli.specs.declared.words.Command.TheVariants.{Create, Run, Report, Turn, Draw, DrawStore}
 use Rattle.cli.specs.declared.words.TheConstants.{MOST_LIMIT}
 
 -- a run commits no more ends of steps than there may be
@@ -13,6 +13,7 @@ IsInRange (Create graph directory) = ⊤
 IsInRange (Report directory) = ⊤
 IsInRange (Turn directory) = ⊤
 IsInRange (Draw graph) = ⊤
+IsInRange (DrawStore directory) = ⊤
 
 -- the status of words that ask for nothing: 0 where help was asked for, 5 where memory was refused, and else 2
 abbrev pub usage_status_of : ErrorKind → ℕ

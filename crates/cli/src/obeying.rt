@@ -4,11 +4,11 @@ ghost use Rattle.std.specs.Fmt.{decimal};
 ghost use Rattle.graph.specs.declared.limits.TheConstants.{MOST_TEXT};
 ghost use Rattle.session.specs.Answers.{drive_of};
 ghost use Rattle.session.specs.Fails.{IsAllOrTooLarge};
-ghost use Rattle.cli.specs.Obeyed.{CreatesOrNot, Draws, IsLeft, IsNotOpened, Obeys, Reports, Runs, SaysOrFails, TellsReport, TellsSession, TellsTurn, TurnsOver};
+ghost use Rattle.cli.specs.Obeyed.{CreatesOrNot, Draws, DrawsStore, IsDrawn, IsLeft, IsNotOpened, Obeys, Reports, Runs, SaysOrFails, TellsReport, TellsSession, TellsTurn, TurnsOver};
 ghost use Rattle.cli.specs.Outcomes.{status_of};
 ghost use Rattle.cli.specs.declared.outcome.Failure.TheVariants as failure;
 ghost use Rattle.cli.specs.declared.outcome.Outcome.{Outcome as Came};
-ghost use Rattle.cli.specs.declared.outcome.Outcome.TheVariants.{Created, Drawn, Failed, Turned};
+ghost use Rattle.cli.specs.declared.outcome.Outcome.TheVariants.{Created, Failed, Turned};
 ghost use Rattle.cli.specs.declared.words.TheConstants.{MOST_LIMIT};
 
 use crate::outcome::NamedFailure;
@@ -16,7 +16,7 @@ use crate::words::MOST_LIMIT;
 use crate::{Command, Failure, Left, Outcome};
 use commit::{Core, CoreError, CreateError, Driver, NotCreated};
 use disk::Disk;
-use drawing::draw_graph;
+use drawing::{DrawError, draw_graph, draw_store};
 use graph::{Graph, MOST_TEXT, parse};
 use report::{ReportError, write_report};
 use session::{Ending, SessionError, session};
@@ -77,6 +77,7 @@ fn obeyed<D: Disk + Send, R: Read, W: Write, V: Driver>(
         Command::Report { .. } => report(alloc, disk, out),
         Command::Turn { .. } => turn(alloc, disk, out),
         Command::Draw { .. } => (disk, draw(alloc, input, out)),
+        Command::DrawStore { .. } => draw_stored(alloc, disk, out),
     }
 }
 
@@ -118,7 +119,7 @@ fn create<D: Disk, R: Read, W: Write>(
 
 // Draws the graph that a reader gives.
 fn draw<R: Read, W: Write>(alloc: Global, input: &mut R, out: &mut W) -> Outcome
-    ensures { Draws (R.remaining input.old) result }
+    ensures { Draws (R.remaining input.old) (W.contents out.old) (W.contents out.new) result }
 {
     let text = match read_text(alloc, input) {
         Ok(text) => text,
@@ -132,7 +133,7 @@ fn draw<R: Read, W: Write>(alloc: Global, input: &mut R, out: &mut W) -> Outcome
 
 // Writes the drawing of a graph.
 fn drawn<W: Write>(graph: &Graph, out: &mut W) -> Outcome
-    ensures { (result ≡ Drawn) ⊎ (result ≡ Failed failure.Output) }
+    ensures { IsDrawn result }
 {
     match draw_graph(graph, out) {
         Ok(()) => Outcome::Drawn,
@@ -214,7 +215,7 @@ fn run<D: Disk + Send, R: Read, W: Write, V: Driver>(
     driver: &mut V,
     limit: u64,
 ) -> (D, Outcome)
-    ensures { IsNotOpened D.files D.moment D.left_at D.failures D.refusals (IsTrue D.is_honest) disk result.0 result.1
+    ensures { IsNotOpened D.files D.moment D.left_at D.failures D.refusals (IsTrue D.is_honest) (W.contents out.old) (W.contents out.new) disk result.0 result.1
         ⊎ Runs D.files D.moment D.left_at D.failures D.refusals (IsTrue D.is_honest) (drive_of limit V.may_be_asked V.may_spawn false) (R.remaining input.old) (W.contents out.old) (W.contents out.new) disk result.0 result.1 }
 {
     match Core::open(alloc, disk) {
@@ -232,7 +233,7 @@ fn run<D: Disk + Send, R: Read, W: Write, V: Driver>(
 
 // Writes the report of a store.
 fn report<D: Disk, W: Write>(alloc: Global, disk: D, out: &mut W) -> (D, Outcome)
-    ensures { IsNotOpened D.files D.moment D.left_at D.failures D.refusals (IsTrue D.is_honest) disk result.0 result.1
+    ensures { IsNotOpened D.files D.moment D.left_at D.failures D.refusals (IsTrue D.is_honest) (W.contents out.old) (W.contents out.new) disk result.0 result.1
         ⊎ Reports D.files D.moment D.left_at D.failures D.refusals (IsTrue D.is_honest) (W.contents out.old) (W.contents out.new) disk result.0 result.1 }
 {
     match Core::open(alloc, disk) {
@@ -249,7 +250,7 @@ fn report<D: Disk, W: Write>(alloc: Global, disk: D, out: &mut W) -> (D, Outcome
 
 // Turns a store over.
 fn turn<D: Disk, W: Write>(alloc: Global, disk: D, out: &mut W) -> (D, Outcome)
-    ensures { IsNotOpened D.files D.moment D.left_at D.failures D.refusals (IsTrue D.is_honest) disk result.0 result.1
+    ensures { IsNotOpened D.files D.moment D.left_at D.failures D.refusals (IsTrue D.is_honest) (W.contents out.old) (W.contents out.new) disk result.0 result.1
         ⊎ TurnsOver D.files D.moment D.left_at D.failures D.refusals (IsTrue D.is_honest) (W.contents out.old) (W.contents out.new) disk result.0 result.1 }
 {
     match Core::open(alloc, disk) {
@@ -262,6 +263,34 @@ fn turn<D: Disk, W: Write>(alloc: Global, disk: D, out: &mut W) -> (D, Outcome)
             let Refused { disk, error } = refused;
             (disk, Outcome::Failed(Failure::Store(error)))
         }
+    }
+}
+
+// Draws a store.
+fn draw_stored<D: Disk, W: Write>(alloc: Global, disk: D, out: &mut W) -> (D, Outcome)
+    ensures { IsNotOpened D.files D.moment D.left_at D.failures D.refusals (IsTrue D.is_honest) (W.contents out.old) (W.contents out.new) disk result.0 result.1
+        ⊎ DrawsStore D.files D.moment D.left_at D.failures D.refusals (IsTrue D.is_honest) disk result.0 result.1 }
+{
+    match Core::open(alloc, disk) {
+        Ok(core) => {
+            let (disk, answer) = draw_store(alloc, core, out);
+            (disk, store_drawn(answer))
+        }
+        Err(refused) => {
+            let Refused { disk, error } = refused;
+            (disk, Outcome::Failed(Failure::Store(error)))
+        }
+    }
+}
+
+// What the drawing of a store came to.
+fn store_drawn(answer: Result<(), DrawError>) -> Outcome
+    ensures { IsDrawn result ⊎ (result ≡ Failed failure.NoMemory) }
+{
+    match answer {
+        Ok(()) => Outcome::Drawn,
+        Err(DrawError::Write) => Outcome::Failed(Failure::Output),
+        Err(DrawError::NoMemory) => Outcome::Failed(Failure::NoMemory),
     }
 }
 

@@ -14,6 +14,9 @@ use std::{env, io};
 /// The most ends of steps that one run may commit.
 pub const MOST_LIMIT: u64 = 1_000_000_000;
 
+// What is told of a graph's file.
+const GRAPH_HELP: &str = "The file with the text of the graph; - is the standard input";
+
 /// What the program is asked to do.
 #[derive(Clone, Copy, Debug, PartialEq, Eq)]
 pub enum Command<'a> {
@@ -32,13 +35,17 @@ pub enum Command<'a> {
     Report {
         directory: &'a str,
     },
-    /// Turn over the store in the directory: write it anew, without what is no more needed.
+    /// Turn over the store in the directory: write it anew, without the records that led to what it holds.
     Turn {
         directory: &'a str,
     },
     /// Draw the graph in this file as Graphviz text. It needs no store.
     Draw {
         graph: &'a str,
+    },
+    /// Draw the store in the directory as Graphviz text.
+    DrawStore {
+        directory: &'a str,
     },
 }
 
@@ -49,7 +56,8 @@ impl<'a> Command<'a> {
             Command::Create { directory, .. }
             | Command::Run { directory, .. }
             | Command::Report { directory }
-            | Command::Turn { directory } => directory,
+            | Command::Turn { directory }
+            | Command::DrawStore { directory } => directory,
             Command::Draw { .. } => "",
         }
     }
@@ -59,7 +67,7 @@ impl<'a> Command<'a> {
         match self {
             Command::Create { graph, .. } | Command::Draw { graph } => graph,
             Command::Run { script, .. } => script,
-            Command::Report { .. } | Command::Turn { .. } => "",
+            Command::Report { .. } | Command::Turn { .. } | Command::DrawStore { .. } => "",
         }
     }
 }
@@ -111,8 +119,7 @@ fn command_in<'a>(matches: &ArgMatches<'a>) -> Option<Command<'a>>
 {
     let (name, found) = matches.subcommand()?;
     if name == "draw" {
-        let graph = found.get_str("GRAPH")?;
-        return Some(Command::Draw { graph });
+        return drawing_in(found);
     }
     let directory = found.get_str("DIR")?;
     match name {
@@ -138,82 +145,116 @@ fn command_in<'a>(matches: &ArgMatches<'a>) -> Option<Command<'a>>
     }
 }
 
+// What is to be drawn: a store, or else a graph.
+fn drawing_in<'a>(found: &ArgMatches<'a>) -> Option<Command<'a>>
+    ensures { IfSome result IsInRange }
+{
+    match found.get_str("store") {
+        Some(directory) => Some(Command::DrawStore { directory }),
+        None => {
+            let graph = found.get_str("GRAPH")?;
+            Some(Command::Draw { graph })
+        }
+    }
+}
+
 // What `clap` is to read.
 fn command_line<'a>(alloc: Global) -> Result<clap::Command<'a>, AllocError> {
-    clap::Command::new(alloc, "cnc")
+    let line = clap::Command::new(alloc, "cnc")
         .about("Runs graphs of Concurrent Collections on stores that survive a crash")
         .after_help(
             "Try: cnc create fib.graph store && cnc run store fib.script\n\nStatus: 0 all is done, 1 some instance waits, 2 a usage, graph or script fault, 3 a fault stopped the store,\n4 the store is refused or full, 5 the device, memory or output failed, 6 the limit was met.",
         )
-        .subcommand_required(true)
-        .subcommand(create_line(alloc)?)?
-        .subcommand(run_line(alloc)?)?
-        .subcommand(report_line(alloc)?)?
-        .subcommand(turn_line(alloc)?)?
-        .subcommand(draw_line(alloc)?)
+        .subcommand_required(true);
+    let line = with_command(Ok(line), create_line(alloc));
+    let line = with_command(line, run_line(alloc));
+    let line = with_command(line, report_line(alloc));
+    let line = with_command(line, turn_line(alloc));
+    with_command(line, draw_line(alloc))
+}
+
+// A line with one more command. It has the exits of both by itself, so that no long line is let go at each of them.
+fn with_command<'a>(
+    line: Result<clap::Command<'a>, AllocError>,
+    command: Result<clap::Command<'a>, AllocError>,
+) -> Result<clap::Command<'a>, AllocError> {
+    let line = line?;
+    let command = command?;
+    line.subcommand(command)
+}
+
+// And with one more argument.
+fn with_argument<'a>(
+    line: Result<clap::Command<'a>, AllocError>,
+    argument: Arg<'a>,
+) -> Result<clap::Command<'a>, AllocError> {
+    let line = line?;
+    line.arg(argument)
 }
 
 fn create_line<'a>(alloc: Global) -> Result<clap::Command<'a>, AllocError> {
-    clap::Command::new(alloc, "create")
+    let line = clap::Command::new(alloc, "create")
         .about("Make a store of a graph in a directory that has none")
-        .after_help("Example: cnc create fib.graph store")
-        .arg(graph(alloc))?
-        .arg(directory(alloc))
+        .after_help("Example: cnc create fib.graph store");
+    let line = with_argument(Ok(line), graph(alloc));
+    with_argument(line, directory(alloc))
 }
 
 fn run_line<'a>(alloc: Global) -> Result<clap::Command<'a>, AllocError> {
-    let workers = Arg::new(alloc, "workers")
-        .long("workers")
-        .value_name("N")
-        .value_parser(ValueParser::Unsigned(1, 1))
-        .default_value("1")
-        .help("How many workers run the steps: one, for now");
-    let limit = Arg::new(alloc, "limit")
-        .long("limit")
-        .value_name("N")
-        .value_parser(ValueParser::Unsigned(0, MOST_LIMIT))
-        .default_value("1000000000")
-        .help("How many steps each run of the script may commit, 0 to 1000000000");
-    clap::Command::new(alloc, "run")
+    let line = clap::Command::new(alloc, "run")
         .about("Run a script on a store, and print the replies and the report")
-        .after_help("Example: cnc run store fib.script --limit 1000")
-        .arg(directory(alloc))?
-        .arg(wanted(
-            alloc,
-            "SCRIPT",
-            "The file with the script; - is the standard input",
-        ))?
-        .arg(workers)?
-        .arg(limit)
+        .after_help("Example: cnc run store fib.script --limit 1000");
+    let line = with_argument(Ok(line), directory(alloc));
+    let line = with_argument(line, script(alloc));
+    let line = with_argument(line, workers(alloc));
+    with_argument(line, limit(alloc))
 }
 
 fn report_line<'a>(alloc: Global) -> Result<clap::Command<'a>, AllocError> {
-    clap::Command::new(alloc, "report")
+    let line = clap::Command::new(alloc, "report")
         .about("Print what a store holds")
-        .after_help("Example: cnc report store")
-        .arg(directory(alloc))
+        .after_help("Example: cnc report store");
+    with_argument(Ok(line), directory(alloc))
 }
 
 fn turn_line<'a>(alloc: Global) -> Result<clap::Command<'a>, AllocError> {
-    clap::Command::new(alloc, "turn")
-        .about("Write a store anew into its other file, without the records that it no more needs")
-        .after_help("Example: cnc turn store")
-        .arg(directory(alloc))
+    let line = clap::Command::new(alloc, "turn")
+        .about(
+            "Write a store anew into its other file, without the records that led to what it holds",
+        )
+        .after_help("Example: cnc turn store");
+    with_argument(Ok(line), directory(alloc))
 }
 
 fn draw_line<'a>(alloc: Global) -> Result<clap::Command<'a>, AllocError> {
-    clap::Command::new(alloc, "draw")
-        .about("Print a graph as Graphviz text")
-        .after_help("Example: cnc draw fib.graph | dot -Tsvg > fib.svg")
-        .arg(graph(alloc))
+    let line = clap::Command::new(alloc, "draw")
+        .about("Print a graph or a store as Graphviz text")
+        .after_help(
+            "Example: cnc draw fib.graph | dot -Tsvg > fib.svg\n         cnc draw --store store | dot -Tsvg > store.svg",
+        );
+    let line = with_argument(Ok(line), drawn(alloc)?);
+    with_argument(line, store(alloc))
 }
 
 fn graph<'a>(alloc: Global) -> Arg<'a> {
-    wanted(
-        alloc,
-        "GRAPH",
-        "The file with the text of the graph; - is the standard input",
-    )
+    wanted(alloc, "GRAPH", GRAPH_HELP)
+}
+
+// The graph that is drawn, unless a store is.
+fn drawn<'a>(alloc: Global) -> Result<Arg<'a>, AllocError> {
+    Arg::new(alloc, "GRAPH")
+        .value_parser(ValueParser::NonEmptyString)
+        .help(GRAPH_HELP)
+        .required_unless_present("store")?
+        .conflicts_with("store")
+}
+
+fn store<'a>(alloc: Global) -> Arg<'a> {
+    Arg::new(alloc, "store")
+        .long("store")
+        .value_name("DIR")
+        .value_parser(ValueParser::NonEmptyString)
+        .help("Draw the store in this directory, with what it holds and what its steps wait for")
 }
 
 fn directory<'a>(alloc: Global) -> Arg<'a> {
@@ -222,6 +263,32 @@ fn directory<'a>(alloc: Global) -> Arg<'a> {
         "DIR",
         "The directory of the store, which is there already",
     )
+}
+
+fn script<'a>(alloc: Global) -> Arg<'a> {
+    wanted(
+        alloc,
+        "SCRIPT",
+        "The file with the script; - is the standard input",
+    )
+}
+
+fn workers<'a>(alloc: Global) -> Arg<'a> {
+    Arg::new(alloc, "workers")
+        .long("workers")
+        .value_name("N")
+        .value_parser(ValueParser::Unsigned(1, 1))
+        .default_value("1")
+        .help("How many workers run the steps: one, for now")
+}
+
+fn limit<'a>(alloc: Global) -> Arg<'a> {
+    Arg::new(alloc, "limit")
+        .long("limit")
+        .value_name("N")
+        .value_parser(ValueParser::Unsigned(0, MOST_LIMIT))
+        .default_value("1000000000")
+        .help("How many steps each run of the script may commit, 0 to 1000000000")
 }
 
 // An argument that has to be there.

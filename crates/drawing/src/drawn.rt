@@ -7,6 +7,12 @@ use terms::{ItemCollection, StepCollection, TagCollection};
 /// get to `env`, and, dashed, from a tag to the step that it prescribes.
 pub fn draw_graph<W: Write>(graph: &Graph, out: &mut W) -> Result<()> {
     writeln!(out, "digraph {{")?;
+    draw_collections(graph, out)?;
+    writeln!(out, "}}")
+}
+
+// The collections of a graph with their arrows, without what stands around them.
+pub(crate) fn draw_collections<W: Write>(graph: &Graph, out: &mut W) -> Result<()> {
     writeln!(out, "  env [shape=plaintext];")?;
     for number in 0..graph.item_count() {
         draw_items(graph, ItemCollection(number as u16), out)?;
@@ -17,7 +23,7 @@ pub fn draw_graph<W: Write>(graph: &Graph, out: &mut W) -> Result<()> {
     for number in 0..graph.step_count() {
         draw_step(graph, StepCollection(number as u16), out)?;
     }
-    writeln!(out, "}}")
+    Ok(())
 }
 
 // A collection of items, and what the environment may do with it.

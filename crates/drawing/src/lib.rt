@@ -1,6 +1,11 @@
-//! Graphs as Graphviz text: items as boxes, tags as triangles, steps as ellipses, and what stands outside as `env`.
+//! Graphs as Graphviz text: items as boxes, tags as triangles, steps as ellipses, and what stands outside as `env`. And stores, with what they hold and what their
+//! steps wait for.
 #![tactic(auto)]
 
 mod drawn;
+mod error;
+mod store;
 
 pub use drawn::draw_graph;
+pub use error::DrawError;
+pub use store::draw_store;

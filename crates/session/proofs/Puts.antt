@@ -10,15 +10,17 @@ use Rattle.vault.specs.declared.error.VaultError.TheVariants as store
 use Rattle.machine.specs.declared.refusal.Refusal.{Refusal}
 use Rattle.commit.specs.declared.error.CoreError.{CoreError}
 use Rattle.commit.specs.declared.error.CoreError.TheVariants.{Refused, Store}
-use Rattle.commit.specs.Calls.{CrashLeaves, Halts, IsInDoubt, IsUnchanged, Refuses, Takes}
+use Rattle.commit.specs.Calls.{CrashLeaves, Halts, IsInDoubt, IsTooLong, IsUnchanged, Refuses, Takes}
 use Rattle.commit.specs.Core.{Core, graph, facts, is_halted}
 use Rattle.commit.specs.Kept.{IsKept}
+use Rattle.script.specs.declared.command.Command.{Command}
 use Rattle.session.specs.declared.ending.Stop.{Stop}
 use Rattle.session.specs.declared.ending.Stop.TheVariants as stop
+use Rattle.session.specs.declared.reply.Reply.{Reply}
 use Rattle.session.specs.declared.reply.Reply.TheVariants as replied
 use Rattle.session.specs.Answers.{RepliesPut, put_reply, reply_of}
 use Rattle.session.specs.Session.{stop_of}
-use Rattle.session.specs.Went.{GoesOn, HasCauseToStop}
+use Rattle.session.specs.Went.{GoesOn, HasCause, HasNoRoom}
 use Rattle.session.proofs.Coming.{committed, refused}
 
 -- ---- refusals
@@ -33,37 +35,31 @@ refused_reply c why event (Store (store.Damaged side place)) is = absurd is
 refused_reply c why event (Store store.NotAStore) is = absurd is
 refused_reply c why event (Store store.Exists) is = absurd is
 
--- ---- stops
+-- ---- causes
 
-none_is_some : (end : Stop) → ◌≡◌ {A = Option Stop} None (Some end) → ⊥
-none_is_some end is = cc
+-- a reply that tells of no halt, no device and no want of room has no cause to tell
+pub other_cause : {D : Type 0} (failures : D → ℕ) (old new : Core D) (command : Command) (reply : Reply) → reply ≢ replied.Halted → reply ≢ replied.Device → reply ≢ replied.Full → HasCause failures old new command reply
+other_cause failures old new command reply not_halted not_device not_full = record { halted = λ is. absurd (not_halted is); device = λ is. absurd (not_device is); full = λ is. absurd (not_full is) }
 
-not_halted : {end : Stop} → end ≢ stop.Halted → ◌≡◌ {A = Option Stop} (Some end) (Some stop.Halted) → ⊥
-not_halted differs is = differs (cc)
+pub halted_cause : {D : Type 0} (failures : D → ℕ) (old new : Core D) (command : Command) → is_halted new ≡ true → HasCause failures old new command replied.Halted
+halted_cause failures old new command halted = record { halted = λ _. halted; device = λ is. absurd (cc); full = λ is. absurd (cc) }
 
-not_device : {end : Stop} → end ≢ stop.Device → ◌≡◌ {A = Option Stop} (Some end) (Some stop.Device) → ⊥
-not_device differs is = differs (cc)
+refused_cause : {D T : Type 0} (failures refusals : D → ℕ) (old new : Core D) (why : Refusal → Type 0) (event : Event) (command : Command) → (IsTooLong old event → HasNoRoom old new command) → (error : CoreError) → Refuses old why event error
+    → Halts {T = T} failures refusals old new (Err error) → HasCause failures old new command (reply_of error)
+refused_cause failures refusals old new why event command room (Refused cause) is halts = other_cause failures old new command (replied.Refused cause) (λ same. cc) (λ same. cc) (λ same. cc)
+refused_cause failures refusals old new why event command room (Store store.Full) is halts = record { halted = λ same. absurd (cc); device = λ same. absurd (cc); full = λ _. room is.2 }
+refused_cause failures refusals old new why event command room (Store store.Device) is halts = record { halted = λ same. absurd (cc); device = λ _. halts.disk.device.0 refl; full = λ same. absurd (cc) }
+refused_cause failures refusals old new why event command room (Store store.NoMemory) is halts = other_cause failures old new command replied.NoMemory (λ same. cc) (λ same. cc) (λ same. cc)
+refused_cause failures refusals old new why event command room (Store store.Halted) is halts = halted_cause failures old new command (halts.halts.1 (inl is))
+refused_cause failures refusals old new why event command room (Store (store.Damaged side place)) is halts = absurd is
+refused_cause failures refusals old new why event command room (Store store.NotAStore) is halts = absurd is
+refused_cause failures refusals old new why event command room (Store store.Exists) is halts = absurd is
 
--- no reply that goes on has a cause to tell
-pub no_stop : {D : Type 0} (failures : D → ℕ) (old new : Core D) → HasCauseToStop failures old new None
-no_stop failures old new = record { halted = λ is. absurd (none_is_some stop.Halted is); device = λ is. absurd (none_is_some stop.Device is) }
-
-pub halted_stop : {D : Type 0} (failures : D → ℕ) (old new : Core D) → is_halted new ≡ true → HasCauseToStop failures old new (Some stop.Halted)
-halted_stop failures old new halted = record { halted = λ _. halted; device = λ is. absurd (not_device (λ same. cc) is) }
-
-pub other_stop : {D : Type 0} (failures : D → ℕ) (old new : Core D) (end : Stop) → end ≢ stop.Halted → end ≢ stop.Device → HasCauseToStop failures old new (Some end)
-other_stop failures old new end not_halt not_fail = record { halted = λ is. absurd (not_halted not_halt is); device = λ is. absurd (not_device not_fail is) }
-
-pub refused_stop : {D T : Type 0} (failures refusals : D → ℕ) (old new : Core D) (why : Refusal → Type 0) (event : Event) (error : CoreError) → Refuses old why event error → Halts {T = T} failures refusals old new (Err error)
-    → HasCauseToStop failures old new (stop_of (reply_of error))
-refused_stop failures refusals old new why event (Refused cause) is halts = no_stop failures old new
-refused_stop failures refusals old new why event (Store store.Full) is halts = no_stop failures old new
-refused_stop failures refusals old new why event (Store store.Device) is halts = record { halted = λ same. absurd (not_halted (λ one. cc) same); device = λ _. halts.disk.device.0 refl }
-refused_stop failures refusals old new why event (Store store.NoMemory) is halts = other_stop failures old new stop.NoMemory (λ one. cc) (λ one. cc)
-refused_stop failures refusals old new why event (Store store.Halted) is halts = halted_stop failures old new (halts.halts.1 (inl is))
-refused_stop failures refusals old new why event (Store (store.Damaged side place)) is halts = absurd is
-refused_stop failures refusals old new why event (Store store.NotAStore) is halts = absurd is
-refused_stop failures refusals old new why event (Store store.Exists) is halts = absurd is
+-- of a put
+pub put_cause : {D T : Type 0} (failures refusals : D → ℕ) (old new : Core D) (why : Refusal → Type 0) (event : Event) (command : Command) → (IsTooLong old event → HasNoRoom old new command) → (result : Result T CoreError)
+    → IfErr result (Refuses old why event) → Halts failures refusals old new result → HasCause failures old new command (put_reply result)
+put_cause failures refusals old new why event command room (Ok done) refuses halts = other_cause failures old new command replied.Done (λ same. cc) (λ same. cc) (λ same. cc)
+put_cause failures refusals old new why event command room (Err error) refuses halts = refused_cause failures refusals old new why event command room error refuses halts
 
 -- ---- puts
 
@@ -77,11 +73,6 @@ module _ {D T : Type 0} (files : D → Side → File) (moment : D → ℕ) (left
       (event ∷ [], committed files moment left_at failures refusals honest leaves gates_rest {T = T} append old new event why kept settled (Ok done) takes halts.settled (λ working on. moments on working) halts, (refl, takes.legal))
   replied_put (Err error) takes same refuses doubt moments halts =
       ([], refused files moment left_at failures refusals honest leaves gates_rest {T = T} append old new event why kept settled error same refuses doubt (λ working on. moments on working) halts, refused_reply old why event error refuses)
-
-pub put_stops : {D T : Type 0} (failures refusals : D → ℕ) (old new : Core D) (why : Refusal → Type 0) (event : Event) (result : Result T CoreError) → IfErr result (Refuses old why event) → Halts failures refusals old new result
-    → HasCauseToStop failures old new (stop_of (put_reply result))
-put_stops failures refusals old new why event (Ok done) refuses halts = no_stop failures old new
-put_stops failures refusals old new why event (Err error) refuses halts = refused_stop failures refusals old new why event error refuses halts
 
 -- ---- halts
 

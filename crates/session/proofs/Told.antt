@@ -24,12 +24,11 @@ use Rattle.commit.specs.Core as core
 use Rattle.commit.specs.Runs.{TellsVerdict}
 use Rattle.session.specs.declared.reply.Reply.{Reply}
 use Rattle.session.specs.declared.reply.Reply.TheVariants as replied
-use Rattle.session.specs.declared.ending.Stop.TheVariants as stop
+use Rattle.script.specs.declared.command.Command.TheVariants.{Run}
 use Rattle.session.specs.Answers.{AreAllDone, AreWaiting, TellsBlocked, TellsRun, drive_of, instance_cmp}
-use Rattle.session.specs.Session.{stop_of}
-use Rattle.session.specs.Went.{HasCauseToStop}
+use Rattle.session.specs.Went.{HasCause}
 use Rattle.session.proofs.Listed.{found, listed}
-use Rattle.session.proofs.Puts.{no_stop, other_stop}
+use Rattle.session.proofs.Puts.{other_cause}
 
 -- ---- states and facts
 
@@ -69,6 +68,19 @@ is_empty : {X : Type 0} (list : List X) → length list ≡ 0 → list ≡ []
 is_empty [] none = refl
 is_empty (first ∷ rest) none = absurd (omega (arith, none))
 
+-- where one waits, not each is done
+pub some_wait : (m : Machine) → IsKept m → waiting_count m ≢ 0 → AreAllDone m.graph (facts m) → ⊥
+some_wait m kept some all = some ((kept.counted is_waiting).1 each)
+  where
+    waits_not : (address : Addr) → ◌≡◌ {A = Option State} (Some Done) (Some (Waiting address)) → ⊥
+    waits_not address same = cc
+
+    each : (instance : Inst) (state : State) → state_of m instance ≡ Some state → is_waiting state ≡ false
+    each instance Ready is = refl
+    each instance Running is = refl
+    each instance Done is = refl
+    each instance (Waiting address) is = absurd (waits_not address (sym ((kept.done instance).1 (all instance ((kept.prescribed instance).0 (ap is_some is)))) ∙ is))
+
 -- all that are not done wait, and some do
 pub told_waiting :
     IsTotalOrder inst_cmp → IsAntisymmetric inst_cmp → (m : Machine) → IsKept m → NoneIsActive m → waiting_count m ≢ 0 → (blocked list : List (Inst × Addr)) → AreBlocked m blocked → IsPermutation blocked list
@@ -88,13 +100,13 @@ pub told_complete : {D : Type 0} (c : Core D) → IsKept c.machine → (asked sp
     → TellsRun (graph c) (drive_of limit asked spawn halted) (core.facts c) count replied.Complete
 told_complete c kept asked spawn halted limit count is = (is.2.0, all_done c.machine kept is.1.1 (omega (arith, is.1.2)))
 
-pub told_blocked : {D : Type 0} (c : Core D) (asked spawn halted : Bool) (limit count : ℕ) (blocked : ℕ) (reply : Reply) → TellsVerdict asked spawn c limit count (Ok (Blocked blocked))
+pub told_blocked : {D : Type 0} (c : Core D) → IsKept c.machine → (asked spawn halted : Bool) (limit count : ℕ) (blocked : ℕ) (reply : Reply) → TellsVerdict asked spawn c limit count (Ok (Blocked blocked))
     → (core.is_halted c ≡ false → NoneIsActive c.machine → waiting_count c.machine ≢ 0 → TellsBlocked (graph c) (core.facts c) reply) → TellsRun (graph c) (drive_of limit asked spawn halted) (core.facts c) count reply
-told_blocked c asked spawn halted limit count blocked reply is tells_it = at reply (tells_it is.0.0 is.0.1.1 (λ none. is.1 (is.0.1.2 ∙ omega (arith, none))))
+told_blocked c kept asked spawn halted limit count blocked reply is tells_it = at reply (tells_it is.0.0 is.0.1.1 (λ none. is.1 (is.0.1.2 ∙ omega (arith, none))))
   where
     at : (r : Reply) → TellsBlocked (graph c) (core.facts c) r → TellsRun (graph c) (drive_of limit asked spawn halted) (core.facts c) count r
     at (replied.Blocked waiting) told = (is.0.2.0, told.0, told.1)
-    at replied.NoMemory told = is.0.1.0
+    at replied.NoMemory told = (is.0.1.0, some_wait c.machine kept (λ none. is.1 (is.0.1.2 ∙ omega (arith, none))))
     at replied.Done told = absurd told
     at (replied.Value address value) told = absurd told
     at (replied.Absent address) told = absurd told
@@ -108,19 +120,19 @@ told_blocked c asked spawn halted limit count blocked reply is tells_it = at rep
     at replied.Device told = absurd told
     at replied.NoThread told = absurd told
 
--- and neither ends a session by a halt or the device
-pub blocked_stops : {D : Type 0} (failures : D → ℕ) (c : Core D) (reply : Reply) → TellsBlocked (graph c) (core.facts c) reply → HasCauseToStop failures c c (stop_of reply)
-blocked_stops failures c (replied.Blocked waiting) told = no_stop failures c c
-blocked_stops failures c replied.NoMemory told = other_stop failures c c stop.NoMemory (λ one. cc) (λ one. cc)
-blocked_stops failures c replied.Done told = absurd told
-blocked_stops failures c (replied.Value address value) told = absurd told
-blocked_stops failures c (replied.Absent address) told = absurd told
-blocked_stops failures c replied.Complete told = absurd told
-blocked_stops failures c (replied.Stopped instance kind) told = absurd told
-blocked_stops failures c replied.Limit told = absurd told
-blocked_stops failures c replied.Asked told = absurd told
-blocked_stops failures c (replied.Refused refusal) told = absurd told
-blocked_stops failures c replied.Full told = absurd told
-blocked_stops failures c replied.Halted told = absurd told
-blocked_stops failures c replied.Device told = absurd told
-blocked_stops failures c replied.NoThread told = absurd told
+-- and neither has a further cause to tell
+pub blocked_cause : {D : Type 0} (failures : D → ℕ) (c : Core D) (reply : Reply) → TellsBlocked (graph c) (core.facts c) reply → HasCause failures c c Run reply
+blocked_cause failures c (replied.Blocked waiting) told = other_cause failures c c Run (replied.Blocked waiting) (λ same. cc) (λ same. cc) (λ same. cc)
+blocked_cause failures c replied.NoMemory told = other_cause failures c c Run replied.NoMemory (λ same. cc) (λ same. cc) (λ same. cc)
+blocked_cause failures c replied.Done told = absurd told
+blocked_cause failures c (replied.Value address value) told = absurd told
+blocked_cause failures c (replied.Absent address) told = absurd told
+blocked_cause failures c replied.Complete told = absurd told
+blocked_cause failures c (replied.Stopped instance kind) told = absurd told
+blocked_cause failures c replied.Limit told = absurd told
+blocked_cause failures c replied.Asked told = absurd told
+blocked_cause failures c (replied.Refused refusal) told = absurd told
+blocked_cause failures c replied.Full told = absurd told
+blocked_cause failures c replied.Halted told = absurd told
+blocked_cause failures c replied.Device told = absurd told
+blocked_cause failures c replied.NoThread told = absurd told

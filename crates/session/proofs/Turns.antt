@@ -1,5 +1,5 @@
 -- One line more: what the core comes to by it, and what is answered up to it.
-use Rattle.std.proofs.Common.{◌≡◌, ◌≢◌, ℕ, List, [], ◌∷◌, ◌++◌, None}
+use Rattle.std.proofs.Common.{◌≡◌, ◌≢◌, ℕ, List, [], ◌∷◌, ◌++◌, None, append_assoc, append-nil, refl, subst, sym}
 use Rattle.disk.specs.declared.side.Side.{Side}
 use Rattle.disk.specs.File.{File}
 use Rattle.disk.specs.Time.{Contents}
@@ -11,34 +11,69 @@ use Rattle.script.specs.declared.command.Command.{Command}
 use Rattle.session.specs.declared.ending.Ending.{Ending}
 use Rattle.session.specs.declared.reply.Reply.{Reply}
 use Rattle.session.specs.Answers.{Drive, Replies}
-use Rattle.session.specs.Session.{AreReplies, ending_of, stop_of, with_reply}
-use Rattle.session.specs.Went.{GoesOn}
+use Rattle.session.specs.Session.{AreReplies, all_of, ending_of, stop_of, with_reply}
+use Rattle.session.specs.Went.{GoesOn, GoesOnByAll, GoesOnByLine, HasCause}
 use Rattle.session.proofs.Coming.{answered_there, graph_behind, joined_on}
-use Rattle.session.proofs.Went.{Went, begun_with, ended, stopped, went_on}
+use Rattle.session.proofs.Went.{Went, begun_with, ended, one_line_more, stopped, went_on}
 
-module _ {D : Type 0} (files : D → Side → File) (moment : D → ℕ) (left_at : D → ℕ → Contents → Type 0) (failures refusals : D → ℕ) (honest : Type 0) (drive : Drive) where
-  -- Behind this command: the session goes on where its reply does not end it, and else no further command is answered.
-  pub record Turned (old new : Core D) (begun : List Command) (command : Command) (ending : Ending) (replies : List Reply) (reply : Reply) : Type 0 where
-    pub events : List Event
-    pub goes : GoesOn files moment left_at failures refusals honest old new events
-    pub same_graph : graph new ≡ graph old
-    pub on : stop_of reply ≡ None → Went (graph old) drive (facts old) (begun ++ command ∷ []) (with_reply ending command reply) (replies ++ reply ∷ []) events
-    pub last : (left : List Command) → stop_of reply ≢ None → AreReplies (graph old) drive (facts old) (begun ++ command ∷ left) (replies ++ reply ∷ []) events
-    pub ends : (left : List Command) → with_reply ending command reply ≡ ending_of (begun ++ command ∷ left) (replies ++ reply ∷ [])
-    pub answered : AreReplies (graph old) drive (facts old) (begun ++ command ∷ []) (replies ++ reply ∷ []) events
+module _ {D : Type 0} (files : D → Side → File) (moment : D → ℕ) (left_at : D → ℕ → Contents → Type 0) (failures refusals : D → ℕ) (honest : Type 0) where
+  -- the core went on by these lines, and may go on by more
+  pub record Linked (old new : Core D) (begun : List Command) (replies : List Reply) (events : List (List Event)) : Type 0 where
+    pub follows : (last : Core D) (more : List Command) (rest : List Reply) (later : List (List Event)) → GoesOnByLine files moment left_at failures refusals honest new last more rest later
+        → GoesOnByLine files moment left_at failures refusals honest old last (begun ++ more) (replies ++ rest) (events ++ later)
 
-  pub turned : AmongBoth → (honest → GatesStay files moment left_at) → (old mid new : Core D) (begun : List Command) (command : Command) (ending : Ending) (replies : List Reply) (reply : Reply) (events : List Event)
-      → GoesOn files moment left_at failures refusals honest old mid events → Went (graph old) drive (facts old) begun ending replies events
-      → (came : List Event) × GoesOn files moment left_at failures refusals honest mid new came × Replies (graph mid) drive (facts mid) command came reply → Turned old new begun command ending replies reply
-  turned both gates_stay old mid new begun command ending replies reply events before went (came, after, replied) =
-      let goes = joined_on files moment left_at failures refusals honest both gates_stay old mid new events came before after in
-      let is = answered_there files moment left_at failures refusals honest old mid events before drive command came reply replied in
-      record {
-        events = events ++ came;
-        goes = goes;
-        same_graph = graph_behind files moment left_at failures refusals honest old new (events ++ came) goes;
-        on = went_on both (graph old) drive (facts old) begun ending replies events went command came reply is;
-        last = stopped both (graph old) drive (facts old) begun ending replies events went command came reply is;
-        ends = ended both (graph old) drive (facts old) begun ending replies events went command came reply is;
-        answered = begun_with both (graph old) drive (facts old) begun ending replies events went command came reply is;
-      }
+  pub linked_nowhere : (core : Core D) → Linked core core [] [] []
+  linked_nowhere core = record { follows = λ last more rest later it. it }
+
+  -- and by one more
+  linked_on : (old mid new : Core D) (begun : List Command) (replies : List Reply) (events : List (List Event)) → Linked old mid begun replies events → (command : Command) (reply : Reply) (came : List Event)
+      → GoesOn files moment left_at failures refusals honest mid new came → HasCause failures mid new command reply → Linked old new (begun ++ command ∷ []) (replies ++ reply ∷ []) (events ++ came ∷ [])
+  linked_on old mid new begun replies events linked command reply came goes cause = record {
+    follows = λ last more rest later it.
+        subst (λ (commands : List Command). GoesOnByLine files moment left_at failures refusals honest old last commands ((replies ++ reply ∷ []) ++ rest) ((events ++ came ∷ []) ++ later)) (sym (append_assoc begun (command ∷ []) more))
+        (subst (λ (all : List Reply). GoesOnByLine files moment left_at failures refusals honest old last (begun ++ command ∷ more) all ((events ++ came ∷ []) ++ later)) (sym (append_assoc replies (reply ∷ []) rest))
+        (subst (λ (all : List (List Event)). GoesOnByLine files moment left_at failures refusals honest old last (begun ++ command ∷ more) (replies ++ reply ∷ rest) all) (sym (append_assoc events (came ∷ []) later))
+        (linked.follows last (command ∷ more) (reply ∷ rest) (came ∷ later) (new, goes, cause, it))));
+  }
+
+  -- it went on by these alone, whatever commands are left
+  pub by_these : (old new : Core D) (begun left : List Command) (replies : List Reply) (events : List (List Event)) → Linked old new begun replies events
+      → GoesOnByLine files moment left_at failures refusals honest old new (begun ++ left) replies events
+  by_these old new begun left replies events linked =
+      subst (λ (all : List Reply). GoesOnByLine files moment left_at failures refusals honest old new (begun ++ left) all events) (append-nil replies)
+      (subst (λ (all : List (List Event)). GoesOnByLine files moment left_at failures refusals honest old new (begun ++ left) (replies ++ []) all) (append-nil events) (linked.follows new left [] [] refl))
+
+  module _ (drive : Drive) where
+    -- Behind this command: the session goes on where its reply does not end it, and else no further command is answered.
+    pub record Turned (old new : Core D) (begun : List Command) (command : Command) (ending : Ending) (replies : List Reply) (reply : Reply) : Type 0 where
+      pub events : List (List Event)
+      pub goes : GoesOn files moment left_at failures refusals honest old new (all_of events)
+      pub linked : Linked old new (begun ++ command ∷ []) (replies ++ reply ∷ []) events
+      pub same_graph : graph new ≡ graph old
+      pub on : stop_of reply ≡ None → Went (graph old) drive (facts old) (begun ++ command ∷ []) (with_reply ending command reply) (replies ++ reply ∷ []) events
+      pub last : (left : List Command) → stop_of reply ≢ None → AreReplies (graph old) drive (facts old) (begun ++ command ∷ left) (replies ++ reply ∷ []) events
+      pub ends : (left : List Command) → with_reply ending command reply ≡ ending_of (begun ++ command ∷ left) (replies ++ reply ∷ [])
+      pub answered : AreReplies (graph old) drive (facts old) (begun ++ command ∷ []) (replies ++ reply ∷ []) events
+
+    pub turned : AmongBoth → (honest → GatesStay files moment left_at) → (old mid new : Core D) (begun : List Command) (command : Command) (ending : Ending) (replies : List Reply) (reply : Reply) (events : List (List Event))
+        → GoesOn files moment left_at failures refusals honest old mid (all_of events) → Linked old mid begun replies events → Went (graph old) drive (facts old) begun ending replies events
+        → (came : List Event) × GoesOn files moment left_at failures refusals honest mid new came × Replies (graph mid) drive (facts mid) command came reply → HasCause failures mid new command reply
+        → Turned old new begun command ending replies reply
+    turned both gates_stay old mid new begun command ending replies reply events before linked went (came, after, replied) cause =
+        let goes = subst (GoesOn files moment left_at failures refusals honest old new) (sym (one_line_more events came)) (joined_on files moment left_at failures refusals honest both gates_stay old mid new (all_of events) came before after) in
+        let is = answered_there files moment left_at failures refusals honest old mid (all_of events) before drive command came reply replied in
+        record {
+          events = events ++ came ∷ [];
+          goes = goes;
+          linked = linked_on old mid new begun replies events linked command reply came after cause;
+          same_graph = graph_behind files moment left_at failures refusals honest old new (all_of (events ++ came ∷ [])) goes;
+          on = went_on both (graph old) drive (facts old) begun ending replies events went command came reply is;
+          last = stopped both (graph old) drive (facts old) begun ending replies events went command came reply is;
+          ends = ended both (graph old) drive (facts old) begun ending replies events went command came reply is;
+          answered = begun_with both (graph old) drive (facts old) begun ending replies events went command came reply is;
+        }
+
+  -- what came of these lines, whatever commands are left
+  pub by_all : (old new : Core D) (commands : List Command) (replies : List Reply) (events : List (List Event)) → GoesOn files moment left_at failures refusals honest old new (all_of events)
+      → GoesOnByLine files moment left_at failures refusals honest old new commands replies events → GoesOnByAll files moment left_at failures refusals honest old new commands replies events
+  by_all old new commands replies events goes line = record { together = goes; by_line = line }

@@ -12,38 +12,44 @@ use Rattle.session.specs.declared.ending.Ending.{Ending}
 use Rattle.session.specs.declared.ending.Stop.{Stop}
 use Rattle.session.specs.declared.reply.Reply.{Reply}
 use Rattle.session.specs.Answers.{Drive, Replies}
-use Rattle.session.specs.Session.{AreReplies, ending_from, no_ending, stop_of, with_reply}
+use Rattle.session.specs.Session.{AreReplies, all_of, ending_from, no_ending, stop_of, with_reply}
 
 some_is_not_none : (end : Stop) → ◌≡◌ {A = Option Stop} (Some end) None → ⊥
 some_is_not_none end is = cc
 
 -- a reply that is the last, with nothing behind it
 last : (g : Graph) (drive : Drive) (X : Facts) (command : Command) (came : List Event) (reply : Reply) → Replies g drive X command came reply → (o : Option Stop) → stop_of reply ≡ o
-    → AreReplies g drive X (command ∷ []) (reply ∷ []) (came ++ [])
-last g drive X command came reply is None goes_on = (came, [], refl, is, inl (goes_on, (refl, refl)))
-last g drive X command came reply is (Some end) stops = (came, [], refl, is, inr ((λ none. some_is_not_none end (sym stops ∙ none)), refl, refl))
+    → AreReplies g drive X (command ∷ []) (reply ∷ []) (came ∷ [])
+last g drive X command came reply is None goes_on = (is, inl (goes_on, (refl, refl)))
+last g drive X command came reply is (Some end) stops = (is, inr ((λ none. some_is_not_none end (sym stops ∙ none)), refl, refl))
+
+-- the events of one line more
+pub one_line_more : (events : List (List Event)) (came : List Event) → all_of (events ++ came ∷ []) ≡ all_of events ++ came
+one_line_more events came = flat_map-append (λ (line : List Event). line) events (came ∷ []) ∙ ap (λ (more : List Event). all_of events ++ more) (append-nil came)
 
 -- From these facts on the first commands were answered so, and these events came; the session went on, and may end so.
-pub record Went (g : Graph) (drive : Drive) (X : Facts) (begun : List Command) (ending : Ending) (replies : List Reply) (events : List Event) : Type 0 where
-  pub follows : (more : List Command) (rest : List Reply) (later : List Event) → AreReplies g drive (with_facts X (stated.facts events)) more rest later → AreReplies g drive X (begun ++ more) (replies ++ rest) (events ++ later)
+pub record Went (g : Graph) (drive : Drive) (X : Facts) (begun : List Command) (ending : Ending) (replies : List Reply) (events : List (List Event)) : Type 0 where
+  pub follows : (more : List Command) (rest : List Reply) (later : List (List Event)) → AreReplies g drive (with_facts X (stated.facts (all_of events))) more rest later → AreReplies g drive X (begun ++ more) (replies ++ rest) (events ++ later)
   pub ends : (more : List Command) (rest : List Reply) → ending_from no_ending (begun ++ more) (replies ++ rest) ≡ ending_from ending more rest
 
 pub went_nowhere : (g : Graph) (drive : Drive) (X : Facts) → Went g drive X [] no_ending [] []
 went_nowhere g drive X = record { follows = λ more rest later are. subst (λ (Y : Facts). AreReplies g drive Y more rest later) (with_nothing X) are; ends = λ more rest. refl }
 
-module _ (both : AmongBoth) (g : Graph) (drive : Drive) (X : Facts) (begun : List Command) (ending : Ending) (replies : List Reply) (events : List Event) (went : Went g drive X begun ending replies events) (command : Command)
-    (came : List Event) (reply : Reply) (answered : Replies g drive (with_facts X (stated.facts events)) command came reply) where
-  joined_facts : with_facts X (stated.facts (events ++ came)) ≡ with_facts (with_facts X (stated.facts events)) (stated.facts came)
-  joined_facts = ap (λ (list : List Fact). with_facts X list) (flat_map-append event_facts events came) ∙ with_both both X (stated.facts events) (stated.facts came)
+module _ (both : AmongBoth) (g : Graph) (drive : Drive) (X : Facts) (begun : List Command) (ending : Ending) (replies : List Reply) (events : List (List Event)) (went : Went g drive X begun ending replies events) (command : Command)
+    (came : List Event) (reply : Reply) (answered : Replies g drive (with_facts X (stated.facts (all_of events))) command came reply) where
+  joined_facts : with_facts X (stated.facts (all_of (events ++ came ∷ []))) ≡ with_facts (with_facts X (stated.facts (all_of events))) (stated.facts came)
+  joined_facts =
+      ap (λ (list : List Event). with_facts X (stated.facts list)) (one_line_more events came) ∙ ap (λ (list : List Fact). with_facts X list) (flat_map-append event_facts (all_of events) came)
+      ∙ with_both both X (stated.facts (all_of events)) (stated.facts came)
 
-  pub went_on : stop_of reply ≡ None → Went g drive X (begun ++ command ∷ []) (with_reply ending command reply) (replies ++ reply ∷ []) (events ++ came)
+  pub went_on : stop_of reply ≡ None → Went g drive X (begun ++ command ∷ []) (with_reply ending command reply) (replies ++ reply ∷ []) (events ++ came ∷ [])
   went_on goes_on = record {
     follows = λ more rest later are.
-        subst (λ (commands : List Command). AreReplies g drive X commands ((replies ++ reply ∷ []) ++ rest) ((events ++ came) ++ later)) (sym (append_assoc begun (command ∷ []) more))
-        (subst (λ (all : List Reply). AreReplies g drive X (begun ++ command ∷ more) all ((events ++ came) ++ later)) (sym (append_assoc replies (reply ∷ []) rest))
-        (subst (λ (all : List Event). AreReplies g drive X (begun ++ command ∷ more) (replies ++ reply ∷ rest) all) (sym (append_assoc events came later))
-        (went.follows (command ∷ more) (reply ∷ rest) (came ++ later)
-        (came, later, refl, answered, inl (goes_on, subst (λ (Y : Facts). AreReplies g drive Y more rest later) joined_facts are)))));
+        subst (λ (commands : List Command). AreReplies g drive X commands ((replies ++ reply ∷ []) ++ rest) ((events ++ came ∷ []) ++ later)) (sym (append_assoc begun (command ∷ []) more))
+        (subst (λ (all : List Reply). AreReplies g drive X (begun ++ command ∷ more) all ((events ++ came ∷ []) ++ later)) (sym (append_assoc replies (reply ∷ []) rest))
+        (subst (λ (all : List (List Event)). AreReplies g drive X (begun ++ command ∷ more) (replies ++ reply ∷ rest) all) (sym (append_assoc events (came ∷ []) later))
+        (went.follows (command ∷ more) (reply ∷ rest) (came ∷ later)
+        (answered, inl (goes_on, subst (λ (Y : Facts). AreReplies g drive Y more rest later) joined_facts are)))));
     ends = λ more rest.
         ap (λ (commands : List Command). ending_from no_ending commands ((replies ++ reply ∷ []) ++ rest)) (append_assoc begun (command ∷ []) more)
         ∙ ap (λ (all : List Reply). ending_from no_ending (begun ++ command ∷ more) all) (append_assoc replies (reply ∷ []) rest)
@@ -51,9 +57,8 @@ module _ (both : AmongBoth) (g : Graph) (drive : Drive) (X : Facts) (begun : Lis
   }
 
   -- where it ended the session
-  pub stopped : (left : List Command) → stop_of reply ≢ None → AreReplies g drive X (begun ++ command ∷ left) (replies ++ reply ∷ []) (events ++ came)
-  stopped left stops = subst (λ (all : List Event). AreReplies g drive X (begun ++ command ∷ left) (replies ++ reply ∷ []) all) (ap (λ (more : List Event). events ++ more) (append-nil came))
-      (went.follows (command ∷ left) (reply ∷ []) (came ++ []) (came, [], refl, answered, inr (stops, refl, refl)))
+  pub stopped : (left : List Command) → stop_of reply ≢ None → AreReplies g drive X (begun ++ command ∷ left) (replies ++ reply ∷ []) (events ++ came ∷ [])
+  stopped left stops = went.follows (command ∷ left) (reply ∷ []) (came ∷ []) (answered, inr (stops, refl, refl))
 
   nothing_more : (e : Ending) (left : List Command) → ending_from e left [] ≡ e
   nothing_more e [] = refl
@@ -63,16 +68,15 @@ module _ (both : AmongBoth) (g : Graph) (drive : Drive) (X : Facts) (begun : Lis
   ended left = sym (went.ends (command ∷ left) (reply ∷ []) ∙ nothing_more (with_reply ending command reply) left)
 
   -- where its reply could not be written
-  pub begun_with : AreReplies g drive X (begun ++ command ∷ []) (replies ++ reply ∷ []) (events ++ came)
-  begun_with = subst (λ (all : List Event). AreReplies g drive X (begun ++ command ∷ []) (replies ++ reply ∷ []) all) (ap (λ (more : List Event). events ++ more) (append-nil came))
-      (went.follows (command ∷ []) (reply ∷ []) (came ++ []) (last g drive (with_facts X (stated.facts events)) command came reply answered (stop_of reply) refl))
+  pub begun_with : AreReplies g drive X (begun ++ command ∷ []) (replies ++ reply ∷ []) (events ++ came ∷ [])
+  begun_with = went.follows (command ∷ []) (reply ∷ []) (came ∷ []) (last g drive (with_facts X (stated.facts (all_of events))) command came reply answered (stop_of reply) refl)
 
 -- all lines were answered
-pub finished : (g : Graph) (drive : Drive) (X : Facts) (commands : List Command) (ending : Ending) (replies : List Reply) (events : List Event) → Went g drive X commands ending replies events →
+pub finished : (g : Graph) (drive : Drive) (X : Facts) (commands : List Command) (ending : Ending) (replies : List Reply) (events : List (List Event)) → Went g drive X commands ending replies events →
     AreReplies g drive X commands replies events × (ending ≡ ending_from no_ending commands replies)
 finished g drive X commands ending replies events went = (
   subst (λ (all : List Command). AreReplies g drive X all replies events) (append-nil commands)
       (subst (λ (all : List Reply). AreReplies g drive X (commands ++ []) all events) (append-nil replies)
-      (subst (λ (all : List Event). AreReplies g drive X (commands ++ []) (replies ++ []) all) (append-nil events) (went.follows [] [] [] (refl, refl)))),
+      (subst (λ (all : List (List Event)). AreReplies g drive X (commands ++ []) (replies ++ []) all) (append-nil events) (went.follows [] [] [] (refl, refl)))),
   sym (ap (λ (all : List Command). ending_from no_ending all replies) (sym (append-nil commands)) ∙ ap (λ (all : List Reply). ending_from no_ending (commands ++ []) all) (sym (append-nil replies)) ∙ went.ends [] []),
 )

@@ -89,7 +89,7 @@ TellsRun g drive X count replied.Limit = HasMoreToDo g X × (count ≡ drive.mos
 TellsRun g drive X count replied.Asked = HasMoreToDo g X × (drive.may_be_asked ≡ true) × (count ≢ drive.most)
 TellsRun g drive X count replied.Full = HasMoreToDo g X
 TellsRun g drive X count replied.NoThread = HasMoreToDo g X × (drive.may_spawn ≡ true)
-TellsRun g drive X count replied.NoMemory = HasNoFault X
+TellsRun g drive X count replied.NoMemory = HasMoreToDo g X
 TellsRun g drive X count replied.Halted = ⊤
 TellsRun g drive X count other = ⊥
 

@@ -1,5 +1,5 @@
 -- How a session is answered: what was read, what came, and why it does not come to its end.
-use Rattle.std.specs.Prelude.{◌≡◌, ◌⊎◌, ◌<◌, ⊤, ℕ, List, [], ◌++◌, length, Option, Some, None, Result, IfOk, IfErr}
+use Rattle.std.specs.Prelude.{◌≡◌, ◌⊎◌, ◌<◌, ⊤, ℕ, List, [], ◌++◌, length, Option, Some, None, Result, Err, IfOk, IfErr}
 use Rattle.std.specs.Io.KnownBytes.{Appends}
 use Rattle.disk.specs.declared.side.Side.{Side}
 use Rattle.disk.specs.File.{File}
@@ -15,9 +15,10 @@ use Rattle.script.specs.Script.{IsRefused, IsScript}
 use Rattle.session.specs.declared.ending.Ending.{Ending}
 use Rattle.session.specs.declared.error.SessionError.{SessionError}
 use Rattle.session.specs.declared.error.SessionError.TheVariants.{Read, Write, Script, NoMemory}
+use Rattle.session.specs.declared.reply.Reply.{Reply}
 use Rattle.session.specs.Answers.{Drive}
-use Rattle.session.specs.Session.{HasBegun, IsSession}
-use Rattle.session.specs.Went.{GoesOn, HasCauseToStop}
+use Rattle.session.specs.Session.{AreReplies, IsSession, ending_of, replies_text}
+use Rattle.session.specs.Went.{GoesOnByAll}
 
 -- ---- what was read
 
@@ -54,36 +55,61 @@ IsOfOutput NoMemory = ⊤
 IsOfOutput Read = ⊥
 IsOfOutput (Script number fault) = ⊥
 
--- some first commands of the script were answered, and no further one
-pub record HasBegunScript (g : Graph) (drive : Drive) (input : Option (List ℕ)) (X : Facts) (events : List Event) : Type 0 where
-  pub script : List ℕ
-  pub is_all : IsAllOf input script
-  pub commands : List Command
-  pub is_script : IsScript g script commands
-  pub begun : HasBegun g drive X commands events
-
--- Why a session failed. Before its first line the core is as it was: the script could not be read, it is none, for its first fault, or memory was refused.
--- Where the output failed, or memory was refused later, some first commands were answered.
-abbrev pub Fails : {D : Type 0} → Drive → Option (List ℕ) → Core D → Core D → List Event → SessionError → Type 0
-Fails drive input old new events error =
-    (FailsToRead (graph old) input error × (new ≡ old) × (events ≡ [])) ⊎ (IsOfOutput error × HasBegunScript (graph old) drive input (facts old) events)
+-- the script could not be read, it is none, for its first fault, or memory was refused: the core and the output are as they were
+pub record FailsAtOnce {D : Type 0} (input before behind : Option (List ℕ)) (old new : Core D) (result : Result Ending SessionError) : Type 0 where
+  pub error : SessionError
+  pub told : result ≡ Err error
+  pub why : FailsToRead (graph old) input error
+  pub same : new ≡ old
+  pub nothing_written : behind ≡ before
 
 -- ---- answers
 
--- A session of the script that a reader has came to its end, with these events: what it is by the definition was written.
-pub record Closes {D : Type 0} (drive : Drive) (input : Option (List ℕ)) (old : Core D) (events : List Event) (ending : Ending) (before behind : Option (List ℕ)) : Type 0 where
-  pub script : List ℕ
-  pub is_all : IsAllOf input script
-  pub commands : List Command
-  pub is_script : IsScript (graph old) script commands
+-- a session of these commands came to its end: what it is by the definition was written
+pub record Closes (g : Graph) (drive : Drive) (X : Facts) (commands : List Command) (replies : List Reply) (events : List (List Event)) (ending : Ending) (before behind : Option (List ℕ)) : Type 0 where
   pub text : List ℕ
-  pub session : IsSession (graph old) drive (facts old) commands events ending text
+  pub session : IsSession g drive X commands replies events ending text
   pub written : Appends before behind text
 
--- what a session answers, and the events by which the core went on meanwhile
-pub record Answers {D : Type 0} (files : D → Side → File) (moment : D → ℕ) (left_at : D → ℕ → Contents → Type 0) (failures refusals : D → ℕ) (honest : Type 0)
-    (drive : Drive) (input before behind : Option (List ℕ)) (old new : Core D) (result : Result Ending SessionError) : Type 0 where
-  pub events : List Event
-  pub goes_on : GoesOn files moment left_at failures refusals honest old new events
-  pub closes : IfOk result (λ ending. Closes drive input old events ending before behind × HasCauseToStop failures old new ending.stop)
-  pub fails : IfErr result (Fails drive input old new events)
+-- the replies to these commands were written, and no report yet
+pub record AreWritten (g : Graph) (drive : Drive) (X : Facts) (commands : List Command) (replies : List Reply) (events : List (List Event)) (ending : Ending) (before behind : Option (List ℕ)) : Type 0 where
+  pub answered : AreReplies g drive X commands replies events
+  pub ends : ending ≡ ending_of commands replies
+  pub written : Appends before behind (replies_text g replies)
+
+-- these first commands were answered, and no further one
+pub record HasBegun (g : Graph) (drive : Drive) (X : Facts) (commands begun : List Command) (replies : List Reply) (events : List (List Event)) : Type 0 where
+  pub left : List Command
+  pub split : commands ≡ begun ++ left
+  pub answered : AreReplies g drive X begun replies events
+
+module _ {D : Type 0} (files : D → Side → File) (moment : D → ℕ) (left_at : D → ℕ → Contents → Type 0) (failures refusals : D → ℕ) (honest : Type 0) (drive : Drive) where
+  -- What came of the commands of a script: which of them were begun, what was replied, which events came by each line, and how the core went on by them. At `Ok` all
+  -- were begun, and the whole of it is so. At an error the output failed, or memory was refused, behind some of them.
+  pub record AnswersBy (whole : List Reply → List (List Event) → Ending → Type 0) (commands : List Command) (old new : Core D) (result : Result Ending SessionError) : Type 0 where
+    pub begun : List Command
+    pub replies : List Reply
+    pub events : List (List Event)
+    pub goes_on : GoesOnByAll files moment left_at failures refusals honest old new begun replies events
+    pub closes : IfOk result (λ ending. (begun ≡ commands) × whole replies events ending)
+    pub fails : IfErr result (λ error. IsOfOutput error × HasBegun (graph old) drive (facts old) commands begun replies events)
+
+  -- the commands were answered without a report
+  abbrev pub AnswersLines : List Command → (before behind : Option (List ℕ)) → Core D → Core D → Result Ending SessionError → Type 0
+  AnswersLines commands before behind old new result = AnswersBy (λ replies events ending. AreWritten (graph old) drive (facts old) commands replies events ending before behind) commands old new result
+
+  -- and with it
+  abbrev pub AnswersCommands : List Command → (before behind : Option (List ℕ)) → Core D → Core D → Result Ending SessionError → Type 0
+  AnswersCommands commands before behind old new result = AnswersBy (λ replies events ending. Closes (graph old) drive (facts old) commands replies events ending before behind) commands old new result
+
+  -- the script that a reader has was read, and its commands were answered
+  pub record AnswersScript (input before behind : Option (List ℕ)) (old new : Core D) (result : Result Ending SessionError) : Type 0 where
+    pub script : List ℕ
+    pub is_all : IsAllOf input script
+    pub commands : List Command
+    pub is_script : IsScript (graph old) script commands
+    pub answers : AnswersCommands commands before behind old new result
+
+  -- what a session comes to: it failed before its first line, or its script was answered
+  abbrev pub Answers : (input before behind : Option (List ℕ)) → Core D → Core D → Result Ending SessionError → Type 0
+  Answers input before behind old new result = FailsAtOnce input before behind old new result ⊎ AnswersScript input before behind old new result

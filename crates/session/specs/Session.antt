@@ -24,13 +24,17 @@ stop_of replied.NoMemory = Some stop.NoMemory
 stop_of replied.NoThread = Some stop.NoThread
 stop_of other = None
 
--- The replies to the commands in order, and the events that came by them, where these facts are there. Each command finds the facts of those before it; a reply
--- that ends the session is the last.
-abbrev pub AreReplies : Graph → Drive → Facts → List Command → List Reply → List Event → Type 0
+-- The replies to the commands in order, and the events that came by each of them, where these facts are there. Each command finds the facts of those before it; a
+-- reply that ends the session is the last.
+abbrev pub AreReplies : Graph → Drive → Facts → List Command → List Reply → (events : List (List Event)) → Type 0
 AreReplies g drive X [] replies events = (replies ≡ []) × (events ≡ [])
-AreReplies g drive X (command ∷ more) [] events = ⊥
-AreReplies g drive X (command ∷ more) (reply ∷ rest) events = (came : List Event) × (later : List Event) × (events ≡ came ++ later) × Replies g drive X command came reply
+AreReplies g drive X (command ∷ more) (reply ∷ rest) (came ∷ later) = Replies g drive X command came reply
     × (((stop_of reply ≡ None) × AreReplies g drive (with_facts X (stated.facts came)) more rest later) ⊎ ((stop_of reply ≢ None) × (rest ≡ []) × (later ≡ [])))
+AreReplies g drive X commands replies events = ⊥
+
+-- all events of some lines, in their order
+abbrev pub all_of : List (List Event) → List Event
+all_of events = flat_map (λ came. came) events
 
 -- ---- endings
 
@@ -76,21 +80,10 @@ abbrev pub IsClosing : Graph → Facts → Option Stop → List ℕ → Type 0
 IsClosing g X None text = IsReport g X text
 IsClosing g X (Some end) text = text ≡ []
 
--- A session of these commands where these facts are there: the replies, and then the report. The events that came, how it ended, and what is written.
-pub record IsSession (g : Graph) (drive : Drive) (X : Facts) (commands : List Command) (events : List Event) (ending : Ending) (text : List ℕ) : Type 0 where
-  pub replies : List Reply
+-- A session of these commands where these facts are there: the replies with the events that came by each line, and then the report. How it ended, and what is written.
+pub record IsSession (g : Graph) (drive : Drive) (X : Facts) (commands : List Command) (replies : List Reply) (events : List (List Event)) (ending : Ending) (text : List ℕ) : Type 0 where
   pub answered : AreReplies g drive X commands replies events
   pub ends : ending ≡ ending_of commands replies
   pub closing : List ℕ
-  pub closes : IsClosing g (with_facts X (stated.facts events)) ending.stop closing
+  pub closes : IsClosing g (with_facts X (stated.facts (all_of events))) ending.stop closing
   pub whole : text ≡ replies_text g replies ++ closing
-
--- ---- what is left of a session whose output failed
-
--- some first commands were answered, and no further one
-pub record HasBegun (g : Graph) (drive : Drive) (X : Facts) (commands : List Command) (events : List Event) : Type 0 where
-  pub begun : List Command
-  pub left : List Command
-  pub split : commands ≡ begun ++ left
-  pub replies : List Reply
-  pub answered : AreReplies g drive X begun replies events

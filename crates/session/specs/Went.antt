@@ -1,9 +1,10 @@
 -- How a core goes on by the lines of a script: the events that came, and what a crash leaves of them at each moment.
-use Rattle.std.specs.Prelude.{◌≡◌, ◌≤◌, ◌<◌, ◌↔◌, ℕ, true, false, List, [], ◌++◌, Option, Some}
+use Rattle.std.specs.Prelude.{◌≡◌, ◌≤◌, ◌<◌, ◌↔◌, ℕ, true, false, List, [], ◌∷◌, ◌++◌}
 use Rattle.disk.specs.declared.side.Side.{Side}
 use Rattle.disk.specs.File.{File}
 use Rattle.disk.specs.Time.{Contents, HasErred, LeavesOnly}
 use Rattle.terms.specs.declared.event.Event.{Event}
+use Rattle.terms.specs.declared.event.Event.TheVariants.{EnvItem, EnvTag}
 use Rattle.terms.specs.Facts.{Fact}
 use Rattle.terms.specs.Facts as stated
 use Rattle.terms.specs.Sets.{with_facts}
@@ -11,12 +12,33 @@ use Rattle.machine.specs.State.{AreLegalFrom}
 use Rattle.vault.specs.Commits.{StandsForBeginning}
 use Rattle.vault.specs.Opened.{contents_of}
 use Rattle.vault.specs.Store.{HasGates}
+use Rattle.commit.specs.Calls.{IsTooLong}
 use Rattle.commit.specs.Core.{Core, is_halted}
 use Rattle.commit.specs.Core as core
 use Rattle.commit.specs.MoveLaws.{KeepsStore}
-use Rattle.commit.specs.Runs.{one_by_one}
-use Rattle.session.specs.declared.ending.Stop.{Stop}
-use Rattle.session.specs.declared.ending.Stop.TheVariants as stop
+use Rattle.commit.specs.Runs.{IsFull, one_by_one}
+use Rattle.script.specs.declared.command.Command.{Command}
+use Rattle.script.specs.declared.command.Command.TheVariants.{Put, Tag, Get, Run}
+use Rattle.session.specs.declared.reply.Reply.{Reply}
+use Rattle.session.specs.declared.reply.Reply.TheVariants as replied
+use Rattle.session.specs.Session.{all_of}
+
+-- ---- causes
+
+-- the record of the put does not fit; or that of an end of an instance that may come
+abbrev pub HasNoRoom : {D : Type 0} → Core D → Core D → Command → Type 0
+HasNoRoom old new (Put address v) = IsTooLong old (EnvItem address v)
+HasNoRoom old new (Tag name) = IsTooLong old (EnvTag name)
+HasNoRoom old new Run = IsFull new
+HasNoRoom old new (Get address) = ⊥
+
+-- Why a line is replied to so: the core is halted, where the reply says so; the device failed meanwhile; what is full had no room.
+pub record HasCause {D : Type 0} (failures : D → ℕ) (old new : Core D) (command : Command) (reply : Reply) : Type 0 where
+  pub halted : reply ≡ replied.Halted → is_halted new ≡ true
+  pub device : reply ≡ replied.Device → failures old.vault.disk < failures new.vault.disk
+  pub full : reply ≡ replied.Full → HasNoRoom old new command
+
+-- ---- events
 
 module _ {D : Type 0} (files : D → Side → File) (moment : D → ℕ) (left_at : D → ℕ → Contents → Type 0) (failures refusals : D → ℕ) (honest : Type 0) where
   -- From a core that is not halted these events came, one after another, each as a commit of its own; and where it is halted now, those in doubt may have come
@@ -38,7 +60,14 @@ module _ {D : Type 0} (files : D → Side → File) (moment : D → ℕ) (left_a
     pub settled : is_halted new ≡ false → new.in_doubt ≡ []
     pub later : failures old.vault.disk ≤ failures new.vault.disk
 
--- where a reply of `refused 8` ended a session the core is halted, and where `refused 9` did the device failed meanwhile
-pub record HasCauseToStop {D : Type 0} (failures : D → ℕ) (old new : Core D) (end : Option Stop) : Type 0 where
-  pub halted : end ≡ Some stop.Halted → is_halted new ≡ true
-  pub device : end ≡ Some stop.Device → failures old.vault.disk < failures new.vault.disk
+  -- Line by line: from one line to the next the core goes on by the events of that line, and what is replied has its cause. So what came by a line is behind it when
+  -- the next one begins, and no crash undoes it from then on.
+  abbrev pub GoesOnByLine : Core D → Core D → List Command → List Reply → (events : List (List Event)) → Type 0
+  GoesOnByLine old new commands replies [] = new ≡ old
+  GoesOnByLine old new (command ∷ more) (reply ∷ rest) (came ∷ later) = (mid : Core D) × GoesOn old mid came × HasCause failures old mid command reply × GoesOnByLine mid new more rest later
+  GoesOnByLine old new commands replies events = ⊥
+
+  -- how the core goes on by these lines: by all their events together, and line by line
+  pub record GoesOnByAll (old new : Core D) (commands : List Command) (replies : List Reply) (events : List (List Event)) : Type 0 where
+    pub together : GoesOn old new (all_of events)
+    pub by_line : GoesOnByLine old new commands replies events

@@ -8,10 +8,10 @@ ghost use Rattle.machine.specs.Machine.{RefusesItem, RefusesTag, waiting_count};
 ghost use Rattle.machine.specs.Status.{NoneIsActive};
 ghost use Rattle.commit.specs.Core.{facts, graph, is_halted};
 ghost use Rattle.commit.specs.Runs.{NoneRuns, TellsVerdict};
-ghost use Rattle.script.specs.declared.command.Command.TheVariants.{Run};
+ghost use Rattle.script.specs.declared.command.Command.TheVariants.{Get, Put, Run, Tag as Label};
 ghost use Rattle.session.specs.Answers.{Replies, RepliesGet, RepliesPut, RepliesRun, TellsBlocked, TellsRun, drive_of, put_reply, reply_of};
 ghost use Rattle.session.specs.Session.{stop_of};
-ghost use Rattle.session.specs.Went.{GoesOn, HasCauseToStop};
+ghost use Rattle.session.specs.Went.{GoesOn, HasCause};
 
 use crate::reply::Reply;
 use crate::waiting::sort_by_name;
@@ -34,7 +34,7 @@ pub(crate) fn answer<D: Disk + Send, V: Driver>(
     ensures idle { NoneRuns result.0 }
     ensures replies { (came : List Came) × GoesOn D.files D.moment D.left_at D.failures D.refusals (IsTrue D.is_honest) core result.0 came
         × Replies (graph core) (drive_of limit V.may_be_asked V.may_spawn (is_halted core)) (facts core) command came result.1 }
-    ensures stops { HasCauseToStop D.failures core result.0 (stop_of result.1) }
+    ensures cause { HasCause D.failures core result.0 command result.1 }
     ensures stays { stop_of result.1 ≡ None → is_halted result.0 ≡ is_halted core }
 {
     match command {
@@ -62,7 +62,7 @@ fn put_item<D: Disk>(core: &mut Core<D>, address: Addr, value: i64) -> Reply
     ensures idle { NoneRuns core.new }
     ensures replies { (came : List Came) × GoesOn D.files D.moment D.left_at D.failures D.refusals (IsTrue D.is_honest) core.old core.new came
         × RepliesPut (graph core.old) (facts core.old) (RefusesItem (graph core.old) (facts core.old) address) (EnvItem address value) came result }
-    ensures stops { HasCauseToStop D.failures core.old core.new (stop_of result) }
+    ensures cause { HasCause D.failures core.old core.new (Put address value) result }
     ensures halt { (result ≡ Halted) ↔ (is_halted core.old ≡ true) }
     ensures stays { stop_of result ≡ None → is_halted core.new ≡ is_halted core.old }
 {
@@ -79,7 +79,7 @@ fn put_tag<D: Disk>(core: &mut Core<D>, tag: Tag) -> Reply
     ensures idle { NoneRuns core.new }
     ensures replies { (came : List Came) × GoesOn D.files D.moment D.left_at D.failures D.refusals (IsTrue D.is_honest) core.old core.new came
         × RepliesPut (graph core.old) (facts core.old) (RefusesTag (graph core.old) (facts core.old) tag) (EnvTag tag) came result }
-    ensures stops { HasCauseToStop D.failures core.old core.new (stop_of result) }
+    ensures cause { HasCause D.failures core.old core.new (Label tag) result }
     ensures halt { (result ≡ Halted) ↔ (is_halted core.old ≡ true) }
     ensures stays { stop_of result ≡ None → is_halted core.new ≡ is_halted core.old }
 {
@@ -104,7 +104,7 @@ fn put_reply(put: Result<(), CoreError>) -> Reply
 fn get<D: Disk>(core: &Core<D>, address: Addr) -> Reply
     ensures goes_on { GoesOn D.files D.moment D.left_at D.failures D.refusals (IsTrue D.is_honest) core.now core.now [] }
     ensures replies { RepliesGet (graph core.now) (facts core.now) address [] result }
-    ensures stops { HasCauseToStop D.failures core.now core.now (stop_of result) }
+    ensures cause { HasCause D.failures core.now core.now (Get address) result }
     ensures halt { (result ≡ Halted) ↔ (is_halted core.now ≡ true) }
 {
     stores_go_on::<D>();
@@ -115,7 +115,7 @@ fn get<D: Disk>(core: &Core<D>, address: Addr) -> Reply
 // The reply to a get.
 fn got<D: Disk>(core: &Core<D>, address: Addr) -> Reply
     ensures replies { RepliesGet (graph core.now) (facts core.now) address [] result }
-    ensures stops { HasCauseToStop D.failures core.now core.now (stop_of result) }
+    ensures cause { HasCause D.failures core.now core.now (Get address) result }
     ensures halt { (result ≡ Halted) ↔ (is_halted core.now ≡ true) }
 {
     let asked = address;
@@ -151,7 +151,7 @@ fn run<D: Disk + Send, V: Driver>(
     ensures idle { NoneRuns result.0 }
     ensures replies { (came : List Came) × GoesOn D.files D.moment D.left_at D.failures D.refusals (IsTrue D.is_honest) core result.0 came
         × RepliesRun (graph core) (drive_of limit V.may_be_asked V.may_spawn (is_halted core)) (facts core) came result.1 }
-    ensures stops { HasCauseToStop D.failures core result.0 (stop_of result.1) }
+    ensures cause { HasCause D.failures core result.0 Run result.1 }
     ensures halt { is_halted core ≡ true → result.1 ≡ Halted }
     ensures stays { stop_of result.1 ≡ None → is_halted result.0 ≡ is_halted core }
 {
@@ -166,7 +166,7 @@ fn run<D: Disk + Send, V: Driver>(
 // The reply to a run that ended so.
 fn told<D: Disk>(alloc: Global, core: &Core<D>, verdict: Result<Verdict, RunError>) -> Reply
     ensures tells { (may_be_asked may_spawn was_halted : Bool) (limit count : ℕ) → TellsVerdict may_be_asked may_spawn core.now limit count verdict → TellsRun (graph core.now) (drive_of limit may_be_asked may_spawn was_halted) (facts core.now) count result }
-    ensures stops { (may_be_asked may_spawn : Bool) (limit count : ℕ) → TellsVerdict may_be_asked may_spawn core.now limit count verdict → HasCauseToStop D.failures core.now core.now (stop_of result) }
+    ensures cause { (may_be_asked may_spawn : Bool) (limit count : ℕ) → TellsVerdict may_be_asked may_spawn core.now limit count verdict → HasCause D.failures core.now core.now Run result }
     ensures halt { verdict ≡ Ok AllHalted → result ≡ Halted }
     ensures stays { (may_be_asked may_spawn : Bool) (limit count : ℕ) → TellsVerdict may_be_asked may_spawn core.now limit count verdict → stop_of result ≡ None → is_halted core.now ≡ false }
 {

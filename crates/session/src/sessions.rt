@@ -1,14 +1,12 @@
 //! A script from its bytes to what is replied.
 ghost use Rattle.std.specs.Prelude.{◌≡◌, List, IfErr, IfOk, IsTrue, ℕ};
 ghost use Rattle.std.specs.Io.KnownBytes.{Appends};
-ghost use Rattle.terms.specs.declared.event.Event.{Event as Came};
 ghost use Rattle.script.specs.Script.{IsScript};
 ghost use Rattle.commit.specs.Core.{facts, graph, is_halted};
 ghost use Rattle.commit.specs.Runs.{NoneRuns};
 ghost use Rattle.session.specs.Answers.{drive_of};
-ghost use Rattle.session.specs.Fails.{Answers, FailsToRead, IsAllOf, IsOfOutput, IsRefusedAs};
-ghost use Rattle.session.specs.Session.{HasBegun, IsClosing, IsSession};
-ghost use Rattle.session.specs.Went.{GoesOn, HasCauseToStop};
+ghost use Rattle.session.specs.Fails.{Answers, AnswersCommands, FailsToRead, IsAllOf, IsOfOutput, IsRefusedAs};
+ghost use Rattle.session.specs.Session.{IsClosing};
 
 use crate::commands::run_commands;
 use crate::{Ending, SessionError};
@@ -24,8 +22,8 @@ use vault::stores_go_on;
 /// Runs a script on a store: reads it whole, does what its lines ask for one after another, and writes what is replied, and then the report.
 ///
 /// A run of the steps is the driver's, with this limit. A reply of `refused 8`, `9` or `10`, or that a thread could not be started, ends the session without a
-/// report. An error before the first line leaves the store as it was; behind one later, what was committed stays. At each moment a crash leaves what the first of
-/// the commits state.
+/// report. An error before the first line leaves the store and the output as they were; behind one later, what was committed stays. A crash at any moment of a line
+/// leaves all that came by the lines before it, and of its own commits the first few.
 pub fn session<D: Disk + Send, R: Read, W: Write, V: Driver>(
     alloc: Global,
     core: Core<D>,
@@ -88,10 +86,7 @@ fn run_script<D: Disk + Send, W: Write, V: Driver>(
 ) -> (Core<D>, Result<Ending, SessionError>)
     requires idle { NoneRuns core }
     ensures idle { NoneRuns result.0 }
-    ensures answers { (events : List Came) × GoesOn D.files D.moment D.left_at D.failures D.refusals (IsTrue D.is_honest) core result.0 events
-        × IfOk result.1 (λ ending. (text : List ℕ) × IsSession (graph core) (drive_of limit V.may_be_asked V.may_spawn (is_halted core)) (facts core) commands.now events ending text
-        × Appends (W.contents out.old) (W.contents out.new) text × HasCauseToStop D.failures core result.0 ending.stop)
-        × IfErr result.1 (λ error. IsOfOutput error × HasBegun (graph core) (drive_of limit V.may_be_asked V.may_spawn (is_halted core)) (facts core) commands.now events) }
+    ensures answers { AnswersCommands D.files D.moment D.left_at D.failures D.refusals (IsTrue D.is_honest) (drive_of limit V.may_be_asked V.may_spawn (is_halted core)) commands.now (W.contents out.old) (W.contents out.new) core result.0 result.1 }
 {
     let (core, went) = run_commands(alloc, core, commands, out, driver, limit);
     match went {

@@ -1,4 +1,4 @@
-use Rattle.std.proofs.Common.{List, ℕ, ap, inl, inr, sym, subst}
+use Rattle.std.proofs.Common.{List, ℕ, ap, inl, inr, refl, sym, subst}
 use Rattle.graph.specs.declared.limits.TheConstants.{MOST_TEXT}
 use Rattle.session.specs.Fails.{IsAllOrTooLarge}
 use Rattle.cli.specs.declared.outcome.Failure.{Failure}
@@ -13,4 +13,4 @@ returns-in-Ok-parse g c =
 pub returns : goal.returns
 returns g c =
     let text = subst (λ (bytes : List ℕ). IsAllOrTooLarge MOST_TEXT (g.R.Read.remaining c.args.input.now) bytes) (sym c.as_slice.ensures.value) c.in-Ok.ensures.read in
-    inr (c.as_slice.result.now, text, inr (c.in-Err-parse.fault, c.in-Err-parse.ensures.cause, ap (λ (why : Failure). Failed why) c.of_creation.ensures))
+    inr (c.as_slice.result.now, text, inr (c.in-Err-parse.fault, c.in-Err-parse.ensures.cause, ap (λ (why : Failure). Failed why) c.of_creation.ensures, refl))

@@ -1,4 +1,4 @@
-use Rattle.std.proofs.Common.{inr}
+use Rattle.std.proofs.Common.{inl, inr, refl}
 use Rattle.cli.proofs.obeying.report.Goals as goal
 
 pub returns-in-Ok : goal.returns-in-Ok
@@ -9,4 +9,15 @@ returns-in-Ok g c = inr (record {
   written = c.write_report.ensures;
   told = c.reported-outcome.ensures;
   disk = c.into_disk.ensures;
+})
+
+pub returns-in-Err : goal.returns-in-Err
+returns-in-Err g c = inl (record {
+  error = c.in-Err.refused.error;
+  told = refl;
+  of_opening = c.in-Err.ensures.errors;
+  only_reads = λ on. c.in-Err.ensures.only_reads on;
+  why = λ on. c.in-Err.ensures.tells on;
+  causes = c.in-Err.ensures.causes;
+  nothing_written = refl;
 })

@@ -1,4 +1,4 @@
-use Rattle.std.proofs.Common.{Bool, inr, subst, IsTrue}
+use Rattle.std.proofs.Common.{Bool, inl, inr, refl, subst, IsTrue}
 use Rattle.session.specs.Answers.{drive_of}
 use Rattle.session.specs.Fails.{Answers}
 use Rattle.cli.proofs.obeying.run.Goals as goal
@@ -13,4 +13,15 @@ returns-in-Ok g c = inr (record {
       (g.R.Read.remaining c.args.input.now) (g.W.Write.contents c.args.out.now) (g.W.Write.contents c.session-core.new.out) c.in-Ok.core c.session-core.result.0 c.session-core.result.1) c.in-Ok.ensures.opened.working c.session-core.ensures.answers;
   told = c.ran-outcome.ensures;
   disk = c.into_disk.ensures;
+})
+
+pub returns-in-Err : goal.returns-in-Err
+returns-in-Err g c = inl (record {
+  error = c.in-Err.refused.error;
+  told = refl;
+  of_opening = c.in-Err.ensures.errors;
+  only_reads = λ on. c.in-Err.ensures.only_reads on;
+  why = λ on. c.in-Err.ensures.tells on;
+  causes = c.in-Err.ensures.causes;
+  nothing_written = refl;
 })

@@ -1,4 +1,4 @@
-use Rattle.std.proofs.Common.{inr}
+use Rattle.std.proofs.Common.{inl, inr, refl}
 use Rattle.cli.proofs.obeying.turn.Goals as goal
 
 pub returns-in-Ok : goal.returns-in-Ok
@@ -10,6 +10,20 @@ returns-in-Ok g c = inr (record {
   turns = c.turn.ensures.ok;
   unchanged = c.turn.ensures.err;
   refused = c.turn.ensures.refused;
+  full = c.turn.ensures.full;
+  halts = c.turn.ensures.halts;
+  moments = λ on working. c.turn.ensures.moments on working;
   told = c.turned-outcome.ensures;
   disk = c.into_disk.ensures;
+})
+
+pub returns-in-Err : goal.returns-in-Err
+returns-in-Err g c = inl (record {
+  error = c.in-Err.refused.error;
+  told = refl;
+  of_opening = c.in-Err.ensures.errors;
+  only_reads = λ on. c.in-Err.ensures.only_reads on;
+  why = λ on. c.in-Err.ensures.tells on;
+  causes = c.in-Err.ensures.causes;
+  nothing_written = refl;
 })

@@ -1,15 +1,17 @@
-use Rattle.std.proofs.Common.{◌≡◌, ◌↔◌, List, None, true, sym, subst, w64, IsTrue}
+use Rattle.std.proofs.Common.{◌≡◌, ◌↔◌, List, None, true, sym, subst, w64, ℤ, IsTrue}
 use Rattle.std.proofs.lemmas.Int.{to_z-of_z}
 use Rattle.terms.specs.declared.event.Event.{Event}
 use Rattle.terms.specs.declared.event.Event.TheVariants.{EnvItem}
 use Rattle.machine.specs.Machine.{RefusesItem}
+use Rattle.commit.specs.Calls.{IsTooLong}
 use Rattle.commit.specs.Core.{facts, graph, is_halted}
+use Rattle.script.specs.declared.command.Command.TheVariants.{Put}
 use Rattle.session.specs.declared.reply.Reply.{Reply}
 use Rattle.session.specs.declared.reply.Reply.TheVariants.{Halted}
 use Rattle.session.specs.Answers.{RepliesPut, put_reply}
 use Rattle.session.specs.Session.{stop_of}
-use Rattle.session.specs.Went.{GoesOn, HasCauseToStop}
-use Rattle.session.proofs.Puts.{put_halt, put_stays, put_stops, replied_put}
+use Rattle.session.specs.Went.{GoesOn, HasCause}
+use Rattle.session.proofs.Puts.{put_cause, put_halt, put_stays, replied_put}
 use Rattle.session.proofs.answers.put_item.Goals as goal
 
 pub returns-clause-replies : goal.returns-clause-replies
@@ -25,10 +27,14 @@ returns-clause-replies g c =
     old new _ (RefusesItem (graph old) (facts old) c.args.address) c.is_kept.ensures.kept c.is_kept.ensures.settled
     c.put_item-put.result it.ok it.err it.refused it.doubt it.moments it.halts))
 
-pub returns-clause-stops : goal.returns-clause-stops
-returns-clause-stops g c =
-    subst (λ (reply : Reply). HasCauseToStop g.D.Disk.failures c.args.core.now c.put_item-put.new.self (stop_of reply)) (sym c.put_reply.ensures)
-    (put_stops g.D.Disk.failures g.D.Disk.refusals c.args.core.now c.put_item-put.new.self (RefusesItem (graph c.args.core.now) (facts c.args.core.now) c.args.address) _ c.put_item-put.result c.put_item-put.ensures.refused c.put_item-put.ensures.halts)
+pub returns-clause-cause : goal.returns-clause-cause
+returns-clause-cause g c =
+    let old = c.args.core.now in
+    let new = c.put_item-put.new.self in
+    subst (HasCause g.D.Disk.failures old new (Put c.args.address c.args.value)) (sym c.put_reply.ensures)
+    (put_cause g.D.Disk.failures g.D.Disk.refusals old new (RefusesItem (graph old) (facts old) c.args.address) _ (Put c.args.address c.args.value)
+    (λ is. subst (λ (value : ℤ). IsTooLong old (EnvItem c.args.address value)) (to_z-of_z w64 c.args.value c.ranges.value) is)
+    c.put_item-put.result c.put_item-put.ensures.refused c.put_item-put.ensures.halts)
 
 pub returns-clause-halt : goal.returns-clause-halt
 returns-clause-halt g c =

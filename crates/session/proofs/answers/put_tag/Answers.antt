@@ -3,12 +3,13 @@ use Rattle.terms.specs.declared.event.Event.{Event}
 use Rattle.terms.specs.declared.event.Event.TheVariants.{EnvTag}
 use Rattle.machine.specs.Machine.{RefusesTag}
 use Rattle.commit.specs.Core.{facts, graph, is_halted}
+use Rattle.script.specs.declared.command.Command.TheVariants.{Tag}
 use Rattle.session.specs.declared.reply.Reply.{Reply}
 use Rattle.session.specs.declared.reply.Reply.TheVariants.{Halted}
 use Rattle.session.specs.Answers.{RepliesPut}
 use Rattle.session.specs.Session.{stop_of}
-use Rattle.session.specs.Went.{GoesOn, HasCauseToStop}
-use Rattle.session.proofs.Puts.{put_halt, put_stays, put_stops, replied_put}
+use Rattle.session.specs.Went.{GoesOn, HasCause}
+use Rattle.session.proofs.Puts.{put_cause, put_halt, put_stays, replied_put}
 use Rattle.session.proofs.answers.put_tag.Goals as goal
 
 pub returns-clause-replies : goal.returns-clause-replies
@@ -21,10 +22,13 @@ returns-clause-replies g c =
     old c.put_tag-put.new.self (EnvTag c.args.tag) (RefusesTag (graph c.args.core.now) (facts c.args.core.now) c.args.tag) c.is_kept.ensures.kept c.is_kept.ensures.settled
     c.put_tag-put.result it.ok it.err it.refused it.doubt it.moments it.halts)
 
-pub returns-clause-stops : goal.returns-clause-stops
-returns-clause-stops g c =
-    subst (λ (reply : Reply). HasCauseToStop g.D.Disk.failures c.args.core.now c.put_tag-put.new.self (stop_of reply)) (sym c.put_reply.ensures)
-    (put_stops g.D.Disk.failures g.D.Disk.refusals c.args.core.now c.put_tag-put.new.self (RefusesTag (graph c.args.core.now) (facts c.args.core.now) c.args.tag) (EnvTag c.args.tag) c.put_tag-put.result c.put_tag-put.ensures.refused c.put_tag-put.ensures.halts)
+pub returns-clause-cause : goal.returns-clause-cause
+returns-clause-cause g c =
+    let old = c.args.core.now in
+    let new = c.put_tag-put.new.self in
+    subst (HasCause g.D.Disk.failures old new (Tag c.args.tag)) (sym c.put_reply.ensures)
+    (put_cause g.D.Disk.failures g.D.Disk.refusals old new (RefusesTag (graph old) (facts old) c.args.tag) (EnvTag c.args.tag) (Tag c.args.tag) (λ is. is)
+    c.put_tag-put.result c.put_tag-put.ensures.refused c.put_tag-put.ensures.halts)
 
 pub returns-clause-halt : goal.returns-clause-halt
 returns-clause-halt g c =

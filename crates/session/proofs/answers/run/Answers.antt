@@ -10,11 +10,11 @@ use Rattle.commit.specs.declared.verdict.Verdict.{Verdict}
 use Rattle.commit.specs.Core.{Core, facts, graph, is_halted}
 use Rattle.commit.specs.Runs.{TellsVerdict}
 use Rattle.commit.proofs.Lists.{first_ends, with_nothing}
+use Rattle.script.specs.declared.command.Command.TheVariants.{Run}
 use Rattle.session.specs.Answers.{RepliesRun, TellsRun, drive_of}
-use Rattle.session.specs.Session.{stop_of}
-use Rattle.session.specs.Went.{GoesOn, HasCauseToStop}
+use Rattle.session.specs.Went.{GoesOn, HasCause}
 use Rattle.session.proofs.Coming.{nothing_came, of_run}
-use Rattle.session.proofs.Ran.{front_legal, stop_before}
+use Rattle.session.proofs.Ran.{cause_before, front_legal}
 use Rattle.session.proofs.answers.run.Goals as goal
 
 pub returns-clause-replies : goal.returns-clause-replies
@@ -50,18 +50,18 @@ returns-clause-replies g c = by_halted (is_halted c.args.core) refl
           },
         )
 
-pub returns-clause-stops : goal.returns-clause-stops
-returns-clause-stops g c = by_halted (is_halted c.args.core) refl
+pub returns-clause-cause : goal.returns-clause-cause
+returns-clause-cause g c = by_halted (is_halted c.args.core) refl
   where
-    by_halted : (b : Bool) → is_halted c.args.core ≡ b → HasCauseToStop g.D.Disk.failures c.args.core c.run-core.result.0 (stop_of c.told-reply.result)
+    by_halted : (b : Bool) → is_halted c.args.core ≡ b → HasCause g.D.Disk.failures c.args.core c.run-core.result.0 Run c.told-reply.result
     by_halted true halted =
         let same = c.run-core.ensures.halted halted in
-        stop_before g.D.Disk.failures c.args.core c.run-core.result.0 _ (c.told-reply.ensures.stops g.V.Driver.may_be_asked g.V.Driver.may_spawn c.args.limit 0
+        cause_before g.D.Disk.failures c.args.core c.run-core.result.0 _ (c.told-reply.ensures.cause g.V.Driver.may_be_asked g.V.Driver.may_spawn c.args.limit 0
         (subst (λ (r : Result Verdict RunError). TellsVerdict g.V.Driver.may_be_asked g.V.Driver.may_spawn c.run-core.result.0 c.args.limit 0 r) (sym same.1)
         (subst (λ (core : Core g.row.D.Denot). is_halted core ≡ true) (sym same.0) halted)))
     by_halted false working =
         let it = c.run-core.ensures.runs working in
-        stop_before g.D.Disk.failures c.args.core c.run-core.result.0 _ (c.told-reply.ensures.stops g.V.Driver.may_be_asked g.V.Driver.may_spawn c.args.limit (length it.ends) it.told)
+        cause_before g.D.Disk.failures c.args.core c.run-core.result.0 _ (c.told-reply.ensures.cause g.V.Driver.may_be_asked g.V.Driver.may_spawn c.args.limit (length it.ends) it.told)
 
 pub returns-clause-halt : goal.returns-clause-halt
 returns-clause-halt g c halted = c.told-reply.ensures.halt (c.run-core.ensures.halted halted).1

@@ -3,7 +3,7 @@ use Rattle.std.specs.Prelude.{Result}
 use Rattle.commit.specs.declared.verdict.RunError.{RunError}
 use Rattle.commit.specs.declared.verdict.Verdict.{Verdict}
 use Rattle.commit.specs.Runs.{TellsVerdict}
-use Rattle.session.proofs.Told.{blocked_stops, told_blocked, told_complete}
+use Rattle.session.proofs.Told.{blocked_cause, told_blocked, told_complete}
 use Rattle.session.proofs.answers.told.Goals as goal
 
 pub returns-in-Ok-Complete-clause-tells : goal.returns-in-Ok-Complete-clause-tells
@@ -15,11 +15,11 @@ returns-in-Ok-Complete-clause-tells g c may_be_asked may_spawn was_halted limit 
 pub returns-in-Ok-Blocked-clause-tells : goal.returns-in-Ok-Blocked-clause-tells
 returns-in-Ok-Blocked-clause-tells g c may_be_asked may_spawn was_halted limit count told =
     let at = c.in-Ok-Blocked.is ∙ ap Ok c.in-Ok-Blocked.field-0-is in
-    told_blocked c.args.core.now may_be_asked may_spawn was_halted limit count _ c.blocked.result
+    told_blocked c.args.core.now c.is_kept.ensures.machine may_be_asked may_spawn was_halted limit count _ c.blocked.result
     (subst (λ (r : Result Verdict RunError). TellsVerdict may_be_asked may_spawn c.args.core.now limit count r) at told) c.blocked.ensures
 
-pub returns-in-Ok-Blocked-clause-stops : goal.returns-in-Ok-Blocked-clause-stops
-returns-in-Ok-Blocked-clause-stops g c may_be_asked may_spawn limit count told =
+pub returns-in-Ok-Blocked-clause-cause : goal.returns-in-Ok-Blocked-clause-cause
+returns-in-Ok-Blocked-clause-cause g c may_be_asked may_spawn limit count told =
     let at = c.in-Ok-Blocked.is ∙ ap Ok c.in-Ok-Blocked.field-0-is in
     let is = subst (λ (r : Result Verdict RunError). TellsVerdict may_be_asked may_spawn c.args.core.now limit count r) at told in
-    blocked_stops g.D.Disk.failures c.args.core.now c.blocked.result (c.blocked.ensures is.0.0 is.0.1.1 (λ none. is.1 (is.0.1.2 ∙ omega (arith, none))))
+    blocked_cause g.D.Disk.failures c.args.core.now c.blocked.result (c.blocked.ensures is.0.0 is.0.1.1 (λ none. is.1 (is.0.1.2 ∙ omega (arith, none))))

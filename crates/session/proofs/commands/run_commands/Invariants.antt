@@ -5,8 +5,9 @@ use Rattle.commit.specs.Core.{facts, graph, is_halted}
 use Rattle.commit.specs.Runs.{NoneRuns}
 use Rattle.session.specs.declared.reply.Reply.{Reply}
 use Rattle.session.specs.Answers.{drive_of}
-use Rattle.session.specs.Session.{replies_text}
+use Rattle.session.specs.Session.{all_of, replies_text}
 use Rattle.session.specs.Went.{GoesOn}
+use Rattle.session.proofs.Turns.{Linked}
 use Rattle.session.proofs.Went.{Went}
 use Rattle.session.proofs.commands.run_commands.Given as goal
 
@@ -16,9 +17,10 @@ invariant-loop-command g l = record {
   idle : NoneRuns l.core;
   none : l.ending.stop ≡ None;
   same : is_halted l.core ≡ is_halted l.initial.core;
-  events : List Event;
+  events : List (List Event);
   replies : List Reply;
-  goes : GoesOn g.D.Disk.files g.D.Disk.moment g.D.Disk.left_at g.D.Disk.failures g.D.Disk.refusals (IsTrue g.D.Disk.is_honest) l.initial.core l.core events;
+  goes : GoesOn g.D.Disk.files g.D.Disk.moment g.D.Disk.left_at g.D.Disk.failures g.D.Disk.refusals (IsTrue g.D.Disk.is_honest) l.initial.core l.core (all_of events);
+  linked : Linked g.D.Disk.files g.D.Disk.moment g.D.Disk.left_at g.D.Disk.failures g.D.Disk.refusals (IsTrue g.D.Disk.is_honest) l.initial.core l.core (take l.command-index l.commands) replies events;
   went : Went (graph l.initial.core) (drive_of l.limit g.V.Driver.may_be_asked g.V.Driver.may_spawn (is_halted l.initial.core)) (facts l.initial.core) (take l.command-index l.commands) l.ending replies events;
   written : Appends (g.W.Write.contents l.initial.out) (g.W.Write.contents l.out) (replies_text (graph l.initial.core) replies);
 }
