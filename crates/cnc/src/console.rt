@@ -3,6 +3,11 @@ use cli::Errors;
 use std::alloc::Global;
 use std::io::{self, Read, Stderr, Write};
 
+// How many characters of a line are shown in front of a caret, and how many at most.
+const MOST_BEFORE: usize = 60;
+
+const MOST_SHOWN: usize = 120;
+
 /// The error output, with the place of the fault that was told on it.
 #[derive(Drop)]
 pub(crate) struct Console {
@@ -55,7 +60,7 @@ impl<'a, R: Read> Kept<'a, R> {
         }
     }
 
-    /// Prints a line of the text, and below it a caret under this column, or under its first character.
+    /// Prints a line of the text, and below it a caret under this column, or under its first character. Of a long line the part around the caret is shown.
     pub(crate) fn point(&self, rt: &HostRuntime, line: usize, column: usize) {
         let text = str::from_utf8(self.text.as_slice()).unwrap_or("");
         let Some(line) = text.split('\n').nth(line.saturating_sub(1)) else {
@@ -63,9 +68,13 @@ impl<'a, R: Read> Kept<'a, R> {
         };
         let blanks = line.len() - line.trim_start().len();
         let column = if column == 0 { blanks } else { column - 1 };
-        let _ = writeln!(rt.stderr(), "  {line}");
+        let left_out = column.saturating_sub(MOST_BEFORE);
         let _ = write!(rt.stderr(), "  ");
-        for letter in line.chars().take(column) {
+        for letter in line.chars().skip(left_out).take(MOST_SHOWN) {
+            let _ = write!(rt.stderr(), "{letter}");
+        }
+        let _ = write!(rt.stderr(), "\n  ");
+        for letter in line.chars().skip(left_out).take(column - left_out) {
             let blank = if letter == '\t' { "\t" } else { " " };
             let _ = write!(rt.stderr(), "{blank}");
         }

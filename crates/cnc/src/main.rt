@@ -23,9 +23,12 @@ fn main(rt: HostRuntime) -> ExitCode {
     let status = match run(&rt) {
         Ok(status) => status,
         Err(error) => {
-            // A text that cannot be printed has no reader, and the status says as much.
-            let _ = error.print(&rt);
-            usage_status(&error)
+            let status = usage_status(&error);
+            match error.print(&rt) {
+                // The help that was asked for had no reader.
+                Err(_) if status == 0 => FAILED,
+                _ => status,
+            }
         }
     };
     ExitCode::from(status)
@@ -63,7 +66,7 @@ fn with_disk<R: Read>(rt: &HostRuntime, command: &Command<'_>, input: &mut R) ->
     }
     match FileDisk::open(rt.alloc(), rt, command.directory()) {
         Ok(disk) => pointed(rt, command, disk, input),
-        Err(DiskError::Device) => refused(rt, "device failed"),
+        Err(DiskError::Device) => no_directory(rt, command.directory()),
         Err(DiskError::NoMemory) => refused(rt, "no memory"),
     }
 }
@@ -101,6 +104,18 @@ fn done<D: Disk + Send + Drop, R: Read, V: Driver>(
     let (disk, status) = obey(rt.alloc(), command, disk, input, &mut out, &mut err, driver);
     drop(disk);
     (flushed(&mut out, status), err.place())
+}
+
+// Tells that a directory could not be opened, and a person why that may be.
+fn no_directory(rt: &HostRuntime, directory: &str) -> u8 {
+    let status = refused(rt, "device failed");
+    if rt.stderr().is_terminal() {
+        let _ = writeln!(
+            rt.stderr(),
+            "  Is {directory} a directory that you may write to, and that no other program has open?"
+        );
+    }
+    status
 }
 
 // Tells why a command was not begun.
