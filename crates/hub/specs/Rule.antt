@@ -1,0 +1,43 @@
+-- The rule of a hub's table. Word 0 is how many events there are, and word 1 is 1 once a stop was asked.
+use Rattle.std.specs.Prelude.{◌≡◌, ◌⊎◌, ⊤, ℕ, ◌<◌, ◌≤◌, true, List, [], ◌∷◌, length, IfSome}
+use mathlib.Core.List.{IsPrefix}
+use mathlib.Core.Option.{some}
+use lib.ListN.{get_elem?}
+use Rattle.atomic_table.specs.Table.{State}
+use Rattle.hub.specs.Known.{Known, Made, Book, SeatView, nobody, pass, desk, events, made_by}
+
+-- What a history has of a pass: it begins with what the pass has seen, what was made with the pass is all that it has of its number, and it is no
+-- shorter than what `commits` told.
+pub record IsInHistory (history : List Made) (known : Known) : Type 0 where
+  pub seen : IsPrefix known.seen (events history)
+  pub mine : made_by known.number history ≡ known.mine
+  pub told : known.told ≤ length history
+
+-- no pass from this number on has an event in the history
+abbrev pub HasNoneFrom : ℕ → List Made → Type 0
+HasNoneFrom count history = (number : ℕ) → count ≤ number → made_by number history ≡ []
+
+-- What the rule says of a pass that is with a seat. Of each number `home` tells one seat, so no two seats have the same pass.
+pub record IsPassOf (book : Book) (stop : ℕ) (home : ℕ → ℕ) (seat : ℕ) (known : Known) : Type 0 where
+  pub at_home : home known.number ≡ seat
+  pub numbered : known.number < book.passes
+  pub in_history : IsInHistory book.history known
+  pub asked : known.asked ≡ true → stop ≡ 1
+
+-- What the rule says of a seat. The keeper's alone has a book, and it is the book.
+abbrev pub Fits : Book → ℕ → ℕ → (ℕ → ℕ) → ℕ → SeatView → Type 0
+Fits book stop keeper home seat nobody = ⊤
+Fits book stop keeper home seat (pass known) = IsPassOf book stop home seat known
+Fits book stop keeper home seat (desk own) = (seat ≡ keeper) × (own.book ≡ book) × IfSome own.guest (IsPassOf book stop home seat)
+
+-- One seat is the keeper's, who has the book. Word 0 is the length of its history, word 1 is 0 or 1, and 1 where a pass has asked for a stop. Each
+-- pass has seen a beginning of the history, which has just the passes' events.
+pub record IsRuled (state : State (Unit {0}) SeatView) : Type 0 where
+  pub book : Book
+  pub stop : ℕ
+  pub keeper : ℕ
+  pub home : ℕ → ℕ
+  pub words : state.words ≡ length book.history ∷ stop ∷ []
+  pub flag : (stop ≡ 0) ⊎ (stop ≡ 1)
+  pub none_else : HasNoneFrom book.passes book.history
+  pub each : (seat : ℕ) (view : SeatView) → get_elem? state.views seat ≡ some view → Fits book stop keeper home seat view

@@ -1,0 +1,14 @@
+//! A store that threads share.
+#![tactic(auto)]
+
+mod board;
+mod desk;
+mod naming;
+mod rule;
+mod views;
+
+pub use board::Board;
+pub use desk::Desk;
+pub use naming::Naming;
+pub use rule::{Adds, Asks, Commit, Counts, Hears, Law, Learns, Lends, Makes, Words};
+pub use views::View;

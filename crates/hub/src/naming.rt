@@ -1,0 +1,21 @@
+use std::marker::Brand;
+
+/// Which hub it is. A program picks it once, where it opens the hub; each pass has it in its type, and so belongs to that hub alone.
+pub trait Naming {
+    ghost use Rattle.std.specs.Prelude.{ℕ};
+    ghost use Rattle.atomic_table.specs.Seated.{TableId};
+
+    /// The hub's two words.
+    ghost table: { TableId };
+
+    /// How many passes there are.
+    ghost passes: { ℕ };
+}
+
+impl Naming for Brand {
+    ghost use Rattle.std.specs.Prelude.{[]};
+
+    ghost table = { record { words = 0; slots = 0; views_name = 0; atom = 0; block = 0; offset = 0; slot_names = [] } };
+
+    ghost passes = { 0 };
+}
