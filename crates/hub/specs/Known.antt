@@ -91,3 +91,7 @@ writing event d = writing_for event d.book d.guest
 -- there is one pass more
 abbrev pub one_more : Desk → Desk
 one_more d = record d { book = record { history = d.book.history; passes = d.book.passes + 1 } }
+
+-- the event was made with the pass of this number
+abbrev pub writing_by : ℕ → Event → Desk → Desk
+writing_by number event d = record d { book = written number event d.book }

@@ -1,0 +1,34 @@
+use crate::{Naming, View};
+use atomic_table::Badge;
+use std::marker::{Model, PhantomData};
+
+/// Who has a pass: the environment, or a worker.
+pub trait Kind {
+    ghost use Rattle.terms.specs.declared.event.Event.{Event};
+
+    /// The events that may be made with it.
+    ghost makes: { Event → Type 0 };
+}
+
+/// The right to call a hub. A contract sees what its holder knows.
+///
+/// It belongs to the hub that its type names, and that hub has no other of its number.
+#[derive(Drop)]
+pub struct Pass<J: Naming, K: Kind> {
+    pub(crate) number: usize,
+    pub(crate) badge: Badge<View>,
+    pub(crate) of: PhantomData<(J, K)>,
+}
+
+impl<J: Naming, K: Kind> Model for Pass<J, K> {
+    ghost use Rattle.std.specs.Prelude.{◌≡◌};
+    ghost use Rattle.std.specs.List.{AllByRecursion};
+    ghost use Rattle.hub.specs.Known.{Known};
+    ghost use Rattle.hub.specs.Steps.{known, IsBadge};
+
+    ghost Value = { Known };
+
+    ghost view = { λ p. known p.badge.views };
+
+    ghost invariant = { λ p. IsBadge J.table p.badge × (p.number ≡ (known p.badge.views).number) × AllByRecursion K.makes (known p.badge.views).mine };
+}
