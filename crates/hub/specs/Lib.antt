@@ -1,3 +1,9 @@
 pub mod Known
 pub mod Rule
 pub mod Steps
+pub mod Opening
+pub mod Replies
+pub mod Ends
+pub mod Kept
+pub mod Whole
+pub mod Tasks

@@ -4,18 +4,25 @@ use std::marker::Brand;
 pub trait Naming {
     ghost use Rattle.std.specs.Prelude.{ℕ};
     ghost use Rattle.atomic_table.specs.Seated.{TableId};
+    ghost use Rattle.hub.specs.Opening.{Opening};
 
     /// The hub's two words.
     ghost table: { TableId };
 
     /// How many passes there are.
     ghost passes: { ℕ };
+
+    /// What the hub was opened with.
+    ghost opening: { Opening };
 }
 
 impl Naming for Brand {
     ghost use Rattle.std.specs.Prelude.{[]};
+    ghost use Rattle.hub.specs.Opening.{nothing};
 
     ghost table = { record { words = 0; slots = 0; views_name = 0; atom = 0; block = 0; offset = 0; slot_names = [] } };
 
     ghost passes = { 0 };
+
+    ghost opening = { nothing };
 }

@@ -10,6 +10,30 @@ pub trait Kind {
     ghost makes: { Event → Type 0 };
 }
 
+/// The environment, which puts items and tags, and gets items.
+pub struct Env;
+
+impl Kind for Env {
+    ghost use Rattle.machine.specs.Machine.{IsPut};
+
+    ghost makes = { IsPut };
+}
+
+/// A worker, who runs instances.
+pub struct Work;
+
+impl Kind for Work {
+    ghost use Rattle.commit.specs.Runs.{IsEnd};
+
+    ghost makes = { IsEnd };
+}
+
+/// A pass of the environment.
+pub type EnvPass<J> = Pass<J, Env>;
+
+/// A pass of a worker.
+pub type WorkPass<J> = Pass<J, Work>;
+
 /// The right to call a hub. A contract sees what its holder knows.
 ///
 /// It belongs to the hub that its type names, and that hub has no other of its number.

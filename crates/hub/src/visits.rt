@@ -2,19 +2,24 @@
 ghost use Rattle.std.specs.Prelude.{◌≡◌, ◌+◌, ◌<◌, ◌^◌, None, length};
 ghost use Rattle.hub.specs.Known.{up_to_date, with_event, writing_by};
 ghost use Rattle.hub.specs.Rule.{IsInHistory};
+ghost use Rattle.hub.specs.Ends.{end_of};
+ghost use Rattle.hub.specs.Replies.{Shows, Writes};
+ghost use Rattle.terms.specs.declared.event.Event.TheVariants.{EnvItem, EnvTag};
 
 use crate::rule::Commit;
-use crate::{Board, Desk, Kind, Naming, Pass};
+use crate::{Board, Desk, Env, EnvPass, Kind, Naming, Pass, Work, WorkPass};
 use atomic_table::Badge;
+use commit::{Committed, Outcome};
 use std::mem;
+use std::snapshot::Snapshot;
+use terms::{Addr, Inst, Tag};
 
 impl<J: Naming> Board<J> {
     // The pass sees the history.
     pub(crate) fn show<K: Kind>(&self, desk: &mut Desk<J>, pass: &mut Pass<J, K>)
         requires { desk.old.guest ≡ None }
         ensures desk { desk.new ≡ desk.old }
-        ensures pass { pass.new ≡ up_to_date desk.old.book.history pass.old }
-        ensures before { IsInHistory desk.old.book.history pass.old }
+        ensures pass { Shows desk.old.book.history pass.old pass.new }
     {
         let badge = mem::replace(&mut pass.badge, Badge::blank());
         self.lend(desk, badge);
@@ -27,12 +32,59 @@ impl<J: Naming> Board<J> {
         requires room { length desk.old.book.history + 1 < 2 ^ 64 }
         requires kind { K.makes M.event }
         ensures desk { desk.new ≡ writing_by pass.old.number M.event desk.old }
-        ensures pass { pass.new ≡ up_to_date desk.new.book.history (with_event M.event pass.old) }
-        ensures before { IsInHistory desk.old.book.history pass.old }
+        ensures pass { Writes M.event desk.old.book.history desk.new.book.history pass.old pass.new }
     {
         let badge = mem::replace(&mut pass.badge, Badge::blank());
         self.lend(desk, badge);
         self.write::<M>(desk);
         pass.badge = self.give_back(desk);
+    }
+    // The environment's item is put with its pass.
+    pub(crate) fn record_item<M: Commit>(
+        &self,
+        desk: &mut Desk<J>,
+        pass: &mut EnvPass<J>,
+        addr: Addr,
+        value: i64,
+    )
+        requires alone { desk.old.guest ≡ None }
+        requires room { length desk.old.book.history + 1 < 2 ^ 64 }
+        requires event { M.event ≡ EnvItem addr value }
+        ensures desk { desk.new ≡ writing_by pass.old.number (EnvItem addr value) desk.old }
+        ensures writes { Writes (EnvItem addr value) desk.old.book.history desk.new.book.history pass.old pass.new }
+    {
+        let _ = (addr, value);
+        self.record::<Env, M>(desk, pass);
+    }
+
+    // The environment's tag is put with its pass.
+    pub(crate) fn record_tag<M: Commit>(&self, desk: &mut Desk<J>, pass: &mut EnvPass<J>, tag: Tag)
+        requires alone { desk.old.guest ≡ None }
+        requires room { length desk.old.book.history + 1 < 2 ^ 64 }
+        requires event { M.event ≡ EnvTag tag }
+        ensures desk { desk.new ≡ writing_by pass.old.number (EnvTag tag) desk.old }
+        ensures writes { Writes (EnvTag tag) desk.old.book.history desk.new.book.history pass.old pass.new }
+    {
+        let _ = tag;
+        self.record::<Env, M>(desk, pass);
+    }
+
+    // The end of an instance is made with the pass of its worker.
+    pub(crate) fn record_end<M: Commit>(
+        &self,
+        desk: &mut Desk<J>,
+        pass: &mut WorkPass<J>,
+        committed: Committed,
+        instance: Inst,
+        outcome: &Snapshot<Outcome<'_>>,
+    )
+        requires alone { desk.old.guest ≡ None }
+        requires room { length desk.old.book.history + 1 < 2 ^ 64 }
+        requires event { M.event ≡ end_of committed instance outcome.now.value }
+        ensures desk { desk.new ≡ writing_by pass.old.number (end_of committed instance outcome.now.value) desk.old }
+        ensures writes { Writes (end_of committed instance outcome.now.value) desk.old.book.history desk.new.book.history pass.old pass.new }
+    {
+        let _ = (committed, instance, outcome);
+        self.record::<Work, M>(desk, pass);
     }
 }

@@ -1,0 +1,100 @@
+-- What stands under the lock is kept.
+use Rattle.std.proofs.Common.{◌≡◌, ◌∙◌, ◌≤◌, ◌<◌, ◌+◌, ◌^◌, ◌⊎◌, ⊎_elim, ℕ, Bool, true, false, true≢false, List, [], ◌∷◌, ◌++◌, length, refl, sym, ap, subst, arith, length-append, inl, inr, Result, Ok, Err, is_ok}
+use Rattle.disk.specs.declared.side.Side.{Side}
+use Rattle.disk.specs.File.{File}
+use Rattle.disk.specs.Time.{Contents}
+use Rattle.terms.specs.declared.event.Event.{Event}
+use Rattle.terms.specs.Facts.{FactsGoOn, EnvironmentGoesOn}
+use Rattle.terms.specs.Sets.{AmongBoth}
+use Rattle.journal.specs.declared.journal.TheConstants.{LIMIT}
+use Rattle.machine.specs.declared.refusal.Refusal.{Refusal}
+use Rattle.vault.specs.declared.error.VaultError.TheVariants as vault
+use Rattle.commit.specs.declared.error.CoreError.{CoreError}
+use Rattle.commit.specs.declared.error.CoreError.TheVariants.{Store}
+use Rattle.commit.specs.Core.{Core, is_halted}
+use Rattle.commit.specs.Calls.{Takes, Commits, Halts, IsUnchanged, Stays, IsInDoubt}
+use Rattle.commit.specs.Kept.{IsHaltedByTurn}
+use Rattle.commit.specs.Steps.{Moves}
+use Rattle.instances.specs.declared.state.State.{State}
+use Rattle.terms.specs.declared.name.Inst.{Inst}
+use Rattle.vault.specs.declared.vault.Vault.{Vault}
+use Rattle.hub.specs.Known.{Desk, Made, events, writing_by}
+use Rattle.hub.specs.Opening.{Opening, AreLegalBehind, IsBehind}
+use Rattle.hub.specs.Kept.{IsKept, CommitsAs}
+use Rattle.hub.proofs.Lists.{events_append, events_length}
+use Rattle.hub.proofs.States.{legal_more, behind_more, behind_same}
+
+-- the history has room for one event more where its record fits
+pub has_room : {D T : Type 0} (files : D → Side → File) (moment : D → ℕ) (left_at : D → ℕ → Contents → Type 0) (honest : Type 0) (why : Refusal → Type 0)
+    (opening : Opening) (passes : ℕ) (d : Desk) (old new : Core D) (event : Event) (value : T)
+    → IsKept opening passes d old → Commits files moment left_at honest old new why event (Ok value) → length d.book.history + 1 < 2 ^ 64
+has_room files moment left_at honest why opening passes d old new event value kept commits =
+    let takes : Takes old new event = commits.takes in
+    let short : length d.book.history ≤ old.vault.journal.end = kept.short takes.working.0 in
+    small (length d.book.history) old.vault.journal.end _ short (λ long. ⊎_elim (λ (full : Ok value ≡ Err (Store vault.Full)). no_error full) (λ (none : Ok value ≡ Err (Store vault.NoMemory)). no_error none) (commits.full takes.working.0 takes.legal long))
+  where
+    no_error : {error : CoreError} → Ok value ≡ Err error → ⊥
+    no_error is = true≢false (ap is_ok is)
+    small : (count end record_length : ℕ) → count ≤ end → (LIMIT ≤ end + record_length → ⊥) → count + 1 < 2 ^ 64
+    small count end record_length short fits = omega (arith, short, fits)
+
+-- an event comes
+pub kept_more : AmongBoth → FactsGoOn → EnvironmentGoesOn → {D : Type 0} (opening : Opening) (passes number : ℕ) (d : Desk) (old new : Core D) (event : Event)
+    → IsKept opening passes d old → Takes old new event → IsKept opening passes (writing_by number event d) new
+kept_more both go_on goes_on opening passes number d old new event kept takes =
+    let history : List Made = d.book.history in
+    let more : events (history ++ record { pass = number; event = event } ∷ []) ≡ events history ++ event ∷ [] = events_append history (record { pass = number; event = event } ∷ []) in record {
+      alone = kept.alone;
+      passes = kept.passes;
+      behind = subst (λ (list : List Event). IsBehind opening list new) (sym more) (behind_more both go_on goes_on opening (events history) event old new kept.behind takes);
+      legal = subst (AreLegalBehind opening) (sym more) (legal_more both opening (events history) event old kept.legal kept.behind takes.legal);
+      short = λ _. omega (arith, kept.short takes.working.0, takes.moved, length-append history (record { pass = number; event = event } ∷ []));
+      not_turned = λ _ turned. absurd (true≢false (sym turned.0 ∙ takes.working.1));
+    }
+
+-- no event comes
+pub kept_same : {D T : Type 0} (failures refusals : D → ℕ) (opening : Opening) (passes : ℕ) (d : Desk) (old new : Core D) (event : Event) (error : CoreError)
+    → IsKept opening passes d old → Stays old new → Halts {T = T} failures refusals old new (Err error) → IsInDoubt {T = T} old new event (Err error) → IsKept opening passes d new
+kept_same failures refusals opening passes d old new event error kept stays halts doubt = record {
+  alone = kept.alone;
+  passes = kept.passes;
+  behind = behind_same opening (events d.book.history) old new kept.behind stays;
+  legal = kept.legal;
+  short = λ working. let before = not_before (is_halted old) refl working in
+      subst (λ (end : ℕ). length d.book.history ≤ end) (sym (halts.same (working ∙ sym before)).0.end) (kept.short before);
+  not_turned = λ opened turned. by_case (is_halted old) refl opened turned;
+}
+  where
+    not_before : (was : Bool) → is_halted old ≡ was → is_halted new ≡ false → is_halted old ≡ false
+    not_before false is working = is
+    not_before true is working = absurd (true≢false (sym (halts.halts.1 (inl is)) ∙ working))
+    by_case : (was : Bool) → is_halted old ≡ was → opening.halted ≡ false → IsHaltedByTurn new → ⊥
+    by_case false is opened turned = no_event (sym (doubt is turned.0) ∙ turned.1)
+      where
+        no_event : event ∷ [] ≡ [] → ⊥
+        no_event e = omega (arith, ap length e)
+    by_case true is opened turned = kept.not_turned opened (is, sym (halts.same (turned.0 ∙ sym is)).1 ∙ turned.1)
+
+-- no event comes, and nothing happens to the files
+pub kept_on : {D : Type 0} (opening : Opening) (passes : ℕ) (d : Desk) (old new : Core D) → IsKept opening passes d old → Stays old new → new.vault ≡ old.vault → new.in_doubt ≡ old.in_doubt → IsKept opening passes d new
+kept_on {D = D} opening passes d old new kept stays files doubt = record {
+  alone = kept.alone;
+  passes = kept.passes;
+  behind = behind_same opening (events d.book.history) old new kept.behind stays;
+  legal = kept.legal;
+  short = λ working. subst (λ (end : ℕ). length d.book.history ≤ end) (ap (λ (v : Vault D). v.journal.end) (sym files)) (kept.short (ap (λ (v : Vault D). v.halted) (sym files) ∙ working));
+  not_turned = λ opened turned. kept.not_turned opened (ap (λ (v : Vault D). v.halted) (sym files) ∙ turned.0, sym doubt ∙ turned.1);
+}
+
+pub moves_stay : {D : Type 0} (old new : Core D) (instance : Inst) (to : State) → Moves old new instance to → Stays old new
+moves_stay old new instance to moves = record { graph = moves.machine.graph; facts = moves.machine.facts; environment = moves.machine.environment; allowance = moves.allowance }
+
+pub kept_moved : {D : Type 0} (opening : Opening) (passes : ℕ) (d : Desk) (old new : Core D) (instance : Inst) (to : State) → IsKept opening passes d old → Moves old new instance to → IsKept opening passes d new
+kept_moved opening passes d old new instance to kept moves = kept_on opening passes d old new kept (moves_stay old new instance to moves) moves.vault moves.in_doubt
+
+-- what a call tells of the core that is kept, it tells of the core that is seen, and of the event as it is named
+pub commits_as : {D T : Type 0} (files : D → Side → File) (moment : D → ℕ) (left_at : D → ℕ → Contents → Type 0) (failures refusals : D → ℕ) (honest : Type 0) (inside seen new : Core D) (why : Core D → Refusal → Type 0)
+    (event named : Event) (result : Result T CoreError) → inside ≡ seen → event ≡ named
+    → CommitsAs files moment left_at failures refusals honest inside new (why inside) event result → CommitsAs files moment left_at failures refusals honest seen new (why seen) named result
+commits_as {D = D} files moment left_at failures refusals honest inside seen new why event named result core_is event_is =
+    subst (λ (at : Core D × Event). CommitsAs files moment left_at failures refusals honest at.0 new (why at.0) at.1 result) (λ i. (core_is i, event_is i))

@@ -1,0 +1,102 @@
+-- What a locked call tells its pass.
+use Rattle.std.proofs.Common.{◌≡◌, ◌∙◌, ◌≤◌, List, [], ◌∷◌, ◌++◌, length, refl, sym, ap, subst, arith, length-append, ◌||◌, Bool, true, false, true≢false}
+use mathlib.Core.List.{IsPrefix}
+use Rattle.terms.specs.declared.event.Event.{Event}
+use Rattle.terms.specs.Facts.{Fact, FactsGoOn}
+use Rattle.terms.specs.Facts as stated
+use Rattle.terms.specs.Sets.{Facts, AmongBoth, among, with_facts}
+use Rattle.hub.specs.Rule.{IsInHistory}
+use Rattle.graph.specs.Graph.{Graph}
+use Rattle.machine.specs.declared.refusal.Refusal.{Refusal}
+use Rattle.vault.specs.declared.error.VaultError.TheVariants as vault
+use Rattle.commit.specs.declared.error.CoreError.{CoreError}
+use Rattle.commit.specs.declared.error.CoreError.TheVariants.{Refused, Store}
+use Rattle.commit.specs.Core.{Core}
+use Rattle.commit.specs.Core as core
+use Rattle.commit.specs.Calls.{Refuses}
+use Rattle.hub.specs.Known.{Known, Made, events, up_to_date, with_event}
+use Rattle.hub.specs.Opening.{Opening, facts_behind, AreLegalBehind, IsBehind}
+use Rattle.hub.specs.Replies.{Sees, Adds, AddsNothing, Shows, Writes, RefusesAt, RefusesEvent}
+use Rattle.hub.proofs.Lists.{events_append, events_length, prefix_more}
+
+-- a call that adds nothing
+pub sees_same : (opening : Opening) (history : List Made) (old new : Known) → AreLegalBehind opening (events history) → Shows history old new → Sees opening old new
+sees_same opening history old new legal shows = subst (Sees opening old) (sym shows.pass) (record {
+  starts = shows.before.seen;
+  legal = legal;
+  told = omega (arith, shows.before.told, events_length history);
+  same = (refl, refl, refl);
+})
+
+pub adds_nothing : (history : List Made) (old new : Known) → Shows history old new → AddsNothing old new
+adds_nothing history old new shows = ap (λ (known : Known). known.mine) shows.pass
+
+pub tells_nothing : (opening : Opening) (history : List Made) (old new : Known) → AreLegalBehind opening (events history) → Shows history old new → Sees opening old new × AddsNothing old new
+tells_nothing opening history old new legal shows = (sees_same opening history old new legal shows, adds_nothing history old new shows)
+
+-- a call that adds an event
+pub sees_more : (opening : Opening) (event : Event) (before after : List Made) (old new : Known) → AreLegalBehind opening (events after) → Writes event before after old new → Sees opening old new
+sees_more opening event before after old new legal writes =
+    let more : events after ≡ events before ++ event ∷ [] = ap events writes.history ∙ events_append before (record { pass = old.number; event = event } ∷ []) in
+    subst (Sees opening old) (sym writes.pass) (record {
+      starts = subst (IsPrefix old.seen) (sym more) (prefix_more old.seen (events before) (event ∷ []) writes.before.seen);
+      legal = legal;
+      told = omega (arith, writes.before.told, events_length before, ap length more, length-append (events before) (event ∷ []));
+      same = (refl, refl, refl);
+    })
+
+pub adds_one : (event : Event) (before after : List Made) (old new : Known) → Writes event before after old new → Adds event old new
+adds_one event before after old new writes = subst (Adds event old) (sym writes.pass) (record {
+  before = events before;
+  starts = writes.before.seen;
+  ends = ap events writes.history ∙ events_append before (record { pass = old.number; event = event } ∷ []);
+  mine = refl;
+})
+
+-- the state that the pass knows is the core's
+pub known_state : {D : Type 0} (opening : Opening) (history : List Made) (old new : Known) (c : Core D) → IsBehind opening (events history) c → Shows history old new → core.facts c ≡ facts_behind opening new.seen
+known_state opening history old new c behind shows = behind.facts ∙ ap (λ (known : Known). facts_behind opening known.seen) (sym shows.pass)
+
+-- the causes of a refusal are there
+refuses_at : {D : Type 0} (c : Core D) (g : Graph) (X : Facts) (why : Graph → Facts → Refusal → Type 0) (event : Event) (error : CoreError) → core.graph c ≡ g → core.facts c ≡ X
+    → Refuses c (why (core.graph c) (core.facts c)) event error → RefusesAt g X (why g X) event error
+refuses_at c g X why event error same_graph same_facts refuses =
+    subst (λ (at : Graph × Facts). RefusesAt at.0 at.1 (why at.0 at.1) event error) (λ i. (same_graph i, same_facts i)) (here error refuses)
+  where
+    here : (error : CoreError) → Refuses c (why (core.graph c) (core.facts c)) event error → RefusesAt (core.graph c) (core.facts c) (why (core.graph c) (core.facts c)) event error
+    here (Refused refusal) is = is.1
+    here (Store vault.Halted) is = tt
+    here (Store vault.Full) is = is.1
+    here (Store vault.Device) is = is.1
+    here (Store vault.NoMemory) is = is.1
+    here (Store (vault.Damaged side place)) is = is
+    here (Store vault.NotAStore) is = is
+    here (Store vault.Exists) is = is
+
+pub refuses_there : {D : Type 0} (opening : Opening) (history : List Made) (old new : Known) (c : Core D) (why : Graph → Facts → Refusal → Type 0) (event : Event) (error : CoreError)
+    → IsBehind opening (events history) c → Shows history old new → Refuses c (why (core.graph c) (core.facts c)) event error → RefusesEvent opening new why event error
+refuses_there opening history old new c why event error behind shows refuses =
+    refuses_at c opening.graph (facts_behind opening new.seen) why event error behind.graph (known_state opening history old new c behind shows) refuses
+
+-- ---- a pass that sees the history first
+
+-- the event that is then made is made with the pass as it was
+pub writes_from : (event : Event) (before after : List Made) (old seen new : Known) → Shows before old seen → Writes event before after seen new → Writes event before after old new
+writes_from event before after old seen new shows writes = record {
+  before = shows.before;
+  history = writes.history ∙ ap (λ (known : Known). before ++ record { pass = known.number; event = event } ∷ []) shows.pass;
+  pass = writes.pass ∙ ap (λ (known : Known). up_to_date after (with_event event known)) shows.pass;
+}
+
+-- what the pass has seen is there for the core
+pub seen_stays : AmongBoth → FactsGoOn → {D : Type 0} (opening : Opening) (history : List Made) (known : Known) (c : Core D) → IsBehind opening (events history) c → IsInHistory history known
+    → (fact : Fact) → facts_behind opening known.seen fact ≡ true → core.facts c fact ≡ true
+seen_stays both go_on opening history known c behind before fact there =
+    ap (λ (X : Facts). X fact) (behind.facts ∙ ap (facts_behind opening) (sym before.seen.1) ∙ ap (with_facts opening.facts) (go_on known.seen before.seen.0))
+    ∙ ap (λ b. opening.facts fact || b) (both (stated.facts known.seen) (stated.facts before.seen.0) fact)
+    ∙ still (opening.facts fact) (among (stated.facts known.seen) fact) (among (stated.facts before.seen.0) fact) there
+  where
+    still : (a b c : Bool) → (a || b) ≡ true → (a || (b || c)) ≡ true
+    still true b c is = refl
+    still false true c is = refl
+    still false false c is = absurd (true≢false (sym is))

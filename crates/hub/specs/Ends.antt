@@ -1,0 +1,15 @@
+-- The event by which an instance ends.
+use Rattle.terms.specs.declared.name.Inst.{Inst}
+use Rattle.terms.specs.declared.event.Event.{Event}
+use Rattle.terms.specs.declared.event.Event.TheVariants as event
+use Rattle.commit.specs.declared.outcome.Outcome.{Outcome}
+use Rattle.commit.specs.declared.outcome.Outcome.TheVariants.{Gave, Fault}
+use Rattle.commit.specs.declared.outcome.Committed.{Committed}
+use Rattle.commit.specs.declared.outcome.Committed.TheVariants.{Done, Stopped}
+
+-- What a finish commits where it answers this: that the instance is done, with the puts that its body gave, or that it is at fault. One whose body is
+-- at fault is not done.
+abbrev pub end_of : Committed → Inst → Outcome → Event
+end_of Done instance (Gave given) = event.Done instance given.puts
+end_of Done instance (Fault bad) = event.Stopped instance bad.kind
+end_of (Stopped kind) instance outcome = event.Stopped instance kind

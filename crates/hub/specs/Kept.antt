@@ -1,0 +1,40 @@
+-- What stands under the lock of a hub.
+use Rattle.std.specs.Prelude.{◌≡◌, ◌≤◌, ℕ, false, List, length, Result, OnErr, None}
+use Rattle.disk.specs.declared.side.Side.{Side}
+use Rattle.disk.specs.File.{File}
+use Rattle.disk.specs.Time.{Contents, MayLeaveNow}
+use Rattle.terms.specs.declared.event.Event.{Event}
+use Rattle.machine.specs.declared.refusal.Refusal.{Refusal}
+use Rattle.vault.specs.Store.{StandsBeforeOrAfter}
+use Rattle.commit.specs.declared.error.CoreError.{CoreError}
+use Rattle.commit.specs.Calls.{Commits, Halts, IsUnchanged}
+use Rattle.commit.specs.Core.{Core, is_halted}
+use Rattle.commit.specs.Kept.{IsHaltedByTurn}
+use Rattle.hub.specs.Known.{Made, Desk, events}
+use Rattle.hub.specs.Opening.{Opening, facts_behind, environment_behind, AreLegalBehind, IsBehind}
+
+-- the history, and the core
+pub record Kept (D : Type 0) : Type 0 where
+  pub history : List Made
+  pub core : Core D
+
+-- The keeper is alone, and has the book of all passes. The core has the state behind the history, which is legal and no longer than the journal, since
+-- each event moves its end. And no turnover has halted it, unless it was halted when the hub was opened.
+pub record IsKept {D : Type 0} (opening : Opening) (count : ℕ) (d : Desk) (c : Core D) : Type 0 where
+  pub alone : d.guest ≡ None
+  pub passes : d.book.passes ≡ count
+  pub behind : IsBehind opening (events d.book.history) c
+  pub legal : AreLegalBehind opening (events d.book.history)
+  pub short : is_halted c ≡ false → length d.book.history ≤ c.vault.journal.end
+  pub not_turned : opening.halted ≡ false → IsHaltedByTurn c → ⊥
+
+-- A crash leaves the state behind the history, or, once the core is halted, that with the event that is in doubt.
+abbrev pub CrashLeavesHistory : {D : Type 0} → (D → Side → File) → Opening → Kept D → Type 0
+CrashLeavesHistory files opening kept = (contents : Contents) → MayLeaveNow (files kept.core.vault.disk) contents
+    → StandsBeforeOrAfter opening.graph (environment_behind opening (events kept.history)) (facts_behind opening (events kept.history)) kept.core.in_doubt contents
+
+-- A call of the core that commits this event at `Ok`: what it commits or why it is refused, what stands at `Err`, and why it halts.
+pub record CommitsAs {D T : Type 0} (files : D → Side → File) (moment : D → ℕ) (left_at : D → ℕ → Contents → Type 0) (failures refusals : D → ℕ) (honest : Type 0) (old new : Core D) (why : Refusal → Type 0) (event : Event) (result : Result T CoreError) : Type 0 where
+  pub commits : Commits files moment left_at honest old new why event result
+  pub unchanged : OnErr result (IsUnchanged old new)
+  pub halts : Halts failures refusals old new result

@@ -1,0 +1,84 @@
+-- What a locked call tells of its pass. The state that the pass knows is the one behind what it has seen: by that state each call is answered.
+use Rattle.std.specs.Prelude.{◌≡◌, ◌≤◌, ⊤, false, List, [], ◌∷◌, ◌++◌, length, Result, OnOk, OnErr}
+use mathlib.Core.List.{IsPrefix}
+use Rattle.terms.specs.declared.event.Event.{Event}
+use Rattle.terms.specs.declared.name.Addr.{Addr}
+use Rattle.terms.specs.declared.name.Inst.{Inst}
+use Rattle.terms.specs.Facts.{done}
+use Rattle.terms.specs.Sets.{Facts}
+use Rattle.graph.specs.Graph.{Graph}
+use Rattle.graph.specs.Fits.{IsAbsent, IsPrescribed}
+use Rattle.machine.specs.declared.refusal.Refusal.{Refusal}
+use Rattle.machine.specs.Legal.{IsLegal}
+use Rattle.vault.specs.declared.error.VaultError.TheVariants as vault
+use Rattle.commit.specs.declared.error.CoreError.{CoreError}
+use Rattle.commit.specs.declared.error.CoreError.TheVariants.{Refused, Store}
+use Rattle.hub.specs.Known.{Known, Made, events, up_to_date, with_event}
+use Rattle.hub.specs.Rule.{IsInHistory}
+use Rattle.hub.specs.Opening.{Opening, facts_behind, AreLegalBehind}
+
+-- ---- what is seen
+
+-- What each locked call tells: a legal history, which begins with all that the pass has seen, and is no shorter than `commits` told it.
+pub record Sees (opening : Opening) (old new : Known) : Type 0 where
+  pub starts : IsPrefix old.seen new.seen
+  pub legal : AreLegalBehind opening new.seen
+  pub told : old.told ≤ length new.seen
+  pub same : (new.number ≡ old.number) × (new.told ≡ old.told) × (new.asked ≡ old.asked)
+
+-- the event was added behind all that was seen then, and is the pass's own
+pub record Adds (event : Event) (old new : Known) : Type 0 where
+  pub before : List Event
+  pub starts : IsPrefix old.seen before
+  pub ends : new.seen ≡ before ++ event ∷ []
+  pub mine : new.mine ≡ old.mine ++ event ∷ []
+
+-- nothing was made with it
+abbrev pub AddsNothing : Known → Known → Type 0
+AddsNothing old new = new.mine ≡ old.mine
+
+-- ---- the history
+
+-- the pass now sees a history that has all that it had of it, and nothing was made
+pub record Shows (history : List Made) (old new : Known) : Type 0 where
+  pub before : IsInHistory history old
+  pub pass : new ≡ up_to_date history old
+
+-- the event was made with the pass, which sees the history with it
+pub record Writes (event : Event) (earlier later : List Made) (old new : Known) : Type 0 where
+  pub before : IsInHistory earlier old
+  pub history : later ≡ earlier ++ record { pass = old.number; event = event } ∷ []
+  pub pass : new ≡ up_to_date later (with_event event old)
+
+-- ---- refusals
+
+-- Why an event is refused where these facts are there. One that may come is refused where it does not fit, the device failed, or memory was refused.
+abbrev pub RefusesAt : Graph → Facts → (Refusal → Type 0) → Event → CoreError → Type 0
+RefusesAt g X why event (Refused refusal) = why refusal
+RefusesAt g X why event (Store vault.Halted) = ⊤
+RefusesAt g X why event (Store vault.Full) = IsLegal g X event
+RefusesAt g X why event (Store vault.Device) = IsLegal g X event
+RefusesAt g X why event (Store vault.NoMemory) = IsLegal g X event
+RefusesAt g X why event (Store (vault.Damaged side place)) = ⊥
+RefusesAt g X why event (Store vault.NotAStore) = ⊥
+RefusesAt g X why event (Store vault.Exists) = ⊥
+
+-- the same in the state that a pass knows, of causes that are told by the graph and the facts there
+abbrev pub RefusesEvent : Opening → Known → (Graph → Facts → Refusal → Type 0) → Event → CoreError → Type 0
+RefusesEvent opening known why event = RefusesAt opening.graph (facts_behind opening known.seen) (why opening.graph (facts_behind opening known.seen)) event
+
+-- why a question is refused: for a cause that the graph tells, or the core is halted
+abbrev pub RefusesQuestion : (Refusal → Type 0) → CoreError → Type 0
+RefusesQuestion why (Refused refusal) = why refusal
+RefusesQuestion why (Store error) = error ≡ vault.Halted
+
+-- the core is halted, and says so
+abbrev pub SaysHalted : CoreError → Type 0
+SaysHalted error = error ≡ Store vault.Halted
+
+-- ---- instances
+
+-- the instance is prescribed and not done in the state that a pass knows
+pub record MayRun (opening : Opening) (known : Known) (instance : Inst) : Type 0 where
+  pub prescribed : IsPrescribed opening.graph (facts_behind opening known.seen) instance
+  pub not_done : facts_behind opening known.seen (done instance) ≡ false

@@ -1,0 +1,54 @@
+-- Passes when a hub is opened, and when it is closed.
+use Rattle.std.specs.Prelude.{◌≡◌, ◌+◌, ◌<◌, ℕ, suc, zero, Bool, true, false, List, [], ◌∷◌, ◌++◌, if◌then◌else◌, nat_eq}
+use Rattle.std.specs.List.{AllByRecursion}
+use Rattle.terms.specs.declared.event.Event.{Event}
+use Rattle.machine.specs.Machine.{IsPut}
+use Rattle.commit.specs.Core.{Core}
+use Rattle.commit.specs.Runs.{IsEnd}
+use Rattle.atomic_table.specs.Seated.{TableId}
+use Rattle.hub.specs.declared.close.CloseError.{CloseError}
+use Rattle.hub.specs.declared.close.CloseError.TheVariants.{PassMissing, TaskOut}
+use Rattle.hub.specs.Known.{Known, Made, events, made_by, newcomer}
+use Rattle.hub.specs.Rule.{IsInHistory}
+use Rattle.hub.specs.Opening.{Opening, AreLegalBehind, IsBehind}
+
+-- so many new passes, the first of which has this number
+abbrev pub new_passes : ℕ → ℕ → List Known
+new_passes first zero = []
+new_passes first (suc count) = new_passes first count ++ newcomer (first + count) ∷ []
+
+-- a pass of this number is among them
+abbrev pub has_number : ℕ → List Known → Bool
+has_number number [] = false
+has_number number (known ∷ rest) = if nat_eq known.number number then true else has_number number rest
+
+-- the events that were made with the pass of this number; none where there is no such pass
+abbrev pub mine_of : ℕ → List Known → List Event
+mine_of number [] = []
+mine_of number (known ∷ rest) = if nat_eq known.number number then known.mine else mine_of number rest
+
+-- each event of each of the passes is such a one
+abbrev pub AllMade : (Event → Type 0) → List Known → Type 0
+AllMade such passes = AllByRecursion (λ known. AllByRecursion such known.mine) passes
+
+-- The whole history of a hub that is closed with these passes. It is legal, and the core has the state behind it. It begins with what each pass has
+-- seen, and has just the passes' events, those of each pass in their order. Those of the environment's passes are its puts, and those of the workers'
+-- passes are ends of instances.
+pub record IsWhole {D : Type 0} (opening : Opening) (envs workers : List Known) (c : Core D) (history : List Made) : Type 0 where
+  pub legal : AreLegalBehind opening (events history)
+  pub behind : IsBehind opening (events history) c
+  pub each : AllByRecursion (IsInHistory history) (envs ++ workers)
+  pub made : (number : ℕ) → made_by number history ≡ mine_of number (envs ++ workers)
+  pub puts : AllMade IsPut envs
+  pub ends : AllMade IsEnd workers
+
+-- a blank: the table of its words, and how many passes it is for, of the environment and of workers
+pub record Blank : Type 0 where
+  pub table : TableId
+  pub envs : ℕ
+  pub workers : ℕ
+
+-- Why a hub with so many passes is not closed with these: one is missing; or none is, and an instance runs.
+abbrev pub WhyNotClosed : ℕ → List Known → CloseError → Type 0
+WhyNotClosed count passes PassMissing = (number : ℕ) × (number < count) × (has_number number passes ≡ false)
+WhyNotClosed count passes TaskOut = (number : ℕ) → number < count → has_number number passes ≡ true

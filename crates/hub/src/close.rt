@@ -1,0 +1,139 @@
+//! The end of a hub.
+ghost use Rattle.std.specs.Prelude.{◌≡◌, ◌<◌, ◌++◌, ℕ, List, None, true, false, IfOk, IfErr, MatchOption};
+ghost use Rattle.std.specs.List.{AllByRecursion};
+ghost use Rattle.commit.specs.Runs.{NoneRuns};
+ghost use Rattle.hub.specs.Known.{Made};
+ghost use Rattle.hub.specs.Rule.{IsInHistory};
+ghost use Rattle.hub.specs.Whole.{AllMade, IsWhole, WhyNotClosed, has_number};
+
+use crate::{Board, Desk, EnvPass, Hub, Kept, Kind, Naming, Pass, WorkPass};
+use commit::Core;
+use disk::Disk;
+use std::sync::Mutex;
+use thiserror::Error;
+
+/// Why a hub was not closed.
+#[derive(Clone, Copy, Debug, PartialEq, Eq, Error)]
+pub enum CloseError {
+    /// A pass of the hub is not here.
+    #[error("a pass is missing")]
+    PassMissing,
+    /// An instance runs: its task was not spent.
+    #[error("a task is out")]
+    TaskOut,
+}
+
+/// A hub was not closed. It comes back, with its passes.
+pub struct NotClosed<J: Naming, D: Disk> {
+    pub error: CloseError,
+    pub hub: Hub<J, D>,
+    pub envs: Vec<EnvPass<J>>,
+    pub workers: Vec<WorkPass<J>>,
+}
+
+impl<J: Naming, D: Disk + Drop> Drop for NotClosed<J, D> {
+    fn drop(self) {
+        let NotClosed {
+            error: _,
+            hub: _,
+            envs: _,
+            workers: _,
+        } = self;
+    }
+}
+
+// Takes in each pass, which is compared with the history.
+fn gather<J: Naming, K: Kind>(board: &Board<J>, desk: &mut Desk<J>, mut passes: Vec<Pass<J, K>>)
+    requires { desk.old.guest ≡ None }
+    ensures desk { desk.new ≡ desk.old }
+    ensures passes { AllByRecursion (IsInHistory desk.old.book.history) passes.items }
+    ensures made { AllMade K.makes passes.items }
+{
+    while let Some(mut pass) = passes.pop() {
+        board.show(desk, &mut pass);
+    }
+}
+
+// Whether a pass of this number is here.
+fn is_here<J: Naming, K: Kind>(passes: &[Pass<J, K>], number: usize) -> bool
+    ensures { result ≡ has_number number passes.now }
+{
+    for pass in passes {
+        if pass.number == number {
+            return true;
+        }
+    }
+    false
+}
+
+// The least number of a pass that is not here.
+fn missing<J: Naming>(envs: &[EnvPass<J>], workers: &[WorkPass<J>], count: usize) -> Option<usize>
+    ensures { MatchOption result ((number : ℕ) → number < count → has_number number (envs.now ++ workers.now) ≡ true) (λ number. (number < count) × (has_number number (envs.now ++ workers.now) ≡ false)) }
+{
+    for number in 0..count {
+        if !is_here(envs, number) && !is_here(workers, number) {
+            return Some(number);
+        }
+    }
+    None
+}
+
+impl<J: Naming, D: Disk> Kept<J, D> {
+    // The core, once all passes are here.
+    pub(crate) fn close(
+        self,
+        board: &Board<J>,
+        envs: Vec<EnvPass<J>>,
+        workers: Vec<WorkPass<J>>,
+    ) -> Core<D>
+        requires { (number : ℕ) → number < J.passes → has_number number (envs.items ++ workers.items) ≡ true }
+        ensures core { result ≡ self.core }
+        ensures whole { IsWhole J.opening envs.items workers.items result self.history }
+    {
+        let (core, mut desk) = self.into_parts();
+        board.look(&mut desk);
+        gather(board, &mut desk, envs);
+        gather(board, &mut desk, workers);
+        core
+    }
+}
+
+impl<J: Naming, D: Disk> Hub<J, D> {
+    /// Ends the hub, and gives the core.
+    ///
+    /// It is refused, with hub and passes given back, where a pass is missing, and else where an instance runs.
+    pub fn close(
+        self,
+        envs: Vec<EnvPass<J>>,
+        workers: Vec<WorkPass<J>>,
+    ) -> Result<Core<D>, NotClosed<J, D>>
+        ensures whole { IfOk result (λ core. (history : List Made) × IsWhole J.opening envs.items workers.items core history) }
+        ensures idle { IfOk result NoneRuns }
+        ensures err { IfErr result (λ not_closed. (not_closed.envs.items ≡ envs.items) × (not_closed.workers.items ≡ workers.items)) }
+        ensures cause { IfErr result (λ not_closed. WhyNotClosed J.passes (envs.items ++ workers.items) not_closed.error) }
+    {
+        if missing(envs.as_slice(), workers.as_slice(), self.count).is_some() {
+            return Err(NotClosed {
+                error: CloseError::PassMissing,
+                hub: self,
+                envs,
+                workers,
+            });
+        }
+        let (board, kept, graph, count) = self.into_parts();
+        if kept.core.running() != 0 {
+            return Err(NotClosed {
+                error: CloseError::TaskOut,
+                hub: Hub {
+                    board,
+                    kept: Mutex::new(kept),
+                    graph,
+                    count,
+                },
+                envs,
+                workers,
+            });
+        }
+        Ok(kept.close(&board, envs, workers))
+    }
+}

@@ -1,0 +1,10 @@
+use commit::CoreError;
+use instances::Task;
+
+/// Why a call with a task was refused.
+pub enum TaskError {
+    /// The instance of the task does not run here. The task comes back, and nothing has changed.
+    Foreign(Task),
+    /// The core refused it, as its own call tells.
+    Refused(CoreError),
+}

@@ -1,0 +1,231 @@
+ghost use Rattle.std.specs.Prelude.{◌≡◌, ⊤, true, Ok, OnErr, OnOk, IfErr, IfOk, IfSome};
+
+use crate::{Board, EnvPass, Kept, Kind, Naming, Pass, TaskError, WorkPass};
+use atomic_table::Badge;
+use commit::{Committed, CoreError, Outcome};
+use disk::Disk;
+use graph::Graph;
+use instances::Task;
+use std::mem;
+use std::sync::{Arc, Mutex, Wait};
+use steplang::Parked;
+use terms::{Addr, Tag};
+
+/// A store that threads share. Each of them calls it with a pass of its own, and knows behind each call a beginning of the one history.
+///
+/// The locked calls wait for each other. `graph`, `commits`, `ask_stop` and `stop_asked` wait for nobody.
+pub struct Hub<J: Naming, D: Disk> {
+    pub(crate) board: Board<J>,
+    pub(crate) kept: Mutex<Kept<J, D>>,
+    pub(crate) graph: Arc<Graph>,
+    pub(crate) count: usize,
+    ghost counted: { count ≡ J.passes },
+    ghost of_opening: { graph.value ≡ J.opening.graph },
+}
+
+impl<J: Naming, D: Disk + Drop> Drop for Hub<J, D> {
+    fn drop(self) {
+        let Hub {
+            board: _,
+            kept: _,
+            graph: _,
+            count: _,
+        } = self;
+    }
+}
+
+impl<J: Naming, D: Disk> Hub<J, D> {
+    ghost use Rattle.terms.specs.declared.event.Event.TheVariants.{EnvItem, EnvTag};
+    ghost use Rattle.machine.specs.Machine.{IsValueAt, RefusesItem, RefusesTag, RefusesGet, RefusesRead};
+    ghost use Rattle.graph.specs.Fits.{AddressIsOf};
+    ghost use Rattle.graph.specs.Graph.{EnvironmentMayGet};
+    ghost use Rattle.hub.specs.Known.{told_of, asked_of};
+    ghost use Rattle.hub.specs.Steps.{IsCountFor, heard_of};
+    ghost use Rattle.hub.specs.Opening.{facts_behind};
+    ghost use Rattle.commit.specs.Came.{IsOutcomeIn, IsParkedIn};
+    ghost use Rattle.hub.specs.Ends.{end_of};
+    ghost use Rattle.hub.specs.Replies.{Adds, AddsNothing, MayRun, RefusesEvent, RefusesQuestion, SaysHalted, Sees};
+    ghost use Rattle.hub.specs.Tasks.{OnTask, RefusesEndOf};
+
+    // Takes it apart.
+    pub(crate) fn into_parts(self) -> (Board<J>, Kept<J, D>, Arc<Graph>, usize)
+        ensures graph { result.2.value ≡ J.opening.graph }
+        ensures count { result.3 ≡ J.passes }
+    {
+        let Hub {
+            board,
+            kept,
+            graph,
+            count,
+        } = self;
+        (board, kept.into_inner(), graph, count)
+    }
+
+    /// Puts an item of the environment. The refusals are those of the core's `put_item`, by the state behind what is then seen.
+    pub fn put_item<R: Wait>(
+        &self,
+        rt: &R,
+        pass: &mut EnvPass<J>,
+        addr: Addr,
+        value: i64,
+    ) -> Result<(), CoreError>
+        ensures seen { Sees J.opening pass.old pass.new }
+        ensures ok { OnOk result (Adds (EnvItem addr value) pass.old pass.new) }
+        ensures err { OnErr result (AddsNothing pass.old pass.new) }
+        ensures refused { IfErr result (RefusesEvent J.opening pass.new (λ g X. RefusesItem g X addr) (EnvItem addr value)) }
+    {
+        self.kept.lock(rt).put_item(&self.board, pass, addr, value)
+    }
+
+    /// The value at an address, as the environment gets it, in the state behind what is then seen.
+    pub fn get<R: Wait>(
+        &self,
+        rt: &R,
+        pass: &mut EnvPass<J>,
+        addr: Addr,
+    ) -> Result<Option<i64>, CoreError>
+        ensures seen { Sees J.opening pass.old pass.new × AddsNothing pass.old pass.new }
+        ensures allowed { OnOk result (EnvironmentMayGet J.opening.graph addr) }
+        ensures value { IfOk result (IsValueAt (facts_behind J.opening pass.new.seen) addr) }
+        ensures refused { IfErr result (RefusesQuestion (RefusesGet J.opening.graph addr)) }
+    {
+        self.kept.lock(rt).get(&self.board, pass, addr)
+    }
+
+    /// Puts a tag of the environment. The refusals are those of the core's `put_tag`, by the state behind what is then seen.
+    pub fn put_tag<R: Wait>(
+        &self,
+        rt: &R,
+        pass: &mut EnvPass<J>,
+        tag: Tag,
+    ) -> Result<(), CoreError>
+        ensures seen { Sees J.opening pass.old pass.new }
+        ensures ok { OnOk result (Adds (EnvTag tag) pass.old pass.new) }
+        ensures err { OnErr result (AddsNothing pass.old pass.new) }
+        ensures refused { IfErr result (RefusesEvent J.opening pass.new (λ g X. RefusesTag g X tag) (EnvTag tag)) }
+    {
+        self.kept.lock(rt).put_tag(&self.board, pass, tag)
+    }
+
+    /// The value at an address, as a step reads it, in the state behind what is then seen.
+    pub fn read<R: Wait>(
+        &self,
+        rt: &R,
+        pass: &mut WorkPass<J>,
+        addr: Addr,
+    ) -> Result<Option<i64>, CoreError>
+        ensures seen { Sees J.opening pass.old pass.new × AddsNothing pass.old pass.new }
+        ensures allowed { OnOk result (AddressIsOf J.opening.graph addr) }
+        ensures value { IfOk result (IsValueAt (facts_behind J.opening pass.new.seen) addr) }
+        ensures refused { IfErr result (RefusesQuestion (RefusesRead J.opening.graph addr)) }
+    {
+        self.kept.lock(rt).read(&self.board, pass, addr)
+    }
+
+    /// Lets one of the ready instances run, by its number among them, as the core's `claim`.
+    pub fn claim<R: Wait>(
+        &self,
+        rt: &R,
+        pass: &mut WorkPass<J>,
+        at: usize,
+    ) -> Result<Option<Task>, CoreError>
+        ensures seen { Sees J.opening pass.old pass.new × AddsNothing pass.old pass.new }
+        ensures claimed { IfOk result (λ claimed. IfSome claimed (MayRun J.opening pass.new)) }
+        ensures refused { IfErr result SaysHalted }
+    {
+        self.kept.lock(rt).claim(&self.board, pass, at)
+    }
+
+    /// Lets an instance wait for the item that its body asks for, unless that is there by now.
+    ///
+    /// The result is of the task's instance and of the body of its step in this graph, and what it read the pass has seen.
+    pub fn park<R: Wait>(
+        &self,
+        rt: &R,
+        pass: &mut WorkPass<J>,
+        task: Task,
+        parked: Parked<'_>,
+    ) -> Result<(), TaskError>
+        requires { IsParkedIn J.opening.graph (facts_behind J.opening pass.old.seen) task parked }
+        ensures seen { Sees J.opening pass.old pass.new × AddsNothing pass.old pass.new }
+        ensures foreign { OnTask result (λ back. back ≡ task) (λ _. ⊤) }
+    {
+        self.kept.lock(rt).park(&self.board, pass, task, parked)
+    }
+
+    /// Gives the instance of a task back: it is ready.
+    pub fn release<R: Wait>(
+        &self,
+        rt: &R,
+        pass: &mut WorkPass<J>,
+        task: Task,
+    ) -> Result<(), TaskError>
+        ensures seen { Sees J.opening pass.old pass.new × AddsNothing pass.old pass.new }
+        ensures foreign { OnTask result (λ back. back ≡ task) (λ answer. answer ≡ Ok tt) }
+    {
+        self.kept.lock(rt).release(&self.board, pass, task)
+    }
+
+    /// Commits what the body of an instance came to: the instance is done, with its puts, or at fault.
+    ///
+    /// The outcome is of the task's instance and of the body of its step in this graph, and what it read the pass has seen.
+    pub fn finish<R: Wait>(
+        &self,
+        rt: &R,
+        pass: &mut WorkPass<J>,
+        task: Task,
+        outcome: Outcome<'_>,
+    ) -> Result<Committed, TaskError>
+        requires { IsOutcomeIn J.opening.graph (facts_behind J.opening pass.old.seen) task outcome }
+        ensures seen { Sees J.opening pass.old pass.new }
+        ensures ok { IfOk result (λ committed. Adds (end_of committed task outcome.entry) pass.old pass.new) }
+        ensures err { OnErr result (AddsNothing pass.old pass.new) }
+        ensures refused { OnTask result (λ back. back ≡ task) (λ answer. IfErr answer (RefusesEndOf J.opening pass.new task outcome.entry)) }
+    {
+        self.kept.lock(rt).finish(&self.board, pass, task, outcome)
+    }
+
+    /// Whether an instance runs, or may be claimed. No clause says which it answers.
+    pub fn busy<R: Wait>(&self, rt: &R, pass: &mut WorkPass<J>) -> bool
+        ensures { Sees J.opening pass.old pass.new × AddsNothing pass.old pass.new }
+    {
+        self.kept.lock(rt).busy(&self.board, pass)
+    }
+
+    /// The graph, of which bodies are run outside the lock.
+    pub fn graph(&self) -> &Graph
+        ensures { result.now ≡ J.opening.graph }
+    {
+        &self.graph
+    }
+
+    /// How many events there are in the history. It waits for nobody, and takes no memory.
+    pub fn commits<K: Kind>(&self, pass: &mut Pass<J, K>) -> u64
+        ensures pass { pass.new ≡ told_of result pass.old }
+        ensures count { IsCountFor result pass.old }
+    {
+        let badge = mem::replace(&mut pass.badge, Badge::blank());
+        let (badge, count) = self.board.count(badge);
+        pass.badge = badge;
+        count
+    }
+
+    /// Asks all for a stop. It waits for nobody, and takes no memory.
+    pub fn ask_stop<K: Kind>(&self, pass: &mut Pass<J, K>)
+        ensures { pass.new ≡ asked_of pass.old }
+    {
+        let badge = mem::replace(&mut pass.badge, Badge::blank());
+        pass.badge = self.board.ask(badge);
+    }
+
+    /// Whether a stop was asked. It waits for nobody, and takes no memory.
+    pub fn stop_asked<K: Kind>(&self, pass: &mut Pass<J, K>) -> bool
+        ensures pass { pass.new ≡ heard_of result pass.old }
+        ensures asked { pass.old.asked ≡ true → result ≡ true }
+    {
+        let badge = mem::replace(&mut pass.badge, Badge::blank());
+        let (badge, answer) = self.board.hear(badge);
+        pass.badge = badge;
+        answer
+    }
+}

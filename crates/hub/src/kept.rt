@@ -1,0 +1,294 @@
+use crate::rule::Commit;
+use crate::{Board, Desk, EnvPass, Naming, TaskError, WorkPass};
+use commit::{Committed, Core, CoreError, Outcome};
+use disk::Disk;
+use instances::Task;
+use machine::results_are_meant;
+use std::marker::{Brand, Model};
+use std::snapshot::Snapshot;
+use steplang::Parked;
+use terms::{Addr, Tag, facts_are_told_apart, facts_go_on};
+use vault::stores_go_on;
+
+/// What stands under the lock of a hub: the core, and the keeper's seat. A contract sees the history and the core.
+///
+/// Between two calls the core has the state behind the history, and so has the disk, whenever a crash comes.
+pub struct Kept<J: Naming, D: Disk> {
+    pub(crate) core: Core<D>,
+    pub(crate) desk: Desk<J>,
+}
+
+impl<J: Naming, D: Disk + Drop> Drop for Kept<J, D> {
+    // By hand, so that it is one call wherever it goes.
+    fn drop(self) {
+        let Kept { core: _, desk: _ } = self;
+    }
+}
+
+impl<J: Naming, D: Disk> Model for Kept<J, D> {
+    ghost use Rattle.std.specs.Coded.{codes};
+    ghost use Rattle.machine.specs.contracts.machine.Machine as of_machine;
+    ghost use Rattle.hub.specs.Kept.{Kept as Seen, IsKept};
+
+    ghost Value = { Seen D };
+
+    ghost coded = { Prim.hlevel (codes, of_machine.the_row.coded) };
+
+    ghost view = { λ k. record { history = k.desk.book.history; core = k.core } };
+
+    ghost invariant = { λ k. IsKept J.opening J.passes k.desk k.core };
+}
+
+impl<J: Naming, D: Disk> Kept<J, D> {
+    ghost use Rattle.std.specs.Prelude.{◌≡◌, false, None, Some, Ok, Err, OnErr, OnOk, IfErr, IfOk, IfSome, IsTrue};
+    ghost use Rattle.terms.specs.declared.event.Event.TheVariants.{EnvItem, EnvTag};
+    ghost use Rattle.machine.specs.Machine.{IsValueAt, RefusesItem, RefusesTag, RefusesGet, RefusesRead};
+    ghost use Rattle.graph.specs.Fits.{AddressIsOf};
+    ghost use Rattle.graph.specs.Graph.{EnvironmentMayGet};
+    ghost use Rattle.commit.specs.Core.{facts, graph};
+    ghost use Rattle.hub.specs.Known.{events};
+    ghost use Rattle.hub.specs.Opening.{AreLegalBehind, IsBehind, facts_behind};
+    ghost use Rattle.hub.specs.Kept.{CommitsAs, CrashLeavesHistory, IsKept};
+    ghost use Rattle.hub.specs.Ends.{end_of};
+    ghost use Rattle.hub.specs.Replies.{Adds, AddsNothing, MayRun, RefusesEvent, RefusesQuestion, SaysHalted, Sees, Shows, Writes};
+    ghost use Rattle.hub.specs.Tasks.{Claims, Ends, IsForeign, IsMade, OnTask, Parks, RefusesEndOf};
+    ghost use Rattle.instances.specs.declared.state.State.TheVariants.{Ready};
+    ghost use Rattle.commit.specs.Calls.{IsUnchanged};
+    ghost use Rattle.commit.specs.Came.{IsOutcomeIn, IsParkedIn};
+    ghost use Rattle.commit.specs.Steps.{Moves};
+
+    // Takes it apart.
+    pub(crate) fn into_parts(self) -> (Core<D>, Desk<J>)
+        ensures core { result.0 ≡ self.core }
+        ensures book { result.1.book.history ≡ self.history }
+        ensures kept { IsKept J.opening J.passes result.1 result.0 }
+    {
+        let Kept { core, desk } = self;
+        (core, desk)
+    }
+
+    /// A law, with nothing to run: what it keeps from call to call.
+    pub fn is_kept(&self)
+        ensures behind { IsBehind J.opening (events self.now.history) self.now.core }
+        ensures legal { AreLegalBehind J.opening (events self.now.history) }
+        ensures crash { IsTrue D.is_honest → J.opening.halted ≡ false → CrashLeavesHistory D.files J.opening self.now }
+    {
+        self.core.is_kept();
+    }
+
+    /// As the core's `put_item`. At `Ok` the item is made with the pass.
+    pub fn put_item(
+        &mut self,
+        board: &Board<J>,
+        pass: &mut EnvPass<J>,
+        addr: Addr,
+        value: i64,
+    ) -> Result<(), CoreError>
+        ensures core { CommitsAs D.files D.moment D.left_at D.failures D.refusals (IsTrue D.is_honest) self.old.core self.new.core (RefusesItem (graph self.old.core) (facts self.old.core) addr) (EnvItem addr value) result }
+        ensures history { OnOk result (Writes (EnvItem addr value) self.old.history self.new.history pass.old pass.new) }
+        ensures seen { Sees J.opening pass.old pass.new }
+        ensures ok { OnOk result (Adds (EnvItem addr value) pass.old pass.new) }
+        ensures err { OnErr result ((self.new.history ≡ self.old.history) × AddsNothing pass.old pass.new) }
+        ensures refused { IfErr result (RefusesEvent J.opening pass.new (λ g X. RefusesItem g X addr) (EnvItem addr value)) }
+    {
+        facts_are_told_apart();
+        facts_go_on();
+        stores_go_on::<D>();
+        let place = addr;
+        match self.core.put_item(place, value) {
+            Ok(()) => {
+                board.record_item::<Brand>(&mut self.desk, pass, addr, value);
+                Ok(())
+            }
+            Err(error) => {
+                board.show(&mut self.desk, pass);
+                Err(error)
+            }
+        }
+    }
+
+    /// As the core's `get`.
+    pub fn get(
+        &mut self,
+        board: &Board<J>,
+        pass: &mut EnvPass<J>,
+        addr: Addr,
+    ) -> Result<Option<i64>, CoreError>
+        ensures same { self.new ≡ self.old }
+        ensures history { Shows self.old.history pass.old pass.new }
+        ensures seen { Sees J.opening pass.old pass.new × AddsNothing pass.old pass.new }
+        ensures allowed { OnOk result (EnvironmentMayGet J.opening.graph addr) }
+        ensures value { IfOk result (IsValueAt (facts_behind J.opening pass.new.seen) addr) }
+        ensures refused { IfErr result (RefusesQuestion (RefusesGet J.opening.graph addr)) }
+    {
+        let answer = self.core.get(addr);
+        board.show(&mut self.desk, pass);
+        answer
+    }
+    /// As the core's `put_tag`. At `Ok` the tag is put with the pass.
+    pub fn put_tag(
+        &mut self,
+        board: &Board<J>,
+        pass: &mut EnvPass<J>,
+        tag: Tag,
+    ) -> Result<(), CoreError>
+        ensures core { CommitsAs D.files D.moment D.left_at D.failures D.refusals (IsTrue D.is_honest) self.old.core self.new.core (RefusesTag (graph self.old.core) (facts self.old.core) tag) (EnvTag tag) result }
+        ensures history { OnOk result (Writes (EnvTag tag) self.old.history self.new.history pass.old pass.new) }
+        ensures seen { Sees J.opening pass.old pass.new }
+        ensures ok { OnOk result (Adds (EnvTag tag) pass.old pass.new) }
+        ensures err { OnErr result ((self.new.history ≡ self.old.history) × AddsNothing pass.old pass.new) }
+        ensures refused { IfErr result (RefusesEvent J.opening pass.new (λ g X. RefusesTag g X tag) (EnvTag tag)) }
+    {
+        facts_are_told_apart();
+        facts_go_on();
+        stores_go_on::<D>();
+        let name = tag;
+        match self.core.put_tag(name) {
+            Ok(()) => {
+                board.record_tag::<Brand>(&mut self.desk, pass, tag);
+                Ok(())
+            }
+            Err(error) => {
+                board.show(&mut self.desk, pass);
+                Err(error)
+            }
+        }
+    }
+
+    /// As the core's `read`.
+    pub fn read(
+        &mut self,
+        board: &Board<J>,
+        pass: &mut WorkPass<J>,
+        addr: Addr,
+    ) -> Result<Option<i64>, CoreError>
+        ensures same { self.new ≡ self.old }
+        ensures history { Shows self.old.history pass.old pass.new }
+        ensures seen { Sees J.opening pass.old pass.new × AddsNothing pass.old pass.new }
+        ensures allowed { OnOk result (AddressIsOf J.opening.graph addr) }
+        ensures value { IfOk result (IsValueAt (facts_behind J.opening pass.new.seen) addr) }
+        ensures refused { IfErr result (RefusesQuestion (RefusesRead J.opening.graph addr)) }
+    {
+        let answer = self.core.read(addr);
+        board.show(&mut self.desk, pass);
+        answer
+    }
+
+    /// As the core's `claim`. The instance is prescribed and not done in the state behind what the pass has then seen.
+    pub fn claim(
+        &mut self,
+        board: &Board<J>,
+        pass: &mut WorkPass<J>,
+        at: usize,
+    ) -> Result<Option<Task>, CoreError>
+        ensures core { Claims self.old.core self.new.core at result }
+        ensures history { (self.new.history ≡ self.old.history) × Shows self.old.history pass.old pass.new }
+        ensures seen { Sees J.opening pass.old pass.new × AddsNothing pass.old pass.new }
+        ensures claimed { IfOk result (λ claimed. IfSome claimed (MayRun J.opening pass.new)) }
+        ensures refused { IfErr result SaysHalted }
+    {
+        self.core.is_kept();
+        let claimed = self.core.claim(at);
+        board.show(&mut self.desk, pass);
+        claimed
+    }
+
+    /// As the core's `park`, of a result whose reads the pass has seen.
+    pub fn park(
+        &mut self,
+        board: &Board<J>,
+        pass: &mut WorkPass<J>,
+        task: Task,
+        parked: Parked<'_>,
+    ) -> Result<(), TaskError>
+        requires { IsParkedIn J.opening.graph (facts_behind J.opening pass.old.seen) task parked }
+        ensures core { OnTask result (IsForeign self.old self.new task) (λ answer. IsMade self.old task (Parks self.old.core self.new.core task parked.entry.address answer)) }
+        ensures history { (self.new.history ≡ self.old.history) × Shows self.old.history pass.old pass.new }
+        ensures seen { Sees J.opening pass.old pass.new × AddsNothing pass.old pass.new }
+    {
+        facts_are_told_apart();
+        facts_go_on();
+        results_are_meant();
+        board.show(&mut self.desk, pass);
+        if !self.core.runs(&task) {
+            return Err(TaskError::Foreign(task));
+        }
+        match self.core.park(task, parked) {
+            Ok(()) => Ok(()),
+            Err(error) => Err(TaskError::Refused(error)),
+        }
+    }
+
+    /// As the core's `release`.
+    pub fn release(
+        &mut self,
+        board: &Board<J>,
+        pass: &mut WorkPass<J>,
+        task: Task,
+    ) -> Result<(), TaskError>
+        ensures core { OnTask result (IsForeign self.old self.new task) (λ answer. IsMade self.old task ((answer ≡ Ok tt) × Moves self.old.core self.new.core task Ready)) }
+        ensures history { (self.new.history ≡ self.old.history) × Shows self.old.history pass.old pass.new }
+        ensures seen { Sees J.opening pass.old pass.new × AddsNothing pass.old pass.new }
+    {
+        board.show(&mut self.desk, pass);
+        if !self.core.runs(&task) {
+            return Err(TaskError::Foreign(task));
+        }
+        self.core.release(task);
+        Ok(())
+    }
+
+    /// As the core's `finish`, of an outcome whose reads the pass has seen. At `Ok` the end of the instance is made with the pass.
+    pub fn finish(
+        &mut self,
+        board: &Board<J>,
+        pass: &mut WorkPass<J>,
+        task: Task,
+        outcome: Outcome<'_>,
+    ) -> Result<Committed, TaskError>
+        requires { IsOutcomeIn J.opening.graph (facts_behind J.opening pass.old.seen) task outcome }
+        ensures core { OnTask result (IsForeign self.old self.new task) (λ answer. IsMade self.old task (Ends D.files D.moment D.left_at D.failures D.refusals (IsTrue D.is_honest) self.old.core self.new.core task outcome.entry answer)) }
+        ensures history { IfOk result (λ committed. Writes (end_of committed task outcome.entry) self.old.history self.new.history pass.old pass.new) }
+        ensures seen { Sees J.opening pass.old pass.new }
+        ensures ok { IfOk result (λ committed. Adds (end_of committed task outcome.entry) pass.old pass.new) }
+        ensures err { OnErr result ((self.new.history ≡ self.old.history) × AddsNothing pass.old pass.new) }
+        ensures refused { OnTask result (λ back. back ≡ task) (λ answer. IfErr answer (RefusesEndOf J.opening pass.new task outcome.entry)) }
+    {
+        facts_are_told_apart();
+        facts_go_on();
+        results_are_meant();
+        stores_go_on::<D>();
+        board.show(&mut self.desk, pass);
+        if !self.core.runs(&task) {
+            return Err(TaskError::Foreign(task));
+        }
+        let instance = task.inst();
+        let said = Snapshot::of(&outcome);
+        match self.core.finish(task, outcome) {
+            Ok(committed) => {
+                board.record_end::<Brand>(&mut self.desk, pass, committed, instance, &said);
+                Ok(committed)
+            }
+            Err(error) => Err(TaskError::Refused(error)),
+        }
+    }
+
+    /// Whether an instance runs, or may be claimed. No clause says which it answers.
+    pub fn busy(&mut self, board: &Board<J>, pass: &mut WorkPass<J>) -> bool
+        ensures core { IsUnchanged self.old.core self.new.core }
+        ensures history { (self.new.history ≡ self.old.history) × Shows self.old.history pass.old pass.new }
+        ensures seen { Sees J.opening pass.old pass.new × AddsNothing pass.old pass.new }
+    {
+        board.show(&mut self.desk, pass);
+        if self.core.running() != 0 {
+            return true;
+        }
+        match self.core.claim(0) {
+            Ok(Some(task)) => {
+                self.core.release(task);
+                true
+            }
+            _ => false,
+        }
+    }
+}
