@@ -11,16 +11,24 @@ use Rattle.machine.specs.declared.refusal.Refusal.{Refusal}
 use Rattle.vault.specs.declared.error.VaultError.TheVariants as vault
 use Rattle.commit.specs.declared.error.CoreError.{CoreError}
 use Rattle.commit.specs.declared.error.CoreError.TheVariants.{Store}
-use Rattle.commit.specs.Core.{Core, is_halted}
+use Rattle.commit.specs.Core.{Core, facts, is_halted}
 use Rattle.commit.specs.Calls.{Takes, Commits, Halts, IsUnchanged, Stays, IsInDoubt}
 use Rattle.commit.specs.Kept.{IsHaltedByTurn}
-use Rattle.commit.specs.Steps.{Moves}
+use Rattle.commit.specs.Kept.{IsKept as KeepsFiles}
+use Rattle.terms.specs.Sets.{Facts}
+use Rattle.graph.specs.Graph.{Graph}
+use Rattle.vault.specs.Store.{StandsBeforeOrAfter}
+use Rattle.terms.specs.declared.name.Addr.{Addr}
+use Rattle.graph.specs.Fits.{IsAbsent}
+use Rattle.instances.specs.declared.state.State.TheVariants as state
+use Rattle.machine.specs.Machine.{HasItem}
+use Rattle.commit.specs.Steps.{Moves, LooksAgain}
 use Rattle.instances.specs.declared.state.State.{State}
 use Rattle.terms.specs.declared.name.Inst.{Inst}
 use Rattle.vault.specs.declared.vault.Vault.{Vault}
 use Rattle.hub.specs.Known.{Desk, Made, events, writing_by}
 use Rattle.hub.specs.Opening.{Opening, AreLegalBehind, IsBehind}
-use Rattle.hub.specs.Kept.{IsKept, CommitsAs}
+use Rattle.hub.specs.Kept.{IsKept, CommitsAs, CrashLeavesHistory}
 use Rattle.hub.proofs.Lists.{events_append, events_length}
 use Rattle.hub.proofs.States.{legal_more, behind_more, behind_same}
 
@@ -98,3 +106,17 @@ pub commits_as : {D T : Type 0} (files : D → Side → File) (moment : D → �
     → CommitsAs files moment left_at failures refusals honest inside new (why inside) event result → CommitsAs files moment left_at failures refusals honest seen new (why seen) named result
 commits_as {D = D} files moment left_at failures refusals honest inside seen new why event named result core_is event_is =
     subst (λ (at : Core D × Event). CommitsAs files moment left_at failures refusals honest at.0 new (why at.0) at.1 result) (λ i. (core_is i, event_is i))
+
+-- a crash leaves the state behind the history
+pub crash_leaves : {D : Type 0} (files : D → Side → File) (opening : Opening) (history : List Made) (c : Core D) → IsBehind opening (events history) c → KeepsFiles files c → (IsHaltedByTurn c → ⊥)
+    → CrashLeavesHistory files opening (record { history = history; core = c })
+crash_leaves files opening history c behind kept not_turned contents may =
+    subst (λ (at : Graph × (Facts × Facts)). StandsBeforeOrAfter at.0 at.1.0 at.1.1 c.in_doubt contents) (λ i. (behind.graph i, (behind.environment i, behind.facts i))) (kept.left not_turned contents may)
+
+-- a park leaves it as it was, whether it is refused or not
+pub kept_parked : {D : Type 0} (opening : Opening) (count : ℕ) (d : Desk) (old new : Core D) (task : Inst) (address : Addr) → IsKept opening count d old → LooksAgain old new task address → IsKept opening count d new
+kept_parked opening count d old new task address kept looks =
+    ⊎_elim
+    (λ (waits : IsAbsent (facts old) address × Moves old new task (state.Waiting address)). kept_moved opening count d old new task (state.Waiting address) kept waits.1)
+    (λ (there : HasItem (facts old) address × Moves old new task state.Ready). kept_moved opening count d old new task state.Ready kept there.1)
+    looks

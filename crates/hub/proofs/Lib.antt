@@ -6,3 +6,5 @@ pub mod Keeping
 pub mod Telling
 pub mod Ended
 pub mod Gathered
+pub mod Claimed
+pub mod Finished

@@ -7,7 +7,15 @@ use Rattle.terms.specs.Facts as stated
 use Rattle.terms.specs.Sets.{Facts, AmongBoth, among, with_facts}
 use Rattle.hub.specs.Rule.{IsInHistory}
 use Rattle.graph.specs.Graph.{Graph}
+use Rattle.terms.specs.declared.name.Inst.{Inst}
 use Rattle.machine.specs.declared.refusal.Refusal.{Refusal}
+use Rattle.machine.specs.Results.{IsBodyOf, ReadsStay}
+use Rattle.steplang.specs.declared.outcome.Parked.{Parked}
+use Rattle.commit.specs.Came.{IsParkedIn, IsOutcomeIn}
+use Rattle.commit.specs.Steps.{IsParkedOf}
+use Rattle.commit.specs.Outcome.{IsOutcomeOf}
+use Rattle.commit.specs.declared.outcome.Outcome.{Outcome}
+use Rattle.commit.specs.declared.outcome.Outcome.TheVariants.{Gave, Fault}
 use Rattle.vault.specs.declared.error.VaultError.TheVariants as vault
 use Rattle.commit.specs.declared.error.CoreError.{CoreError}
 use Rattle.commit.specs.declared.error.CoreError.TheVariants.{Refused, Store}
@@ -100,3 +108,25 @@ seen_stays both go_on opening history known c behind before fact there =
     still true b c is = refl
     still false true c is = refl
     still false false c is = absurd (true≢false (sym is))
+
+-- what a result read is there for the core, and its body is that of the core's graph
+pub parked_there : AmongBoth → FactsGoOn → ReadsStay → {D : Type 0} (opening : Opening) (history : List Made) (known : Known) (c : Core D) (task : Inst) (parked : Parked) → IsBehind opening (events history) c → IsInHistory history known
+    → IsParkedIn opening.graph (facts_behind opening known.seen) task parked → IsParkedOf c task parked
+parked_there both go_on stay opening history known c task parked behind before is = record {
+  instance_is = is.instance_is;
+  body = subst (λ (g : Graph). IsBodyOf g task parked.checked.now.body) (sym behind.graph) is.body;
+  reads = stay (facts_behind opening known.seen) (core.facts c) parked.reads (seen_stays both go_on opening history known c behind before) is.reads;
+}
+
+pub outcome_there : AmongBoth → FactsGoOn → ReadsStay → {D : Type 0} (opening : Opening) (history : List Made) (known : Known) (c : Core D) (task : Inst) (outcome : Outcome) → IsBehind opening (events history) c → IsInHistory history known
+    → IsOutcomeIn opening.graph (facts_behind opening known.seen) task outcome → IsOutcomeOf c task outcome
+outcome_there both go_on stay opening history known c task (Gave given) behind before is = (
+  is.0,
+  subst (λ (g : Graph). IsBodyOf g task given.checked.now.body) (sym behind.graph) is.1,
+  stay (facts_behind opening known.seen) (core.facts c) given.reads (seen_stays both go_on opening history known c behind before) is.2,
+)
+outcome_there both go_on stay opening history known c task (Fault bad) behind before is = (
+  is.0,
+  subst (λ (g : Graph). IsBodyOf g task bad.checked.now.body) (sym behind.graph) is.1,
+  stay (facts_behind opening known.seen) (core.facts c) bad.reads (seen_stays both go_on opening history known c behind before) is.2,
+)

@@ -66,12 +66,19 @@ fn is_here<J: Naming, K: Kind>(passes: &[Pass<J, K>], number: usize) -> bool
     false
 }
 
+// Whether a pass of this number is among them.
+fn is_among<J: Naming>(envs: &[EnvPass<J>], workers: &[WorkPass<J>], number: usize) -> bool
+    ensures { result ≡ has_number number (envs.now ++ workers.now) }
+{
+    is_here(envs, number) || is_here(workers, number)
+}
+
 // The least number of a pass that is not here.
 fn missing<J: Naming>(envs: &[EnvPass<J>], workers: &[WorkPass<J>], count: usize) -> Option<usize>
     ensures { MatchOption result ((number : ℕ) → number < count → has_number number (envs.now ++ workers.now) ≡ true) (λ number. (number < count) × (has_number number (envs.now ++ workers.now) ≡ false)) }
 {
     for number in 0..count {
-        if !is_here(envs, number) && !is_here(workers, number) {
+        if !is_among(envs, workers, number) {
             return Some(number);
         }
     }

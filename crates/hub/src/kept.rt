@@ -213,10 +213,10 @@ impl<J: Naming, D: Disk> Kept<J, D> {
         if !self.core.runs(&task) {
             return Err(TaskError::Foreign(task));
         }
-        match self.core.park(task, parked) {
-            Ok(()) => Ok(()),
-            Err(error) => Err(TaskError::Refused(error)),
+        if let Err(error) = self.core.park(task, parked) {
+            return Err(TaskError::Refused(error));
         }
+        Ok(())
     }
 
     /// As the core's `release`.
@@ -264,13 +264,12 @@ impl<J: Naming, D: Disk> Kept<J, D> {
         }
         let instance = task.inst();
         let said = Snapshot::of(&outcome);
-        match self.core.finish(task, outcome) {
-            Ok(committed) => {
-                board.record_end::<Brand>(&mut self.desk, pass, committed, instance, &said);
-                Ok(committed)
-            }
-            Err(error) => Err(TaskError::Refused(error)),
-        }
+        let committed = match self.core.finish(task, outcome) {
+            Ok(committed) => committed,
+            Err(error) => return Err(TaskError::Refused(error)),
+        };
+        board.record_end::<Brand>(&mut self.desk, pass, committed, instance, &said);
+        Ok(committed)
     }
 
     /// Whether an instance runs, or may be claimed. No clause says which it answers.

@@ -84,7 +84,8 @@ impl<J: Naming> Board<J> {
         ensures desk { desk.new ≡ writing_by pass.old.number (end_of committed instance outcome.now.value) desk.old }
         ensures writes { Writes (end_of committed instance outcome.now.value) desk.old.book.history desk.new.book.history pass.old pass.new }
     {
-        let _ = (committed, instance, outcome);
+        let _ = (committed, instance);
+        let _ = outcome;
         self.record::<Work, M>(desk, pass);
     }
 }

@@ -1,0 +1,50 @@
+-- A claim.
+use Rattle.std.proofs.Common.{◌≡◌, ◌∙◌, ℕ, Bool, true, false, true≢false, refl, sym, ap, subst, Result, Ok, Err, Option, Some, None, List, IfOk, IfSome, is_some}
+use Rattle.terms.specs.declared.name.Inst.{Inst}
+use Rattle.terms.specs.Facts.{done}
+use Rattle.terms.specs.Sets.{Facts}
+use Rattle.graph.specs.Graph.{Graph}
+use Rattle.graph.specs.Fits.{IsPrescribed}
+use Rattle.instances.specs.declared.state.State.{State}
+use Rattle.instances.specs.declared.state.State.TheVariants as state
+use Rattle.machine.specs.Promise.{IsKept as KeepsMachine}
+use Rattle.commit.specs.declared.error.CoreError.{CoreError}
+use Rattle.commit.specs.Core.{Core, state_of}
+use Rattle.commit.specs.Core as core
+use Rattle.commit.specs.Steps.{MayClaim, Moves}
+use Rattle.hub.specs.Known.{Known, Made, Desk, events}
+use Rattle.hub.specs.Opening.{Opening, facts_behind, IsBehind}
+use Rattle.hub.specs.Kept.{IsKept}
+use Rattle.hub.specs.Replies.{MayRun, Shows}
+use Rattle.hub.specs.Tasks.{Claims}
+use Rattle.hub.proofs.Keeping.{kept_moved}
+use Rattle.hub.proofs.Telling.{known_state}
+
+pub kept_claimed : {D : Type 0} (opening : Opening) (count at : ℕ) (d : Desk) (old new : Core D) (result : Result (Option Inst) CoreError) → IsKept opening count d old → Claims old new at result → IsKept opening count d new
+kept_claimed opening count at d old new (Ok None) kept claims = subst (IsKept opening count d) (sym (claims.none.1 refl)) kept
+kept_claimed opening count at d old new (Ok (Some task)) kept claims = kept_moved opening count d old new task state.Running kept claims.claimed.2
+kept_claimed opening count at d old new (Err error) kept claims = subst (IsKept opening count d) (sym claims.err.same) kept
+
+abbrev is_done : Option State → Bool
+is_done (Some state.Done) = true
+is_done other = false
+
+-- an instance that is ready is prescribed and not done
+not_done : {D : Type 0} (c : Core D) (task : Inst) → KeepsMachine c.machine → state_of c task ≡ Some state.Ready → (is : Bool) → core.facts c (done task) ≡ is → core.facts c (done task) ≡ false
+not_done c task kept ready false is = is
+not_done c task kept ready true is = absurd (true≢false (sym (ap is_done ((kept.done task).1 is)) ∙ ap is_done ready))
+
+pub may_run : {D : Type 0} (opening : Opening) (history : List Made) (before now : Known) (at : ℕ) (old new : Core D) (result : Result (Option Inst) CoreError) → KeepsMachine old.machine → IsBehind opening (events history) old
+    → Shows history before now → Claims old new at result → IfOk result (λ claimed. IfSome claimed (MayRun opening now))
+may_run opening history before now at old new (Ok None) kept behind shows claims = tt
+may_run opening history before now at old new (Ok (Some task)) kept behind shows claims =
+    let ready : state_of old task ≡ Some state.Ready = claims.claimed.1 in
+    let known : core.facts old ≡ facts_behind opening now.seen = known_state opening history before now old behind shows in record {
+      prescribed = subst (λ (here : Graph × Facts). IsPrescribed here.0 here.1 task) (λ i. (behind.graph i, known i)) ((kept.prescribed task).0 (ap is_some ready));
+      not_done = sym (ap (λ (X : Facts). X (done task)) known) ∙ not_done old task kept ready (core.facts old (done task)) refl;
+    }
+may_run opening history before now at old new (Err error) kept behind shows claims = tt
+
+pub moves_claimed : {D : Type 0} (old new : Core D) (at : ℕ) (claimed : Option Inst) (task : Inst) → claimed ≡ Some task
+    → IfSome claimed (λ one. MayClaim old at × (state_of old one ≡ Some state.Ready) × Moves old new one state.Running) → Moves old new task state.Running
+moves_claimed old new at claimed task is all = (subst (λ (some : Option Inst). IfSome some (λ one. MayClaim old at × (state_of old one ≡ Some state.Ready) × Moves old new one state.Running)) is all).2

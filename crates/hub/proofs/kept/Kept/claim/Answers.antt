@@ -1,0 +1,21 @@
+use Rattle.std.proofs.Common.{subst, sym}
+use Rattle.hub.specs.Known.{Desk}
+use Rattle.hub.specs.Kept.{IsKept}
+use Rattle.hub.proofs.Claimed.{kept_claimed, may_run}
+use Rattle.hub.proofs.Telling.{tells_nothing}
+use Rattle.hub.proofs.kept.Kept.claim.Goals as goal
+
+pub invariant_of-self : goal.invariant_of-self
+invariant_of-self g c =
+    let e = c.claim-claimed.ensures in
+    subst (λ (d : Desk). IsKept g.J.Naming.opening g.J.Naming.passes d c.claim-claimed.new.self) (sym c.show.ensures.desk)
+    (kept_claimed _ _ c.args.at _ _ _ c.claim-claimed.result c.self.invariant (record { some = e.some; claimed = e.claimed; none = e.none; err = e.err }))
+
+pub returns-clause-seen : goal.returns-clause-seen
+returns-clause-seen g c = tells_nothing _ c.self.inside.desk.book.history _ _ c.self.invariant.legal c.show.ensures.pass
+
+pub returns-clause-claimed : goal.returns-clause-claimed
+returns-clause-claimed g c =
+    let e = c.claim-claimed.ensures in
+    may_run _ c.self.inside.desk.book.history c.args.pass.now c.show.new.pass c.args.at c.self.inside.core c.claim-claimed.new.self c.claim-claimed.result c.is_kept.ensures.machine c.self.invariant.behind c.show.ensures.pass
+    (record { some = e.some; claimed = e.claimed; none = e.none; err = e.err })
