@@ -1,5 +1,5 @@
 -- What stands under the lock is kept.
-use Rattle.std.proofs.Common.{◌≡◌, ◌∙◌, ◌≤◌, ◌<◌, ◌+◌, ◌^◌, ◌⊎◌, ⊎_elim, ℕ, Bool, true, false, true≢false, List, [], ◌∷◌, ◌++◌, length, refl, sym, ap, subst, arith, length-append, inl, inr, Result, Ok, Err, is_ok}
+use Rattle.std.proofs.Common.{◌≡◌, ◌∙◌, ◌≤◌, ◌<◌, ◌+◌, ◌^◌, ⊎_elim, ℕ, Bool, true, false, true≢false, List, [], ◌∷◌, ◌++◌, length, refl, sym, ap, subst, arith, length-append, inl, Result, Ok, Err, is_ok}
 use Rattle.disk.specs.declared.side.Side.{Side}
 use Rattle.disk.specs.File.{File}
 use Rattle.disk.specs.Time.{Contents}
@@ -12,7 +12,7 @@ use Rattle.vault.specs.declared.error.VaultError.TheVariants as vault
 use Rattle.commit.specs.declared.error.CoreError.{CoreError}
 use Rattle.commit.specs.declared.error.CoreError.TheVariants.{Store}
 use Rattle.commit.specs.Core.{Core, facts, is_halted}
-use Rattle.commit.specs.Calls.{Takes, Commits, Halts, IsUnchanged, Stays, IsInDoubt}
+use Rattle.commit.specs.Calls.{Takes, Commits, Halts, Stays, IsInDoubt}
 use Rattle.commit.specs.Kept.{IsHaltedByTurn}
 use Rattle.commit.specs.Kept.{IsKept as KeepsFiles}
 use Rattle.terms.specs.Sets.{Facts}
@@ -29,7 +29,7 @@ use Rattle.vault.specs.declared.vault.Vault.{Vault}
 use Rattle.hub.specs.Known.{Desk, Made, events, writing_by}
 use Rattle.hub.specs.Opening.{Opening, AreLegalBehind, IsBehind}
 use Rattle.hub.specs.Kept.{IsKept, CommitsAs, CrashLeavesHistory}
-use Rattle.hub.proofs.Lists.{events_append, events_length}
+use Rattle.hub.proofs.Lists.{events_append}
 use Rattle.hub.proofs.States.{legal_more, behind_more, behind_same}
 
 -- the history has room for one event more where its record fits
@@ -43,6 +43,7 @@ has_room files moment left_at honest why opening passes d old new event value ke
   where
     no_error : {error : CoreError} → Ok value ≡ Err error → ⊥
     no_error is = true≢false (ap is_ok is)
+
     small : (count end record_length : ℕ) → count ≤ end → (LIMIT ≤ end + record_length → ⊥) → count + 1 < 2 ^ 64
     small count end record_length short fits = omega (arith, short, fits)
 
@@ -76,6 +77,7 @@ kept_same failures refusals opening passes d old new event error kept stays halt
     not_before : (was : Bool) → is_halted old ≡ was → is_halted new ≡ false → is_halted old ≡ false
     not_before false is working = is
     not_before true is working = absurd (true≢false (sym (halts.halts.1 (inl is)) ∙ working))
+
     by_case : (was : Bool) → is_halted old ≡ was → opening.halted ≡ false → IsHaltedByTurn new → ⊥
     by_case false is opened turned = no_event (sym (doubt is turned.0) ∙ turned.1)
       where

@@ -8,3 +8,4 @@ pub mod Ended
 pub mod Gathered
 pub mod Claimed
 pub mod Finished
+pub mod Opened

@@ -1,5 +1,5 @@
 -- The state behind one event more.
-use Rattle.std.proofs.Common.{◌≡◌, ◌∙◌, ◌||◌, List, [], ◌∷◌, ◌++◌, refl, sym, ap, subst}
+use Rattle.std.proofs.Common.{◌≡◌, ◌∙◌, ◌||◌, List, [], ◌∷◌, ◌++◌, sym, ap, subst}
 use Rattle.std.proofs.Math.Bool.{or-false, or_assoc}
 use Rattle.std.proofs.lemmas.List.{append-nil}
 use Rattle.terms.specs.declared.event.Event.{Event}
@@ -14,7 +14,7 @@ use Rattle.commit.specs.Core as core
 use Rattle.commit.specs.Calls.{Takes, Stays}
 use Rattle.hub.specs.Opening.{Opening, facts_behind, environment_behind, AreLegalBehind, IsBehind}
 
-with_nothing : (X : Facts) → with_facts X [] ≡ X
+pub with_nothing : (X : Facts) → with_facts X [] ≡ X
 with_nothing X = λ i fact. or-false (X fact) i
 
 with_both : AmongBoth → (X : Facts) (one two : List Fact) → with_facts X (one ++ two) ≡ with_facts (with_facts X one) two

@@ -1,19 +1,18 @@
 -- What a locked call tells of its pass. The state that the pass knows is the one behind what it has seen: by that state each call is answered.
-use Rattle.std.specs.Prelude.{◌≡◌, ◌≤◌, ⊤, false, List, [], ◌∷◌, ◌++◌, length, Result, OnOk, OnErr}
+use Rattle.std.specs.Prelude.{◌≡◌, ◌≤◌, ⊤, false, List, [], ◌∷◌, ◌++◌, length}
 use mathlib.Core.List.{IsPrefix}
 use Rattle.terms.specs.declared.event.Event.{Event}
-use Rattle.terms.specs.declared.name.Addr.{Addr}
 use Rattle.terms.specs.declared.name.Inst.{Inst}
 use Rattle.terms.specs.Facts.{done}
 use Rattle.terms.specs.Sets.{Facts}
 use Rattle.graph.specs.Graph.{Graph}
-use Rattle.graph.specs.Fits.{IsAbsent, IsPrescribed}
+use Rattle.graph.specs.Fits.{IsPrescribed}
 use Rattle.machine.specs.declared.refusal.Refusal.{Refusal}
 use Rattle.machine.specs.Legal.{IsLegal}
 use Rattle.vault.specs.declared.error.VaultError.TheVariants as vault
 use Rattle.commit.specs.declared.error.CoreError.{CoreError}
 use Rattle.commit.specs.declared.error.CoreError.TheVariants.{Refused, Store}
-use Rattle.hub.specs.Known.{Known, Made, events, up_to_date, with_event}
+use Rattle.hub.specs.Known.{Known, Made, up_to_date, with_event}
 use Rattle.hub.specs.Rule.{IsInHistory}
 use Rattle.hub.specs.Opening.{Opening, facts_behind, AreLegalBehind}
 

@@ -1,5 +1,5 @@
 -- What a call with a task promises, and what the core's calls promise of tasks.
-use Rattle.std.specs.Prelude.{◌≡◌, ◌≢◌, false, None, Some, Option, Result, Ok, Err, OnOk, OnErr, IfOk, IfErr, IfSome, IsSome, ℕ}
+use Rattle.std.specs.Prelude.{◌≡◌, ◌≢◌, false, None, Some, Option, Result, Ok, Err, OnOk, OnErr, IfOk, IfSome, IsSome, ℕ}
 use Rattle.disk.specs.declared.side.Side.{Side}
 use Rattle.disk.specs.File.{File}
 use Rattle.disk.specs.Time.{Contents}

@@ -1,5 +1,5 @@
 //! The end of a hub.
-ghost use Rattle.std.specs.Prelude.{◌≡◌, ◌<◌, ◌++◌, ℕ, List, None, true, false, IfOk, IfErr, MatchOption};
+ghost use Rattle.std.specs.Prelude.{◌≡◌, ◌<◌, ◌++◌, ℕ, List, None, true, false, IfOk, IfErr};
 ghost use Rattle.std.specs.List.{AllByRecursion};
 ghost use Rattle.commit.specs.Runs.{NoneRuns};
 ghost use Rattle.hub.specs.Known.{Made};
@@ -73,16 +73,17 @@ fn is_among<J: Naming>(envs: &[EnvPass<J>], workers: &[WorkPass<J>], number: usi
     is_here(envs, number) || is_here(workers, number)
 }
 
-// The least number of a pass that is not here.
-fn missing<J: Naming>(envs: &[EnvPass<J>], workers: &[WorkPass<J>], count: usize) -> Option<usize>
-    ensures { MatchOption result ((number : ℕ) → number < count → has_number number (envs.now ++ workers.now) ≡ true) (λ number. (number < count) × (has_number number (envs.now ++ workers.now) ≡ false)) }
+// Whether a pass of each number below this one is among them.
+fn are_here<J: Naming>(envs: &[EnvPass<J>], workers: &[WorkPass<J>], count: usize) -> bool
+    ensures all { result ≡ true → (number : ℕ) → number < count → has_number number (envs.now ++ workers.now) ≡ true }
+    ensures missing { result ≡ false → (number : ℕ) × (number < count) × (has_number number (envs.now ++ workers.now) ≡ false) }
 {
     for number in 0..count {
         if !is_among(envs, workers, number) {
-            return Some(number);
+            return false;
         }
     }
-    None
+    true
 }
 
 impl<J: Naming, D: Disk> Kept<J, D> {
@@ -119,7 +120,7 @@ impl<J: Naming, D: Disk> Hub<J, D> {
         ensures err { IfErr result (λ not_closed. (not_closed.envs.items ≡ envs.items) × (not_closed.workers.items ≡ workers.items)) }
         ensures cause { IfErr result (λ not_closed. WhyNotClosed J.passes (envs.items ++ workers.items) not_closed.error) }
     {
-        if missing(envs.as_slice(), workers.as_slice(), self.count).is_some() {
+        if !are_here(envs.as_slice(), workers.as_slice(), self.count) {
             return Err(NotClosed {
                 error: CloseError::PassMissing,
                 hub: self,

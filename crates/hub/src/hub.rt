@@ -93,12 +93,7 @@ impl<J: Naming, D: Disk> Hub<J, D> {
     }
 
     /// Puts a tag of the environment. The refusals are those of the core's `put_tag`, by the state behind what is then seen.
-    pub fn put_tag<R: Wait>(
-        &self,
-        rt: &R,
-        pass: &mut EnvPass<J>,
-        tag: Tag,
-    ) -> Result<(), CoreError>
+    pub fn put_tag<R: Wait>(&self, rt: &R, pass: &mut EnvPass<J>, tag: Tag) -> Result<(), CoreError>
         ensures seen { Sees J.opening pass.old pass.new }
         ensures ok { OnOk result (Adds (EnvTag tag) pass.old pass.new) }
         ensures err { OnErr result (AddsNothing pass.old pass.new) }

@@ -1,5 +1,4 @@
-use Rattle.std.proofs.Common.{◌≡◌, false, subst}
-use Rattle.std.specs.Prelude.{IsTrue}
+use Rattle.std.proofs.Common.{subst}
 use Rattle.hub.specs.Known.{events}
 use Rattle.hub.specs.Opening.{IsBehind}
 use Rattle.hub.specs.Kept.{Kept, CrashLeavesHistory}

@@ -1,4 +1,4 @@
-use Rattle.std.proofs.Common.{◌≡◌, subst, sym, ap, to_z, of_z, w64, Ok, Err}
+use Rattle.std.proofs.Common.{subst, sym, ap, to_z, of_z, w64, Ok, Err}
 use Rattle.std.proofs.lemmas.Int.{to_z-of_z}
 use Rattle.std.specs.Prelude.{IsTrue}
 use Rattle.terms.specs.declared.event.Event.{Event}

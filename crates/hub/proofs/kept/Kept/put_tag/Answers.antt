@@ -1,4 +1,4 @@
-use Rattle.std.proofs.Common.{◌≡◌, subst, sym, ap, refl, Ok, Err}
+use Rattle.std.proofs.Common.{subst, sym, ap, refl, Ok, Err}
 use Rattle.std.specs.Prelude.{IsTrue}
 use Rattle.terms.specs.declared.event.Event.{Event}
 use Rattle.terms.specs.declared.event.Event.TheVariants.{EnvTag}

@@ -1,6 +1,6 @@
 use Rattle.std.proofs.Common.{◌≡◌, ◌<◌, ◌++◌, ℕ, true}
 use Rattle.hub.specs.Whole.{has_number}
-use Rattle.hub.proofs.close.missing.Given as goal
+use Rattle.hub.proofs.close.are_here.Given as goal
 
 -- the passes below this number are here
 abbrev pub invariant-loop-number : goal.invariant-loop-number

@@ -1,0 +1,48 @@
+-- What stands under the lock when the hub is opened, and what the whole history is when it is closed.
+use Rattle.std.proofs.Common.{◌≡◌, ◌∙◌, ◌<◌, ◌++◌, ℕ, true, true≢false, List, [], None, refl, sym, ap, subst, arith}
+use Rattle.std.specs.List.{AllByRecursion}
+use Rattle.machine.specs.Machine.{IsPut}
+use Rattle.commit.specs.Core.{Core}
+use Rattle.commit.specs.Runs.{IsEnd}
+use Rattle.hub.specs.Known.{Known, Made, Desk, events}
+use Rattle.hub.specs.Rule.{IsInHistory, HasNoneFrom}
+use Rattle.hub.specs.Steps.{IsCompared}
+use Rattle.hub.specs.Opening.{Opening, opening_of, AreLegalBehind, IsBehind}
+use Rattle.hub.specs.Kept.{IsKept}
+use Rattle.hub.specs.Whole.{AllMade, IsWhole, has_number}
+use Rattle.hub.proofs.States.{with_nothing}
+use Rattle.hub.proofs.Gathered.{just_theirs, all_of_both}
+
+pub kept_opened : {D : Type 0} (opening : Opening) (count passes : ℕ) (d : Desk) (c : Core D) → opening ≡ opening_of c → passes ≡ count → d ≡ record { book = record { history = []; passes = passes }; guest = None } → IsKept opening count d c
+kept_opened opening count passes d c opened counted is = subst (λ (at : Desk). IsKept opening count at c) (sym is) (record {
+  alone = refl;
+  passes = counted;
+  behind = record {
+    graph = ap (λ (o : Opening). o.graph) (sym opened);
+    facts = ap (λ (o : Opening). o.facts) (sym opened) ∙ sym (with_nothing opening.facts);
+    environment = ap (λ (o : Opening). o.environment) (sym opened) ∙ sym (with_nothing opening.environment);
+  };
+  legal = tt;
+  short = λ _. omega arith;
+  not_turned = λ working turned. true≢false (sym turned.0 ∙ (ap (λ (o : Opening). o.halted) (sym opened) ∙ working));
+})
+
+-- each pass was compared with the history, and each number has its pass
+pub whole : {D : Type 0} (opening : Opening) (count : ℕ) (first looked gathered : Desk) (c : Core D) (history : List Made) (envs workers : List Known) → IsKept opening count first c → first.book.history ≡ history → looked ≡ first → IsCompared looked
+    → gathered ≡ looked → AllByRecursion (IsInHistory looked.book.history) envs → AllByRecursion (IsInHistory gathered.book.history) workers → AllMade IsPut envs → AllMade IsEnd workers
+    → ((number : ℕ) → number < count → has_number number (envs ++ workers) ≡ true) → IsWhole opening envs workers c history
+whole opening count first looked gathered c history envs workers kept history_is looked_is compared gathered_is one two puts ends here =
+    let at_looked : looked.book.history ≡ history = ap (λ (d : Desk). d.book.history) looked_is ∙ history_is in
+    let at_gathered : gathered.book.history ≡ history = ap (λ (d : Desk). d.book.history) gathered_is ∙ at_looked in
+    let each : AllByRecursion (IsInHistory history) (envs ++ workers) = all_of_both (IsInHistory history) envs workers
+    (subst (λ (list : List Made). AllByRecursion (IsInHistory list) envs) at_looked one)
+    (subst (λ (list : List Made). AllByRecursion (IsInHistory list) workers) at_gathered two) in record {
+      legal = subst (λ (list : List Made). AreLegalBehind opening (events list)) history_is kept.legal;
+      behind = subst (λ (list : List Made). IsBehind opening (events list) c) history_is kept.behind;
+      each = each;
+      made = just_theirs history looked.book.passes (envs ++ workers) each
+          (λ number below. here number (subst (λ (n : ℕ). number < n) (ap (λ (d : Desk). d.book.passes) looked_is ∙ kept.passes) below))
+          (subst (λ (list : List Made). HasNoneFrom looked.book.passes list) at_looked compared.none_else);
+      puts = puts;
+      ends = ends;
+    }
