@@ -4,13 +4,14 @@ use Rattle.terms.specs.declared.name.Inst.{Inst}
 use Rattle.terms.specs.Facts.{done}
 use Rattle.terms.specs.Sets.{Facts}
 use Rattle.graph.specs.Graph.{Graph}
-use Rattle.graph.specs.Fits.{IsPrescribed}
+use Rattle.graph.specs.Fits.{HasNoFault, MayEnd}
 use Rattle.instances.specs.declared.state.State.{State}
 use Rattle.instances.specs.declared.state.State.TheVariants as state
 use Rattle.machine.specs.Promise.{IsKept as KeepsMachine}
 use Rattle.commit.specs.declared.error.CoreError.{CoreError}
 use Rattle.commit.specs.Core.{Core, state_of}
 use Rattle.commit.specs.Core as core
+use Rattle.commit.proofs.Ran.{instance_is_of}
 use Rattle.commit.specs.Steps.{MayClaim, Moves}
 use Rattle.hub.specs.Known.{Known, Made, Desk, events}
 use Rattle.hub.specs.Opening.{Opening, facts_behind, IsBehind}
@@ -40,8 +41,12 @@ may_run opening history before now at old new (Ok None) kept behind shows claims
 may_run opening history before now at old new (Ok (Some task)) kept behind shows claims =
     let ready : state_of old task ≡ Some state.Ready = claims.claimed.1 in
     let known : core.facts old ≡ facts_behind opening now.seen = known_state opening history before now old behind shows in record {
-      prescribed = subst (λ (here : Graph × Facts). IsPrescribed here.0 here.1 task) (λ i. (behind.graph i, known i)) ((kept.prescribed task).0 (ap is_some ready));
-      not_done = sym (ap (λ (X : Facts). X (done task)) known) ∙ not_done old task kept ready (core.facts old (done task)) refl;
+      working = subst HasNoFault known claims.claimed.0.working;
+      may_end = subst (λ (here : Graph × Facts). MayEnd here.0 here.1 task) (λ i. (behind.graph i, known i)) (record {
+        of_graph = instance_is_of old.machine kept task (ap is_some ready);
+        prescribed = (kept.prescribed task).0 (ap is_some ready);
+        not_done = not_done old task kept ready (core.facts old (done task)) refl;
+      });
     }
 may_run opening history before now at old new (Err error) kept behind shows claims = tt
 

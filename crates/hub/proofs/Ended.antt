@@ -11,7 +11,7 @@ use Rattle.commit.specs.declared.outcome.Committed.{Committed}
 use Rattle.commit.specs.declared.outcome.Committed.TheVariants.{Done, Stopped}
 use Rattle.commit.specs.Outcome.{IsEndOf, Tells}
 use Rattle.commit.specs.Runs.{IsEnd}
-use Rattle.hub.specs.Ends.{end_of}
+use Rattle.hub.specs.Ends.{MayAnswer, end_of}
 
 abbrev is_done : Event → Bool
 is_done (event.Done instance puts) = true
@@ -26,6 +26,16 @@ ends_an_instance Done instance (Gave given) = tt
 ends_an_instance Done instance (Fault bad) = tt
 ends_an_instance (Stopped kind) instance (Gave given) = tt
 ends_an_instance (Stopped kind) instance (Fault bad) = tt
+
+pub may_answer : (committed : Committed) (instance : Inst) (outcome : Outcome) (end : Event) → IsEndOf outcome instance end → Tells committed end → MayAnswer outcome committed
+may_answer Done instance (Gave given) end is told = tt
+may_answer Done instance (Fault bad) end is told = absurd (true≢false (sym (ap is_done told.2) ∙ ap is_done is))
+may_answer (Stopped kind) instance (Gave given) end is told =
+    ⊎_elim
+    (λ (done : end ≡ event.Done instance given.puts). absurd (true≢false (sym (ap is_done done) ∙ ap is_done told.1)))
+    (λ (stopped : end ≡ event.Stopped instance DoublePut). sym (ap kind_of told.1) ∙ ap kind_of stopped)
+    is
+may_answer (Stopped kind) instance (Fault bad) end is told = sym (ap kind_of told.1) ∙ ap kind_of is
 
 pub end_is_told : (committed : Committed) (instance : Inst) (outcome : Outcome) (end : Event) → IsEndOf outcome instance end → Tells committed end → end ≡ end_of committed instance outcome
 end_is_told Done instance (Gave given) end is told =

@@ -27,7 +27,7 @@ use Rattle.instances.specs.declared.state.State.{State}
 use Rattle.terms.specs.declared.name.Inst.{Inst}
 use Rattle.vault.specs.declared.vault.Vault.{Vault}
 use Rattle.hub.specs.Known.{Desk, Made, events, writing_by}
-use Rattle.hub.specs.Opening.{Opening, AreLegalBehind, IsBehind}
+use Rattle.hub.specs.Opening.{Opening, WasTurned, AreLegalBehind, IsBehind}
 use Rattle.hub.specs.Kept.{IsKept, CommitsAs, CrashLeavesHistory}
 use Rattle.hub.proofs.Lists.{events_append}
 use Rattle.hub.proofs.States.{legal_more, behind_more, behind_same}
@@ -58,7 +58,7 @@ kept_more both go_on goes_on opening passes number d old new event kept takes =
       behind = subst (λ (list : List Event). IsBehind opening list new) (sym more) (behind_more both go_on goes_on opening (events history) event old new kept.behind takes);
       legal = subst (AreLegalBehind opening) (sym more) (legal_more both opening (events history) event old kept.legal kept.behind takes.legal);
       short = λ _. omega (arith, kept.short takes.working.0, takes.moved, length-append history (record { pass = number; event = event } ∷ []));
-      not_turned = λ _ turned. absurd (true≢false (sym turned.0 ∙ takes.working.1));
+      turned = λ turned. absurd (true≢false (sym turned.0 ∙ takes.working.1));
     }
 
 -- no event comes
@@ -71,19 +71,19 @@ kept_same failures refusals opening passes d old new event error kept stays halt
   legal = kept.legal;
   short = λ working. let before = not_before (is_halted old) refl working in
       subst (λ (end : ℕ). length d.book.history ≤ end) (sym (halts.same (working ∙ sym before)).0.end) (kept.short before);
-  not_turned = λ opened turned. by_case (is_halted old) refl opened turned;
+  turned = λ turned. by_case (is_halted old) refl turned;
 }
   where
     not_before : (was : Bool) → is_halted old ≡ was → is_halted new ≡ false → is_halted old ≡ false
     not_before false is working = is
     not_before true is working = absurd (true≢false (sym (halts.halts.1 (inl is)) ∙ working))
 
-    by_case : (was : Bool) → is_halted old ≡ was → opening.halted ≡ false → IsHaltedByTurn new → ⊥
-    by_case false is opened turned = no_event (sym (doubt is turned.0) ∙ turned.1)
+    by_case : (was : Bool) → is_halted old ≡ was → IsHaltedByTurn new → WasTurned opening
+    by_case false is turned = absurd (no_event (sym (doubt is turned.0) ∙ turned.1))
       where
         no_event : event ∷ [] ≡ [] → ⊥
         no_event e = omega (arith, ap length e)
-    by_case true is opened turned = kept.not_turned opened (is, sym (halts.same (turned.0 ∙ sym is)).1 ∙ turned.1)
+    by_case true is turned = kept.turned (is, sym (halts.same (turned.0 ∙ sym is)).1 ∙ turned.1)
 
 -- no event comes, and nothing happens to the files
 pub kept_on : {D : Type 0} (opening : Opening) (passes : ℕ) (d : Desk) (old new : Core D) → IsKept opening passes d old → Stays old new → new.vault ≡ old.vault → new.in_doubt ≡ old.in_doubt → IsKept opening passes d new
@@ -93,7 +93,7 @@ kept_on {D = D} opening passes d old new kept stays files doubt = record {
   behind = behind_same opening (events d.book.history) old new kept.behind stays;
   legal = kept.legal;
   short = λ working. subst (λ (end : ℕ). length d.book.history ≤ end) (ap (λ (v : Vault D). v.journal.end) (sym files)) (kept.short (ap (λ (v : Vault D). v.halted) (sym files) ∙ working));
-  not_turned = λ opened turned. kept.not_turned opened (ap (λ (v : Vault D). v.halted) (sym files) ∙ turned.0, sym doubt ∙ turned.1);
+  turned = λ turned. kept.turned (ap (λ (v : Vault D). v.halted) (sym files) ∙ turned.0, sym doubt ∙ turned.1);
 }
 
 pub moves_stay : {D : Type 0} (old new : Core D) (instance : Inst) (to : State) → Moves old new instance to → Stays old new

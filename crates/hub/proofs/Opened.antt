@@ -1,5 +1,5 @@
 -- What stands under the lock when the hub is opened, and what the whole history is when it is closed.
-use Rattle.std.proofs.Common.{◌≡◌, ◌∙◌, ◌<◌, ◌++◌, ℕ, true, true≢false, List, [], None, refl, sym, ap, subst, arith}
+use Rattle.std.proofs.Common.{◌≡◌, ◌∙◌, ◌<◌, ◌++◌, ℕ, true, List, [], None, refl, sym, ap, subst, arith}
 use Rattle.std.specs.List.{AllByRecursion}
 use Rattle.machine.specs.Machine.{IsPut}
 use Rattle.commit.specs.Core.{Core}
@@ -21,10 +21,11 @@ kept_opened opening count passes d c opened counted is = subst (λ (at : Desk). 
     graph = ap (λ (o : Opening). o.graph) (sym opened);
     facts = ap (λ (o : Opening). o.facts) (sym opened) ∙ sym (with_nothing opening.facts);
     environment = ap (λ (o : Opening). o.environment) (sym opened) ∙ sym (with_nothing opening.environment);
+    allowance = omega (arith, ap (λ (o : Opening). o.allowance) opened);
   };
   legal = tt;
   short = λ _. omega arith;
-  not_turned = λ working turned. true≢false (sym turned.0 ∙ (ap (λ (o : Opening). o.halted) (sym opened) ∙ working));
+  turned = λ turned. (ap (λ (o : Opening). o.halted) opened ∙ turned.0, ap (λ (o : Opening). o.in_doubt) opened ∙ turned.1);
 })
 
 -- each pass was compared with the history, and each number has its pass
@@ -45,4 +46,5 @@ whole opening count first looked gathered c history envs workers kept history_is
           (subst (λ (list : List Made). HasNoneFrom looked.book.passes list) at_looked compared.none_else);
       puts = puts;
       ends = ends;
+      turned = kept.turned;
     }

@@ -1,5 +1,5 @@
 -- The state behind one event more.
-use Rattle.std.proofs.Common.{◌≡◌, ◌∙◌, ◌||◌, List, [], ◌∷◌, ◌++◌, sym, ap, subst}
+use Rattle.std.proofs.Common.{◌≡◌, ◌∙◌, ◌||◌, List, [], ◌∷◌, ◌++◌, sym, ap, subst, arith, ◌+◌}
 use Rattle.std.proofs.Math.Bool.{or-false, or_assoc}
 use Rattle.std.proofs.lemmas.List.{append-nil}
 use Rattle.terms.specs.declared.event.Event.{Event}
@@ -11,8 +11,8 @@ use Rattle.machine.specs.Legal.{IsLegal}
 use Rattle.machine.specs.State.{AreLegalFrom}
 use Rattle.commit.specs.Core.{Core}
 use Rattle.commit.specs.Core as core
-use Rattle.commit.specs.Calls.{Takes, Stays}
-use Rattle.hub.specs.Opening.{Opening, facts_behind, environment_behind, AreLegalBehind, IsBehind}
+use Rattle.commit.specs.Calls.{Takes, Stays, step_count}
+use Rattle.hub.specs.Opening.{Opening, steps_in, facts_behind, environment_behind, AreLegalBehind, IsBehind}
 
 pub with_nothing : (X : Facts) → with_facts X [] ≡ X
 with_nothing X = λ i fact. or-false (X fact) i
@@ -30,6 +30,10 @@ environment_more both go_on opening events event =
     ap (λ (list : List Fact). with_facts opening.environment list) (go_on events (event ∷ []) ∙ ap (λ (list : List Fact). stated.environment events ++ list) (append-nil (environment_facts event)))
     ∙ with_both both opening.environment (stated.environment events) (environment_facts event)
 
+steps_more : (events : List Event) (event : Event) → steps_in (events ++ event ∷ []) ≡ steps_in events + step_count event
+steps_more [] event = omega arith
+steps_more (first ∷ events) event = omega (arith, steps_more events event)
+
 legal_more_from : AmongBoth → (g : Graph) (X : Facts) (events : List Event) (event : Event) → AreLegalFrom g X events → IsLegal g (with_facts X (stated.facts events)) event → AreLegalFrom g X (events ++ event ∷ [])
 legal_more_from both g X [] event all last = (subst (λ (Y : Facts). IsLegal g Y event) (with_nothing X) last, tt)
 legal_more_from both g X (first ∷ events) event all last =
@@ -45,6 +49,7 @@ behind_more both go_on goes_on opening events event old new behind takes = recor
   graph = takes.takes.graph ∙ behind.graph;
   facts = (λ i fact. takes.takes.facts fact i) ∙ ap (λ (X : Facts). with_facts X (event_facts event)) behind.facts ∙ sym (facts_more both go_on opening events event);
   environment = (λ i fact. takes.takes.environment fact i) ∙ ap (λ (X : Facts). with_facts X (environment_facts event)) behind.environment ∙ sym (environment_more both goes_on opening events event);
+  allowance = omega (arith, takes.allowance, behind.allowance, steps_more events event);
 }
 
 pub behind_same : {D : Type 0} (opening : Opening) (events : List Event) (old new : Core D) → IsBehind opening events old → Stays old new → IsBehind opening events new
@@ -52,4 +57,5 @@ behind_same opening events old new behind stays = record {
   graph = stays.graph ∙ behind.graph;
   facts = (λ i fact. stays.facts fact i) ∙ behind.facts;
   environment = (λ i fact. stays.environment fact i) ∙ behind.environment;
+  allowance = stays.allowance ∙ behind.allowance;
 }

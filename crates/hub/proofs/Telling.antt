@@ -1,5 +1,5 @@
 -- What a locked call tells its pass.
-use Rattle.std.proofs.Common.{◌≡◌, ◌∙◌, List, [], ◌∷◌, ◌++◌, length, refl, sym, ap, subst, arith, length-append, ◌||◌, Bool, true, false, true≢false}
+use Rattle.std.proofs.Common.{◌≡◌, ◌∙◌, List, [], ◌∷◌, ◌++◌, length, refl, sym, ap, subst, arith, length-append, ◌||◌, ⊎_elim, Bool, true, false, true≢false, Err}
 use mathlib.Core.List.{IsPrefix}
 use Rattle.terms.specs.declared.event.Event.{Event}
 use Rattle.terms.specs.Facts.{Fact, FactsGoOn}
@@ -7,12 +7,14 @@ use Rattle.terms.specs.Facts as stated
 use Rattle.terms.specs.Sets.{Facts, AmongBoth, among, with_facts}
 use Rattle.hub.specs.Rule.{IsInHistory}
 use Rattle.graph.specs.Graph.{Graph}
+use Rattle.terms.specs.declared.name.Addr.{Addr}
 use Rattle.terms.specs.declared.name.Inst.{Inst}
+use Rattle.graph.specs.Fits.{IsAbsent}
 use Rattle.machine.specs.declared.refusal.Refusal.{Refusal}
 use Rattle.machine.specs.Results.{IsBodyOf, ReadsStay}
 use Rattle.steplang.specs.declared.outcome.Parked.{Parked}
 use Rattle.commit.specs.Came.{IsParkedIn, IsOutcomeIn}
-use Rattle.commit.specs.Steps.{IsParkedOf}
+use Rattle.commit.specs.Steps.{IsParkedOf, RefusesPark}
 use Rattle.commit.specs.Outcome.{IsOutcomeOf}
 use Rattle.commit.specs.declared.outcome.Outcome.{Outcome}
 use Rattle.commit.specs.declared.outcome.Outcome.TheVariants.{Gave, Fault}
@@ -24,7 +26,7 @@ use Rattle.commit.specs.Core as core
 use Rattle.commit.specs.Calls.{Refuses}
 use Rattle.hub.specs.Known.{Known, Made, events, up_to_date, with_event}
 use Rattle.hub.specs.Opening.{Opening, facts_behind, AreLegalBehind, IsBehind}
-use Rattle.hub.specs.Replies.{Sees, Adds, AddsNothing, Shows, Writes, RefusesAt, RefusesEvent}
+use Rattle.hub.specs.Replies.{Sees, Adds, AddsNothing, Shows, Writes, RefusesAt, RefusesEvent, RefusesWait}
 use Rattle.hub.proofs.Lists.{events_append, events_length, prefix_more}
 
 -- a call that adds nothing
@@ -85,6 +87,16 @@ pub refuses_there : {D : Type 0} (opening : Opening) (history : List Made) (old 
     → IsBehind opening (events history) c → Shows history old new → Refuses c (why (core.graph c) (core.facts c)) event error → RefusesEvent opening new why event error
 refuses_there opening history old new c why event error behind shows refuses =
     refuses_at c opening.graph (facts_behind opening new.seen) why event error behind.graph (known_state opening history old new c behind shows) refuses
+
+-- why an instance may not wait
+pub refuses_wait : {D T : Type 0} (opening : Opening) (history : List Made) (before now : Known) (old new : Core D) (address : Addr) (error : CoreError) → IsBehind opening (events history) old → Shows history before now
+    → RefusesPark {T = T} old new address (Err error) → RefusesWait opening now address error
+refuses_wait opening history before now old new address error behind shows refuses =
+    ⊎_elim
+    (λ (halted : (core.is_halted old ≡ true) × (error ≡ Store vault.Halted)). subst (RefusesWait opening now address) (sym halted.1) tt)
+    (λ (none : (core.is_halted old ≡ false) × IsAbsent (core.facts old) address × (error ≡ Store vault.NoMemory)). subst (RefusesWait opening now address) (sym none.2)
+    (subst (λ (X : Facts). IsAbsent X address) (known_state opening history before now old behind shows) none.1))
+    refuses.causes
 
 -- ---- a pass that sees the history first
 

@@ -1,4 +1,6 @@
 -- The event by which an instance ends.
+use Rattle.std.specs.Prelude.{◌≡◌, ⊤}
+use Rattle.terms.specs.declared.fault.FaultKind.TheVariants.{DoublePut}
 use Rattle.terms.specs.declared.name.Inst.{Inst}
 use Rattle.terms.specs.declared.event.Event.{Event}
 use Rattle.terms.specs.declared.event.Event.TheVariants as event
@@ -7,8 +9,15 @@ use Rattle.commit.specs.declared.outcome.Outcome.TheVariants.{Gave, Fault}
 use Rattle.commit.specs.declared.outcome.Committed.{Committed}
 use Rattle.commit.specs.declared.outcome.Committed.TheVariants.{Done, Stopped}
 
--- What a finish commits where it answers this: that the instance is done, with the puts that its body gave, or that it is at fault. One whose body is
--- at fault is not done.
+-- This is answered to such an outcome: puts are done, or one of them is a double put; a fault of the body stops.
+abbrev pub MayAnswer : Outcome → Committed → Type 0
+MayAnswer (Gave given) Done = ⊤
+MayAnswer (Gave given) (Stopped kind) = kind ≡ DoublePut
+MayAnswer (Fault bad) Done = ⊥
+MayAnswer (Fault bad) (Stopped kind) = kind ≡ bad.kind
+
+-- What a finish commits where it answers this: that the instance is done, with the puts that its body gave, or that it is at fault. (An instance whose
+-- body is at fault is never answered to be done.)
 abbrev pub end_of : Committed → Inst → Outcome → Event
 end_of Done instance (Gave given) = event.Done instance given.puts
 end_of Done instance (Fault bad) = event.Stopped instance bad.kind

@@ -11,7 +11,7 @@ use Rattle.commit.specs.Calls.{Commits, Halts, IsUnchanged}
 use Rattle.commit.specs.Core.{Core, is_halted}
 use Rattle.commit.specs.Kept.{IsHaltedByTurn}
 use Rattle.hub.specs.Known.{Made, Desk, events}
-use Rattle.hub.specs.Opening.{Opening, facts_behind, environment_behind, AreLegalBehind, IsBehind}
+use Rattle.hub.specs.Opening.{Opening, facts_behind, environment_behind, WasTurned, AreLegalBehind, IsBehind}
 
 -- the history, and the core
 pub record Kept (D : Type 0) : Type 0 where
@@ -19,14 +19,14 @@ pub record Kept (D : Type 0) : Type 0 where
   pub core : Core D
 
 -- The keeper is alone, and has the book of all passes. The core has the state behind the history, which is legal and no longer than the journal, since
--- each event moves its end. And no turnover has halted it, unless it was halted when the hub was opened.
+-- each event moves its end. And where a turnover halted it, that was before the hub was opened.
 pub record IsKept {D : Type 0} (opening : Opening) (count : ℕ) (d : Desk) (c : Core D) : Type 0 where
   pub alone : d.guest ≡ None
   pub passes : d.book.passes ≡ count
   pub behind : IsBehind opening (events d.book.history) c
   pub legal : AreLegalBehind opening (events d.book.history)
   pub short : is_halted c ≡ false → length d.book.history ≤ c.vault.journal.end
-  pub not_turned : opening.halted ≡ false → IsHaltedByTurn c → ⊥
+  pub turned : IsHaltedByTurn c → WasTurned opening
 
 -- A crash leaves the state behind the history, or, once the core is halted, that with the event that is in doubt.
 abbrev pub CrashLeavesHistory : {D : Type 0} → (D → Side → File) → Opening → Kept D → Type 0

@@ -1,5 +1,5 @@
 -- What a hub is opened with, and the state behind events from there.
-use Rattle.std.specs.Prelude.{◌≡◌, Bool, false, List, []}
+use Rattle.std.specs.Prelude.{◌≡◌, ◌+◌, ◌-◌, ℕ, Bool, true, false, List, [], ◌∷◌}
 use Rattle.terms.specs.declared.event.Event.{Event}
 use Rattle.terms.specs.Facts.{Fact}
 use Rattle.terms.specs.Facts as stated
@@ -8,13 +8,17 @@ use Rattle.graph.specs.Graph.{Graph}
 use Rattle.machine.specs.State.{AreLegalFrom}
 use Rattle.commit.specs.Core.{Core}
 use Rattle.commit.specs.Core as core
+use Rattle.commit.specs.Calls.{step_count}
 
--- the graph, the facts that the store had, what of them the environment put, and whether the core was halted
+-- The graph, the facts that the store had, what of them the environment put, and how many steps the core might commit; and whether it was halted, and
+-- which events were in doubt then.
 pub record Opening : Type 0 where
   pub graph : Graph
   pub facts : Facts
   pub environment : Facts
+  pub allowance : ℕ
   pub halted : Bool
+  pub in_doubt : List Event
 
 -- an empty store of an empty graph
 abbrev pub nothing : Opening
@@ -22,11 +26,13 @@ nothing = record {
   graph = record { items = []; tags = []; steps = []; environment_item_puts = []; environment_tag_puts = []; environment_gets = [] };
   facts = λ _. false;
   environment = λ _. false;
+  allowance = 0;
   halted = false;
+  in_doubt = [];
 }
 
 abbrev pub opening_of : {D : Type 0} → Core D → Opening
-opening_of c = record { graph = core.graph c; facts = core.facts c; environment = core.environment c; halted = core.is_halted c }
+opening_of c = record { graph = core.graph c; facts = core.facts c; environment = core.environment c; allowance = c.allowance; halted = core.is_halted c; in_doubt = c.in_doubt }
 
 -- the facts behind these events, and what of them the environment put
 abbrev pub facts_behind : Opening → List Event → Facts
@@ -35,12 +41,22 @@ facts_behind opening events = with_facts opening.facts (stated.facts events)
 abbrev pub environment_behind : Opening → List Event → Facts
 environment_behind opening events = with_facts opening.environment (stated.environment events)
 
+-- how many of the events are ends of steps
+abbrev pub steps_in : List Event → ℕ
+steps_in [] = 0
+steps_in (event ∷ events) = step_count event + steps_in events
+
+-- a turnover had halted the core
+abbrev pub WasTurned : Opening → Type 0
+WasTurned opening = (opening.halted ≡ true) × (opening.in_doubt ≡ [])
+
 -- each of the events is legal behind those before it
 abbrev pub AreLegalBehind : Opening → List Event → Type 0
 AreLegalBehind opening events = AreLegalFrom opening.graph opening.facts events
 
--- the core has the state behind these events
+-- the core has the state behind these events, and may commit as many steps less as they have
 pub record IsBehind {D : Type 0} (opening : Opening) (events : List Event) (c : Core D) : Type 0 where
   pub graph : core.graph c ≡ opening.graph
   pub facts : core.facts c ≡ facts_behind opening events
   pub environment : core.environment c ≡ environment_behind opening events
+  pub allowance : c.allowance ≡ opening.allowance - steps_in events

@@ -1,12 +1,12 @@
 -- What a locked call tells of its pass. The state that the pass knows is the one behind what it has seen: by that state each call is answered.
-use Rattle.std.specs.Prelude.{◌≡◌, ◌≤◌, ⊤, false, List, [], ◌∷◌, ◌++◌, length}
+use Rattle.std.specs.Prelude.{◌≡◌, ◌≤◌, ⊤, List, [], ◌∷◌, ◌++◌, length}
 use mathlib.Core.List.{IsPrefix}
 use Rattle.terms.specs.declared.event.Event.{Event}
+use Rattle.terms.specs.declared.name.Addr.{Addr}
 use Rattle.terms.specs.declared.name.Inst.{Inst}
-use Rattle.terms.specs.Facts.{done}
+use Rattle.graph.specs.Fits.{HasNoFault, IsAbsent, MayEnd}
 use Rattle.terms.specs.Sets.{Facts}
 use Rattle.graph.specs.Graph.{Graph}
-use Rattle.graph.specs.Fits.{IsPrescribed}
 use Rattle.machine.specs.declared.refusal.Refusal.{Refusal}
 use Rattle.machine.specs.Legal.{IsLegal}
 use Rattle.vault.specs.declared.error.VaultError.TheVariants as vault
@@ -52,6 +52,7 @@ pub record Writes (event : Event) (earlier later : List Made) (old new : Known) 
 -- ---- refusals
 
 -- Why an event is refused where these facts are there. One that may come is refused where it does not fit, the device failed, or memory was refused.
+-- That the core is halted no pass can know.
 abbrev pub RefusesAt : Graph → Facts → (Refusal → Type 0) → Event → CoreError → Type 0
 RefusesAt g X why event (Refused refusal) = why refusal
 RefusesAt g X why event (Store vault.Halted) = ⊤
@@ -77,7 +78,13 @@ SaysHalted error = error ≡ Store vault.Halted
 
 -- ---- instances
 
--- the instance is prescribed and not done in the state that a pass knows
+-- the instance may be run in the state that a pass knows: there is no fault, and the instance is of the graph, prescribed, and not done
 pub record MayRun (opening : Opening) (known : Known) (instance : Inst) : Type 0 where
-  pub prescribed : IsPrescribed opening.graph (facts_behind opening known.seen) instance
-  pub not_done : facts_behind opening known.seen (done instance) ≡ false
+  pub working : HasNoFault (facts_behind opening known.seen)
+  pub may_end : MayEnd opening.graph (facts_behind opening known.seen) instance
+
+-- Why an instance may not wait for an item: memory was refused, for an item that is not there; or the core is halted, which a pass cannot know.
+abbrev pub RefusesWait : Opening → Known → Addr → CoreError → Type 0
+RefusesWait opening known address (Store vault.Halted) = ⊤
+RefusesWait opening known address (Store vault.NoMemory) = IsAbsent (facts_behind opening known.seen) address
+RefusesWait opening known address other = ⊥

@@ -30,8 +30,8 @@ Fits book stop keeper home seat nobody = ⊤
 Fits book stop keeper home seat (pass known) = IsPassOf book stop home seat known
 Fits book stop keeper home seat (desk own) = (seat ≡ keeper) × (own.book ≡ book) × IfSome own.guest (IsPassOf book stop home seat)
 
--- One seat is the keeper's, who has the book. Word 0 is the length of its history, word 1 is 0 or 1, and 1 where a pass has asked for a stop. Each
--- pass has seen a beginning of the history, which has just the passes' events.
+-- There is one book. Word 0 is the length of its history, word 1 is 0 or 1, and 1 where a pass has asked for a stop. Of each pass the history has just
+-- what was made with it, and it begins with what the pass has seen; of a number that no pass has it has nothing.
 pub record IsRuled (state : State (Unit {0}) SeatView) : Type 0 where
   pub book : Book
   pub stop : ℕ

@@ -57,7 +57,7 @@ abbrev pub TellsDesk : SeatView → Type 0
 TellsDesk (desk d) = IsCompared d
 TellsDesk view = ⊤
 
--- The keeper compares its guest with the book.
+-- The keeper is told that the history has what its guest knows.
 abbrev pub Learns : Step (Unit {0}) → Seated → ℕ → Seated → Type 0
 Learns step before found after = (after ≡ before) × TellsDesk before.0
 

@@ -1,5 +1,5 @@
 -- What a call with a task promises, and what the core's calls promise of tasks.
-use Rattle.std.specs.Prelude.{◌≡◌, ◌≢◌, false, None, Some, Option, Result, Ok, Err, OnOk, OnErr, IfOk, IfSome, IsSome, ℕ}
+use Rattle.std.specs.Prelude.{◌≡◌, ◌≢◌, false, None, Some, Option, Result, Ok, Err, OnOk, OnErr, IfOk, IfSome, IsSome, ℕ, ℤ, IfErr}
 use Rattle.disk.specs.declared.side.Side.{Side}
 use Rattle.disk.specs.File.{File}
 use Rattle.disk.specs.Time.{Contents}
@@ -7,12 +7,14 @@ use Rattle.terms.specs.declared.name.Addr.{Addr}
 use Rattle.terms.specs.declared.name.Inst.{Inst}
 use Rattle.terms.specs.declared.event.Event.{Event}
 use Rattle.instances.specs.declared.state.State.TheVariants.{Ready, Running}
-use Rattle.machine.specs.Machine.{RefusesEnd}
+use Rattle.machine.specs.declared.refusal.Refusal.{Refusal}
+use Rattle.machine.specs.Machine.{IsValueAt, RefusesEnd}
 use Rattle.commit.specs.declared.error.CoreError.{CoreError}
 use Rattle.commit.specs.declared.outcome.Outcome.{Outcome}
 use Rattle.commit.specs.declared.outcome.Committed.{Committed}
 use Rattle.commit.specs.Calls.{GivesBack, Halts}
-use Rattle.commit.specs.Core.{Core, state_of, is_halted}
+use Rattle.commit.specs.Core.{Core, facts, state_of, is_halted}
+use Rattle.commit.specs.Gets.{RefusesOrHalted}
 use Rattle.commit.specs.Outcome.{Finishes, IsEndOf}
 use Rattle.commit.specs.Steps.{MayClaim, Moves, IsHalted, LooksAgain, RefusesPark}
 use Rattle.hub.specs.declared.error.TaskError.{TaskError}
@@ -40,6 +42,11 @@ pub record IsMade {D : Type 0} (old : Kept D) (task : Inst) (does : Type 0) : Ty
   pub call : does
 
 -- ---- the core's calls
+
+pub record Gets {D : Type 0} (c : Core D) (may : Type 0) (why : Refusal → Type 0) (address : Addr) (result : Result (Option ℤ) CoreError) : Type 0 where
+  pub allowed : OnOk result ((is_halted c ≡ false) × may)
+  pub value : IfOk result (IsValueAt (facts c) address)
+  pub refused : IfErr result (RefusesOrHalted c why)
 
 pub record Claims {D : Type 0} (old new : Core D) (at : ℕ) (result : Result (Option Inst) CoreError) : Type 0 where
   pub some : IfOk result (λ claimed. MayClaim old at → IsSome claimed)

@@ -4,13 +4,14 @@ use Rattle.std.specs.List.{AllByRecursion}
 use Rattle.terms.specs.declared.event.Event.{Event}
 use Rattle.machine.specs.Machine.{IsPut}
 use Rattle.commit.specs.Core.{Core}
+use Rattle.commit.specs.Kept.{IsHaltedByTurn}
 use Rattle.commit.specs.Runs.{IsEnd}
 use Rattle.atomic_table.specs.Seated.{TableId}
 use Rattle.hub.specs.declared.close.CloseError.{CloseError}
 use Rattle.hub.specs.declared.close.CloseError.TheVariants.{PassMissing, TaskOut}
 use Rattle.hub.specs.Known.{Known, Made, events, made_by, newcomer}
 use Rattle.hub.specs.Rule.{IsInHistory}
-use Rattle.hub.specs.Opening.{Opening, AreLegalBehind, IsBehind}
+use Rattle.hub.specs.Opening.{Opening, WasTurned, AreLegalBehind, IsBehind}
 
 -- so many new passes, the first of which has this number
 abbrev pub new_passes : ℕ → ℕ → List Known
@@ -33,7 +34,7 @@ AllMade such passes = AllByRecursion (λ known. AllByRecursion such known.mine) 
 
 -- The whole history of a hub that is closed with these passes. It is legal, and the core has the state behind it. It begins with what each pass has
 -- seen, and has just the passes' events, those of each pass in their order. Those of the environment's passes are its puts, and those of the workers'
--- passes are ends of instances.
+-- passes are ends of instances. Where a turnover halted the core, that was before the hub was opened.
 pub record IsWhole {D : Type 0} (opening : Opening) (envs workers : List Known) (c : Core D) (history : List Made) : Type 0 where
   pub legal : AreLegalBehind opening (events history)
   pub behind : IsBehind opening (events history) c
@@ -41,6 +42,7 @@ pub record IsWhole {D : Type 0} (opening : Opening) (envs workers : List Known) 
   pub made : (number : ℕ) → made_by number history ≡ mine_of number (envs ++ workers)
   pub puts : AllMade IsPut envs
   pub ends : AllMade IsEnd workers
+  pub turned : IsHaltedByTurn c → WasTurned opening
 
 -- a blank: the table of its words, and how many passes it is for, of the environment and of workers
 pub record Blank : Type 0 where

@@ -17,7 +17,7 @@ pub struct Board<J: Naming> {
 }
 
 impl<J: Naming> Board<J> {
-    // The pass comes to the keeper, and is compared with the book.
+    // The pass comes to the keeper. At the load, whose value is of no use, the rule tells that the history has what the pass knows.
     pub(crate) fn lend(&self, desk: &mut Desk<J>, badge: Badge<View>)
         requires alone { desk.old.guest ≡ None }
         requires pass { IsBadge J.table badge }
@@ -50,7 +50,7 @@ impl<J: Naming> Board<J> {
             .into_badge()
     }
 
-    // No number from that of the passes on has an event.
+    // At the load the rule tells that no event was made with a pass whose number is not below the count of passes.
     pub(crate) fn look(&self, desk: &mut Desk<J>)
         ensures same { desk.new ≡ desk.old }
         ensures compared { IsCompared desk.new }

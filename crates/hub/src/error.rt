@@ -3,7 +3,7 @@ use instances::Task;
 
 /// Why a call with a task was refused.
 pub enum TaskError {
-    /// The instance of the task does not run here. The task comes back, and nothing has changed.
+    /// The instance of the task does not run here. The task comes back, and the store is as it was.
     Foreign(Task),
     /// The core refused it, as its own call tells.
     Refused(CoreError),

@@ -1,4 +1,4 @@
-ghost use Rattle.std.specs.Prelude.{◌≡◌, ⊤, true, Ok, OnErr, OnOk, IfErr, IfOk, IfSome};
+ghost use Rattle.std.specs.Prelude.{◌≡◌, true, Ok, OnErr, OnOk, IfErr, IfOk, IfSome};
 
 use crate::{Board, EnvPass, Kept, Kind, Naming, Pass, TaskError, WorkPass};
 use atomic_table::Badge;
@@ -11,7 +11,7 @@ use std::sync::{Arc, Mutex, Wait};
 use steplang::Parked;
 use terms::{Addr, Tag};
 
-/// A store that threads share. Each of them calls it with a pass of its own, and knows behind each call a beginning of the one history.
+/// A store that threads share. Each of them calls it with a pass of its own, and has seen, behind each locked call, the whole history up to then.
 ///
 /// The locked calls wait for each other. `graph`, `commits`, `ask_stop` and `stop_asked` wait for nobody.
 pub struct Hub<J: Naming, D: Disk> {
@@ -43,8 +43,8 @@ impl<J: Naming, D: Disk> Hub<J, D> {
     ghost use Rattle.hub.specs.Steps.{IsCountFor, heard_of};
     ghost use Rattle.hub.specs.Opening.{facts_behind};
     ghost use Rattle.commit.specs.Came.{IsOutcomeIn, IsParkedIn};
-    ghost use Rattle.hub.specs.Ends.{end_of};
-    ghost use Rattle.hub.specs.Replies.{Adds, AddsNothing, MayRun, RefusesEvent, RefusesQuestion, SaysHalted, Sees};
+    ghost use Rattle.hub.specs.Ends.{MayAnswer, end_of};
+    ghost use Rattle.hub.specs.Replies.{Adds, AddsNothing, MayRun, RefusesEvent, RefusesQuestion, RefusesWait, SaysHalted, Sees};
     ghost use Rattle.hub.specs.Tasks.{OnTask, RefusesEndOf};
 
     // Takes it apart.
@@ -133,7 +133,7 @@ impl<J: Naming, D: Disk> Hub<J, D> {
 
     /// Lets an instance wait for the item that its body asks for, unless that is there by now.
     ///
-    /// The result is of the task's instance and of the body of its step in this graph, and what it read the pass has seen.
+    /// The result is of the task's instance and of the body of its step in this graph, and each item that it read is in the state that the pass knew.
     pub fn park<R: Wait>(
         &self,
         rt: &R,
@@ -143,7 +143,7 @@ impl<J: Naming, D: Disk> Hub<J, D> {
     ) -> Result<(), TaskError>
         requires { IsParkedIn J.opening.graph (facts_behind J.opening pass.old.seen) task parked }
         ensures seen { Sees J.opening pass.old pass.new × AddsNothing pass.old pass.new }
-        ensures foreign { OnTask result (λ back. back ≡ task) (λ _. ⊤) }
+        ensures refused { OnTask result (λ back. back ≡ task) (λ answer. IfErr answer (RefusesWait J.opening pass.new parked.entry.address)) }
     {
         self.kept.lock(rt).park(&self.board, pass, task, parked)
     }
@@ -163,7 +163,7 @@ impl<J: Naming, D: Disk> Hub<J, D> {
 
     /// Commits what the body of an instance came to: the instance is done, with its puts, or at fault.
     ///
-    /// The outcome is of the task's instance and of the body of its step in this graph, and what it read the pass has seen.
+    /// The outcome is of the task's instance and of the body of its step in this graph, and each item that it read is in the state that the pass knew.
     pub fn finish<R: Wait>(
         &self,
         rt: &R,
@@ -173,7 +173,7 @@ impl<J: Naming, D: Disk> Hub<J, D> {
     ) -> Result<Committed, TaskError>
         requires { IsOutcomeIn J.opening.graph (facts_behind J.opening pass.old.seen) task outcome }
         ensures seen { Sees J.opening pass.old pass.new }
-        ensures ok { IfOk result (λ committed. Adds (end_of committed task outcome.entry) pass.old pass.new) }
+        ensures ok { IfOk result (λ committed. MayAnswer outcome.entry committed × Adds (end_of committed task outcome.entry) pass.old pass.new) }
         ensures err { OnErr result (AddsNothing pass.old pass.new) }
         ensures refused { OnTask result (λ back. back ≡ task) (λ answer. IfErr answer (RefusesEndOf J.opening pass.new task outcome.entry)) }
     {

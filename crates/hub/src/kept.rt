@@ -12,7 +12,8 @@ use vault::stores_go_on;
 
 /// What stands under the lock of a hub: the core, and the keeper's seat. A contract sees the history and the core.
 ///
-/// Between two calls the core has the state behind the history, and so has the disk, whenever a crash comes.
+/// Between two calls the core has the state behind the history. On an honest disk a crash leaves that state, or, once the core is halted, perhaps that with
+/// the event in doubt (`is_kept`).
 pub struct Kept<J: Naming, D: Disk> {
     pub(crate) core: Core<D>,
     pub(crate) desk: Desk<J>,
@@ -40,18 +41,18 @@ impl<J: Naming, D: Disk> Model for Kept<J, D> {
 }
 
 impl<J: Naming, D: Disk> Kept<J, D> {
-    ghost use Rattle.std.specs.Prelude.{◌≡◌, false, None, Some, Ok, Err, OnErr, OnOk, IfErr, IfOk, IfSome, IsTrue};
+    ghost use Rattle.std.specs.Prelude.{◌≡◌, false, [], None, Some, Ok, Err, OnErr, OnOk, IfErr, IfOk, IfSome, IsTrue};
     ghost use Rattle.terms.specs.declared.event.Event.TheVariants.{EnvItem, EnvTag};
     ghost use Rattle.machine.specs.Machine.{IsValueAt, RefusesItem, RefusesTag, RefusesGet, RefusesRead};
     ghost use Rattle.graph.specs.Fits.{AddressIsOf};
     ghost use Rattle.graph.specs.Graph.{EnvironmentMayGet};
-    ghost use Rattle.commit.specs.Core.{facts, graph};
+    ghost use Rattle.commit.specs.Core.{facts, graph, is_halted};
     ghost use Rattle.hub.specs.Known.{events};
-    ghost use Rattle.hub.specs.Opening.{AreLegalBehind, IsBehind, facts_behind};
+    ghost use Rattle.hub.specs.Opening.{AreLegalBehind, IsBehind, WasTurned, facts_behind};
     ghost use Rattle.hub.specs.Kept.{CommitsAs, CrashLeavesHistory, IsKept};
-    ghost use Rattle.hub.specs.Ends.{end_of};
-    ghost use Rattle.hub.specs.Replies.{Adds, AddsNothing, MayRun, RefusesEvent, RefusesQuestion, SaysHalted, Sees, Shows, Writes};
-    ghost use Rattle.hub.specs.Tasks.{Claims, Ends, IsForeign, IsMade, OnTask, Parks, RefusesEndOf};
+    ghost use Rattle.hub.specs.Ends.{MayAnswer, end_of};
+    ghost use Rattle.hub.specs.Replies.{Adds, AddsNothing, MayRun, RefusesEvent, RefusesQuestion, RefusesWait, SaysHalted, Sees, Shows, Writes};
+    ghost use Rattle.hub.specs.Tasks.{Claims, Ends, Gets, IsForeign, IsMade, OnTask, Parks, RefusesEndOf};
     ghost use Rattle.instances.specs.declared.state.State.TheVariants.{Ready};
     ghost use Rattle.commit.specs.Calls.{IsUnchanged};
     ghost use Rattle.commit.specs.Came.{IsOutcomeIn, IsParkedIn};
@@ -71,7 +72,8 @@ impl<J: Naming, D: Disk> Kept<J, D> {
     pub fn is_kept(&self)
         ensures behind { IsBehind J.opening (events self.now.history) self.now.core }
         ensures legal { AreLegalBehind J.opening (events self.now.history) }
-        ensures crash { IsTrue D.is_honest → J.opening.halted ≡ false → CrashLeavesHistory D.files J.opening self.now }
+        ensures crash { IsTrue D.is_honest → (WasTurned J.opening → ⊥) → CrashLeavesHistory D.files J.opening self.now }
+        ensures settled { is_halted self.now.core ≡ false → self.now.core.in_doubt ≡ [] }
     {
         self.core.is_kept();
     }
@@ -88,7 +90,7 @@ impl<J: Naming, D: Disk> Kept<J, D> {
         ensures history { OnOk result (Writes (EnvItem addr value) self.old.history self.new.history pass.old pass.new) }
         ensures seen { Sees J.opening pass.old pass.new }
         ensures ok { OnOk result (Adds (EnvItem addr value) pass.old pass.new) }
-        ensures err { OnErr result ((self.new.history ≡ self.old.history) × AddsNothing pass.old pass.new) }
+        ensures err { OnErr result ((self.new.history ≡ self.old.history) × Shows self.old.history pass.old pass.new × AddsNothing pass.old pass.new) }
         ensures refused { IfErr result (RefusesEvent J.opening pass.new (λ g X. RefusesItem g X addr) (EnvItem addr value)) }
     {
         facts_are_told_apart();
@@ -114,8 +116,8 @@ impl<J: Naming, D: Disk> Kept<J, D> {
         pass: &mut EnvPass<J>,
         addr: Addr,
     ) -> Result<Option<i64>, CoreError>
-        ensures same { self.new ≡ self.old }
-        ensures history { Shows self.old.history pass.old pass.new }
+        ensures same { (self.new ≡ self.old) × Shows self.old.history pass.old pass.new }
+        ensures core { Gets self.old.core (EnvironmentMayGet (graph self.old.core) addr) (RefusesGet (graph self.old.core) addr) addr result }
         ensures seen { Sees J.opening pass.old pass.new × AddsNothing pass.old pass.new }
         ensures allowed { OnOk result (EnvironmentMayGet J.opening.graph addr) }
         ensures value { IfOk result (IsValueAt (facts_behind J.opening pass.new.seen) addr) }
@@ -136,7 +138,7 @@ impl<J: Naming, D: Disk> Kept<J, D> {
         ensures history { OnOk result (Writes (EnvTag tag) self.old.history self.new.history pass.old pass.new) }
         ensures seen { Sees J.opening pass.old pass.new }
         ensures ok { OnOk result (Adds (EnvTag tag) pass.old pass.new) }
-        ensures err { OnErr result ((self.new.history ≡ self.old.history) × AddsNothing pass.old pass.new) }
+        ensures err { OnErr result ((self.new.history ≡ self.old.history) × Shows self.old.history pass.old pass.new × AddsNothing pass.old pass.new) }
         ensures refused { IfErr result (RefusesEvent J.opening pass.new (λ g X. RefusesTag g X tag) (EnvTag tag)) }
     {
         facts_are_told_apart();
@@ -162,8 +164,8 @@ impl<J: Naming, D: Disk> Kept<J, D> {
         pass: &mut WorkPass<J>,
         addr: Addr,
     ) -> Result<Option<i64>, CoreError>
-        ensures same { self.new ≡ self.old }
-        ensures history { Shows self.old.history pass.old pass.new }
+        ensures same { (self.new ≡ self.old) × Shows self.old.history pass.old pass.new }
+        ensures core { Gets self.old.core (AddressIsOf (graph self.old.core) addr) (RefusesRead (graph self.old.core) addr) addr result }
         ensures seen { Sees J.opening pass.old pass.new × AddsNothing pass.old pass.new }
         ensures allowed { OnOk result (AddressIsOf J.opening.graph addr) }
         ensures value { IfOk result (IsValueAt (facts_behind J.opening pass.new.seen) addr) }
@@ -205,6 +207,7 @@ impl<J: Naming, D: Disk> Kept<J, D> {
         ensures core { OnTask result (IsForeign self.old self.new task) (λ answer. IsMade self.old task (Parks self.old.core self.new.core task parked.entry.address answer)) }
         ensures history { (self.new.history ≡ self.old.history) × Shows self.old.history pass.old pass.new }
         ensures seen { Sees J.opening pass.old pass.new × AddsNothing pass.old pass.new }
+        ensures refused { OnTask result (λ back. back ≡ task) (λ answer. IfErr answer (RefusesWait J.opening pass.new parked.entry.address)) }
     {
         facts_are_told_apart();
         facts_go_on();
@@ -250,8 +253,8 @@ impl<J: Naming, D: Disk> Kept<J, D> {
         ensures core { OnTask result (IsForeign self.old self.new task) (λ answer. IsMade self.old task (Ends D.files D.moment D.left_at D.failures D.refusals (IsTrue D.is_honest) self.old.core self.new.core task outcome.entry answer)) }
         ensures history { IfOk result (λ committed. Writes (end_of committed task outcome.entry) self.old.history self.new.history pass.old pass.new) }
         ensures seen { Sees J.opening pass.old pass.new }
-        ensures ok { IfOk result (λ committed. Adds (end_of committed task outcome.entry) pass.old pass.new) }
-        ensures err { OnErr result ((self.new.history ≡ self.old.history) × AddsNothing pass.old pass.new) }
+        ensures ok { IfOk result (λ committed. MayAnswer outcome.entry committed × Adds (end_of committed task outcome.entry) pass.old pass.new) }
+        ensures err { OnErr result ((self.new.history ≡ self.old.history) × Shows self.old.history pass.old pass.new × AddsNothing pass.old pass.new) }
         ensures refused { OnTask result (λ back. back ≡ task) (λ answer. IfErr answer (RefusesEndOf J.opening pass.new task outcome.entry)) }
     {
         facts_are_told_apart();
@@ -274,7 +277,7 @@ impl<J: Naming, D: Disk> Kept<J, D> {
 
     /// Whether an instance runs, or may be claimed. No clause says which it answers.
     pub fn busy(&mut self, board: &Board<J>, pass: &mut WorkPass<J>) -> bool
-        ensures core { IsUnchanged self.old.core self.new.core }
+        ensures core { IsUnchanged self.old.core self.new.core × (self.new.core.vault ≡ self.old.core.vault) × (self.new.core.in_doubt ≡ self.old.core.in_doubt) }
         ensures history { (self.new.history ≡ self.old.history) × Shows self.old.history pass.old pass.new }
         ensures seen { Sees J.opening pass.old pass.new × AddsNothing pass.old pass.new }
     {

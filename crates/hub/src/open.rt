@@ -56,6 +56,16 @@ pub struct NotOpened<D: Disk> {
     pub blank: Blank,
 }
 
+impl<D: Disk> NotOpened<D> {
+    /// The core, where the blank is not used again.
+    pub fn into_core(self) -> Core<D>
+        ensures { result ≡ self.core }
+    {
+        let NotOpened { core, blank: _ } = self;
+        core
+    }
+}
+
 impl<D: Disk + Drop> Drop for NotOpened<D> {
     fn drop(self) {
         let NotOpened { core: _, blank: _ } = self;

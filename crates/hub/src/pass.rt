@@ -36,7 +36,7 @@ pub type WorkPass<J> = Pass<J, Work>;
 
 /// The right to call a hub. A contract sees what its holder knows.
 ///
-/// It belongs to the hub that its type names, and that hub has no other of its number.
+/// It belongs to the hub that its type names. By the rule of the hub's words no two seats have a pass of one number.
 #[derive(Drop)]
 pub struct Pass<J: Naming, K: Kind> {
     pub(crate) number: usize,

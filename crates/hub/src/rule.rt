@@ -44,7 +44,7 @@ impl<M: Commit> Play<(), View> for Adds<M> {
     ghost then = { steps.Adds M.event };
 }
 
-/// A load of word 0 by the keeper, who compares its guest with the book.
+/// A load of word 0 by the keeper, at which the rule tells that the history has what the guest knows.
 pub struct Learns;
 
 impl Play<(), View> for Learns {

@@ -3,6 +3,7 @@ use Rattle.machine.specs.Machine.{RefusesEnd}
 use Rattle.hub.specs.Known.{Desk}
 use Rattle.hub.specs.Ends.{end_of}
 use Rattle.hub.specs.Kept.{IsKept}
+use Rattle.hub.proofs.Ended.{may_answer}
 use Rattle.hub.proofs.Finished.{kept_ended, writes_end}
 use Rattle.hub.proofs.Keeping.{kept_same}
 use Rattle.hub.proofs.Telling.{sees_same, sees_more, adds_one, refuses_there, outcome_there}
@@ -44,7 +45,9 @@ returns-clause-seen g c =
     c.show.ensures.desk c.inst-instance.ensures c.of-said.ensures c.show.ensures.pass c.record_end.ensures.writes)
 
 pub returns-clause-ok : goal.returns-clause-ok
-returns-clause-ok g c =
-    adds_one (end_of c.in-Ok.committed c.args.task c.args.outcome) c.self.inside.desk.book.history c.record_end.new.desk.book.history c.args.pass.now c.record_end.new.pass
-    (writes_end c.self.inside.desk c.show.new.desk c.record_end.new.desk c.args.pass.now c.show.new.pass c.record_end.new.pass c.in-Ok.committed c.args.task c.inst-instance.result c.args.outcome c.of-said.result.value
-    c.show.ensures.desk c.inst-instance.ensures c.of-said.ensures c.show.ensures.pass c.record_end.ensures.writes)
+returns-clause-ok g c = (
+  may_answer c.in-Ok.committed c.args.task c.args.outcome c.in-Ok.ensures.finishes.end c.in-Ok.ensures.finishes.is_end c.in-Ok.ensures.finishes.told,
+  adds_one (end_of c.in-Ok.committed c.args.task c.args.outcome) c.self.inside.desk.book.history c.record_end.new.desk.book.history c.args.pass.now c.record_end.new.pass
+      (writes_end c.self.inside.desk c.show.new.desk c.record_end.new.desk c.args.pass.now c.show.new.pass c.record_end.new.pass c.in-Ok.committed c.args.task c.inst-instance.result c.args.outcome c.of-said.result.value
+      c.show.ensures.desk c.inst-instance.ensures c.of-said.ensures c.show.ensures.pass c.record_end.ensures.writes),
+)

@@ -9,6 +9,6 @@ pub returns-clause-behind : goal.returns-clause-behind
 returns-clause-behind g c = subst (λ (kept : Kept g.row.D.Denot). IsBehind g.J.Naming.opening (events kept.history) kept.core) c.self.view_is c.self.invariant.behind
 
 pub returns-clause-crash : goal.returns-clause-crash
-returns-clause-crash g c honest opened =
+returns-clause-crash g c honest fresh =
     subst (λ (kept : Kept g.row.D.Denot). CrashLeavesHistory g.D.Disk.files g.J.Naming.opening kept) c.self.view_is
-    (crash_leaves g.D.Disk.files g.J.Naming.opening c.self.inside.desk.book.history c.self.inside.core c.self.invariant.behind (c.is_kept.ensures.kept honest) (c.self.invariant.not_turned opened))
+    (crash_leaves g.D.Disk.files g.J.Naming.opening c.self.inside.desk.book.history c.self.inside.core c.self.invariant.behind (c.is_kept.ensures.kept honest) (λ turned. fresh (c.self.invariant.turned turned)))

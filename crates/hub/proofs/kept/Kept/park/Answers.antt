@@ -2,7 +2,7 @@ use Rattle.std.proofs.Common.{subst, sym}
 use Rattle.hub.specs.Known.{Desk}
 use Rattle.hub.specs.Kept.{IsKept}
 use Rattle.hub.proofs.Keeping.{kept_on, kept_parked}
-use Rattle.hub.proofs.Telling.{tells_nothing, parked_there}
+use Rattle.hub.proofs.Telling.{tells_nothing, parked_there, refuses_wait}
 use Rattle.hub.proofs.kept.Kept.park.Goals as goal
 
 pub returns-then-not-runs-clause-seen : goal.returns-then-not-runs-clause-seen
@@ -20,6 +20,10 @@ invariant_of-self-in-Err g c =
 
 pub returns-in-Err-clause-seen : goal.returns-in-Err-clause-seen
 returns-in-Err-clause-seen g c = tells_nothing _ c.self.inside.desk.book.history _ _ c.self.invariant.legal c.show.ensures.pass
+
+pub returns-in-Err-clause-refused : goal.returns-in-Err-clause-refused
+returns-in-Err-clause-refused g c =
+    refuses_wait g.J.Naming.opening c.self.inside.desk.book.history c.args.pass.now c.show.new.pass c.self.inside.core c.park.new.self c.args.parked.address c.in-Err.error c.self.invariant.behind c.show.ensures.pass c.in-Err.ensures.refused
 
 pub invariant_of-self-2 : goal.invariant_of-self-2
 invariant_of-self-2 g c =
