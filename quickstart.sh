@@ -5,14 +5,30 @@ set -eu
 cd "$(dirname "$0")"
 example=$PWD/examples/fibonacci
 
-if [ "${1:-}" = --unproved ]; then
-    echo "Nothing is proved here: the program is compiled, which takes a minute or two, and run on a disk in memory."
-    cd crates/program
-    rt try --data example/graph="$example/graph" --data example/script="$example/script" -- --show=example 2>/dev/null
-    exit
+case "$#:${1:-}" in
+0: | 1:--unproved) ;;
+*)
+    echo "usage: ./quickstart.sh [--unproved]" >&2
+    exit 2
+    ;;
+esac
+if ! command -v rt >/dev/null; then
+    echo "quickstart: the toolchain's command rt is not on the path; README.md says which toolchain it is" >&2
+    exit 1
 fi
 
 log=$(mktemp)
+if [ "${1:-}" = --unproved ]; then
+    echo "Nothing is proved here: the program is compiled, which takes a minute or two, and run on a disk in memory."
+    cd crates/program
+    rt try --data example/graph="$example/graph" --data example/script="$example/script" -- --show=example 2>"$log" || {
+        echo "quickstart: the example did not run; see $log" >&2
+        exit 1
+    }
+    rm "$log"
+    exit
+fi
+
 directory=$(mktemp -d)
 trap 'rm -rf "$directory"' EXIT
 
