@@ -77,6 +77,16 @@ impl<J: Naming, D: Disk> Hub<J, D> {
         self.kept.lock(rt).put_item(&self.board, pass, addr, value)
     }
 
+    /// Puts a tag of the environment. The refusals are those of the core's `put_tag`, by the state behind what is then seen.
+    pub fn put_tag<R: Wait>(&self, rt: &R, pass: &mut EnvPass<J>, tag: Tag) -> Result<(), CoreError>
+        ensures seen { Sees J.opening pass.old pass.new }
+        ensures ok { OnOk result (Adds (EnvTag tag) pass.old pass.new) }
+        ensures err { OnErr result (AddsNothing pass.old pass.new) }
+        ensures refused { IfErr result (RefusesEvent J.opening pass.new (λ g X. RefusesTag g X tag) (EnvTag tag)) }
+    {
+        self.kept.lock(rt).put_tag(&self.board, pass, tag)
+    }
+
     /// The value at an address, as the environment gets it, in the state behind what is then seen.
     pub fn get<R: Wait>(
         &self,
@@ -90,16 +100,6 @@ impl<J: Naming, D: Disk> Hub<J, D> {
         ensures refused { IfErr result (RefusesQuestion (RefusesGet J.opening.graph addr)) }
     {
         self.kept.lock(rt).get(&self.board, pass, addr)
-    }
-
-    /// Puts a tag of the environment. The refusals are those of the core's `put_tag`, by the state behind what is then seen.
-    pub fn put_tag<R: Wait>(&self, rt: &R, pass: &mut EnvPass<J>, tag: Tag) -> Result<(), CoreError>
-        ensures seen { Sees J.opening pass.old pass.new }
-        ensures ok { OnOk result (Adds (EnvTag tag) pass.old pass.new) }
-        ensures err { OnErr result (AddsNothing pass.old pass.new) }
-        ensures refused { IfErr result (RefusesEvent J.opening pass.new (λ g X. RefusesTag g X tag) (EnvTag tag)) }
-    {
-        self.kept.lock(rt).put_tag(&self.board, pass, tag)
     }
 
     /// The value at an address, as a step reads it, in the state behind what is then seen.

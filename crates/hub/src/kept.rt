@@ -109,24 +109,6 @@ impl<J: Naming, D: Disk> Kept<J, D> {
         }
     }
 
-    /// As the core's `get`.
-    pub fn get(
-        &mut self,
-        board: &Board<J>,
-        pass: &mut EnvPass<J>,
-        addr: Addr,
-    ) -> Result<Option<i64>, CoreError>
-        ensures same { (self.new ≡ self.old) × Shows self.old.history pass.old pass.new }
-        ensures core { Gets self.old.core (EnvironmentMayGet (graph self.old.core) addr) (RefusesGet (graph self.old.core) addr) addr result }
-        ensures seen { Sees J.opening pass.old pass.new × AddsNothing pass.old pass.new }
-        ensures allowed { OnOk result (EnvironmentMayGet J.opening.graph addr) }
-        ensures value { IfOk result (IsValueAt (facts_behind J.opening pass.new.seen) addr) }
-        ensures refused { IfErr result (RefusesQuestion (RefusesGet J.opening.graph addr)) }
-    {
-        let answer = self.core.get(addr);
-        board.show(&mut self.desk, pass);
-        answer
-    }
     /// As the core's `put_tag`. At `Ok` the tag is put with the pass.
     pub fn put_tag(
         &mut self,
@@ -155,6 +137,25 @@ impl<J: Naming, D: Disk> Kept<J, D> {
                 Err(error)
             }
         }
+    }
+
+    /// As the core's `get`.
+    pub fn get(
+        &mut self,
+        board: &Board<J>,
+        pass: &mut EnvPass<J>,
+        addr: Addr,
+    ) -> Result<Option<i64>, CoreError>
+        ensures same { (self.new ≡ self.old) × Shows self.old.history pass.old pass.new }
+        ensures core { Gets self.old.core (EnvironmentMayGet (graph self.old.core) addr) (RefusesGet (graph self.old.core) addr) addr result }
+        ensures seen { Sees J.opening pass.old pass.new × AddsNothing pass.old pass.new }
+        ensures allowed { OnOk result (EnvironmentMayGet J.opening.graph addr) }
+        ensures value { IfOk result (IsValueAt (facts_behind J.opening pass.new.seen) addr) }
+        ensures refused { IfErr result (RefusesQuestion (RefusesGet J.opening.graph addr)) }
+    {
+        let answer = self.core.get(addr);
+        board.show(&mut self.desk, pass);
+        answer
     }
 
     /// As the core's `read`.
