@@ -4,6 +4,7 @@
 //! the command that the words ask for, and on `obey`, which does it, writes what is to be told, and answers the status.
 #![tactic(auto)]
 
+mod hints;
 mod obeying;
 mod outcome;
 mod words;

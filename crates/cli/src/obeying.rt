@@ -11,6 +11,7 @@ ghost use Rattle.cli.specs.declared.outcome.Outcome.{Outcome as Came};
 ghost use Rattle.cli.specs.declared.outcome.Outcome.TheVariants.{Created, Failed, Turned};
 ghost use Rattle.cli.specs.declared.words.TheConstants.{MOST_LIMIT};
 
+use crate::hints::{graph_hint, script_hint};
 use crate::outcome::NamedFailure;
 use crate::words::MOST_LIMIT;
 use crate::{Command, Failure, Left, Outcome};
@@ -26,13 +27,14 @@ use vault::Refused;
 
 /// Where failures are told.
 pub trait Errors: Write {
-    /// The place in the graph or the script of the fault that was told: its line and its column, from 1; column 0 where the line alone is known.
-    fn point(&mut self, line: usize, column: usize);
+    /// The place in the graph or the script of the fault that was told: its line and its column, from 1; column 0 where the line alone is known. And what
+    /// is wrong there, in a few words.
+    fn point(&mut self, line: usize, column: usize, hint: &'static str);
 }
 
 impl Errors for Vec<u8> {
     // The text alone is kept.
-    fn point(&mut self, _line: usize, _column: usize) {}
+    fn point(&mut self, _line: usize, _column: usize, _hint: &'static str) {}
 }
 
 /// Does what a command asks for on a disk, and answers the disk and the status.
@@ -89,8 +91,8 @@ fn tell<E: Errors>(failure: &Failure, input: &str, err: &mut E) {
     // A text that cannot be written has no reader, and the status says as much.
     let _ = err.writeln(NamedFailure { failure, input });
     match failure {
-        Failure::Graph(fault) => err.point(fault.line, fault.column),
-        Failure::Script(line, _) => err.point(*line, 0),
+        Failure::Graph(fault) => err.point(fault.line, fault.column, graph_hint(fault.error)),
+        Failure::Script(line, fault) => err.point(*line, 0, script_hint(*fault)),
         _ => {}
     }
 }

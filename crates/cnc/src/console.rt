@@ -8,11 +8,19 @@ const MOST_BEFORE: usize = 60;
 
 const MOST_SHOWN: usize = 120;
 
+/// Where a fault is, and what is wrong there: the line and the column, from 1; column 0 where the line alone is known.
+#[derive(Clone, Copy)]
+pub(crate) struct Place {
+    line: usize,
+    column: usize,
+    hint: &'static str,
+}
+
 /// The error output, with the place of the fault that was told on it.
 #[derive(Drop)]
 pub(crate) struct Console {
     err: Stderr,
-    place: Option<(usize, usize)>,
+    place: Option<Place>,
 }
 
 impl Console {
@@ -23,8 +31,8 @@ impl Console {
         }
     }
 
-    /// The line and the column of the fault, from 1; column 0 where the line alone is known.
-    pub(crate) fn place(&self) -> Option<(usize, usize)> {
+    /// Where the fault is, if one was told.
+    pub(crate) fn place(&self) -> Option<Place> {
         self.place
     }
 }
@@ -40,8 +48,8 @@ impl Write for Console {
 }
 
 impl Errors for Console {
-    fn point(&mut self, line: usize, column: usize) {
-        self.place = Some((line, column));
+    fn point(&mut self, line: usize, column: usize, hint: &'static str) {
+        self.place = Some(Place { line, column, hint });
     }
 }
 
@@ -60,8 +68,10 @@ impl<'a, R: Read> Kept<'a, R> {
         }
     }
 
-    /// Prints a line of the text, and below it a caret under this column, or under its first character. Of a long line the part around the caret is shown.
-    pub(crate) fn point(&self, rt: &HostRuntime, line: usize, column: usize) {
+    /// Prints the line of a place, and below it a caret under the column, or under its first character, and what is wrong. Of a long line the part around the
+    /// caret is shown.
+    pub(crate) fn point(&self, rt: &HostRuntime, place: Place) {
+        let Place { line, column, hint } = place;
         let text = str::from_utf8(self.text.as_slice()).unwrap_or("");
         let Some(line) = text.split('\n').nth(line.saturating_sub(1)) else {
             return;
@@ -78,7 +88,7 @@ impl<'a, R: Read> Kept<'a, R> {
             let blank = if letter == '\t' { "\t" } else { " " };
             let _ = write!(rt.stderr(), "{blank}");
         }
-        let _ = writeln!(rt.stderr(), "^");
+        let _ = writeln!(rt.stderr(), "^ {hint}");
     }
 }
 

@@ -7,7 +7,7 @@ mod progress;
 use clap::Error;
 use cli::{Command, collect_words, obey, read_words, usage_status};
 use commit::{Alone, Driver};
-use console::{Console, Kept};
+use console::{Console, Kept, Place};
 use disk::{Disk, DiskError, FileDisk, MemDisk};
 use progress::Telling;
 use std::fs::File;
@@ -83,8 +83,8 @@ fn pointed<D: Disk + Send + Drop, R: Read>(
     }
     let mut input = Kept::new(rt.alloc(), input);
     let (status, place) = done(rt, command, disk, &mut input, &mut Telling { rt });
-    if let Some((line, column)) = place {
-        input.point(rt, line, column);
+    if let Some(place) = place {
+        input.point(rt, place);
     }
     status
 }
@@ -96,7 +96,7 @@ fn done<D: Disk + Send + Drop, R: Read, V: Driver>(
     disk: D,
     input: &mut R,
     driver: &mut V,
-) -> (u8, Option<(usize, usize)>) {
+) -> (u8, Option<Place>) {
     let Ok(mut out) = LineWriter::new(rt.alloc(), rt.stdout()) else {
         return (refused(rt, "no memory"), None);
     };

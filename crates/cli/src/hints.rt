@@ -1,0 +1,44 @@
+//! What is wrong at the place that is pointed at, in a few words, for a person who does not know the numbers.
+use graph::GraphError;
+use script::ScriptFault;
+use steptree::CheckError;
+
+/// What is wrong at a place of a graph.
+pub(crate) fn graph_hint(error: GraphError) -> &'static str {
+    match error {
+        GraphError::NotAscii => "this byte is not ASCII",
+        GraphError::Syntax => "no graph goes on so",
+        GraphError::Redeclared => "this stands in the text before",
+        GraphError::UnknownName => "this is not declared",
+        GraphError::Arity => "its tag has another number of components",
+        GraphError::NoPrescriber => "no tag starts this step",
+        GraphError::TwoPrescribers => "a tag starts this step already",
+        GraphError::StepMissing => "this step has no text",
+        GraphError::StepTwice => "this step has a text already",
+        GraphError::TooLarge => "a limit is passed",
+        GraphError::Check(error) => body_hint(error),
+        GraphError::NoMemory => "memory was refused",
+    }
+}
+
+// What is wrong at a place of a step's body.
+fn body_hint(error: CheckError) -> &'static str {
+    match error {
+        CheckError::UnknownName => "this is not declared",
+        CheckError::Arity => "this has another number of components",
+        CheckError::UndeclaredRead => "no relation lets the step get this",
+        CheckError::UndeclaredPut => "no relation lets the step put this",
+        CheckError::NoMemory => "memory was refused",
+    }
+}
+
+/// What is wrong with a line of a script.
+pub(crate) fn script_hint(fault: ScriptFault) -> &'static str {
+    match fault {
+        ScriptFault::Syntax => "this is no put, tag, get or run",
+        ScriptFault::Number => "a number has more than 64 bits",
+        ScriptFault::UnknownName => "no collection of this kind has the name",
+        ScriptFault::Arity => "the key has another number of components",
+        ScriptFault::TooLarge => "the script is too large",
+    }
+}
