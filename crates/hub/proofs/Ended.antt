@@ -10,7 +10,6 @@ use Rattle.commit.specs.declared.outcome.Outcome.TheVariants.{Gave, Fault}
 use Rattle.commit.specs.declared.outcome.Committed.{Committed}
 use Rattle.commit.specs.declared.outcome.Committed.TheVariants.{Done, Stopped}
 use Rattle.commit.specs.Outcome.{IsEndOf, Tells}
-use Rattle.commit.specs.Runs.{IsEnd}
 use Rattle.hub.specs.Ends.{MayAnswer, end_of}
 
 abbrev is_done : Event → Bool
@@ -20,12 +19,6 @@ is_done other = false
 abbrev kind_of : Event → FaultKind
 kind_of (event.Stopped instance kind) = kind
 kind_of other = DoublePut
-
-pub ends_an_instance : (committed : Committed) (instance : Inst) (outcome : Outcome) → IsEnd (end_of committed instance outcome)
-ends_an_instance Done instance (Gave given) = tt
-ends_an_instance Done instance (Fault bad) = tt
-ends_an_instance (Stopped kind) instance (Gave given) = tt
-ends_an_instance (Stopped kind) instance (Fault bad) = tt
 
 pub may_answer : (committed : Committed) (instance : Inst) (outcome : Outcome) (end : Event) → IsEndOf outcome instance end → Tells committed end → MayAnswer outcome committed
 may_answer Done instance (Gave given) end is told = tt

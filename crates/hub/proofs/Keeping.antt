@@ -1,18 +1,15 @@
 -- What stands under the lock is kept.
-use Rattle.std.proofs.Common.{◌≡◌, ◌∙◌, ◌≤◌, ◌<◌, ◌+◌, ◌^◌, ⊎_elim, ℕ, Bool, true, false, true≢false, List, [], ◌∷◌, ◌++◌, length, refl, sym, ap, subst, arith, length-append, inl, Result, Ok, Err, is_ok}
+use Rattle.std.proofs.Common.{◌≡◌, ◌∙◌, ◌≤◌, ⊎_elim, ℕ, Bool, true, false, true≢false, List, [], ◌∷◌, ◌++◌, length, refl, sym, ap, subst, arith, length-append, inl, Result, Err}
 use Rattle.disk.specs.declared.side.Side.{Side}
 use Rattle.disk.specs.File.{File}
 use Rattle.disk.specs.Time.{Contents}
 use Rattle.terms.specs.declared.event.Event.{Event}
 use Rattle.terms.specs.Facts.{FactsGoOn, EnvironmentGoesOn}
 use Rattle.terms.specs.Sets.{AmongBoth}
-use Rattle.journal.specs.declared.journal.TheConstants.{LIMIT}
 use Rattle.machine.specs.declared.refusal.Refusal.{Refusal}
-use Rattle.vault.specs.declared.error.VaultError.TheVariants as vault
 use Rattle.commit.specs.declared.error.CoreError.{CoreError}
-use Rattle.commit.specs.declared.error.CoreError.TheVariants.{Store}
 use Rattle.commit.specs.Core.{Core, facts, is_halted}
-use Rattle.commit.specs.Calls.{Takes, Commits, Halts, Stays, IsInDoubt}
+use Rattle.commit.specs.Calls.{Takes, Halts, Stays, IsInDoubt}
 use Rattle.commit.specs.Kept.{IsHaltedByTurn}
 use Rattle.commit.specs.Kept.{IsKept as KeepsFiles}
 use Rattle.terms.specs.Sets.{Facts}
@@ -31,21 +28,6 @@ use Rattle.hub.specs.Opening.{Opening, WasTurned, AreLegalBehind, IsBehind}
 use Rattle.hub.specs.Kept.{IsKept, CommitsAs, CrashLeavesHistory}
 use Rattle.hub.proofs.Lists.{events_append}
 use Rattle.hub.proofs.States.{legal_more, behind_more, behind_same}
-
--- the history has room for one event more where its record fits
-pub has_room : {D T : Type 0} (files : D → Side → File) (moment : D → ℕ) (left_at : D → ℕ → Contents → Type 0) (honest : Type 0) (why : Refusal → Type 0)
-    (opening : Opening) (passes : ℕ) (d : Desk) (old new : Core D) (event : Event) (value : T)
-    → IsKept opening passes d old → Commits files moment left_at honest old new why event (Ok value) → length d.book.history + 1 < 2 ^ 64
-has_room files moment left_at honest why opening passes d old new event value kept commits =
-    let takes : Takes old new event = commits.takes in
-    let short : length d.book.history ≤ old.vault.journal.end = kept.short takes.working.0 in
-    small (length d.book.history) old.vault.journal.end _ short (λ long. ⊎_elim (λ (full : Ok value ≡ Err (Store vault.Full)). no_error full) (λ (none : Ok value ≡ Err (Store vault.NoMemory)). no_error none) (commits.full takes.working.0 takes.legal long))
-  where
-    no_error : {error : CoreError} → Ok value ≡ Err error → ⊥
-    no_error is = true≢false (ap is_ok is)
-
-    small : (count end record_length : ℕ) → count ≤ end → (LIMIT ≤ end + record_length → ⊥) → count + 1 < 2 ^ 64
-    small count end record_length short fits = omega (arith, short, fits)
 
 -- an event comes
 pub kept_more : AmongBoth → FactsGoOn → EnvironmentGoesOn → {D : Type 0} (opening : Opening) (passes number : ℕ) (d : Desk) (old new : Core D) (event : Event)

@@ -31,6 +31,7 @@ nothing = record {
   in_doubt = [];
 }
 
+-- what a core has when a hub is opened round it
 abbrev pub opening_of : {D : Type 0} → Core D → Opening
 opening_of c = record { graph = core.graph c; facts = core.facts c; environment = core.environment c; allowance = c.allowance; halted = core.is_halted c; in_doubt = c.in_doubt }
 

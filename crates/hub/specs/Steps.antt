@@ -23,6 +23,7 @@ abbrev pub guest_gone : SeatView → SeatView
 guest_gone (desk d) = desk (alone d)
 guest_gone view = view
 
+-- the seat of a guest that went
 abbrev pub gone_as : Book → Option Known → SeatView
 gone_as book (Some known) = pass (up_to_date book.history known)
 gone_as book None = nobody
