@@ -9,6 +9,7 @@
 mod bodies;
 mod build;
 mod canonical_text;
+mod crossing;
 mod declarations;
 mod examples;
 mod fault;
@@ -26,6 +27,7 @@ mod steps;
 mod tables;
 
 pub use canonical_text::canonical;
+pub use crossing::graphs_cross;
 pub use examples::canonical_example;
 pub use fault::{GraphError, GraphFault};
 pub use graph::Graph;
