@@ -9,3 +9,5 @@ pub mod Gathered
 pub mod Claimed
 pub mod Finished
 pub mod Opened
+pub mod Ran
+pub mod TwoPuts

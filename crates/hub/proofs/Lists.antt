@@ -13,6 +13,9 @@ prefix_self xs = ([], append-nil xs)
 pub prefix_more : {A : Type 0} (xs ys zs : List A) → IsPrefix xs ys → IsPrefix xs (ys ++ zs)
 prefix_more xs ys zs begins = (begins.0 ++ zs, sym (append_assoc xs begins.0 zs) ∙ ap (λ both. both ++ zs) begins.1)
 
+pub prefix_further : {A : Type 0} (xs ys zs : List A) → IsPrefix xs ys → IsPrefix ys zs → IsPrefix xs zs
+prefix_further xs ys zs one two = (one.0 ++ two.0, sym (append_assoc xs one.0 two.0) ∙ ap (λ both. both ++ two.0) one.1 ∙ two.1)
+
 pub prefix_length : {A : Type 0} (xs ys : List A) → IsPrefix xs ys → length xs ≤ length ys
 prefix_length xs ys begins = omega (arith, sym (ap length begins.1) ∙ length-append xs begins.0)
 

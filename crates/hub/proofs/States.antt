@@ -1,5 +1,6 @@
 -- The state behind one event more.
-use Rattle.std.proofs.Common.{◌≡◌, ◌∙◌, ◌||◌, List, [], ◌∷◌, ◌++◌, sym, ap, subst, arith, ◌+◌}
+use Rattle.std.proofs.Common.{◌≡◌, ◌∙◌, ◌||◌, Bool, true, false, true≢false, List, [], ◌∷◌, ◌++◌, refl, sym, ap, subst, arith, ◌+◌}
+use mathlib.Core.List.{IsPrefix}
 use Rattle.std.proofs.Math.Bool.{or-false, or_assoc}
 use Rattle.std.proofs.lemmas.List.{append-nil}
 use Rattle.terms.specs.declared.event.Event.{Event}
@@ -20,7 +21,7 @@ with_nothing X = λ i fact. or-false (X fact) i
 with_both : AmongBoth → (X : Facts) (one two : List Fact) → with_facts X (one ++ two) ≡ with_facts (with_facts X one) two
 with_both both X one two = λ i fact. (ap (λ b. X fact || b) (both one two fact) ∙ sym (or_assoc (X fact) (among one fact) (among two fact))) i
 
-facts_more : AmongBoth → FactsGoOn → (opening : Opening) (events : List Event) (event : Event) → facts_behind opening (events ++ event ∷ []) ≡ with_facts (facts_behind opening events) (event_facts event)
+pub facts_more : AmongBoth → FactsGoOn → (opening : Opening) (events : List Event) (event : Event) → facts_behind opening (events ++ event ∷ []) ≡ with_facts (facts_behind opening events) (event_facts event)
 facts_more both go_on opening events event =
     ap (λ (list : List Fact). with_facts opening.facts list) (go_on events (event ∷ []) ∙ ap (λ (list : List Fact). stated.facts events ++ list) (append-nil (event_facts event)))
     ∙ with_both both opening.facts (stated.facts events) (event_facts event)
@@ -59,3 +60,15 @@ behind_same opening events old new behind stays = record {
   environment = (λ i fact. stays.environment fact i) ∙ behind.environment;
   allowance = stays.allowance ∙ behind.allowance;
 }
+
+-- what is there behind some events is there behind more of them
+pub stays : AmongBoth → FactsGoOn → (opening : Opening) (some all : List Event) → IsPrefix some all → (fact : Fact) → facts_behind opening some fact ≡ true → facts_behind opening all fact ≡ true
+stays both go_on opening some all begins fact there =
+    ap (λ (X : Facts). X fact) (ap (facts_behind opening) (sym begins.1) ∙ ap (with_facts opening.facts) (go_on some begins.0))
+    ∙ ap (λ b. opening.facts fact || b) (both (stated.facts some) (stated.facts begins.0) fact)
+    ∙ still (opening.facts fact) (among (stated.facts some) fact) (among (stated.facts begins.0) fact) there
+  where
+    still : (a b c : Bool) → (a || b) ≡ true → (a || (b || c)) ≡ true
+    still true b c is = refl
+    still false true c is = refl
+    still false false c is = absurd (true≢false (sym is))

@@ -1,10 +1,9 @@
 -- What a locked call tells its pass.
-use Rattle.std.proofs.Common.{◌≡◌, ◌∙◌, List, [], ◌∷◌, ◌++◌, length, refl, sym, ap, subst, arith, length-append, ◌||◌, ⊎_elim, Bool, true, false, true≢false, Err}
+use Rattle.std.proofs.Common.{◌≡◌, ◌∙◌, List, [], ◌∷◌, ◌++◌, length, refl, sym, ap, subst, arith, length-append, ⊎_elim, true, false, Err}
 use mathlib.Core.List.{IsPrefix}
 use Rattle.terms.specs.declared.event.Event.{Event}
 use Rattle.terms.specs.Facts.{Fact, FactsGoOn}
-use Rattle.terms.specs.Facts as stated
-use Rattle.terms.specs.Sets.{Facts, AmongBoth, among, with_facts}
+use Rattle.terms.specs.Sets.{Facts, AmongBoth}
 use Rattle.hub.specs.Rule.{IsInHistory}
 use Rattle.graph.specs.Graph.{Graph}
 use Rattle.terms.specs.declared.name.Addr.{Addr}
@@ -28,6 +27,7 @@ use Rattle.hub.specs.Known.{Known, Made, events, up_to_date, with_event}
 use Rattle.hub.specs.Opening.{Opening, facts_behind, AreLegalBehind, IsBehind}
 use Rattle.hub.specs.Replies.{Sees, Adds, AddsNothing, Shows, Writes, RefusesAt, RefusesEvent, RefusesWait}
 use Rattle.hub.proofs.Lists.{events_append, events_length, prefix_more}
+use Rattle.hub.proofs.States.{stays}
 
 -- a call that adds nothing
 pub sees_same : (opening : Opening) (history : List Made) (old new : Known) → AreLegalBehind opening (events history) → Shows history old new → Sees opening old new
@@ -111,15 +111,7 @@ writes_from event before after old seen new shows writes = record {
 -- what the pass has seen is there for the core
 pub seen_stays : AmongBoth → FactsGoOn → {D : Type 0} (opening : Opening) (history : List Made) (known : Known) (c : Core D) → IsBehind opening (events history) c → IsInHistory history known
     → (fact : Fact) → facts_behind opening known.seen fact ≡ true → core.facts c fact ≡ true
-seen_stays both go_on opening history known c behind before fact there =
-    ap (λ (X : Facts). X fact) (behind.facts ∙ ap (facts_behind opening) (sym before.seen.1) ∙ ap (with_facts opening.facts) (go_on known.seen before.seen.0))
-    ∙ ap (λ b. opening.facts fact || b) (both (stated.facts known.seen) (stated.facts before.seen.0) fact)
-    ∙ still (opening.facts fact) (among (stated.facts known.seen) fact) (among (stated.facts before.seen.0) fact) there
-  where
-    still : (a b c : Bool) → (a || b) ≡ true → (a || (b || c)) ≡ true
-    still true b c is = refl
-    still false true c is = refl
-    still false false c is = absurd (true≢false (sym is))
+seen_stays both go_on opening history known c behind before fact there = ap (λ (X : Facts). X fact) behind.facts ∙ stays both go_on opening known.seen (events history) before.seen fact there
 
 -- what a result read is there for the core, and its body is that of the core's graph
 pub parked_there : AmongBoth → FactsGoOn → ReadsStay → {D : Type 0} (opening : Opening) (history : List Made) (known : Known) (c : Core D) (task : Inst) (parked : Parked) → IsBehind opening (events history) c → IsInHistory history known

@@ -7,3 +7,5 @@ pub mod Ends
 pub mod Kept
 pub mod Whole
 pub mod Tasks
+pub mod Both
+pub mod Running

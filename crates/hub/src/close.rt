@@ -9,7 +9,8 @@ ghost use Rattle.hub.specs.Whole.{AllMade, IsWhole, WhyNotClosed, has_number};
 use crate::{Board, Desk, EnvPass, Hub, Kept, Kind, Naming, Pass, WorkPass};
 use commit::Core;
 use disk::Disk;
-use std::sync::Mutex;
+use std::sync::{Mutex, Wait};
+use std::thread::yield_now;
 use thiserror::Error;
 
 /// Why a hub was not closed.
@@ -29,6 +30,24 @@ pub struct NotClosed<J: Naming, D: Disk> {
     pub hub: Hub<J, D>,
     pub envs: Vec<EnvPass<J>>,
     pub workers: Vec<WorkPass<J>>,
+}
+
+impl<J: Naming, D: Disk> NotClosed<J, D> {
+    // Tries once more.
+    fn again(self) -> Result<Core<D>, NotClosed<J, D>>
+        ensures whole { IfOk result (λ core. (history : List Made) × IsWhole J.opening self.envs.items self.workers.items core history) }
+        ensures idle { IfOk result NoneRuns }
+        ensures err { IfErr result (λ again. (again.envs.items ≡ self.envs.items) × (again.workers.items ≡ self.workers.items)) }
+    {
+        let NotClosed {
+            error: _,
+            hub,
+            envs,
+            workers,
+        } = self;
+        yield_now();
+        hub.close(envs, workers)
+    }
 }
 
 impl<J: Naming, D: Disk + Drop> Drop for NotClosed<J, D> {
@@ -143,5 +162,25 @@ impl<J: Naming, D: Disk> Hub<J, D> {
             });
         }
         Ok(kept.close(&board, envs, workers))
+    }
+
+    /// Ends the hub, as `close` does, for a caller who has all its passes and has spent each task. Before that is so it does not return.
+    pub fn close_when_idle<R: Wait>(
+        self,
+        rt: &R,
+        envs: Vec<EnvPass<J>>,
+        workers: Vec<WorkPass<J>>,
+    ) -> Core<D>
+        ensures whole { (history : List Made) × IsWhole J.opening envs.items workers.items result history }
+        ensures idle { NoneRuns result }
+    {
+        let mut closed = self.close(envs, workers);
+        for _ in rt.forever() {
+            match closed {
+                Ok(core) => return core,
+                Err(not_closed) => closed = not_closed.again(),
+            }
+        }
+        unreachable!()
     }
 }

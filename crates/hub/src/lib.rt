@@ -8,7 +8,9 @@
 #![tactic(auto)]
 
 mod board;
+mod both;
 mod close;
+mod crossing;
 mod desk;
 mod error;
 mod hub;
@@ -17,11 +19,14 @@ mod naming;
 mod open;
 mod pass;
 mod rule;
+mod running;
 mod views;
 mod visits;
 
 pub use board::Board;
+pub use both::{Both, BothError, NonePut, put_two};
 pub use close::{CloseError, NotClosed};
+pub use crossing::hubs_cross;
 pub use desk::Desk;
 pub use error::TaskError;
 pub use hub::Hub;

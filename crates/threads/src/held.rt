@@ -1,0 +1,78 @@
+//! What a thread is answered while another one is within the sync of its put.
+ghost use Rattle.std.specs.Prelude.{◌≡◌, ◌+◌};
+ghost use Rattle.hub.specs.Opening.{opening_of};
+
+use crate::held_disk::{Gate, HeldDisk};
+use crate::stores::{created, fib};
+use anyhow::{Error, bail};
+use commit::{Core, CoreError};
+use disk::{Disk, MemDisk};
+use hub::{Blank, EnvPass, Hub, Naming, hubs_cross};
+use std::io::Print;
+use std::marker::Brand;
+use std::sync::Arc;
+use std::thread::join;
+
+/// Tries it on a new store.
+pub(crate) fn try_held(rt: &HostRuntime) -> Result<(), Error> {
+    let gate = Arc::new(rt.alloc(), Gate::new())?;
+    let disk = HeldDisk::new(MemDisk::new(rt.alloc()), Arc::clone(&gate)?);
+    let core = created(rt.alloc(), disk)?;
+    let blank = Blank::new(rt.alloc(), 2, 0)?;
+    hold_as::<Brand, HeldDisk<MemDisk>>(rt, core, blank, &gate)?;
+    println!(rt; "  in time: {}", gate.was_in_time())?;
+    Ok(())
+}
+
+fn hold_as<J: Naming + Send + Sync, D: Disk + Drop + Send>(
+    rt: &HostRuntime,
+    core: Core<D>,
+    blank: Blank,
+    gate: &Gate,
+) -> Result<(), Error>
+    requires opening { J.opening ≡ opening_of core }
+    requires blank { (J.table ≡ blank.table) × (J.passes ≡ blank.envs + blank.workers) }
+{
+    let Ok((hub, mut envs, _)) = Hub::<J, D>::open(rt.alloc(), core, blank) else {
+        bail!("no hub was opened")
+    };
+    hubs_cross::<J, D>();
+    let (Some(asker), Some(putter)) = (envs.pop(), envs.pop()) else {
+        bail!("no pass")
+    };
+    let shared = &hub;
+    gate.arm();
+    let (put, answers) = join(
+        rt,
+        move || put(rt, shared, putter),
+        move || ask(shared, asker, gate),
+    );
+    put?;
+    println!(rt; "  commits: {}", answers.commits)?;
+    println!(rt; "  stop asked: {}", answers.asked)?;
+    Ok(())
+}
+
+fn put<J: Naming, D: Disk>(
+    rt: &HostRuntime,
+    hub: &Hub<J, D>,
+    mut pass: EnvPass<J>,
+) -> Result<(), CoreError> {
+    hub.put_item(rt, &mut pass, fib(0), 0)
+}
+
+#[derive(Drop)]
+struct Answers {
+    commits: u64,
+    asked: bool,
+}
+
+// Asks while the other thread is within its sync, and then lets it go on.
+fn ask<J: Naming, D: Disk>(hub: &Hub<J, D>, mut pass: EnvPass<J>, gate: &Gate) -> Answers {
+    gate.wait_for_sync();
+    let commits = hub.commits(&mut pass);
+    hub.ask_stop(&mut pass);
+    let asked = hub.stop_asked(&mut pass);
+    gate.free();
+    Answers { commits, asked }
+}

@@ -1,0 +1,308 @@
+//! What threads do with a hub of their own: each call opens one round a new store, and tells what came of it.
+ghost use Rattle.std.specs.Prelude.{◌≡◌, ◌+◌};
+ghost use Rattle.hub.specs.Opening.{opening_of};
+
+use crate::stores::{bytes, created, fib, number};
+use anyhow::{Error, bail};
+use commit::{Core, CoreError};
+use disk::{Disk, MemDisk};
+use hub::{Blank, EnvPass, Hub, Naming, NotClosed, TaskError, WorkPass, hubs_cross};
+use instances::Task;
+use machine::Refusal;
+use std::io::Print;
+use std::marker::Brand;
+use std::mem::forget;
+use std::thread;
+
+/// What is tried.
+#[derive(Clone, Copy)]
+pub(crate) enum Row {
+    /// One pass puts, gets, counts and asks for a stop.
+    OnePass,
+    /// Each of four threads puts 16 items of its own.
+    Apart,
+    /// Each of four threads puts its own number at one address.
+    Together,
+    /// A hub is closed without one of its passes.
+    PassMissing,
+    /// A hub is closed while an instance runs.
+    TaskOut,
+}
+
+/// Tries it on a new store in memory.
+pub(crate) fn try_row(rt: &HostRuntime, row: Row, passes: u8) -> Result<(), Error> {
+    let core = created(rt.alloc(), MemDisk::new(rt.alloc()))?;
+    let blank = Blank::new(rt.alloc(), passes, 1)?;
+    let core = try_as::<Brand, MemDisk>(rt, core, blank, row)?;
+    println!(rt; "  {} items, A has {} bytes", core.counts().items, bytes(core)?)?;
+    Ok(())
+}
+
+fn try_as<J: Naming + Send + Sync, D: Disk + Drop + Send>(
+    rt: &HostRuntime,
+    core: Core<D>,
+    blank: Blank,
+    row: Row,
+) -> Result<Core<D>, Error>
+    requires opening { J.opening ≡ opening_of core }
+    requires blank { (J.table ≡ blank.table) × (J.passes ≡ blank.envs + blank.workers) }
+{
+    let Ok((hub, envs, workers)) = Hub::<J, D>::open(rt.alloc(), core, blank) else {
+        bail!("no hub was opened")
+    };
+    match row {
+        Row::OnePass => one_pass(rt, hub, envs, workers),
+        Row::Apart => apart(rt, hub, envs, workers),
+        Row::Together => together(rt, hub, envs, workers),
+        Row::PassMissing => pass_missing(rt, hub, envs, workers),
+        Row::TaskOut => task_out(rt, hub, envs, workers),
+    }
+}
+
+fn closed<J: Naming, D: Disk + Drop>(
+    hub: Hub<J, D>,
+    envs: Vec<EnvPass<J>>,
+    workers: Vec<WorkPass<J>>,
+) -> Result<Core<D>, Error> {
+    match hub.close(envs, workers) {
+        Ok(core) => Ok(core),
+        Err(not_closed) => bail!("not closed: {}", not_closed.error),
+    }
+}
+
+// ---- one pass
+
+fn one_pass<J: Naming, D: Disk + Drop>(
+    rt: &HostRuntime,
+    hub: Hub<J, D>,
+    mut envs: Vec<EnvPass<J>>,
+    workers: Vec<WorkPass<J>>,
+) -> Result<Core<D>, Error> {
+    for pass in envs.as_mut_slice() {
+        put_and_ask(rt, &hub, pass)?;
+    }
+    closed(hub, envs, workers)
+}
+
+fn put_and_ask<J: Naming, D: Disk>(
+    rt: &HostRuntime,
+    hub: &Hub<J, D>,
+    pass: &mut EnvPass<J>,
+) -> Result<(), Error> {
+    hub.put_item(rt, pass, fib(0), 0)?;
+    let found = hub.get(rt, pass, fib(0))?;
+    println!(rt; "  put [fib: 0] = 0, and got {found:?}")?;
+    println!(rt; "  at least 1 commit: {}", hub.commits(pass) >= 1)?;
+    println!(rt; "  stop asked: {}", hub.stop_asked(pass))?;
+    hub.ask_stop(pass);
+    println!(rt; "  after it was asked: {}", hub.stop_asked(pass))?;
+    Ok(())
+}
+
+// ---- four threads
+
+// A thread's number, and its pass.
+struct Job<J: Naming> {
+    number: i64,
+    pass: EnvPass<J>,
+}
+
+// What came of a thread: its pass, how many of its puts were `Ok`, and the value that was there already.
+struct Came<J: Naming> {
+    pass: EnvPass<J>,
+    ok: usize,
+    already: Option<i64>,
+}
+
+fn jobs<J: Naming>(rt: &HostRuntime, envs: Vec<EnvPass<J>>) -> Result<Vec<Job<J>>, Error> {
+    let mut jobs = Vec::new(rt.alloc());
+    let mut number = 0i64;
+    for pass in envs {
+        jobs.push(Job { number, pass })?;
+        number = number.saturating_add(1);
+    }
+    Ok(jobs)
+}
+
+fn apart<J: Naming + Send + Sync, D: Disk + Drop + Send>(
+    rt: &HostRuntime,
+    hub: Hub<J, D>,
+    envs: Vec<EnvPass<J>>,
+    workers: Vec<WorkPass<J>>,
+) -> Result<Core<D>, Error> {
+    hubs_cross::<J, D>();
+    let jobs = jobs(rt, envs)?;
+    let shared = &hub;
+    let came = thread::map_vec(rt, jobs, &|job: Job<J>| put_sixteen(rt, shared, job))?;
+    let mut envs = Vec::new(rt.alloc());
+    let mut ok = 0usize;
+    for one in came {
+        ok = ok.saturating_add(one.ok);
+        envs.push(one.pass)?;
+    }
+    println!(rt; "  {ok} Ok")?;
+    closed(hub, envs, workers)
+}
+
+// Puts `[fib: 16 * number + j] = j` for each `j` below 16.
+fn put_sixteen<J: Naming, D: Disk>(rt: &HostRuntime, hub: &Hub<J, D>, job: Job<J>) -> Came<J> {
+    let Job { number, mut pass } = job;
+    let mut ok = 0usize;
+    for j in 0i64..16 {
+        let key = number.saturating_mul(16).saturating_add(j);
+        if hub.put_item(rt, &mut pass, fib(key), j).is_ok() {
+            ok = ok.saturating_add(1);
+        }
+    }
+    Came {
+        pass,
+        ok,
+        already: None,
+    }
+}
+
+fn together<J: Naming + Send + Sync, D: Disk + Drop + Send>(
+    rt: &HostRuntime,
+    hub: Hub<J, D>,
+    envs: Vec<EnvPass<J>>,
+    workers: Vec<WorkPass<J>>,
+) -> Result<Core<D>, Error> {
+    hubs_cross::<J, D>();
+    let jobs = jobs(rt, envs)?;
+    let shared = &hub;
+    let came = thread::map_vec(rt, jobs, &|job: Job<J>| put_number(rt, shared, job))?;
+    tell_winner(rt, came.as_slice())?;
+    let mut envs = Vec::new(rt.alloc());
+    for one in came {
+        envs.push(one.pass)?;
+    }
+    closed(hub, envs, workers)
+}
+
+// Puts `[fib: 0]` with the thread's own number.
+fn put_number<J: Naming, D: Disk>(rt: &HostRuntime, hub: &Hub<J, D>, job: Job<J>) -> Came<J> {
+    let Job { number, mut pass } = job;
+    let (ok, already) = match hub.put_item(rt, &mut pass, fib(0), number) {
+        Ok(()) => (1, None),
+        Err(CoreError::Refused(Refusal::AlreadyPut(value))) => (0, Some(value)),
+        Err(_) => (0, None),
+    };
+    Came { pass, ok, already }
+}
+
+fn tell_winner<J: Naming>(rt: &HostRuntime, came: &[Came<J>]) -> Result<(), Error> {
+    let mut ok = 0usize;
+    let mut winner = None;
+    let mut number = 0i64;
+    for one in came {
+        if one.ok == 1 {
+            winner = Some(number);
+        }
+        ok = ok.saturating_add(one.ok);
+        number = number.saturating_add(1);
+    }
+    let mut already = 0usize;
+    for one in came {
+        if one.already.is_some() && one.already == winner {
+            already = already.saturating_add(1);
+        }
+    }
+    println!(rt; "  {ok} Ok, {already} already put as the winner's number")?;
+    Ok(())
+}
+
+// ---- a close that is refused
+
+fn pass_missing<J: Naming, D: Disk + Drop>(
+    rt: &HostRuntime,
+    hub: Hub<J, D>,
+    mut envs: Vec<EnvPass<J>>,
+    workers: Vec<WorkPass<J>>,
+) -> Result<Core<D>, Error> {
+    let Some(kept_back) = envs.pop() else {
+        bail!("no pass")
+    };
+    match hub.close(envs, workers) {
+        Ok(_) => bail!("closed without one of its passes"),
+        Err(not_closed) => {
+            let NotClosed {
+                error,
+                hub,
+                mut envs,
+                workers,
+            } = not_closed;
+            println!(rt; "  {error}")?;
+            envs.push(kept_back)?;
+            closed(hub, envs, workers)
+        }
+    }
+}
+
+fn task_out<J: Naming, D: Disk + Drop>(
+    rt: &HostRuntime,
+    hub: Hub<J, D>,
+    mut envs: Vec<EnvPass<J>>,
+    mut workers: Vec<WorkPass<J>>,
+) -> Result<Core<D>, Error> {
+    let task = claimed(rt, &hub, envs.as_mut_slice(), workers.as_mut_slice())?;
+    match hub.close(envs, workers) {
+        Ok(_) => {
+            forget(task);
+            bail!("closed while an instance runs")
+        }
+        Err(not_closed) => give_back(rt, not_closed, task),
+    }
+}
+
+// The instance `(add: 2)`, which was claimed.
+fn claimed<J: Naming, D: Disk>(
+    rt: &HostRuntime,
+    hub: &Hub<J, D>,
+    envs: &mut [EnvPass<J>],
+    workers: &mut [WorkPass<J>],
+) -> Result<Task, Error> {
+    let (Some(env), Some(worker)) = (envs.first_mut(), workers.first_mut()) else {
+        bail!("no pass")
+    };
+    hub.put_tag(rt, env, number(2))?;
+    match hub.claim(rt, worker, 0)? {
+        Some(task) => Ok(task),
+        None => bail!("nothing was claimed"),
+    }
+}
+
+fn give_back<J: Naming, D: Disk + Drop>(
+    rt: &HostRuntime,
+    not_closed: NotClosed<J, D>,
+    task: Task,
+) -> Result<Core<D>, Error> {
+    let NotClosed {
+        error,
+        hub,
+        envs,
+        mut workers,
+    } = not_closed;
+    release(rt, &hub, workers.as_mut_slice(), task)?;
+    println!(rt; "  {error}")?;
+    closed(hub, envs, workers)
+}
+
+fn release<J: Naming, D: Disk>(
+    rt: &HostRuntime,
+    hub: &Hub<J, D>,
+    workers: &mut [WorkPass<J>],
+    task: Task,
+) -> Result<(), Error> {
+    let Some(worker) = workers.first_mut() else {
+        forget(task);
+        bail!("no pass")
+    };
+    match hub.release(rt, worker, task) {
+        Ok(()) => Ok(()),
+        Err(TaskError::Foreign(task)) => {
+            forget(task);
+            bail!("a task was foreign")
+        }
+        Err(TaskError::Refused(error)) => Err(error.into()),
+    }
+}
