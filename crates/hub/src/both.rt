@@ -16,6 +16,7 @@ use terms::{Addr, facts_are_told_apart, facts_go_on};
 use thiserror::Error;
 
 /// What came of two puts, with the core behind them.
+#[derive(Drop)]
 pub struct Both<D: Disk> {
     pub core: Core<D>,
     pub one: Result<(), CoreError>,
@@ -34,6 +35,7 @@ pub enum BothError {
 }
 
 /// Nothing was put, and the core comes back as it was.
+#[derive(Drop)]
 pub struct NonePut<D: Disk> {
     pub error: BothError,
     pub core: Core<D>,

@@ -33,18 +33,26 @@ pub struct NotClosed<J: Naming, D: Disk> {
 }
 
 impl<J: Naming, D: Disk> NotClosed<J, D> {
+    /// Why it was not closed, the hub, and its passes.
+    pub fn into_parts(self) -> (CloseError, Hub<J, D>, Vec<EnvPass<J>>, Vec<WorkPass<J>>)
+        ensures { (result.0 ≡ self.error) × (result.2.items ≡ self.envs.items) × (result.3.items ≡ self.workers.items) }
+    {
+        let NotClosed {
+            error,
+            hub,
+            envs,
+            workers,
+        } = self;
+        (error, hub, envs, workers)
+    }
+
     // Tries once more.
     fn again(self) -> Result<Core<D>, NotClosed<J, D>>
         ensures whole { IfOk result (λ core. (history : List Made) × IsWhole J.opening self.envs.items self.workers.items core history) }
         ensures idle { IfOk result NoneRuns }
         ensures err { IfErr result (λ again. (again.envs.items ≡ self.envs.items) × (again.workers.items ≡ self.workers.items)) }
     {
-        let NotClosed {
-            error: _,
-            hub,
-            envs,
-            workers,
-        } = self;
+        let (_, hub, envs, workers) = self.into_parts();
         yield_now();
         hub.close(envs, workers)
     }

@@ -2,6 +2,7 @@
 ghost use Rattle.std.specs.Prelude.{◌≡◌, ◌+◌};
 ghost use Rattle.hub.specs.Opening.{opening_of};
 
+use crate::handles::Handles;
 use crate::held_disk::{Gate, HeldDisk};
 use crate::stores::{created, fib};
 use anyhow::{Error, bail};
@@ -14,18 +15,18 @@ use std::sync::Arc;
 use std::thread::join;
 
 /// Tries it on a new store.
-pub(crate) fn try_held(rt: &HostRuntime) -> Result<(), Error> {
+pub(crate) fn try_held<R: Handles>(rt: &R) -> Result<(), Error> {
     let gate = Arc::new(rt.alloc(), Gate::new())?;
     let disk = HeldDisk::new(MemDisk::new(rt.alloc()), Arc::clone(&gate)?);
     let core = created(rt.alloc(), disk)?;
     let blank = Blank::new(rt.alloc(), 2, 0)?;
-    hold_as::<Brand, HeldDisk<MemDisk>>(rt, core, blank, &gate)?;
+    hold_as::<Brand, HeldDisk<MemDisk>, R>(rt, core, blank, &gate)?;
     println!(rt; "  in time: {}", gate.was_in_time())?;
     Ok(())
 }
 
-fn hold_as<J: Naming + Send + Sync, D: Disk + Drop + Send>(
-    rt: &HostRuntime,
+fn hold_as<J: Naming + Send + Sync, D: Disk + Drop + Send, R: Handles>(
+    rt: &R,
     core: Core<D>,
     blank: Blank,
     gate: &Gate,
@@ -53,8 +54,8 @@ fn hold_as<J: Naming + Send + Sync, D: Disk + Drop + Send>(
     Ok(())
 }
 
-fn put<J: Naming, D: Disk>(
-    rt: &HostRuntime,
+fn put<J: Naming, D: Disk, R: Handles>(
+    rt: &R,
     hub: &Hub<J, D>,
     mut pass: EnvPass<J>,
 ) -> Result<(), CoreError> {

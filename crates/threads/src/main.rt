@@ -1,11 +1,13 @@
 //! A hub on real threads: each line that it prints was derived by hand from what a store and a hub are, and is the same on every schedule.
 #![tactic(auto)]
 
+mod handles;
 mod held;
 mod held_disk;
 mod rows;
 mod stores;
 mod strangers;
+mod task;
 mod twice;
 
 use anyhow::Error;

@@ -2,6 +2,9 @@
 ghost use Rattle.std.specs.Prelude.{◌≡◌, ◌+◌};
 ghost use Rattle.hub.specs.Opening.{opening_of};
 
+use crate::handles::Handles;
+use crate::strangers::release;
+use crate::task::keep;
 use crate::stores::{bytes, created, fib, number};
 use anyhow::{Error, bail};
 use commit::{Core, CoreError};
@@ -11,7 +14,6 @@ use instances::Task;
 use machine::Refusal;
 use std::io::Print;
 use std::marker::Brand;
-use std::mem::forget;
 use std::thread;
 
 /// What is tried.
@@ -30,16 +32,16 @@ pub(crate) enum Row {
 }
 
 /// Tries it on a new store in memory.
-pub(crate) fn try_row(rt: &HostRuntime, row: Row, passes: u8) -> Result<(), Error> {
+pub(crate) fn try_row<R: Handles>(rt: &R, row: Row, passes: u8) -> Result<(), Error> {
     let core = created(rt.alloc(), MemDisk::new(rt.alloc()))?;
     let blank = Blank::new(rt.alloc(), passes, 1)?;
-    let core = try_as::<Brand, MemDisk>(rt, core, blank, row)?;
+    let core = try_as::<Brand, MemDisk, R>(rt, core, blank, row)?;
     println!(rt; "  {} items, A has {} bytes", core.counts().items, bytes(core)?)?;
     Ok(())
 }
 
-fn try_as<J: Naming + Send + Sync, D: Disk + Drop + Send>(
-    rt: &HostRuntime,
+fn try_as<J: Naming + Send + Sync, D: Disk + Drop + Send, R: Handles>(
+    rt: &R,
     core: Core<D>,
     blank: Blank,
     row: Row,
@@ -72,8 +74,8 @@ fn closed<J: Naming, D: Disk + Drop>(
 
 // ---- one pass
 
-fn one_pass<J: Naming, D: Disk + Drop>(
-    rt: &HostRuntime,
+fn one_pass<J: Naming, D: Disk + Drop, R: Handles>(
+    rt: &R,
     hub: Hub<J, D>,
     mut envs: Vec<EnvPass<J>>,
     workers: Vec<WorkPass<J>>,
@@ -84,8 +86,8 @@ fn one_pass<J: Naming, D: Disk + Drop>(
     closed(hub, envs, workers)
 }
 
-fn put_and_ask<J: Naming, D: Disk>(
-    rt: &HostRuntime,
+fn put_and_ask<J: Naming, D: Disk, R: Handles>(
+    rt: &R,
     hub: &Hub<J, D>,
     pass: &mut EnvPass<J>,
 ) -> Result<(), Error> {
@@ -102,19 +104,21 @@ fn put_and_ask<J: Naming, D: Disk>(
 // ---- four threads
 
 // A thread's number, and its pass.
+#[derive(Drop)]
 struct Job<J: Naming> {
     number: i64,
     pass: EnvPass<J>,
 }
 
 // What came of a thread: its pass, how many of its puts were `Ok`, and the value that was there already.
+#[derive(Drop)]
 struct Came<J: Naming> {
     pass: EnvPass<J>,
     ok: usize,
     already: Option<i64>,
 }
 
-fn jobs<J: Naming>(rt: &HostRuntime, envs: Vec<EnvPass<J>>) -> Result<Vec<Job<J>>, Error> {
+fn jobs<J: Naming, R: Handles>(rt: &R, envs: Vec<EnvPass<J>>) -> Result<Vec<Job<J>>, Error> {
     let mut jobs = Vec::new(rt.alloc());
     let mut number = 0i64;
     for pass in envs {
@@ -124,8 +128,8 @@ fn jobs<J: Naming>(rt: &HostRuntime, envs: Vec<EnvPass<J>>) -> Result<Vec<Job<J>
     Ok(jobs)
 }
 
-fn apart<J: Naming + Send + Sync, D: Disk + Drop + Send>(
-    rt: &HostRuntime,
+fn apart<J: Naming + Send + Sync, D: Disk + Drop + Send, R: Handles>(
+    rt: &R,
     hub: Hub<J, D>,
     envs: Vec<EnvPass<J>>,
     workers: Vec<WorkPass<J>>,
@@ -145,7 +149,7 @@ fn apart<J: Naming + Send + Sync, D: Disk + Drop + Send>(
 }
 
 // Puts `[fib: 16 * number + j] = j` for each `j` below 16.
-fn put_sixteen<J: Naming, D: Disk>(rt: &HostRuntime, hub: &Hub<J, D>, job: Job<J>) -> Came<J> {
+fn put_sixteen<J: Naming, D: Disk, R: Handles>(rt: &R, hub: &Hub<J, D>, job: Job<J>) -> Came<J> {
     let Job { number, mut pass } = job;
     let mut ok = 0usize;
     for j in 0i64..16 {
@@ -161,8 +165,8 @@ fn put_sixteen<J: Naming, D: Disk>(rt: &HostRuntime, hub: &Hub<J, D>, job: Job<J
     }
 }
 
-fn together<J: Naming + Send + Sync, D: Disk + Drop + Send>(
-    rt: &HostRuntime,
+fn together<J: Naming + Send + Sync, D: Disk + Drop + Send, R: Handles>(
+    rt: &R,
     hub: Hub<J, D>,
     envs: Vec<EnvPass<J>>,
     workers: Vec<WorkPass<J>>,
@@ -180,7 +184,7 @@ fn together<J: Naming + Send + Sync, D: Disk + Drop + Send>(
 }
 
 // Puts `[fib: 0]` with the thread's own number.
-fn put_number<J: Naming, D: Disk>(rt: &HostRuntime, hub: &Hub<J, D>, job: Job<J>) -> Came<J> {
+fn put_number<J: Naming, D: Disk, R: Handles>(rt: &R, hub: &Hub<J, D>, job: Job<J>) -> Came<J> {
     let Job { number, mut pass } = job;
     let (ok, already) = match hub.put_item(rt, &mut pass, fib(0), number) {
         Ok(()) => (1, None),
@@ -190,7 +194,7 @@ fn put_number<J: Naming, D: Disk>(rt: &HostRuntime, hub: &Hub<J, D>, job: Job<J>
     Came { pass, ok, already }
 }
 
-fn tell_winner<J: Naming>(rt: &HostRuntime, came: &[Came<J>]) -> Result<(), Error> {
+fn tell_winner<J: Naming, R: Handles>(rt: &R, came: &[Came<J>]) -> Result<(), Error> {
     let mut ok = 0usize;
     let mut winner = None;
     let mut number = 0i64;
@@ -213,8 +217,8 @@ fn tell_winner<J: Naming>(rt: &HostRuntime, came: &[Came<J>]) -> Result<(), Erro
 
 // ---- a close that is refused
 
-fn pass_missing<J: Naming, D: Disk + Drop>(
-    rt: &HostRuntime,
+fn pass_missing<J: Naming, D: Disk + Drop, R: Handles>(
+    rt: &R,
     hub: Hub<J, D>,
     mut envs: Vec<EnvPass<J>>,
     workers: Vec<WorkPass<J>>,
@@ -225,12 +229,7 @@ fn pass_missing<J: Naming, D: Disk + Drop>(
     match hub.close(envs, workers) {
         Ok(_) => bail!("closed without one of its passes"),
         Err(not_closed) => {
-            let NotClosed {
-                error,
-                hub,
-                mut envs,
-                workers,
-            } = not_closed;
+            let (error, hub, mut envs, workers) = not_closed.into_parts();
             println!(rt; "  {error}")?;
             envs.push(kept_back)?;
             closed(hub, envs, workers)
@@ -238,8 +237,8 @@ fn pass_missing<J: Naming, D: Disk + Drop>(
     }
 }
 
-fn task_out<J: Naming, D: Disk + Drop>(
-    rt: &HostRuntime,
+fn task_out<J: Naming, D: Disk + Drop, R: Handles>(
+    rt: &R,
     hub: Hub<J, D>,
     mut envs: Vec<EnvPass<J>>,
     mut workers: Vec<WorkPass<J>>,
@@ -247,7 +246,7 @@ fn task_out<J: Naming, D: Disk + Drop>(
     let task = claimed(rt, &hub, envs.as_mut_slice(), workers.as_mut_slice())?;
     match hub.close(envs, workers) {
         Ok(_) => {
-            forget(task);
+            keep(rt, task);
             bail!("closed while an instance runs")
         }
         Err(not_closed) => give_back(rt, not_closed, task),
@@ -255,8 +254,8 @@ fn task_out<J: Naming, D: Disk + Drop>(
 }
 
 // The instance `(add: 2)`, which was claimed.
-fn claimed<J: Naming, D: Disk>(
-    rt: &HostRuntime,
+fn claimed<J: Naming, D: Disk, R: Handles>(
+    rt: &R,
     hub: &Hub<J, D>,
     envs: &mut [EnvPass<J>],
     workers: &mut [WorkPass<J>],
@@ -271,38 +270,17 @@ fn claimed<J: Naming, D: Disk>(
     }
 }
 
-fn give_back<J: Naming, D: Disk + Drop>(
-    rt: &HostRuntime,
+fn give_back<J: Naming, D: Disk + Drop, R: Handles>(
+    rt: &R,
     not_closed: NotClosed<J, D>,
     task: Task,
 ) -> Result<Core<D>, Error> {
-    let NotClosed {
-        error,
-        hub,
-        envs,
-        mut workers,
-    } = not_closed;
-    release(rt, &hub, workers.as_mut_slice(), task)?;
-    println!(rt; "  {error}")?;
-    closed(hub, envs, workers)
-}
-
-fn release<J: Naming, D: Disk>(
-    rt: &HostRuntime,
-    hub: &Hub<J, D>,
-    workers: &mut [WorkPass<J>],
-    task: Task,
-) -> Result<(), Error> {
-    let Some(worker) = workers.first_mut() else {
-        forget(task);
+    let (error, hub, envs, mut workers) = not_closed.into_parts();
+    let Some(worker) = workers.as_mut_slice().first_mut() else {
+        keep(rt, task);
         bail!("no pass")
     };
-    match hub.release(rt, worker, task) {
-        Ok(()) => Ok(()),
-        Err(TaskError::Foreign(task)) => {
-            forget(task);
-            bail!("a task was foreign")
-        }
-        Err(TaskError::Refused(error)) => Err(error.into()),
-    }
+    release(rt, &hub, worker, task)?;
+    println!(rt; "  {error}")?;
+    closed(hub, envs, workers)
 }

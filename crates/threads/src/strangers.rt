@@ -3,26 +3,27 @@ ghost use Rattle.std.specs.Prelude.{◌≡◌, ◌+◌, IfOk};
 ghost use Rattle.commit.specs.Came.{IsOutcomeIn};
 ghost use Rattle.hub.specs.Opening.{facts_behind, opening_of};
 
+use crate::handles::Handles;
+use crate::task::keep;
 use crate::stores::{created, fib, number};
 use anyhow::{Error, bail};
 use commit::{Came, Core, Outcome};
-use disk::MemDisk;
+use disk::{Disk, MemDisk};
 use hub::{Blank, Hub, Naming, TaskError, WorkPass};
 use instances::Task;
 use std::io::Print;
 use std::marker::Brand;
-use std::mem::forget;
 use terms::{Inst, equals_are_one};
 
 /// Tries it with two hubs, of stores with the same facts.
-pub(crate) fn try_foreign(rt: &HostRuntime) -> Result<(), Error> {
+pub(crate) fn try_foreign<R: Handles>(rt: &R) -> Result<(), Error> {
     let blank = Blank::new(rt.alloc(), 0, 2)?;
     let other = Blank::new(rt.alloc(), 0, 1)?;
-    open_here::<Brand>(rt, filled(rt)?, blank, filled(rt)?, other)
+    open_here::<Brand, R>(rt, filled(rt)?, blank, filled(rt)?, other)
 }
 
 // A store in which `(add: 2)` is ready.
-fn filled(rt: &HostRuntime) -> Result<Core<MemDisk>, Error> {
+fn filled<R: Handles>(rt: &R) -> Result<Core<MemDisk>, Error> {
     let mut core = created(rt.alloc(), MemDisk::new(rt.alloc()))?;
     core.put_item(fib(0), 0)?;
     core.put_item(fib(1), 1)?;
@@ -30,8 +31,8 @@ fn filled(rt: &HostRuntime) -> Result<Core<MemDisk>, Error> {
     Ok(core)
 }
 
-fn open_here<J: Naming>(
-    rt: &HostRuntime,
+fn open_here<J: Naming, R: Handles>(
+    rt: &R,
     core: Core<MemDisk>,
     blank: Blank,
     other_core: Core<MemDisk>,
@@ -47,13 +48,12 @@ fn open_here<J: Naming>(
         bail!("no pass")
     };
     let (instance, outcome) = outcome_here(rt, &here, &mut runner, &mut releaser)?;
-    let task = open_there::<Brand>(rt, other_core, other_blank, instance)?;
-    finish(rt, &here, &mut runner, task, outcome)
+    open_there::<J, Brand, R>(rt, &here, &mut runner, instance, outcome, other_core, other_blank)
 }
 
 // What the instance that is ready comes to. It is ready again.
-fn outcome_here<'a, J: Naming>(
-    rt: &HostRuntime,
+fn outcome_here<'a, J: Naming, R: Handles>(
+    rt: &R,
     here: &'a Hub<J, MemDisk>,
     runner: &mut WorkPass<J>,
     releaser: &mut WorkPass<J>,
@@ -65,60 +65,94 @@ fn outcome_here<'a, J: Naming>(
     };
     let instance = task.inst();
     let came = here.run(rt, rt.alloc(), runner, &task);
-    if let Err(TaskError::Foreign(task)) = here.release(rt, releaser, task) {
-        forget(task);
-        bail!("a task of this hub was foreign")
-    }
+    release(rt, here, releaser, task)?;
     match came? {
         Came::Ended(outcome) => Ok((instance, outcome)),
         Came::Waits(_) => bail!("it waits"),
     }
 }
 
-// The task of the same instance in another hub.
-fn open_there<K: Naming>(
-    rt: &HostRuntime,
+fn open_there<J: Naming, K: Naming, R: Handles>(
+    rt: &R,
+    here: &Hub<J, MemDisk>,
+    runner: &mut WorkPass<J>,
+    instance: Inst,
+    outcome: Outcome<'_>,
     core: Core<MemDisk>,
     blank: Blank,
-    instance: Inst,
-) -> Result<Task, Error>
+) -> Result<(), Error>
+    requires outcome { IsOutcomeIn J.opening.graph (facts_behind J.opening runner.old.seen) instance outcome }
     requires opening { K.opening ≡ opening_of core }
     requires blank { (K.table ≡ blank.table) × (K.passes ≡ blank.envs + blank.workers) }
-    ensures { IfOk result (λ task. task ≡ instance) }
 {
-    equals_are_one();
     let Ok((there, _, mut workers)) = Hub::<K, MemDisk>::open(rt.alloc(), core, blank) else {
         bail!("no hub was opened")
     };
     let Some(mut stranger) = workers.pop() else {
         bail!("no pass")
     };
-    match there.claim(rt, &mut stranger, 0)? {
+    let task = claimed(rt, &there, &mut stranger, instance)?;
+    let Some(task) = foreign(rt, here, runner, task, outcome) else {
+        bail!("it was finished here")
+    };
+    release(rt, &there, &mut stranger, task)?;
+    println!(rt; "  the task of {:?} came back", instance.key.components())?;
+    Ok(())
+}
+
+// The task of this instance.
+fn claimed<K: Naming, R: Handles>(
+    rt: &R,
+    there: &Hub<K, MemDisk>,
+    stranger: &mut WorkPass<K>,
+    instance: Inst,
+) -> Result<Task, Error>
+    ensures { IfOk result (λ task. task ≡ instance) }
+{
+    equals_are_one();
+    match there.claim(rt, stranger, 0)? {
         Some(task) if task.inst() == instance => Ok(task),
         Some(task) => {
-            forget(task);
+            keep(rt, task);
             bail!("another instance was claimed")
         }
         None => bail!("nothing was claimed"),
     }
 }
 
-fn finish<J: Naming>(
-    rt: &HostRuntime,
+// The task, where a finish gives it back.
+fn foreign<J: Naming, R: Handles>(
+    rt: &R,
     here: &Hub<J, MemDisk>,
     runner: &mut WorkPass<J>,
     task: Task,
     outcome: Outcome<'_>,
-) -> Result<(), Error>
+) -> Option<Task>
     requires { IsOutcomeIn J.opening.graph (facts_behind J.opening runner.old.seen) task outcome }
 {
     match here.finish(rt, runner, task, outcome) {
+        Ok(_) => None,
+        Err(TaskError::Foreign(task)) => Some(task),
+        Err(TaskError::Refused(error)) => {
+            drop(error);
+            None
+        }
+    }
+}
+
+/// Gives an instance back to its hub.
+pub(crate) fn release<J: Naming, D: Disk, R: Handles>(
+    rt: &R,
+    hub: &Hub<J, D>,
+    pass: &mut WorkPass<J>,
+    task: Task,
+) -> Result<(), Error> {
+    match hub.release(rt, pass, task) {
+        Ok(()) => Ok(()),
         Err(TaskError::Foreign(task)) => {
-            println!(rt; "  the task of {:?} came back", task.inst().key.components())?;
-            forget(task);
-            Ok(())
+            keep(rt, task);
+            bail!("a task was foreign to its own hub")
         }
         Err(TaskError::Refused(error)) => Err(error.into()),
-        Ok(_) => bail!("it was finished here"),
     }
 }

@@ -1,4 +1,5 @@
 //! Two threads that put an item each, through `put_two`.
+use crate::handles::Handles;
 use crate::stores::{bytes, created, fib};
 use anyhow::{Error, bail};
 use disk::MemDisk;
@@ -6,12 +7,12 @@ use hub::put_two;
 use std::io::Print;
 
 /// Tries it on a new store: at two addresses, and at one.
-pub(crate) fn try_two(rt: &HostRuntime) -> Result<(), Error> {
+pub(crate) fn try_two<R: Handles>(rt: &R) -> Result<(), Error> {
     put_at(rt, 0, 1)?;
     put_at(rt, 0, 0)
 }
 
-fn put_at(rt: &HostRuntime, one: i64, two: i64) -> Result<(), Error> {
+fn put_at<R: Handles>(rt: &R, one: i64, two: i64) -> Result<(), Error> {
     let core = created(rt.alloc(), MemDisk::new(rt.alloc()))?;
     let Ok(both) = put_two(rt, rt.alloc(), core, (fib(one), 7), (fib(two), 8)) else {
         bail!("nothing was put")
