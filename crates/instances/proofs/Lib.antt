@@ -12,3 +12,4 @@ mod Quiet
 mod Order
 mod Picked
 mod Lengths
+mod Runs

@@ -63,7 +63,7 @@ module _ (test : State → Bool) where
   none_of_all (step ∷ steps) zero key state none there = none_counted step.instances.states key state (omega (arith, none, front here step steps)) there
   none_of_all (step ∷ steps) (suc n) key state none there = none_of_all steps n key state (omega (arith, none, front here step steps)) there
 
-  all_of_none : (steps : List Step) → ((n : ℕ) (key : List ℤ) (state : State) → state_in (slice_get steps n) key ≡ Some state → test state ≡ false) → sum_by here steps ≡ 0
+  pub all_of_none : (steps : List Step) → ((n : ℕ) (key : List ℤ) (state : State) → state_in (slice_get steps n) key ≡ Some state → test state ≡ false) → sum_by here steps ≡ 0
   all_of_none [] each = refl
   all_of_none (step ∷ steps) each =
       let states = step.instances.states in

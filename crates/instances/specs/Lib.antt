@@ -4,4 +4,5 @@ pub mod Known
 pub mod KnownCodes
 pub mod Listed
 pub mod OfStep
+pub mod Running
 pub mod There

@@ -14,6 +14,7 @@ mod instance_walk;
 mod instances;
 mod listing;
 mod prescribed;
+mod running;
 mod state;
 mod step;
 mod step_instances;
@@ -22,6 +23,7 @@ mod task;
 
 pub use instance_walk::InstanceWalk;
 pub use instances::Instances;
+pub use running::runs_are_counted;
 pub use state::State;
 pub use step_instances::StepInstances;
 pub use tag_walk::TagWalk;
