@@ -27,11 +27,15 @@ pub record Elapses (before now : ℕ) (past at : ℕ → Contents → Type 0) : 
   pub by_one : now ≤ before + 1
   pub stays : (t : ℕ) (contents : Contents) → t ≤ before → at t contents ↔ past t contents
 
--- At each moment since old a crash left what has P; and what one at an earlier moment may have left stays what it was.
-pub record LeavesOnly {D : Type 0} (moment : D → ℕ) (left_at : D → ℕ → Contents → Type 0) (old new : D) (P : Contents → Type 0) : Type 0 where
-  pub later : moment old ≤ moment new
-  pub each : (t : ℕ) (contents : Contents) → moment old ≤ t → t ≤ moment new → left_at new t contents → P contents
-  pub stays : (t : ℕ) (contents : Contents) → t ≤ moment old → left_at new t contents ↔ left_at old t contents
+-- At each moment since the one that is told a crash left what has P; and what one at an earlier moment may have left stays what it was then.
+pub record LeavesSince {D : Type 0} (moment : D → ℕ) (left_at : D → ℕ → Contents → Type 0) (begun : ℕ) (left : ℕ → Contents → Type 0) (new : D) (P : Contents → Type 0) : Type 0 where
+  pub later : begun ≤ moment new
+  pub each : (t : ℕ) (contents : Contents) → begun ≤ t → t ≤ moment new → left_at new t contents → P contents
+  pub stays : (t : ℕ) (contents : Contents) → t ≤ begun → left_at new t contents ↔ left t contents
+
+-- the same of the moments since old
+abbrev pub LeavesOnly : {D : Type 0} → (D → ℕ) → (D → ℕ → Contents → Type 0) → D → D → (Contents → Type 0) → Type 0
+LeavesOnly moment left_at old new P = LeavesSince moment left_at (moment old) (left_at old) new P
 
 -- At each moment of these calls a crash may leave all that it might have left before them.
 abbrev pub KeepsAll : {D : Type 0} → (D → Side → File) → (D → ℕ) → (D → ℕ → Contents → Type 0) → D → D → Type 0
