@@ -24,7 +24,7 @@ ends (Gave given) instance end is = elim is [ inl done ↦ subst (λ (e : Event)
 ends (Fault bad) instance end is = subst (λ (e : Event). Ends e instance) (sym is) refl
 
 -- an instance that the event ends does not run
-not_running : (m : Machine) (end : Event) (instance : Inst) → EndsAs m end → Ends end instance → machine.state_of m instance ≢ Some Running
+pub not_running : (m : Machine) (end : Event) (instance : Inst) → EndsAs m end → Ends end instance → machine.state_of m instance ≢ Some Running
 not_running m (event.EnvItem address value) instance ends_as is runs = is
 not_running m (event.EnvTag name) instance ends_as is runs = is
 not_running m (event.Done ended puts) instance ends_as is runs = apart (sym (subst (λ (i : Inst). machine.state_of m i ≡ Some Done) is ends_as) ∙ runs)
@@ -49,7 +49,7 @@ is_done same = cc
 waits : (address : Addr) → Some (Waiting address) ≡ Some Running → ⊥
 waits address same = cc
 
-goes_on : (X : Facts) (from to : Option State) → GoesOn X from to → to ≡ Some Running → from ≡ Some Running
+pub goes_on : (X : Facts) (from to : Option State) → GoesOn X from to → to ≡ Some Running → from ≡ Some Running
 goes_on X None to (inl is) runs = absurd (no_state (sym is ∙ runs))
 goes_on X None to (inr is) runs = absurd (is_ready (sym is ∙ runs))
 goes_on X (Some (Waiting address)) to (inl is) runs = absurd (waits address (sym is.1 ∙ runs))

@@ -1,13 +1,12 @@
 -- Runs, one behind another.
-use Rattle.std.proofs.Common.{◌<◌, ◌≡◌, ◌≢◌, ◌∙◌, ◌≤◌, ◌+◌, ◌++◌, ap, sym, subst, inl, inr, ℕ, false, List, [], arith}
+use Rattle.std.proofs.Common.{◌<◌, ◌≡◌, ◌≢◌, ◌⊎◌, ◌∙◌, ◌≤◌, ◌+◌, ◌++◌, ap, sym, subst, inl, inr, ℕ, false, List, [], arith}
 use Rattle.std.proofs.lemmas.Bool.{cases_lt, false≢true}
 use Rattle.std.proofs.lemmas.Grind.{flat_map-append}
 use Rattle.std.proofs.lemmas.List.{append_assoc, append-nil, length-append}
 use Rattle.std.specs.List.{AllByRecursion}
 use Rattle.disk.specs.declared.side.Side.{Side}
 use Rattle.disk.specs.File.{File}
-use Rattle.disk.specs.Moments.{joined}
-use Rattle.disk.specs.Time.{Contents, LeavesOnly, HasErred}
+use Rattle.disk.specs.Time.{Contents, LeavesOnly, LeavesSince}
 use Rattle.terms.specs.declared.event.Event.{Event}
 use Rattle.terms.specs.Commits.{Commit, facts_behind, environment_behind}
 use Rattle.terms.specs.Facts.{Fact, event_facts}
@@ -19,7 +18,7 @@ use Rattle.vault.specs.Commits.{StandsForBeginning, GatesStay}
 use Rattle.vault.specs.Stands.{Stands}
 use Rattle.vault.specs.Store.{HasGates}
 use Rattle.commit.specs.Core.{Core, graph, facts, environment, is_halted}
-use Rattle.commit.specs.Runs.{IsEnd, Runs, RunsOn, one_by_one}
+use Rattle.commit.specs.Runs.{Begun, IsEnd, Runs, RunsOn, RunsSince, begun_by, one_by_one}
 use Rattle.commit.proofs.Lists.{with_both, one_by_one_joined, facts_joined, ends_joined, first_ends, environment_stays, legal_joined}
 
 -- a number that is not another than one is that one
@@ -35,18 +34,44 @@ same_number n m never = elim (cases_lt n m) [
   ]
 ]
 
-module _ {D : Type 0} (failures refusals : D → ℕ) where
-  -- where no call answered an error before, what erred since erred from the beginning on
-  later_erred : (old mid new : D) → failures old ≤ failures mid → (HasErred failures refusals old mid → ⊥) → HasErred failures refusals mid new → HasErred failures refusals old new
-  later_erred old mid new later calm (inl grew) = inl (omega (arith, later, grew))
-  later_erred old mid new later calm (inr changed) = inr (λ is. changed (is ∙ sym (same_number (refusals mid) (refusals old) (λ differs. calm (inr differs)))))
+-- where nothing erred before, what erred since erred from the beginning on: told by the counts of failures and of refusals
+abbrev HasErredFrom : (failures later refusals now : ℕ) → Type 0
+HasErredFrom failures later refusals now = (failures < later) ⊎ (now ≢ refusals)
 
-  erred_later : (old mid new : D) → failures old ≤ failures mid → (HasErred failures refusals old mid → ⊥) → HasErred failures refusals old new → HasErred failures refusals mid new
-  erred_later old mid new later calm (inl grew) = elim (cases_lt (failures old) (failures mid)) [
-    | inl before ↦ absurd (calm (inl before))
-    | inr not_before ↦ inl (omega (arith, not_before, grew))
-  ]
-  erred_later old mid new later calm (inr changed) = inr (λ is. changed (is ∙ same_number (refusals mid) (refusals old) (λ differs. calm (inr differs))))
+later_erred : (f g h r s t : ℕ) → f ≤ g → (HasErredFrom f g r s → ⊥) → HasErredFrom g h s t → HasErredFrom f h r t
+later_erred f g h r s t later calm (inl grew) = inl (omega (arith, later, grew))
+later_erred f g h r s t later calm (inr changed) = inr (λ is. changed (is ∙ sym (same_number s r (λ differs. calm (inr differs)))))
+
+erred_later : (f g h r s t : ℕ) → f ≤ g → (HasErredFrom f g r s → ⊥) → HasErredFrom f h r t → HasErredFrom g h s t
+erred_later f g h r s t later calm (inl grew) = elim (cases_lt f g) [
+  | inl before ↦ absurd (calm (inl before))
+  | inr not_before ↦ inl (omega (arith, not_before, grew))
+]
+erred_later f g h r s t later calm (inr changed) = inr (λ is. changed (is ∙ same_number s r (λ differs. calm (inr differs))))
+
+module _ {D : Type 0} (moment : D → ℕ) (left_at : D → ℕ → Contents → Type 0) (begun : ℕ) (left : ℕ → Contents → Type 0) where
+  -- two lists of calls, one after the other
+  leaves_joined : (mid new : D) (P Q R : Contents → Type 0) → LeavesSince moment left_at begun left mid P → LeavesOnly moment left_at mid new Q
+      → ((c : Contents) → P c → R c) → ((c : Contents) → Q c → R c) → LeavesSince moment left_at begun left new R
+  leaves_joined mid new P Q R first second from_first from_second = record {
+    later = omega (arith, first.later, second.later);
+    each = λ t c from to was. elim (cases_lt (moment mid) t) [
+      | inl after ↦ from_second c (second.each t c (omega (arith, after)) to was)
+      | inr before ↦ from_first c (first.each t c from before ((second.stays t c before).0 was))
+    ];
+    stays = λ t c le.
+        let last = second.stays t c (omega (arith, le, first.later)) in
+        let early = first.stays t c le in
+        (λ was. early.0 (last.0 was), λ was. last.1 (early.1 was));
+  }
+
+  -- of the last moment by itself
+  leaves_at_last : (mid : D) (P : Contents → Type 0) → LeavesSince moment left_at begun left mid P → LeavesOnly moment left_at mid mid P
+  leaves_at_last mid P first = record {
+    later = omega arith;
+    each = λ t c from to was. first.each t c (omega (arith, from, first.later)) to was;
+    stays = λ t c le. (λ was. was, λ was. was);
+  }
 
 -- what some of the first of these commits leave is a beginning of them all
 extended : (g : Graph) (E X : Facts) (some more : List Commit) (contents : Contents) → StandsForBeginning g E X [] some contents → StandsForBeginning g E X [] (some ++ more) contents
@@ -73,54 +98,60 @@ behind both g h E F X Y ends more contents graph given all stays it =
 
 module _ {D : Type 0} (files : D → Side → File) (moment : D → ℕ) (left_at : D → ℕ → Contents → Type 0) (failures refusals : D → ℕ) (honest : Type 0) (both : AmongBoth) where
   -- a run behind another one, of which nothing is in doubt
-  pub runs_joined : (honest → GatesStay files moment left_at) → (old mid new : Core D) (first second : List Event) → is_halted mid ≡ false → mid.in_doubt ≡ []
-      → Runs files moment left_at failures refusals honest old mid first → Runs files moment left_at failures refusals honest mid new second
-      → Runs files moment left_at failures refusals honest old new (first ++ second)
-  runs_joined gates_stay old mid new first second working settled one two =
+  pub since_joined : (honest → GatesStay files moment left_at) → (begun : Begun) (left : ℕ → Contents → Type 0) (mid new : Core D) (first second : List Event)
+      → is_halted mid ≡ false → mid.in_doubt ≡ []
+      → RunsSince moment left_at failures refusals honest begun left mid first → Runs files moment left_at failures refusals honest mid new second
+      → RunsSince moment left_at failures refusals honest begun left new (first ++ second)
+  since_joined gates_stay begun left mid new first second working settled one two =
       let all_of_first = subst (λ (events : List Event). first ++ events ≡ first) (sym settled) (append-nil first) in
-      let sets : facts mid ≡ with_facts (facts old) (stated.facts first) = λ i fact. one.facts fact i in
-      let given : environment mid ≡ environment old = λ i fact. one.environment fact i in
+      let sets : facts mid ≡ with_facts begun.facts (stated.facts first) = λ i fact. one.facts fact i in
+      let given : environment mid ≡ begun.environment = λ i fact. one.environment fact i in
       let first_are = first_ends first mid.in_doubt one.are_ends in
       let order = append_assoc first second new.in_doubt in
       let pending : one_by_one (first ++ second ++ new.in_doubt) ≡ one_by_one first ++ one_by_one (second ++ new.in_doubt) = ap one_by_one order ∙ one_by_one_joined first (second ++ new.in_doubt) in
-      let calm : HasErred failures refusals old.vault.disk mid.vault.disk → ⊥ = λ erred. false≢true (sym working ∙ one.halts.1 erred) in
+      let calm : HasErredFrom begun.failures (failures mid.vault.disk) begun.refusals (refusals mid.vault.disk) → ⊥ = λ erred. false≢true (sym working ∙ one.halts.1 erred) in
       record {
         are_ends = subst (λ (events : List Event). AllByRecursion IsEnd events) (sym order) (ends_joined first (second ++ new.in_doubt) first_are two.are_ends);
         legal =
-            subst (λ (events : List Event). AreLegalFrom (graph old) (facts old) events) (sym order)
-            (legal_joined both (graph old) (facts old) first (second ++ new.in_doubt) (subst (λ (events : List Event). AreLegalFrom (graph old) (facts old) events) all_of_first one.legal)
-            (subst (λ (g : Graph). AreLegalFrom g (with_facts (facts old) (stated.facts first)) (second ++ new.in_doubt)) one.graph
+            subst (λ (events : List Event). AreLegalFrom begun.graph begun.facts events) (sym order)
+            (legal_joined both begun.graph begun.facts first (second ++ new.in_doubt) (subst (λ (events : List Event). AreLegalFrom begun.graph begun.facts events) all_of_first one.legal)
+            (subst (λ (g : Graph). AreLegalFrom g (with_facts begun.facts (stated.facts first)) (second ++ new.in_doubt)) one.graph
             (subst (λ (S : Facts). AreLegalFrom (graph mid) S (second ++ new.in_doubt)) sets two.legal)));
         graph = two.graph ∙ one.graph;
         facts = λ fact.
             two.facts fact ∙ ap (λ (S : Facts). with_facts S (stated.facts second) fact) sets
-            ∙ ap (λ (S : Facts). S fact) (sym (ap (λ (list : List Fact). with_facts (facts old) list) (flat_map-append event_facts first second) ∙ with_both both (facts old) (stated.facts first) (stated.facts second)));
+            ∙ ap (λ (S : Facts). S fact) (sym (ap (λ (list : List Fact). with_facts begun.facts list) (flat_map-append event_facts first second) ∙ with_both both begun.facts (stated.facts first) (stated.facts second)));
         environment = λ fact. two.environment fact ∙ one.environment fact;
         spent = ap (λ n. new.allowance + n) (length-append first second) ∙ omega (arith, one.spent, two.spent);
         crashes = λ on.
-            subst (λ (commits : List Commit). LeavesOnly moment left_at old.vault.disk new.vault.disk (StandsForBeginning (graph old) (environment old) (facts old) [] commits)) (sym pending)
-            (joined moment left_at old.vault.disk mid.vault.disk new.vault.disk
-            (StandsForBeginning (graph old) (environment old) (facts old) [] (one_by_one (first ++ mid.in_doubt)))
+            subst (λ (commits : List Commit). LeavesSince moment left_at begun.moment left new.vault.disk (StandsForBeginning begun.graph begun.environment begun.facts [] commits)) (sym pending)
+            (leaves_joined moment left_at begun.moment left mid.vault.disk new.vault.disk
+            (StandsForBeginning begun.graph begun.environment begun.facts [] (one_by_one (first ++ mid.in_doubt)))
             (StandsForBeginning (graph mid) (environment mid) (facts mid) [] (one_by_one (second ++ new.in_doubt)))
-            (StandsForBeginning (graph old) (environment old) (facts old) [] (one_by_one first ++ one_by_one (second ++ new.in_doubt)))
+            (StandsForBeginning begun.graph begun.environment begun.facts [] (one_by_one first ++ one_by_one (second ++ new.in_doubt)))
             (one.crashes on) (two.crashes on)
             (λ contents stands.
-            extended (graph old) (environment old) (facts old) (one_by_one first) (one_by_one (second ++ new.in_doubt)) contents
-            (subst (λ (events : List Event). StandsForBeginning (graph old) (environment old) (facts old) [] (one_by_one events) contents) all_of_first stands))
+            extended begun.graph begun.environment begun.facts (one_by_one first) (one_by_one (second ++ new.in_doubt)) contents
+            (subst (λ (events : List Event). StandsForBeginning begun.graph begun.environment begun.facts [] (one_by_one events) contents) all_of_first stands))
             (λ contents stands.
-            behind both (graph old) (graph mid) (environment old) (environment mid) (facts old) (facts mid) first (one_by_one (second ++ new.in_doubt)) contents one.graph given sets
-            (λ made. environment_stays both (environment old) first made first_are) stands));
+            behind both begun.graph (graph mid) begun.environment (environment mid) begun.facts (facts mid) first (one_by_one (second ++ new.in_doubt)) contents one.graph given sets
+            (λ made. environment_stays both begun.environment first made first_are) stands));
         gates = λ on has.
             let here = one.gates on has in
-            joined moment left_at old.vault.disk mid.vault.disk new.vault.disk HasGates HasGates HasGates here (two.gates on (gates_stay on old.vault.disk mid.vault.disk here)) (λ c so. so) (λ c so. so);
+            let at_last = leaves_at_last moment left_at begun.moment left mid.vault.disk HasGates here in
+            leaves_joined moment left_at begun.moment left mid.vault.disk new.vault.disk HasGates HasGates HasGates here
+            (two.gates on (gates_stay on mid.vault.disk mid.vault.disk at_last)) (λ c so. so) (λ c so. so);
         halts = (
-          λ is. later_erred failures refusals old.vault.disk mid.vault.disk new.vault.disk one.later calm (two.halts.0 is),
-          λ erred. two.halts.1 (erred_later failures refusals old.vault.disk mid.vault.disk new.vault.disk one.later calm erred),
+          λ is. later_erred begun.failures (failures mid.vault.disk) (failures new.vault.disk) begun.refusals (refusals mid.vault.disk) (refusals new.vault.disk) one.later calm (two.halts.0 is),
+          λ erred. two.halts.1 (erred_later begun.failures (failures mid.vault.disk) (failures new.vault.disk) begun.refusals (refusals mid.vault.disk) (refusals new.vault.disk) one.later calm erred),
         );
         later = omega (arith, one.later, two.later);
-        one_in_doubt = λ stops. let last = two.one_in_doubt stops in (last.0, last.1, subst (λ n. n < old.allowance) (sym (length-append first second)) (omega (arith, one.spent, last.2)));
+        one_in_doubt = λ stops. let last = two.one_in_doubt stops in (last.0, last.1, subst (λ n. n < begun.allowance) (sym (length-append first second)) (omega (arith, one.spent, last.2)));
       }
 
   pub goes_on : (honest → GatesStay files moment left_at) → (old mid new : Core D) → is_halted mid ≡ false → mid.in_doubt ≡ []
       → RunsOn files moment left_at failures refusals honest old mid → RunsOn files moment left_at failures refusals honest mid new → RunsOn files moment left_at failures refusals honest old new
-  goes_on gates_stay old mid new working settled one two = record { ends = one.ends ++ two.ends; runs = runs_joined gates_stay old mid new one.ends two.ends working settled one.runs two.runs }
+  goes_on gates_stay old mid new working settled one two = record {
+    ends = one.ends ++ two.ends;
+    runs = since_joined gates_stay (begun_by files moment failures refusals old) (left_at old.vault.disk) mid new one.ends two.ends working settled one.runs two.runs;
+  }

@@ -1,3 +1,4 @@
+pub mod Allowed
 pub mod Answered
 pub mod Counted
 pub mod Driven

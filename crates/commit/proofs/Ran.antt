@@ -36,7 +36,7 @@ not_true : (b : Bool) → (b ≡ true → ⊥) → b ≡ false
 not_true false never = refl
 not_true true never = elim (never refl) [ ]
 
-refutes : (g : Graph) (address : Addr) (refusal : Refusal) → RefusesRead g address refusal → AddressIsOf g address → ⊥
+pub refutes : (g : Graph) (address : Addr) (refusal : Refusal) → RefusesRead g address refusal → AddressIsOf g address → ⊥
 refutes g address NoSuchCollection refuses there = false≢true (ap is_some (sym refuses ∙ there.1))
 refutes g address WrongArity refuses there = refuses.2 (ap (λ (c : Collection). c.components) (same_collection (sym refuses.1 ∙ there.1)) ∙ there.2)
 refutes g address NotFromEnvironment refuses there = refuses

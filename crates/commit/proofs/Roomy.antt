@@ -1,13 +1,15 @@
 -- What is committed behind room that was made is committed from what was there before.
-use Rattle.std.proofs.Common.{◌≡◌, ◌∙◌, ◌↔◌, ◌⊎◌, ◌<◌, ◌≤◌, ◌+◌, ◌-◌, ◌||◌, ap, sym, refl, subst, inl, inr, ℕ, true, false, List, [], ◌∷◌, length, Result, Ok, Err, IsErrOf, arith}
+use Rattle.std.proofs.Common.{◌≡◌, ◌∙◌, ◌↔◌, ◌⊎◌, ◌<◌, ◌≤◌, ◌+◌, ◌||◌, ap, sym, refl, subst, inl, inr, ℕ, ℤ, true, false, List, [], ◌∷◌, length, Result, Ok, Err, IsErrOf, arith}
 use Rattle.std.proofs.lemmas.Bool.{false≢true}
 use Rattle.disk.specs.declared.side.Side.{Side}
 use Rattle.disk.specs.File.{File}
 use Rattle.disk.specs.Time.{Contents, LeavesOnly, HasCauses, HasErred}
 use Rattle.disk.specs.Moments.{weakened}
+use Rattle.terms.specs.declared.name.Addr.{Addr}
 use Rattle.terms.specs.declared.name.Inst.{Inst}
 use Rattle.instances.specs.declared.state.State.TheVariants.{Ready}
 use Rattle.terms.specs.declared.event.Event.{Event}
+use Rattle.terms.specs.declared.event.Event.TheVariants.{EnvItem}
 use Rattle.terms.specs.Facts.{event_facts, environment_facts}
 use Rattle.terms.specs.Sets.{Facts, among}
 use Rattle.graph.specs.Graph.{Graph}
@@ -15,8 +17,9 @@ use Rattle.codec.specs.Commits.{commit_bytes}
 use Rattle.journal.specs.Records.{record_of}
 use Rattle.journal.specs.declared.journal.TheConstants.{LIMIT}
 use Rattle.machine.specs.declared.refusal.Refusal.{Refusal}
+use Rattle.machine.specs.declared.refusal.Refusal.TheVariants.{NoSuchCollection, NotFromEnvironment, WrongArity, AlreadyPut, Stopped, Repeat}
 use Rattle.machine.specs.Legal.{IsLegal}
-use Rattle.machine.specs.Machine.{GoesOn, state_of as state_in}
+use Rattle.machine.specs.Machine.{GoesOn, RefusesItem, state_of as state_in}
 use Rattle.machine.specs.Memory.{facts_of}
 use Rattle.vault.specs.declared.vault.Vault.{Vault}
 use Rattle.vault.specs.declared.error.VaultError.{VaultError}
@@ -28,11 +31,12 @@ use Rattle.vault.specs.Store.{HasGates, IsSame, StandsBeforeOrAfter}
 use Rattle.commit.specs.declared.error.CoreError.{CoreError}
 use Rattle.commit.specs.declared.error.CoreError.TheVariants.{Refused, Store}
 use Rattle.commit.specs.Core.{Core, graph, facts, environment, is_halted}
-use Rattle.commit.specs.Calls.{Commits, Takes, GivesBack, Halts, Refuses, NoCause, TellsFull, IsInDoubt, CrashLeaves, step_count}
+use Rattle.commit.specs.Calls.{Commits, Takes, GivesBack, Halts, Refuses, NoCause, TellsFull, IsInDoubt, CrashLeaves}
 use Rattle.commit.specs.Steps.{Moves}
 use Rattle.commit.proofs.Answered.{if_err, on_err, on_ok}
 use Rattle.commit.specs.Kept.{IsKept}
-use Rattle.commit.specs.Room.{GivesRoom}
+use Rattle.commit.specs.Room.{GivesRoom, RefusesFirst}
+use Rattle.commit.proofs.Ran.{refutes}
 
 module _ {D : Type 0} (old mid : Core D) (room : GivesRoom old mid) where
   halted : is_halted mid ≡ is_halted old
@@ -64,7 +68,7 @@ module _ {D : Type 0} (old mid : Core D) (room : GivesRoom old mid) where
     };
     working = (sym halted ∙ it.working.0, it.working.1);
     moved = subst (λ (v : Vault D). v.journal.end < new.vault.journal.end) room.vault it.moved;
-    allowance = it.allowance ∙ ap (λ a. a - step_count event) room.allowance;
+    allowance = it.allowance ∙ room.allowance;
     generation = it.generation ∙ ap (λ (v : Vault D). v.generation) room.vault;
   }
 
@@ -92,6 +96,11 @@ module _ {D : Type 0} (old mid : Core D) (room : GivesRoom old mid) where
         (it.gates (subst (λ (v : Vault D). HasGates (contents_of (files v.disk))) (sym room.vault) has));
   }
 
+  -- where it may come, and its record does not fit, that is told
+  pub tells_full : {T : Type 0} (event : Event) (result : Result T CoreError) → TellsFull mid event result → TellsFull old event result
+  tells_full event result it working legal long =
+      it (halted ∙ working) (room.machine.legal event legal) (subst (λ (v : Vault D). LIMIT ≤ v.journal.end + length (record_of (commit_bytes (event ∷ [])))) (sym room.vault) long)
+
   -- all of it together
   pub commits :
       {T : Type 0} (files : D → Side → File) (moment : D → ℕ) (left_at : D → ℕ → Contents → Type 0) (honest : Type 0) (new : Core D) (why : Refusal → Type 0) (event : Event) (result : Result T CoreError) →
@@ -99,13 +108,10 @@ module _ {D : Type 0} (old mid : Core D) (room : GivesRoom old mid) where
   commits files moment left_at honest new why event result it = record {
     takes = on_ok result (Takes mid new event) (Takes old new event) (takes new event) it.takes;
     refused = if_err result (Refuses mid NoCause event) (Refuses old why event) (refuses why event) it.refused;
-    full = λ working legal long. it.full (halted ∙ working) (legal_behind event legal) (subst (λ (v : Vault D). LIMIT ≤ v.journal.end + length (record_of (commit_bytes (event ∷ [])))) (sym room.vault) long);
+    full = tells_full event result it.full;
     doubt = on_err result (is_halted mid ≡ false → is_halted new ≡ true → new.in_doubt ≡ event ∷ []) (is_halted old ≡ false → is_halted new ≡ true → new.in_doubt ≡ event ∷ []) (λ so working. so (halted ∙ working)) it.doubt;
     moments = λ on working. moments files moment left_at new (event ∷ []) (it.moments on (halted ∙ working));
   }
-    where
-      legal_behind : (e : Event) → IsLegal (graph old) (facts old) e → IsLegal (graph mid) (facts mid) e
-      legal_behind e legal = room.machine.legal e legal
 
   pub gives_back : (new : Core D) (instance : Inst) → GivesBack mid new instance → GivesBack old new instance
   gives_back new instance it = record {
@@ -154,6 +160,27 @@ rests files moment left_at old new events leaves gates kept working same =
           (leaves old.vault (graph old) (environment old) (facts old) holds) (λ c stands. inl stands));
       gates = λ has. subst (λ v. LeavesOnly moment left_at old.vault.disk v.disk HasGates) (sym same) (gates old.vault (graph old) (environment old) (facts old) holds has);
     }
+
+-- what refuses an item of the environment does not let it come
+pub illegal_item : (g : Graph) (X : Facts) (address : Addr) (value : ℤ) (refusal : Refusal) → RefusesItem g X address refusal → IsLegal g X (EnvItem address value) → ⊥
+illegal_item g X address value NoSuchCollection why legal = refutes g address NoSuchCollection why legal.event_is_legal.0.0
+illegal_item g X address value WrongArity why legal = refutes g address WrongArity why legal.event_is_legal.0.0
+illegal_item g X address value NotFromEnvironment why legal = false≢true (sym why.1 ∙ legal.event_is_legal.0.1)
+illegal_item g X address value (Stopped instance kind) why legal = false≢true (sym (legal.working instance kind) ∙ why.1)
+illegal_item g X address value (AlreadyPut there) why legal = false≢true (sym (legal.event_is_legal.1 there why.2.0) ∙ why.2.1)
+illegal_item g X address value Repeat why legal = why
+
+-- where an event may come, and its record does not fit, an error before that is told by want of memory
+pub full_first : {D T : Type 0} (old : Core D) (why : Refusal → Type 0) (event : Event) (error : CoreError)
+    → ((refusal : Refusal) → why refusal → IsLegal (graph old) (facts old) event → ⊥) → RefusesFirst old why event error → TellsFull {T = T} old event (Err error)
+full_first old why event (Refused refusal) never it working legal long = absurd (never refusal it.1 legal)
+full_first old why event (Store Halted) never it working legal long = absurd (false≢true (sym working ∙ it))
+full_first old why event (Store NoMemory) never it working legal long = inr refl
+full_first old why event (Store Full) never it working legal long = absurd it
+full_first old why event (Store Device) never it working legal long = absurd it
+full_first old why event (Store (Damaged side place)) never it working legal long = absurd it
+full_first old why event (Store NotAStore) never it working legal long = absurd it
+full_first old why event (Store Exists) never it working legal long = absurd it
 
 -- an error that is answered before anything is written
 pub refused_first :

@@ -1,5 +1,5 @@
 -- What each call of a run makes of a core: the end of an instance, and all that changes nothing on the disk.
-use Rattle.std.proofs.Common.{◌≡◌, ◌∙◌, ◌⊎◌, ◌<◌, ◌≤◌, ◌+◌, ◌++◌, ap, refl, sym, subst, inl, inr, ℕ, Bool, true, false, List, [], ◌∷◌, length, Result, Err, arith}
+use Rattle.std.proofs.Common.{◌≡◌, ◌∙◌, ◌⊎◌, ◌<◌, ◌≤◌, ◌+◌, ◌++◌, ap, refl, sym, subst, inl, inr, ℕ, Bool, true, false, List, [], ◌∷◌, length, Result, Ok, Err, IfOk, OnErr, arith}
 use Rattle.std.proofs.lemmas.Bool.{false≢true}
 use Rattle.std.proofs.lemmas.List.{append-nil}
 use Rattle.std.specs.List.{AllByRecursion}
@@ -8,6 +8,8 @@ use Rattle.disk.specs.File.{File}
 use Rattle.disk.specs.Time.{Contents, LeavesOnly, HasErred}
 use Rattle.terms.specs.declared.name.Addr.{Addr}
 use Rattle.terms.specs.declared.name.Inst.{Inst}
+use Rattle.terms.specs.declared.fault.FaultKind.{FaultKind}
+use Rattle.terms.specs.declared.put.Put.{Put}
 use Rattle.terms.specs.declared.event.Event.{Event}
 use Rattle.terms.specs.declared.event.Event.TheVariants as event
 use Rattle.terms.specs.Facts.{Fact, event_facts}
@@ -30,13 +32,18 @@ use Rattle.vault.specs.Store.{Holds, HasGates, IsSame, StandsBeforeOrAfter}
 use Rattle.commit.specs.declared.error.CoreError.{CoreError}
 use Rattle.commit.specs.declared.error.CoreError.TheVariants.{Refused, Store}
 use Rattle.commit.specs.declared.outcome.Outcome.{Outcome}
+use Rattle.steplang.specs.declared.outcome.Bad.{Bad}
+use Rattle.steplang.specs.declared.outcome.Given.{Given}
+use Rattle.commit.specs.declared.outcome.Committed.{Committed}
+use Rattle.commit.specs.declared.outcome.Committed.TheVariants as committed
 use Rattle.commit.specs.declared.outcome.Outcome.TheVariants.{Gave, Fault}
 use Rattle.commit.specs.Calls.{Commits, CrashLeaves, GivesBack, Halts, Refuses, Takes, step_count}
 use Rattle.commit.specs.Core.{Core, graph, facts, environment, is_halted}
 use Rattle.commit.specs.Kept.{IsKept}
-use Rattle.commit.specs.Outcome.{IsEndOf}
-use Rattle.commit.specs.Runs.{EndsEarly, IsEnd, IsFull, Runs, RunsOn, one_by_one}
+use Rattle.commit.specs.Outcome.{EndsGiven, Finishes, IsEndOf, IsEndOfGiven, Tells}
+use Rattle.commit.specs.Runs.{EndRuns, EndsEarly, IsEnd, IsFull, Runs, RunsOn, one_by_one}
 use Rattle.commit.specs.Steps.{LooksAgain, Moves}
+use Rattle.commit.proofs.Answered.{if_ok}
 use Rattle.commit.proofs.Lists.{with_nothing, puts_nothing}
 
 -- an outcome ends its instance
@@ -50,6 +57,30 @@ costs_one (event.EnvItem address value) is = absurd is
 costs_one (event.EnvTag name) is = absurd is
 costs_one (event.Done instance puts) is = refl
 costs_one (event.Stopped instance kind) is = refl
+
+module _
+    {D : Type 0} (files : D → Side → File) (moment : D → ℕ) (left_at : D → ℕ → Contents → Type 0) (honest : Type 0) (old new : Core D)
+    (instance : Inst) (outcome : Outcome) (result : Result Committed CoreError)
+  where
+    -- an end by the puts that a body gave is one of its outcome, and so is one by its fault
+    pub of_given : (given : Given) (puts : List Put) → outcome ≡ Gave given → puts ≡ given.puts
+        → EndsGiven files moment left_at honest old new instance puts result → Finishes files moment left_at honest old new instance outcome result
+    of_given given puts is puts_are it = record {
+      end = it.end;
+      is_end = subst (λ (o : Outcome). IsEndOf o instance it.end) (sym is) (subst (λ (list : List Put). IsEndOfGiven instance list it.end) puts_are it.is_end);
+      commits = it.commits;
+      told = it.told;
+    }
+
+    pub of_fault : (bad : Bad) (kind : FaultKind) → outcome ≡ Fault bad → kind ≡ bad.kind → Commits files moment left_at honest old new (RefusesEnd (facts old)) (event.Stopped instance kind) result
+        → IfOk result (λ told. told ≡ committed.Stopped kind) → Finishes files moment left_at honest old new instance outcome result
+    of_fault bad kind is kind_is commits told = record {
+      end = event.Stopped instance kind;
+      is_end = subst (λ (o : Outcome). IsEndOf o instance (event.Stopped instance kind)) (sym is) (ap (λ (k : FaultKind). event.Stopped instance k) kind_is);
+      commits = commits;
+      told = if_ok result (λ (t : Committed). t ≡ committed.Stopped kind) (λ (t : Committed). Tells t (event.Stopped instance kind))
+          (λ t is. subst (λ (c : Committed). Tells c (event.Stopped instance kind)) (sym is) (instance, refl)) told;
+    }
 
 -- nothing has changed that is on the disk, or goes there
 pub record SameStore {D : Type 0} (old new : Core D) : Type 0 where
@@ -136,9 +167,9 @@ module _ {D : Type 0} (files : D → Side → File) (moment : D → ℕ) (left_a
       (subst (λ (E : Facts). LeavesOnly moment left_at old.vault.disk new.vault.disk (StandsBeforeOrAfter (graph old) E (with_facts (facts old) []) (end ∷ []))) (sym (with_nothing (environment old)))
       (subst (λ (X : Facts). LeavesOnly moment left_at old.vault.disk new.vault.disk (StandsBeforeOrAfter (graph old) (environment old) X (end ∷ []))) (sym (with_nothing (facts old))) it.facts))
 
-  pub ended : {T : Type 0} → (honest → AppendLeaves files moment left_at) → (old new : Core D) (end : Event) (result : Result T CoreError) → is_halted old ≡ false → 0 < old.allowance → IsEnd end
+  pub ended : {T : Type 0} → (honest → AppendLeaves files moment left_at) → (old new : Core D) (end : Event) (result : Result T CoreError) → is_halted old ≡ false → IsEnd end
       → Takes old new end → new.in_doubt ≡ [] → (honest → CrashLeaves files moment left_at old new (end ∷ [])) → Halts failures refusals old new result → Runs files moment left_at failures refusals honest old new (end ∷ [])
-  ended leaves old new end result working allowed is takes settled moments halts =
+  ended leaves old new end result working is takes settled moments halts =
       let one : end ∷ [] ++ new.in_doubt ≡ end ∷ [] = ap (λ (events : List Event). end ∷ events) settled in
       record {
         are_ends = subst (λ (events : List Event). AllByRecursion IsEnd events) (sym one) (is, tt);
@@ -146,7 +177,7 @@ module _ {D : Type 0} (files : D → Side → File) (moment : D → ℕ) (left_a
         graph = takes.takes.graph;
         facts = λ fact. takes.takes.facts fact ∙ ap (λ (list : List Fact). with_facts (facts old) list fact) (sym (append-nil (event_facts end)));
         environment = λ fact. takes.takes.environment fact ∙ ap (λ (list : List Fact). with_facts (environment old) list fact) (puts_nothing end is) ∙ ap (λ (E : Facts). E fact) (with_nothing (environment old));
-        spent = omega (arith, takes.allowance, costs_one end is, allowed);
+        spent = omega (arith, takes.allowance, costs_one end is);
         crashes = λ on.
             subst (λ (events : List Event). LeavesOnly moment left_at old.vault.disk new.vault.disk (StandsForBeginning (graph old) (environment old) (facts old) [] (one_by_one events))) (sym one)
             (begins leaves old new end on (moments on));
@@ -212,6 +243,21 @@ module _ {D : Type 0} (files : D → Side → File) (moment : D → ℕ) (left_a
             later = halts.disk.later;
             one_in_doubt = λ _. (end, doubt, allowed);
           }
+
+  -- a finish is a run by itself
+  pub finished : (honest → AppendLeaves files moment left_at) → (honest → RestLeaves files moment left_at) → (honest → GatesRest files moment left_at)
+      → (old new : Core D) (instance : Inst) (outcome : Outcome) (result : Result Committed CoreError)
+      → is_halted old ≡ false → old.in_doubt ≡ [] → 0 < old.allowance → (honest → IsKept files old)
+      → Finishes files moment left_at honest old new instance outcome result → OnErr result (GivesBack old new instance)
+      → Halts failures refusals old new result → EndRuns files moment left_at failures refusals honest old new instance outcome result
+  finished leaves rest_leaves gates_rest old new instance outcome (Ok committed) working settled allowed kept it back halts = (
+    it.end,
+    it.is_end,
+    it.told,
+    ended leaves old new it.end (Ok committed) working (is_end outcome instance it.end it.is_end) it.commits.takes halts.settled (λ on. it.commits.moments on working) halts,
+  )
+  finished leaves rest_leaves gates_rest old new instance outcome (Err error) working settled allowed kept it back halts =
+      refused leaves rest_leaves gates_rest old new instance it.end error working settled allowed kept (is_end outcome instance it.end it.is_end) back it.commits halts
 
   -- why it ends the run
   pub ends_early : {T : Type 0} (old new : Core D) (instance : Inst) (end : Event) (error : CoreError) → is_halted old ≡ false → 0 < old.allowance → HasNoFault (facts old) → IsEnd end → GivesBack old new instance

@@ -1,5 +1,5 @@
 -- What the calls of a core promise: the event that comes at `Ok`, and what an error says and leaves.
-use Rattle.std.specs.Prelude.{◌≡◌, ◌≢◌, ◌⊎◌, ◌↔◌, ◌<◌, ◌≤◌, ◌+◌, ◌-◌, ℕ, true, false, List, [], ◌∷◌, length, Result, Some, IsErrOf, OnOk, OnErr, IfErr}
+use Rattle.std.specs.Prelude.{◌≡◌, ◌≢◌, ◌⊎◌, ◌↔◌, ◌<◌, ◌≤◌, ◌+◌, ℕ, true, false, List, [], ◌∷◌, length, Result, Some, IsErrOf, OnOk, OnErr, IfErr}
 use Rattle.disk.specs.declared.side.Side.{Side}
 use Rattle.disk.specs.File.{File}
 use Rattle.disk.specs.Time.{Contents, LeavesOnly, HasCauses, HasErred}
@@ -36,7 +36,7 @@ pub record Takes {D : Type 0} (old new : Core D) (event : Event) : Type 0 where
   pub takes : machine.Takes old.machine new.machine event
   pub working : (is_halted old ≡ false) × (is_halted new ≡ false)
   pub moved : old.vault.journal.end < new.vault.journal.end
-  pub allowance : new.allowance ≡ old.allowance - step_count event
+  pub allowance : new.allowance + step_count event ≡ old.allowance
   pub generation : new.vault.generation ≡ old.vault.generation
 
 -- No fact has changed, and no allowance.

@@ -3,14 +3,15 @@ use Rattle.std.specs.Prelude.{◌≡◌, ◌≢◌, ◌⊎◌, ◌↔◌, ◌+�
 use Rattle.std.specs.List.{AllByRecursion}
 use Rattle.disk.specs.declared.side.Side.{Side}
 use Rattle.disk.specs.File.{File}
-use Rattle.disk.specs.Time.{Contents, LeavesOnly, HasErred}
+use Rattle.disk.specs.Time.{Contents, LeavesSince}
 use Rattle.terms.specs.declared.name.Inst.{Inst}
 use Rattle.terms.specs.declared.event.Event.{Event}
 use Rattle.terms.specs.declared.event.Event.TheVariants as event
 use Rattle.terms.specs.Commits.{Commit}
 use Rattle.terms.specs.Facts.{Fact}
 use Rattle.terms.specs.Facts as stated
-use Rattle.terms.specs.Sets.{with_facts}
+use Rattle.terms.specs.Sets.{Facts, with_facts}
+use Rattle.graph.specs.Graph.{Graph}
 use Rattle.instances.specs.declared.state.State.TheVariants.{Running}
 use Rattle.machine.specs.Legal.{IsLegal}
 use Rattle.machine.specs.State.{AreLegalFrom}
@@ -26,7 +27,10 @@ use Rattle.commit.specs.declared.verdict.Verdict.{Verdict}
 use Rattle.commit.specs.declared.verdict.Verdict.TheVariants.{Complete, Blocked, Stopped, Limit, Asked, Halted}
 use Rattle.commit.specs.declared.verdict.RunError.{RunError}
 use Rattle.commit.specs.declared.verdict.RunError.TheVariants.{Spawn, NoMemory, Full}
+use Rattle.commit.specs.declared.outcome.Outcome.{Outcome}
+use Rattle.commit.specs.declared.outcome.Committed.{Committed}
 use Rattle.commit.specs.Calls.{IsTooLong}
+use Rattle.commit.specs.Outcome.{IsEndOf, Tells}
 use Rattle.commit.specs.Core.{Core, graph, facts, state_of, is_halted}
 use Rattle.commit.specs.Core as core
 use Rattle.commit.specs.Status.{TellsStatus, IsMeantIfQuiet}
@@ -48,21 +52,49 @@ IsEnd (event.Stopped instance kind) = ⊤
 abbrev pub one_by_one : List Event → List Commit
 one_by_one events = map (λ one. one ∷ []) events
 
--- From a core that is not halted these ends of instances were committed, one after another; and where it is halted now, one more is in doubt. They
--- were legal, and state all that is new; each used one of the allowance. At each moment a crash leaves what some of the first of them state, each of
--- which is there whole. The core is halted exactly where a call of the disk answered an error.
-pub record Runs {D : Type 0} (files : D → Side → File) (moment : D → ℕ) (left_at : D → ℕ → Contents → Type 0) (failures refusals : D → ℕ) (honest : Type 0) (old new : Core D) (ends : List Event) : Type 0 where
+-- what a store was when a run began: its graph and facts, how many steps it might commit, and of its disk the moment, the counts of errors, and the
+-- contents of both files
+pub record Begun : Type 0 where
+  pub graph : Graph
+  pub facts : Facts
+  pub environment : Facts
+  pub allowance : ℕ
+  pub moment : ℕ
+  pub failures : ℕ
+  pub refusals : ℕ
+  pub contents : Contents
+
+abbrev pub begun_by : {D : Type 0} → (D → Side → File) → (D → ℕ) → (failures refusals : D → ℕ) → Core D → Begun
+begun_by files moment failures refusals c = record {
+  graph = core.graph c;
+  facts = core.facts c;
+  environment = core.environment c;
+  allowance = c.allowance;
+  moment = moment c.vault.disk;
+  failures = failures c.vault.disk;
+  refusals = refusals c.vault.disk;
+  contents = contents_of (files c.vault.disk);
+}
+
+-- From a core that was so, that was not halted, and of which a crash might leave this, these ends of instances were committed, one after another; and where
+-- the core is halted now, one more is in doubt. They were legal, and state all that is new; each used one of the allowance. At each moment a crash leaves what
+-- some of the first of them state, each of which is there whole. The core is halted exactly where a call of the disk answered an error.
+pub record RunsSince {D : Type 0} (moment : D → ℕ) (left_at : D → ℕ → Contents → Type 0) (failures refusals : D → ℕ) (honest : Type 0) (begun : Begun) (left : ℕ → Contents → Type 0) (new : Core D) (ends : List Event) : Type 0 where
   pub are_ends : AllByRecursion IsEnd (ends ++ new.in_doubt)
-  pub legal : AreLegalFrom (core.graph old) (core.facts old) (ends ++ new.in_doubt)
-  pub graph : core.graph new ≡ core.graph old
-  pub facts : (fact : Fact) → core.facts new fact ≡ with_facts (core.facts old) (stated.facts ends) fact
-  pub environment : (fact : Fact) → core.environment new fact ≡ core.environment old fact
-  pub spent : new.allowance + length ends ≡ old.allowance
-  pub crashes : honest → LeavesOnly moment left_at old.vault.disk new.vault.disk (StandsForBeginning (core.graph old) (core.environment old) (core.facts old) [] (one_by_one (ends ++ new.in_doubt)))
-  pub gates : honest → HasGates (contents_of (files old.vault.disk)) → LeavesOnly moment left_at old.vault.disk new.vault.disk HasGates
-  pub halts : (is_halted new ≡ true) ↔ HasErred failures refusals old.vault.disk new.vault.disk
-  pub later : failures old.vault.disk ≤ failures new.vault.disk
-  pub one_in_doubt : is_halted new ≡ true → (end : Event) × (new.in_doubt ≡ end ∷ []) × (length ends < old.allowance)
+  pub legal : AreLegalFrom begun.graph begun.facts (ends ++ new.in_doubt)
+  pub graph : core.graph new ≡ begun.graph
+  pub facts : (fact : Fact) → core.facts new fact ≡ with_facts begun.facts (stated.facts ends) fact
+  pub environment : (fact : Fact) → core.environment new fact ≡ begun.environment fact
+  pub spent : new.allowance + length ends ≡ begun.allowance
+  pub crashes : honest → LeavesSince moment left_at begun.moment left new.vault.disk (StandsForBeginning begun.graph begun.environment begun.facts [] (one_by_one (ends ++ new.in_doubt)))
+  pub gates : honest → HasGates begun.contents → LeavesSince moment left_at begun.moment left new.vault.disk HasGates
+  pub halts : (is_halted new ≡ true) ↔ ((begun.failures < failures new.vault.disk) ⊎ (refusals new.vault.disk ≢ begun.refusals))
+  pub later : begun.failures ≤ failures new.vault.disk
+  pub one_in_doubt : is_halted new ≡ true → (end : Event) × (new.in_doubt ≡ end ∷ []) × (length ends < begun.allowance)
+
+-- the same from a core to another
+abbrev pub Runs : {D : Type 0} → (D → Side → File) → (D → ℕ) → (D → ℕ → Contents → Type 0) → (failures refusals : D → ℕ) → Type 0 → (old new : Core D) → List Event → Type 0
+Runs files moment left_at failures refusals honest old new ends = RunsSince moment left_at failures refusals honest (begun_by files moment failures refusals old) (left_at old.vault.disk) new ends
 
 -- ---- what is answered
 
@@ -105,3 +137,8 @@ pub record RunsWithin {D : Type 0} (files : D → Side → File) (moment : D →
 pub record RunsOn {D : Type 0} (files : D → Side → File) (moment : D → ℕ) (left_at : D → ℕ → Contents → Type 0) (failures refusals : D → ℕ) (honest : Type 0) (old new : Core D) : Type 0 where
   pub ends : List Event
   pub runs : Runs files moment left_at failures refusals honest old new ends
+
+-- A finish is a run by itself: of the one end at `Ok`, and of none at an error.
+abbrev pub EndRuns : {D : Type 0} → (D → Side → File) → (D → ℕ) → (D → ℕ → Contents → Type 0) → (failures refusals : D → ℕ) → Type 0 → (old new : Core D) → Inst → Outcome → Result Committed CoreError → Type 0
+EndRuns files moment left_at failures refusals honest old new instance outcome (Ok committed) = (end : Event) × IsEndOf outcome instance end × Tells committed end × Runs files moment left_at failures refusals honest old new (end ∷ [])
+EndRuns files moment left_at failures refusals honest old new instance outcome (Err error) = Runs files moment left_at failures refusals honest old new []

@@ -33,10 +33,11 @@ impl<D: Disk + Drop> Drop for Core<D> {
 }
 
 impl<D: Disk> Model for Core<D> {
-    ghost use Rattle.std.specs.Prelude.{◌≡◌, false, None, IsTrue};
+    ghost use Rattle.std.specs.Prelude.{◌≡◌, ◌≤◌, false, None, IsTrue};
     ghost use Rattle.std.specs.Coded.{codes};
     ghost use Rattle.machine.specs.contracts.machine.Machine as of_machine;
     ghost use Rattle.commit.specs.Core.{Core as Seen};
+    ghost use Rattle.machine.specs.Machine.{running_count};
     ghost use Rattle.commit.specs.Doubt.{events_in};
     ghost use Rattle.commit.specs.Kept.{IsKept};
 
@@ -47,7 +48,8 @@ impl<D: Disk> Model for Core<D> {
     ghost view = { λ c. record { vault = c.vault; machine = c.machine; in_doubt = events_in c.in_doubt; allowance = c.allowance } };
 
     ghost invariant = { λ c. (c.vault.halted ≡ false → c.in_doubt ≡ None)
-        × (IsTrue D.is_honest → IsKept D.files (record { vault = c.vault; machine = c.machine; in_doubt = events_in c.in_doubt; allowance = c.allowance })) };
+        × (IsTrue D.is_honest → IsKept D.files (record { vault = c.vault; machine = c.machine; in_doubt = events_in c.in_doubt; allowance = c.allowance }))
+        × (running_count c.machine ≤ c.allowance) };
 }
 
 impl<D: Disk> Core<D> {

@@ -2,7 +2,7 @@ ghost use Rattle.std.specs.Prelude.{◌≡◌, cond, Some};
 
 use crate::{Core, CoreError};
 use disk::Disk;
-use instances::Task;
+use instances::{Task, runs_are_counted};
 use machine::legal_events_fit;
 use terms::{Event, facts_are_told_apart};
 use vault::stores_go_on;
@@ -30,6 +30,7 @@ impl<D: Disk> Core<D> {
         ensures moments { IsTrue D.is_honest → CrashLeaves D.files D.moment D.left_at self.old self.new (event ∷ []) }
     {
         legal_events_fit();
+        runs_are_counted();
         stores_go_on::<D>();
         self.machine.is_kept();
         match self.vault.append(&event) {
@@ -61,13 +62,14 @@ impl<D: Disk> Core<D> {
         ensures moments { IsTrue D.is_honest → CrashLeaves D.files D.moment D.left_at self.old self.new (event ∷ []) }
     {
         legal_events_fit();
+        runs_are_counted();
         stores_go_on::<D>();
         self.machine.is_kept();
         match self.vault.append(&event) {
             Ok(()) => {
                 self.machine.take_step(task, &event);
                 drop(event);
-                self.allowance = self.allowance.saturating_sub(1);
+                self.allowance -= 1;
                 Ok(())
             }
             Err(error) => {

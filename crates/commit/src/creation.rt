@@ -96,12 +96,15 @@ impl<D: Disk> Core<D> {
         stores_go_on::<D>();
         match empty_machine(alloc, graph) {
             Ok(machine) => match vault::create(alloc, disk, text) {
-                Ok(vault) => Ok(Core {
-                    vault,
-                    machine,
-                    in_doubt: None,
-                    allowance: FIRST_ALLOWANCE,
-                }),
+                Ok(vault) => {
+                    machine.are_counted();
+                    Ok(Core {
+                        vault,
+                        machine,
+                        in_doubt: None,
+                        allowance: FIRST_ALLOWANCE,
+                    })
+                }
                 Err(refused) => Err(refused),
             },
             Err(_) => Err(Refused {

@@ -1,6 +1,6 @@
 use crate::{Committed, Core, CoreError, Outcome};
 use disk::Disk;
-use instances::Task;
+use instances::{Task, runs_are_counted};
 use machine::{End, given_are_of_graph, results_are_meant};
 use terms::{Event, FaultKind, Put, Puts};
 use vault::{VaultError, stores_go_on};
@@ -21,6 +21,7 @@ impl<D: Disk> Core<D> {
     ghost use Rattle.commit.specs.Calls.{Commits, GivesBack, Halts, NoCause};
     ghost use Rattle.commit.specs.Outcome.{Finishes, EndsGiven, IsOutcomeOf};
     ghost use Rattle.commit.specs.Room.{GivesRoom};
+    ghost use Rattle.commit.specs.Runs.{EndRuns};
     ghost use Rattle.commit.specs.Steps.{Moves};
 
     /// Commits what the body of an instance came to: the instance is done, with its puts; or it is at fault, which stops the store. It is at fault where
@@ -34,8 +35,12 @@ impl<D: Disk> Core<D> {
         ensures finishes { Finishes D.files D.moment D.left_at (IsTrue D.is_honest) self.old self.new task outcome.entry result }
         ensures err { OnErr result (GivesBack self.old self.new task) }
         ensures halts { Halts D.failures D.refusals self.old self.new result }
+        ensures runs { is_halted self.old ≡ false → EndRuns D.files D.moment D.left_at D.failures D.refusals (IsTrue D.is_honest) self.old self.new task outcome.entry result }
     {
         results_are_meant();
+        stores_go_on::<D>();
+        runs_are_counted();
+        self.is_kept();
         if self.vault.is_halted() {
             self.machine.release(task);
             return Err(CoreError::Store(VaultError::Halted));
@@ -142,6 +147,7 @@ impl<D: Disk> Core<D> {
     {
         let _ = task;
         given_are_of_graph();
+        runs_are_counted();
         self.machine.is_kept();
         match self.machine.make_room(puts) {
             Ok(()) => Ok(()),

@@ -57,12 +57,15 @@ impl<D: Disk> Core<D> {
             image,
         } = recovered;
         match restored(alloc, graph, &image) {
-            Ok(machine) => Ok(Core {
-                vault,
-                machine,
-                in_doubt: None,
-                allowance: FIRST_ALLOWANCE,
-            }),
+            Ok(machine) => {
+                machine.are_counted();
+                Ok(Core {
+                    vault,
+                    machine,
+                    in_doubt: None,
+                    allowance: FIRST_ALLOWANCE,
+                })
+            }
             Err(_) => Err(Refused {
                 disk: vault.into_disk(),
                 error: VaultError::NoMemory,

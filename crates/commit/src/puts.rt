@@ -1,5 +1,6 @@
 use crate::{Core, CoreError};
 use disk::Disk;
+use instances::runs_are_counted;
 use terms::{Addr, Event, Put, Tag};
 use vault::{VaultError, stores_go_on};
 
@@ -65,6 +66,7 @@ impl<D: Disk> Core<D> {
         ensures refused { IfErr result (RefusesFirst self.old (RefusesItem (graph self.old) (facts self.old) addr) (EnvItem addr value)) }
         ensures same { GivesRoom self.old self.new }
     {
+        runs_are_counted();
         if self.vault.is_halted() {
             return Err(CoreError::Store(VaultError::Halted));
         }
@@ -82,6 +84,7 @@ impl<D: Disk> Core<D> {
         ensures refused { IfErr result (RefusesFirst self.old (RefusesTag (graph self.old) (facts self.old) tag) (EnvTag tag)) }
         ensures same { GivesRoom self.old self.new }
     {
+        runs_are_counted();
         if self.vault.is_halted() {
             return Err(CoreError::Store(VaultError::Halted));
         }

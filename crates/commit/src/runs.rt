@@ -6,7 +6,7 @@ ghost use Rattle.commit.specs.Runs.{NoneRuns, RunsWithin};
 use crate::{Came, Choose, Core, CoreError, RunError, Status, Verdict};
 use disk::Disk;
 use graph::Graph;
-use instances::Task;
+use instances::{Task, runs_are_counted};
 use std::alloc::Global;
 use std::sync::Arc;
 use terms::facts_are_told_apart;
@@ -152,13 +152,13 @@ impl<D: Disk> Core<D> {
         requires alone { (instance : Instance) → instance ≢ task → state_of self.old instance ≢ Some Running }
         requires working { is_halted self.old ≡ false }
         requires no_fault { HasNoFault (facts self.old) }
-        requires allowed { 0 < self.old.allowance }
         ensures idle { NoneRuns self.new }
         ensures runs { RunsOn D.files D.moment D.left_at D.failures D.refusals (IsTrue D.is_honest) self.old self.new }
         ensures ok { IfOk result (λ ended. (is_halted self.new ≡ false) × (self.new.in_doubt ≡ []) × (ended ≡ true → self.new.allowance < self.old.allowance) × (ended ≡ false → (self.new.allowance ≡ self.old.allowance) × (ready_count self.new ≡ ready_count self.old))) }
         ensures err { IfErr result (EndsEarly self.new) }
     {
         stores_go_on::<D>();
+        runs_are_counted();
         self.is_kept();
         match self.run(alloc, graph, &task) {
             Ok(Came::Ended(outcome)) => match self.finish(task, outcome) {

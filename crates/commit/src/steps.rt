@@ -32,6 +32,13 @@ impl<D: Disk> Core<D> {
         Ok(())
     }
 
+    /// How many steps may still be committed, those that run among them.
+    pub fn allowance(&self) -> u64
+        ensures { result ≡ self.now.allowance }
+    {
+        self.allowance
+    }
+
     /// Lets one of the ready instances run, by its number among them; which one a number stands for is left open. None where the number is not
     /// below theirs, where those that run use up what is left of the allowance, and in a store that a fault stopped.
     pub fn claim(&mut self, at: usize) -> Result<Option<Task>, CoreError>

@@ -1,4 +1,6 @@
+use Rattle.std.proofs.Common.{arith}
 use Rattle.commit.specs.Doubt.{events_in}
+use Rattle.commit.proofs.Allowed.{behind_claim}
 use Rattle.commit.proofs.Moving.{SameFacts, of_claim}
 use Rattle.commit.proofs.Taken.{kept_alike}
 use Rattle.commit.proofs.commit_core.Core.claim.Goals as goal
@@ -10,4 +12,5 @@ invariant_of-self g c =
       λ honest.
           kept_alike g.D.Disk.files g.D.Disk.moment g.D.Disk.left_at (g.met.D.Disk.at_now honest) c.self.inside.vault c.self.inside.machine c.claim.new.self (events_in c.self.inside.in_doubt) c.self.inside.allowance c.self.inside.allowance
           same.graph same.environment same.facts (c.self.invariant.1 honest),
+      behind_claim c.self.inside.machine c.claim.new.self c.claim.result _ c.self.inside.allowance c.claim.ensures.claimed c.claim.ensures.none (omega (arith, c.self.invariant.2, c.running.ensures)),
     )

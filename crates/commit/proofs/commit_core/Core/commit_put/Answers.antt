@@ -4,6 +4,7 @@ use Rattle.machine.specs.Machine.{environment as environment_of, facts as facts_
 use Rattle.commit.specs.Core.{Core, facts, graph, is_halted}
 use Rattle.commit.specs.Calls.{CrashLeaves}
 use Rattle.commit.specs.Doubt.{events_in}
+use Rattle.commit.proofs.Allowed.{behind_put}
 use Rattle.commit.proofs.Taken.{fits, kept_taken, kept_refused}
 use Rattle.commit.proofs.commit_core.Core.commit_put.Goals as goal
 
@@ -19,6 +20,7 @@ invariant_of-self g c =
           kept_taken g.D.Disk.files g.D.Disk.moment g.D.Disk.left_at (g.met.D.Disk.at_now honest) (c.stores_go_on.ensures.held_leaves honest)
           c.append.new.self before.machine c.take_put.new.self c.args.event (events_in before.in_doubt) before.allowance c.take_put.ensures
           (c.in-Ok.ensures.added honest before.machine.graph (environment_of before.machine) (facts_of before.machine) holds it.0),
+      behind_put c.runs_are_counted.ensures.no_more before.machine c.take_put.new.self c.args.event before.allowance c.requires.put c.take_put.ensures c.self.invariant.2,
     )
 
 pub invariant_of-self-in-Err : goal.invariant_of-self-in-Err
@@ -34,6 +36,7 @@ invariant_of-self-in-Err g c =
           (kept_refused g.D.Disk.files g.D.Disk.moment g.D.Disk.left_at (g.met.D.Disk.at_now honest) (c.stores_go_on.ensures.held_leaves honest) c.stores_go_on.ensures.refused
           before.vault c.append.new.self before.machine c.args.event before.in_doubt c.keep_in_doubt.new.in_doubt before.allowance working doubt holds c.in-Err.ensures.halting.same
           (c.append.ensures.any_moment honest before.machine.graph (environment_of before.machine) (facts_of before.machine) holds it.0)),
+      c.self.invariant.2,
     )
 
 pub returns-in-Ok-clause-moments : goal.returns-in-Ok-clause-moments

@@ -1,9 +1,11 @@
-use Rattle.std.proofs.Common.{◌≡◌, ◌∙◌, [], ◌∷◌, false, cond, ap, sym, subst, Some}
+use Rattle.std.proofs.Common.{◌≡◌, ◌∙◌, ◌-◌, [], ◌∷◌, false, cond, ap, refl, sym, subst, Some, arith}
+use Rattle.instances.specs.declared.state.State.TheVariants.{Ready, Running}
 use Rattle.machine.specs.Legal.{IsLegal}
-use Rattle.machine.specs.Machine.{HasRoom, puts_of, environment as environment_of, facts as facts_of}
+use Rattle.machine.specs.Machine.{HasRoom, puts_of, state_of, environment as environment_of, facts as facts_of}
 use Rattle.commit.specs.Core.{Core, facts, graph, is_halted}
 use Rattle.commit.specs.Calls.{CrashLeaves}
 use Rattle.commit.specs.Doubt.{events_in}
+use Rattle.commit.proofs.Allowed.{behind_end, behind_move, some_left}
 use Rattle.commit.proofs.Taken.{fits, kept_alike, kept_taken, kept_refused}
 use Rattle.commit.proofs.commit_core.Core.commit_step.Goals as goal
 
@@ -23,13 +25,17 @@ invariant_of-self g c =
     let before = c.self.inside in
     let working : before.vault.halted ≡ false = ap is_halted c.self.view_is ∙ c.requires.working in
     let legal = subst (λ (old : Core g.row.D.Denot). IsLegal (graph old) (facts old) c.args.event) (sym c.self.view_is) c.requires.legal in
-    let it = fits c.legal_events_fit.ensures.fit_state before.machine c.is_kept.ensures c.args.event legal in (
+    let it = fits c.legal_events_fit.ensures.fit_state before.machine c.is_kept.ensures c.args.event legal in
+    let ran : state_of before.machine c.args.task ≡ Some Running = ap (λ (core : Core g.row.D.Denot). state_of core.machine c.args.task) c.self.view_is ∙ c.requires.running in
+    let left = some_left c.runs_are_counted.ensures.one before.machine c.args.task before.allowance ran c.self.invariant.2 in (
       λ _. c.self.invariant.0 working,
       λ honest.
           let holds = (c.self.invariant.1 honest).holds working in
           kept_taken g.D.Disk.files g.D.Disk.moment g.D.Disk.left_at (g.met.D.Disk.at_now honest) (c.stores_go_on.ensures.held_leaves honest)
-          c.append.new.self before.machine c.take_step.new.self c.args.event (events_in before.in_doubt) c.saturating_sub-self-inside.result c.take_step.ensures
+          c.append.new.self before.machine c.take_step.new.self c.args.event (events_in before.in_doubt) (before.allowance - 1) c.take_step.ensures
           (c.in-Ok.ensures.added honest before.machine.graph (environment_of before.machine) (facts_of before.machine) holds it.0),
+      behind_end c.runs_are_counted.ensures.one_less before.machine c.take_step.new.self c.args.event c.args.task before.allowance (before.allowance - 1)
+          c.requires.ends ran c.take_step.ensures c.self.invariant.2 (omega (arith, left)),
     )
 
 pub invariant_of-self-in-Err : goal.invariant_of-self-in-Err
@@ -47,6 +53,7 @@ invariant_of-self-in-Err g c =
           (kept_refused g.D.Disk.files g.D.Disk.moment g.D.Disk.left_at (g.met.D.Disk.at_now honest) (c.stores_go_on.ensures.held_leaves honest) c.stores_go_on.ensures.refused
           before.vault c.append.new.self before.machine c.args.event before.in_doubt c.keep_in_doubt.new.in_doubt before.allowance working doubt holds c.in-Err.ensures.halting.same
           (c.append.ensures.any_moment honest before.machine.graph (environment_of before.machine) (facts_of before.machine) holds it.0)),
+      behind_move before.machine c.release.new.self c.args.task Ready before.allowance refl c.release.ensures c.self.invariant.2,
     )
 
 pub returns-in-Ok-clause-moments : goal.returns-in-Ok-clause-moments
@@ -56,7 +63,7 @@ returns-in-Ok-clause-moments g c honest =
     let legal = subst (λ (old : Core g.row.D.Denot). IsLegal (graph old) (facts old) c.args.event) (sym c.self.view_is) c.requires.legal in
     let it = fits c.legal_events_fit.ensures.fit_state before.machine c.is_kept.ensures c.args.event legal in
     let holds = (c.self.invariant.1 honest).holds working in
-    subst (λ (old : Core g.row.D.Denot). CrashLeaves g.D.Disk.files g.D.Disk.moment g.D.Disk.left_at old (record { vault = c.append.new.self; machine = c.take_step.new.self; in_doubt = events_in before.in_doubt; allowance = c.saturating_sub-self-inside.result }) (c.args.event ∷ [])) c.self.view_is
+    subst (λ (old : Core g.row.D.Denot). CrashLeaves g.D.Disk.files g.D.Disk.moment g.D.Disk.left_at old (record { vault = c.append.new.self; machine = c.take_step.new.self; in_doubt = events_in before.in_doubt; allowance = before.allowance - 1 }) (c.args.event ∷ [])) c.self.view_is
     (record {
       facts = c.append.ensures.any_moment honest before.machine.graph (environment_of before.machine) (facts_of before.machine) holds it.0;
       gates = c.append.ensures.gates honest before.machine.graph (environment_of before.machine) (facts_of before.machine) holds;

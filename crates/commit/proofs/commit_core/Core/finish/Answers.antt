@@ -6,10 +6,13 @@ use Rattle.machine.specs.Machine.{RefusesEnd}
 use Rattle.commit.specs.declared.outcome.Outcome.{Outcome}
 use Rattle.commit.specs.declared.outcome.Outcome.TheVariants.{Gave, Fault}
 use Rattle.commit.specs.Core.{Core, facts, is_halted}
+use Rattle.instances.specs.declared.state.State.TheVariants.{Ready}
 use Rattle.commit.specs.Doubt.{events_in}
 use Rattle.commit.specs.Outcome.{IsEndOf}
+use Rattle.commit.proofs.Allowed.{behind_move, some_left}
 use Rattle.commit.proofs.Moving.{SameFacts, of_move}
 use Rattle.commit.proofs.Roomy.{refused_halted}
+use Rattle.commit.proofs.Running.{finished, of_fault, of_given}
 use Rattle.commit.proofs.Taken.{kept_alike}
 use Rattle.commit.proofs.commit_core.Core.finish.Goals as goal
 
@@ -20,6 +23,7 @@ invariant_of-self g c =
       λ honest.
           kept_alike g.D.Disk.files g.D.Disk.moment g.D.Disk.left_at (g.met.D.Disk.at_now honest) c.self.inside.vault c.self.inside.machine c.release.new.self (events_in c.self.inside.in_doubt) c.self.inside.allowance c.self.inside.allowance
           same.graph same.environment same.facts (c.self.invariant.1 honest),
+      behind_move c.self.inside.machine c.release.new.self c.args.task Ready c.self.inside.allowance refl c.release.ensures c.self.invariant.2,
     )
 
 -- some end of the instance
@@ -39,3 +43,27 @@ returns-then-is_halted-clause-finishes g c =
       commits = refused_halted g.D.Disk.files g.D.Disk.moment g.D.Disk.left_at (IsTrue g.D.Disk.is_honest) old new (RefusesEnd (facts old)) end.0 halted;
       told = tt;
     }
+
+pub returns-in-Gave-clause-runs : goal.returns-in-Gave-clause-runs
+returns-in-Gave-clause-runs g c working =
+    let old = c.args.self.now in
+    let new = c.end.new.self in
+    let left = some_left c.runs_are_counted.ensures.one old.machine c.args.task old.allowance c.requires.running c.is_kept.ensures.allowed in
+    finished g.D.Disk.files g.D.Disk.moment g.D.Disk.left_at g.D.Disk.failures g.D.Disk.refusals (IsTrue g.D.Disk.is_honest)
+    (λ _. c.stores_go_on.ensures.append_leaves) c.stores_go_on.ensures.rest_leaves c.stores_go_on.ensures.gates_rest
+    old new c.args.task c.args.outcome c.end.result
+    working (c.is_kept.ensures.settled working) left c.is_kept.ensures.kept
+    (of_given g.D.Disk.files g.D.Disk.moment g.D.Disk.left_at (IsTrue g.D.Disk.is_honest) old new c.args.task c.args.outcome c.end.result
+    c.in-Gave.given c.into_puts.result c.in-Gave.is c.into_puts.ensures.puts c.end.ensures.ends) c.end.ensures.err c.end.ensures.halts
+
+pub returns-in-Fault-clause-runs : goal.returns-in-Fault-clause-runs
+returns-in-Fault-clause-runs g c working =
+    let old = c.args.self.now in
+    let new = c.stop.new.self in
+    let left = some_left c.runs_are_counted.ensures.one old.machine c.args.task old.allowance c.requires.running c.is_kept.ensures.allowed in
+    finished g.D.Disk.files g.D.Disk.moment g.D.Disk.left_at g.D.Disk.failures g.D.Disk.refusals (IsTrue g.D.Disk.is_honest)
+    (λ _. c.stores_go_on.ensures.append_leaves) c.stores_go_on.ensures.rest_leaves c.stores_go_on.ensures.gates_rest
+    old new c.args.task c.args.outcome c.stop.result
+    working (c.is_kept.ensures.settled working) left c.is_kept.ensures.kept
+    (of_fault g.D.Disk.files g.D.Disk.moment g.D.Disk.left_at (IsTrue g.D.Disk.is_honest) old new c.args.task c.args.outcome c.stop.result
+    c.in-Fault.bad c.kind.result c.in-Fault.is c.kind.ensures.kind c.stop.ensures.commits c.stop.ensures.told) c.stop.ensures.err c.stop.ensures.halts

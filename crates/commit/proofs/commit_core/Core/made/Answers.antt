@@ -3,6 +3,7 @@ use Rattle.vault.specs.declared.error.VaultError.{VaultError}
 use Rattle.vault.specs.declared.error.VaultError.TheVariants.{Device, NoMemory, Exists}
 use Rattle.machine.specs.Machine.{environment as environment_of, facts as facts_of}
 use Rattle.vault.specs.Store.{nothing}
+use Rattle.commit.proofs.Allowed.{of_created}
 use Rattle.commit.proofs.Making.{at_rest_gates, made, refused_alike, unasked, untouched, left_empty}
 use Rattle.commit.proofs.Taken.{holds_alike, kept}
 use Rattle.commit.proofs.commit_core.Core.made.Goals as goal
@@ -16,6 +17,7 @@ invariant_of-result g c =
           kept g.D.Disk.files g.D.Disk.moment g.D.Disk.left_at (g.met.D.Disk.at_now honest) (c.stores_go_on.ensures.held_leaves honest) vault m [] 1000000000
           (holds_alike g.D.Disk.files vault c.args.graph m.graph nothing (environment_of m) nothing (facts_of m) c.in-Ok.ensures.graph c.in-Ok.ensures.environment c.in-Ok.ensures.facts
           ((c.in-Ok-create.ensures.created honest).holds c.args.graph c.requires.reads c.requires.spelled)),
+      of_created m 1000000000 c.are_counted.ensures c.in-Ok.ensures.instances,
     )
 
 -- the same error, with a value of another type

@@ -3,6 +3,7 @@ use Rattle.terms.specs.declared.event.Event.TheVariants.{EnvItem}
 use Rattle.machine.specs.Legal.{IsLegal}
 use Rattle.commit.specs.Core.{Core, facts, graph}
 use Rattle.commit.specs.Doubt.{events_in}
+use Rattle.commit.proofs.Allowed.{behind_room}
 use Rattle.commit.proofs.Taken.{kept_alike}
 use Rattle.commit.proofs.commit_core.Core.make_ready_for_item.Goals as goal
 
@@ -12,6 +13,7 @@ invariant_of-self g c = (
   λ honest.
       kept_alike g.D.Disk.files g.D.Disk.moment g.D.Disk.left_at (g.met.D.Disk.at_now honest) c.self.inside.vault c.self.inside.machine c.make_room.new.self (events_in c.self.inside.in_doubt) c.self.inside.allowance c.self.inside.allowance
       c.make_room.ensures.grows.graph c.make_room.ensures.grows.environment c.make_room.ensures.grows.facts (c.self.invariant.1 honest),
+  behind_room c.runs_are_counted.ensures.no_more c.self.inside.machine c.make_room.new.self c.self.inside.allowance c.make_room.ensures.grows.states c.self.invariant.2,
 )
 
 pub invariant_of-self-2 : goal.invariant_of-self-2
@@ -20,6 +22,7 @@ invariant_of-self-2 g c = (
   λ honest.
       kept_alike g.D.Disk.files g.D.Disk.moment g.D.Disk.left_at (g.met.D.Disk.at_now honest) c.self.inside.vault c.self.inside.machine c.make_room.new.self (events_in c.self.inside.in_doubt) c.self.inside.allowance c.self.inside.allowance
       c.make_room.ensures.grows.graph c.make_room.ensures.grows.environment c.make_room.ensures.grows.facts (c.self.invariant.1 honest),
+  behind_room c.runs_are_counted.ensures.no_more c.self.inside.machine c.make_room.new.self c.self.inside.allowance c.make_room.ensures.grows.states c.self.invariant.2,
 )
 
 pub returns-clause-legal : goal.returns-clause-legal

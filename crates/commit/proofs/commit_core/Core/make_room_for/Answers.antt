@@ -4,6 +4,7 @@ use Rattle.machine.specs.Legal.{IsLegal}
 use Rattle.machine.specs.Machine.{facts as facts_of}
 use Rattle.commit.specs.Core.{Core, facts, graph}
 use Rattle.commit.specs.Doubt.{events_in}
+use Rattle.commit.proofs.Allowed.{behind_room}
 use Rattle.commit.proofs.Taken.{kept_alike}
 use Rattle.commit.proofs.commit_core.Core.make_room_for.Goals as goal
 
@@ -18,6 +19,7 @@ invariant_of-self g c = (
   λ honest.
       kept_alike g.D.Disk.files g.D.Disk.moment g.D.Disk.left_at (g.met.D.Disk.at_now honest) c.self.inside.vault c.self.inside.machine c.make_room.new.self (events_in c.self.inside.in_doubt) c.self.inside.allowance c.self.inside.allowance
       c.make_room.ensures.grows.graph c.make_room.ensures.grows.environment c.make_room.ensures.grows.facts (c.self.invariant.1 honest),
+  behind_room c.runs_are_counted.ensures.no_more c.self.inside.machine c.make_room.new.self c.self.inside.allowance c.make_room.ensures.grows.states c.self.invariant.2,
 )
 
 pub returns-clause-legal : goal.returns-clause-legal

@@ -1,10 +1,12 @@
-use Rattle.std.proofs.Common.{sym, subst}
+use Rattle.std.proofs.Common.{refl, sym, subst}
 use Rattle.terms.specs.declared.name.Inst.{Inst}
 use Rattle.steptree.specs.Bodies.{Along, Asks}
 use Rattle.machine.specs.Machine.{facts as facts_of}
 use Rattle.machine.specs.Results.{AreItems, IsBodyOf}
 use Rattle.commit.specs.Core.{Core, facts, graph}
+use Rattle.instances.specs.declared.state.State.TheVariants.{Ready}
 use Rattle.commit.specs.Doubt.{events_in}
+use Rattle.commit.proofs.Allowed.{behind_look, behind_move}
 use Rattle.commit.proofs.Moving.{SameFacts, of_look, of_move}
 use Rattle.commit.proofs.Taken.{kept_alike}
 use Rattle.commit.proofs.commit_core.Core.park.Goals as goal
@@ -16,6 +18,7 @@ invariant_of-self g c =
       λ honest.
           kept_alike g.D.Disk.files g.D.Disk.moment g.D.Disk.left_at (g.met.D.Disk.at_now honest) c.self.inside.vault c.self.inside.machine c.release.new.self (events_in c.self.inside.in_doubt) c.self.inside.allowance c.self.inside.allowance
           same.graph same.environment same.facts (c.self.invariant.1 honest),
+      behind_move c.self.inside.machine c.release.new.self c.args.task Ready c.self.inside.allowance refl c.release.ensures c.self.invariant.2,
     )
 
 pub invariant_of-self-in-Ok : goal.invariant_of-self-in-Ok
@@ -25,6 +28,7 @@ invariant_of-self-in-Ok g c =
       λ honest.
           kept_alike g.D.Disk.files g.D.Disk.moment g.D.Disk.left_at (g.met.D.Disk.at_now honest) c.self.inside.vault c.self.inside.machine c.park.new.self (events_in c.self.inside.in_doubt) c.self.inside.allowance c.self.inside.allowance
           same.graph same.environment same.facts (c.self.invariant.1 honest),
+      behind_look c.self.inside.machine c.park.new.self c.args.task _ c.self.inside.allowance c.in-Ok.ensures.ok c.self.invariant.2,
     )
 
 pub invariant_of-self-2 : goal.invariant_of-self-2
@@ -34,6 +38,7 @@ invariant_of-self-2 g c =
       λ honest.
           kept_alike g.D.Disk.files g.D.Disk.moment g.D.Disk.left_at (g.met.D.Disk.at_now honest) c.self.inside.vault c.self.inside.machine c.park.new.self (events_in c.self.inside.in_doubt) c.self.inside.allowance c.self.inside.allowance
           same.graph same.environment same.facts (c.self.invariant.1 honest),
+      behind_move c.self.inside.machine c.park.new.self c.args.task Ready c.self.inside.allowance refl c.in-Err.ensures.refused.1 c.self.invariant.2,
     )
 
 pub park-requires-clause-needs : goal.park-requires-clause-needs

@@ -1,4 +1,7 @@
+use Rattle.std.proofs.Common.{refl}
+use Rattle.instances.specs.declared.state.State.TheVariants.{Ready}
 use Rattle.commit.specs.Doubt.{events_in}
+use Rattle.commit.proofs.Allowed.{behind_move}
 use Rattle.commit.proofs.Moving.{SameFacts, of_move}
 use Rattle.commit.proofs.Taken.{kept_alike}
 use Rattle.commit.proofs.commit_core.Core.release.Goals as goal
@@ -10,4 +13,5 @@ invariant_of-self g c =
       λ honest.
           kept_alike g.D.Disk.files g.D.Disk.moment g.D.Disk.left_at (g.met.D.Disk.at_now honest) c.self.inside.vault c.self.inside.machine c.release.new.self (events_in c.self.inside.in_doubt) c.self.inside.allowance c.self.inside.allowance
           same.graph same.environment same.facts (c.self.invariant.1 honest),
+      behind_move c.self.inside.machine c.release.new.self c.args.task Ready c.self.inside.allowance refl c.release.ensures c.self.invariant.2,
     )

@@ -1,6 +1,7 @@
 use Rattle.std.proofs.Common.{[], ◌∷◌, IsTrue}
+use Rattle.commit.proofs.Allowed.{some_left}
 use Rattle.commit.proofs.Idle.{behind_end, ends}
-use Rattle.commit.proofs.Running.{ended, ends_early, handed_back, is_end, looked, moved, refused, rests}
+use Rattle.commit.proofs.Running.{ends_early, handed_back, is_end, looked, moved, rests}
 use Rattle.commit.proofs.commit_core.Core.run_task.Goals as goal
 
 pub returns-in-Ok-clause-idle : goal.returns-in-Ok-clause-idle
@@ -10,28 +11,17 @@ returns-in-Ok-clause-idle g c =
 
 pub returns-in-Ok-clause-runs : goal.returns-in-Ok-clause-runs
 returns-in-Ok-clause-runs g c =
-    let it = c.in-Ok.ensures.finishes in
-    record {
-      ends = it.end ∷ [];
-      runs =
-          ended g.D.Disk.files g.D.Disk.moment g.D.Disk.left_at g.D.Disk.failures g.D.Disk.refusals (IsTrue g.D.Disk.is_honest) (λ _. c.stores_go_on.ensures.append_leaves) c.args.self.now c.finish.new.self it.end _ c.requires.working c.requires.allowed
-          (is_end _ c.args.task it.end it.is_end) it.commits.takes c.in-Ok.ensures.halts.settled (λ honest. it.commits.moments honest c.requires.working) c.in-Ok.ensures.halts;
-    }
+    let it = c.in-Ok.ensures.runs c.requires.working in
+    record { ends = it.0 ∷ []; runs = it.3 }
 
 pub returns-in-Err-finish-clause-runs : goal.returns-in-Err-finish-clause-runs
-returns-in-Err-finish-clause-runs g c =
-    let it = c.in-Err-finish.ensures.finishes in
-    record {
-      ends = [];
-      runs =
-          refused g.D.Disk.files g.D.Disk.moment g.D.Disk.left_at g.D.Disk.failures g.D.Disk.refusals (IsTrue g.D.Disk.is_honest) (λ _. c.stores_go_on.ensures.append_leaves) c.stores_go_on.ensures.rest_leaves c.stores_go_on.ensures.gates_rest
-          c.args.self.now c.finish.new.self c.args.task it.end _ c.requires.working (c.is_kept.ensures.settled c.requires.working) c.requires.allowed c.is_kept.ensures.kept (is_end _ c.args.task it.end it.is_end) c.in-Err-finish.ensures.err it.commits c.in-Err-finish.ensures.halts;
-    }
+returns-in-Err-finish-clause-runs g c = record { ends = []; runs = c.in-Err-finish.ensures.runs c.requires.working }
 
 pub returns-in-Err-finish-clause-err : goal.returns-in-Err-finish-clause-err
 returns-in-Err-finish-clause-err g c =
     let it = c.in-Err-finish.ensures.finishes in
-    ends_early g.D.Disk.files g.D.Disk.moment g.D.Disk.left_at g.D.Disk.failures g.D.Disk.refusals (IsTrue g.D.Disk.is_honest) c.args.self.now c.finish.new.self c.args.task it.end _ c.requires.working c.requires.allowed c.requires.no_fault
+    let allowed = some_left c.runs_are_counted.ensures.one c.args.self.now.machine c.args.task c.args.self.now.allowance c.requires.running c.is_kept.ensures.allowed in
+    ends_early g.D.Disk.files g.D.Disk.moment g.D.Disk.left_at g.D.Disk.failures g.D.Disk.refusals (IsTrue g.D.Disk.is_honest) c.args.self.now c.finish.new.self c.args.task it.end _ c.requires.working allowed c.requires.no_fault
     (is_end _ c.args.task it.end it.is_end) c.in-Err-finish.ensures.err it.commits.refused c.in-Err-finish.ensures.halts
 
 pub returns-in-Ok-park-clause-runs : goal.returns-in-Ok-park-clause-runs

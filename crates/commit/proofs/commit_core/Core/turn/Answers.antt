@@ -28,6 +28,7 @@ invariant_of-self g c =
           kept_either g.D.Disk.files g.D.Disk.moment g.D.Disk.left_at (g.met.D.Disk.at_now honest) (c.stores_go_on.ensures.held_leaves honest) c.stores_go_on.ensures.refused
           before.vault c.turn.new.self m before.in_doubt before.allowance c.turn.result working (c.self.invariant.0 working) holds
           (c.turn.ensures.turned honest m.graph (environment_of m) (facts_of m) holds c.in-Ok.ensures.lists) c.turn.ensures.halting.same,
+      c.self.invariant.2,
     )
 
 pub returns-clause-moments : goal.returns-clause-moments
