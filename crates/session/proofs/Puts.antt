@@ -4,15 +4,20 @@ use Rattle.std.proofs.lemmas.Bool.{false≢true}
 use Rattle.disk.specs.declared.side.Side.{Side}
 use Rattle.disk.specs.File.{File}
 use Rattle.disk.specs.Time.{Contents, HasErred}
+use Rattle.terms.specs.declared.name.Inst.{Inst}
 use Rattle.terms.specs.declared.event.Event.{Event}
 use Rattle.vault.specs.Commits.{AppendLeaves, GatesRest, RestLeaves}
 use Rattle.vault.specs.declared.error.VaultError.TheVariants as store
 use Rattle.machine.specs.declared.refusal.Refusal.{Refusal}
+use Rattle.machine.specs.Machine.{Ends}
+use Rattle.machine.specs.Memory.{facts_of}
 use Rattle.commit.specs.declared.error.CoreError.{CoreError}
 use Rattle.commit.specs.declared.error.CoreError.TheVariants.{Refused, Store}
 use Rattle.commit.specs.Calls.{CrashLeaves, Halts, IsInDoubt, IsTooLong, IsUnchanged, Refuses, Takes}
-use Rattle.commit.specs.Core.{Core, graph, facts, is_halted}
+use Rattle.commit.specs.Core.{Core, graph, facts, is_halted, state_of}
 use Rattle.commit.specs.Kept.{IsKept}
+use Rattle.commit.specs.Runs.{NoneRuns}
+use Rattle.commit.proofs.Idle.{goes_on}
 use Rattle.script.specs.declared.command.Command.{Command}
 use Rattle.session.specs.declared.ending.Stop.{Stop}
 use Rattle.session.specs.declared.ending.Stop.TheVariants as stop
@@ -73,6 +78,12 @@ module _ {D T : Type 0} (files : D → Side → File) (moment : D → ℕ) (left
       (event ∷ [], committed files moment left_at failures refusals honest leaves gates_rest {T = T} append old new event why kept settled (Ok done) takes halts.settled (λ working on. moments on working) halts, (refl, takes.legal))
   replied_put (Err error) takes same refuses doubt moments halts =
       ([], refused files moment left_at failures refusals honest leaves gates_rest {T = T} append old new event why kept settled error same refuses doubt (λ working on. moments on working) halts, refused_reply old why event error refuses)
+
+-- none runs behind an event that ends none, where none ran before
+pub put_idle : {D T : Type 0} (old new : Core D) (event : Event) → ((instance : Inst) → Ends event instance → ⊥) → NoneRuns old → (result : Result T CoreError) → OnOk result (Takes old new event) → OnErr result (IsUnchanged old new) → NoneRuns new
+put_idle old new event ends_none idle (Ok done) takes same instance runs =
+    idle instance (goes_on (facts_of new.machine.memory) (state_of old instance) (state_of new instance) (takes.takes.states instance (ends_none instance)) runs)
+put_idle old new event ends_none idle (Err error) takes same instance runs = idle instance (sym (same.states instance) ∙ runs)
 
 -- ---- halts
 

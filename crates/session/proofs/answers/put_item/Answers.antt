@@ -11,8 +11,11 @@ use Rattle.session.specs.declared.reply.Reply.TheVariants.{Halted}
 use Rattle.session.specs.Answers.{RepliesPut, put_reply}
 use Rattle.session.specs.Session.{stop_of}
 use Rattle.session.specs.Went.{GoesOn, HasCause}
-use Rattle.session.proofs.Puts.{put_cause, put_halt, put_stays, replied_put}
+use Rattle.session.proofs.Puts.{put_cause, put_halt, put_idle, put_stays, replied_put}
 use Rattle.session.proofs.answers.put_item.Goals as goal
+
+pub returns-clause-idle : goal.returns-clause-idle
+returns-clause-idle g c = put_idle c.args.core.now c.put_item-put.new.self _ (λ instance ends. ends) c.requires.idle c.put_item-put.result c.put_item-put.ensures.ok c.put_item-put.ensures.err
 
 pub returns-clause-replies : goal.returns-clause-replies
 returns-clause-replies g c =

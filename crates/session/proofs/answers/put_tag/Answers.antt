@@ -9,8 +9,11 @@ use Rattle.session.specs.declared.reply.Reply.TheVariants.{Halted}
 use Rattle.session.specs.Answers.{RepliesPut}
 use Rattle.session.specs.Session.{stop_of}
 use Rattle.session.specs.Went.{GoesOn, HasCause}
-use Rattle.session.proofs.Puts.{put_cause, put_halt, put_stays, replied_put}
+use Rattle.session.proofs.Puts.{put_cause, put_halt, put_idle, put_stays, replied_put}
 use Rattle.session.proofs.answers.put_tag.Goals as goal
+
+pub returns-clause-idle : goal.returns-clause-idle
+returns-clause-idle g c = put_idle c.args.core.now c.put_tag-put.new.self (EnvTag c.args.tag) (λ instance ends. ends) c.requires.idle c.put_tag-put.result c.put_tag-put.ensures.ok c.put_tag-put.ensures.err
 
 pub returns-clause-replies : goal.returns-clause-replies
 returns-clause-replies g c =
