@@ -58,7 +58,7 @@ behind_same opening events old new behind stays = record {
   graph = stays.graph ∙ behind.graph;
   facts = (λ i fact. stays.facts fact i) ∙ behind.facts;
   environment = (λ i fact. stays.environment fact i) ∙ behind.environment;
-  allowance = stays.allowance ∙ behind.allowance;
+  allowance = ap (λ n. n + steps_in events) stays.allowance ∙ behind.allowance;
 }
 
 -- what is there behind some events is there behind more of them

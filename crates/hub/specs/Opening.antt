@@ -1,5 +1,5 @@
 -- What a hub is opened with, and the state behind events from there.
-use Rattle.std.specs.Prelude.{◌≡◌, ◌+◌, ◌-◌, ℕ, Bool, true, false, List, [], ◌∷◌}
+use Rattle.std.specs.Prelude.{◌≡◌, ◌+◌, ℕ, Bool, true, false, List, [], ◌∷◌}
 use Rattle.terms.specs.declared.event.Event.{Event}
 use Rattle.terms.specs.Facts.{Fact}
 use Rattle.terms.specs.Facts as stated
@@ -60,4 +60,4 @@ pub record IsBehind {D : Type 0} (opening : Opening) (events : List Event) (c : 
   pub graph : core.graph c ≡ opening.graph
   pub facts : core.facts c ≡ facts_behind opening events
   pub environment : core.environment c ≡ environment_behind opening events
-  pub allowance : c.allowance ≡ opening.allowance - steps_in events
+  pub allowance : c.allowance + steps_in events ≡ opening.allowance
