@@ -1,6 +1,7 @@
 -- A claim.
 use Rattle.std.proofs.Common.{◌≡◌, ◌∙◌, ℕ, Bool, true, false, true≢false, refl, sym, ap, subst, Result, Ok, Err, Option, Some, None, List, IfOk, IfSome, is_some}
 use Rattle.terms.specs.declared.name.Inst.{Inst}
+use Rattle.terms.specs.declared.event.Event.{Event}
 use Rattle.terms.specs.Facts.{done}
 use Rattle.terms.specs.Sets.{Facts}
 use Rattle.graph.specs.Graph.{Graph}
@@ -18,13 +19,14 @@ use Rattle.hub.specs.Opening.{Opening, facts_behind, IsBehind}
 use Rattle.hub.specs.Kept.{IsKept}
 use Rattle.hub.specs.Replies.{MayRun, Shows}
 use Rattle.hub.specs.Tasks.{Claims}
-use Rattle.hub.proofs.Keeping.{kept_moved}
+use Rattle.hub.proofs.Keeping.{RanStays, kept_moved}
 use Rattle.hub.proofs.Telling.{known_state}
 
-pub kept_claimed : {D : Type 0} (opening : Opening) (count at : ℕ) (d : Desk) (old new : Core D) (result : Result (Option Inst) CoreError) → IsKept opening count d old → Claims old new at result → IsKept opening count d new
-kept_claimed opening count at d old new (Ok None) kept claims = subst (IsKept opening count d) (sym (claims.none.1 refl)) kept
-kept_claimed opening count at d old new (Ok (Some task)) kept claims = kept_moved opening count d old new task state.Running kept claims.claimed.2
-kept_claimed opening count at d old new (Err error) kept claims = subst (IsKept opening count d) (sym claims.err.same) kept
+pub kept_claimed : {D : Type 0} (Ran : List Event → Core D → Type 0) → RanStays Ran → (opening : Opening) (count at : ℕ) (d : Desk) (old new : Core D) (result : Result (Option Inst) CoreError) → IsKept Ran opening count d old
+    → Claims old new at result → IsKept Ran opening count d new
+kept_claimed Ran ran_stays opening count at d old new (Ok None) kept claims = subst (IsKept Ran opening count d) (sym (claims.none.1 refl)) kept
+kept_claimed Ran ran_stays opening count at d old new (Ok (Some task)) kept claims = kept_moved Ran ran_stays opening count d old new task state.Running kept claims.claimed.2
+kept_claimed Ran ran_stays opening count at d old new (Err error) kept claims = subst (IsKept Ran opening count d) (sym claims.err.same) kept
 
 abbrev is_done : Option State → Bool
 is_done (Some state.Done) = true

@@ -1,5 +1,5 @@
 -- A finish that was committed.
-use Rattle.std.proofs.Common.{◌≡◌, ◌∙◌, ℕ, sym, ap, subst}
+use Rattle.std.proofs.Common.{◌≡◌, ◌∙◌, ◌++◌, ◌∷◌, [], ℕ, List, sym, ap, subst}
 use Rattle.terms.specs.declared.name.Inst.{Inst}
 use Rattle.terms.specs.declared.event.Event.{Event}
 use Rattle.terms.specs.Facts.{FactsGoOn, EnvironmentGoesOn}
@@ -9,7 +9,7 @@ use Rattle.commit.specs.declared.outcome.Committed.{Committed}
 use Rattle.commit.specs.Core.{Core}
 use Rattle.commit.specs.Calls.{Takes}
 use Rattle.commit.specs.Outcome.{IsEndOf, Tells}
-use Rattle.hub.specs.Known.{Known, Desk, writing_by}
+use Rattle.hub.specs.Known.{Known, Desk, events, writing_by}
 use Rattle.hub.specs.Ends.{end_of}
 use Rattle.hub.specs.Opening.{Opening}
 use Rattle.hub.specs.Kept.{IsKept}
@@ -19,13 +19,14 @@ use Rattle.hub.proofs.Keeping.{kept_more}
 use Rattle.hub.proofs.Telling.{writes_from}
 
 -- the desk has the end, as it is told, and the core has taken it
-pub kept_ended : AmongBoth → FactsGoOn → EnvironmentGoesOn → {D : Type 0} (opening : Opening) (count number : ℕ) (d shown later : Desk) (old new : Core D) (committed : Committed) (task named : Inst) (outcome said : Outcome) (end : Event)
-    → IsKept opening count d old → shown ≡ d → named ≡ task → said ≡ outcome → IsEndOf outcome task end → Tells committed end → Takes old new end
-    → later ≡ writing_by number (end_of committed named said) shown → IsKept opening count later new
-kept_ended both go_on goes_on {D = D} opening count number d shown later old new committed task named outcome said end kept shown_is named_is said_is is_end told takes later_is =
+pub kept_ended : AmongBoth → FactsGoOn → EnvironmentGoesOn → {D : Type 0} (Ran : List Event → Core D → Type 0) (opening : Opening) (count number : ℕ) (d shown later : Desk) (old new : Core D) (committed : Committed) (task named : Inst) (outcome said : Outcome) (end : Event)
+    → IsKept Ran opening count d old → shown ≡ d → named ≡ task → said ≡ outcome → IsEndOf outcome task end → Tells committed end → Takes old new end
+    → Ran (events d.book.history ++ end ∷ []) new → later ≡ writing_by number (end_of committed named said) shown → IsKept Ran opening count later new
+kept_ended both go_on goes_on {D = D} Ran opening count number d shown later old new committed task named outcome said end kept shown_is named_is said_is is_end told takes ran later_is =
     let same : end ≡ end_of committed named said = end_is_told committed task outcome end is_end told ∙ (λ i. end_of committed (sym named_is i) (sym said_is i)) in
-    subst (λ (at : Desk). IsKept opening count at new) (sym (later_is ∙ ap (λ (at : Desk). writing_by number (end_of committed named said) at) shown_is))
-    (kept_more both go_on goes_on opening count number d old new (end_of committed named said) kept (subst (λ (event : Event). Takes old new event) same takes))
+    subst (λ (at : Desk). IsKept Ran opening count at new) (sym (later_is ∙ ap (λ (at : Desk). writing_by number (end_of committed named said) at) shown_is))
+    (kept_more both go_on goes_on Ran opening count number d old new (end_of committed named said) kept (subst (λ (event : Event). Takes old new event) same takes)
+    (subst (λ (event : Event). Ran (events d.book.history ++ event ∷ []) new) same ran))
 
 -- and it was made with the pass as it was before it saw the history
 pub writes_end : (d shown later : Desk) (before seen after : Known) (committed : Committed) (task named : Inst) (outcome said : Outcome) → shown ≡ d → named ≡ task → said ≡ outcome → Shows d.book.history before seen

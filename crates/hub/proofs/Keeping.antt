@@ -29,10 +29,14 @@ use Rattle.hub.specs.Kept.{IsKept, CommitsAs, CrashLeavesHistory}
 use Rattle.hub.proofs.Lists.{events_append}
 use Rattle.hub.proofs.States.{legal_more, behind_more, behind_same}
 
+-- what is known of how events were committed stays, where nothing happens on the disk
+abbrev pub RanStays : {D : Type 0} → (List Event → Core D → Type 0) → Type 0
+RanStays {D = D} Ran = (events : List Event) (old new : Core D) → Stays old new → new.vault.disk ≡ old.vault.disk → is_halted new ≡ is_halted old → new.in_doubt ≡ old.in_doubt → Ran events old → Ran events new
+
 -- an event comes
-pub kept_more : AmongBoth → FactsGoOn → EnvironmentGoesOn → {D : Type 0} (opening : Opening) (passes number : ℕ) (d : Desk) (old new : Core D) (event : Event)
-    → IsKept opening passes d old → Takes old new event → IsKept opening passes (writing_by number event d) new
-kept_more both go_on goes_on opening passes number d old new event kept takes =
+pub kept_more : AmongBoth → FactsGoOn → EnvironmentGoesOn → {D : Type 0} (Ran : List Event → Core D → Type 0) (opening : Opening) (passes number : ℕ) (d : Desk) (old new : Core D) (event : Event)
+    → IsKept Ran opening passes d old → Takes old new event → Ran (events d.book.history ++ event ∷ []) new → IsKept Ran opening passes (writing_by number event d) new
+kept_more both go_on goes_on Ran opening passes number d old new event kept takes ran =
     let history : List Made = d.book.history in
     let more : events (history ++ record { pass = number; event = event } ∷ []) ≡ events history ++ event ∷ [] = events_append history (record { pass = number; event = event } ∷ []) in record {
       alone = kept.alone;
@@ -41,12 +45,13 @@ kept_more both go_on goes_on opening passes number d old new event kept takes =
       legal = subst (AreLegalBehind opening) (sym more) (legal_more both opening (events history) event old kept.legal kept.behind takes.legal);
       short = λ _. omega (arith, kept.short takes.working.0, takes.moved, length-append history (record { pass = number; event = event } ∷ []));
       turned = λ turned. absurd (true≢false (sym turned.0 ∙ takes.working.1));
+      ran = subst (λ (list : List Event). Ran list new) (sym more) ran;
     }
 
 -- no event comes
-pub kept_same : {D T : Type 0} (failures refusals : D → ℕ) (opening : Opening) (passes : ℕ) (d : Desk) (old new : Core D) (event : Event) (error : CoreError)
-    → IsKept opening passes d old → Stays old new → Halts {T = T} failures refusals old new (Err error) → IsInDoubt {T = T} old new event (Err error) → IsKept opening passes d new
-kept_same failures refusals opening passes d old new event error kept stays halts doubt = record {
+pub kept_same : {D T : Type 0} (failures refusals : D → ℕ) (Ran : List Event → Core D → Type 0) (opening : Opening) (passes : ℕ) (d : Desk) (old new : Core D) (event : Event) (error : CoreError)
+    → IsKept Ran opening passes d old → Stays old new → Halts {T = T} failures refusals old new (Err error) → IsInDoubt {T = T} old new event (Err error) → Ran (events d.book.history) new → IsKept Ran opening passes d new
+kept_same failures refusals Ran opening passes d old new event error kept stays halts doubt ran = record {
   alone = kept.alone;
   passes = kept.passes;
   behind = behind_same opening (events d.book.history) old new kept.behind stays;
@@ -54,6 +59,7 @@ kept_same failures refusals opening passes d old new event error kept stays halt
   short = λ working. let before = not_before (is_halted old) refl working in
       subst (λ (end : ℕ). length d.book.history ≤ end) (sym (halts.same (working ∙ sym before)).0.end) (kept.short before);
   turned = λ turned. by_case (is_halted old) refl turned;
+  ran = ran;
 }
   where
     not_before : (was : Bool) → is_halted old ≡ was → is_halted new ≡ false → is_halted old ≡ false
@@ -68,21 +74,24 @@ kept_same failures refusals opening passes d old new event error kept stays halt
     by_case true is turned = kept.turned (is, sym (halts.same (turned.0 ∙ sym is)).1 ∙ turned.1)
 
 -- no event comes, and nothing happens to the files
-pub kept_on : {D : Type 0} (opening : Opening) (passes : ℕ) (d : Desk) (old new : Core D) → IsKept opening passes d old → Stays old new → new.vault ≡ old.vault → new.in_doubt ≡ old.in_doubt → IsKept opening passes d new
-kept_on {D = D} opening passes d old new kept stays files doubt = record {
+pub kept_on : {D : Type 0} (Ran : List Event → Core D → Type 0) → RanStays Ran → (opening : Opening) (passes : ℕ) (d : Desk) (old new : Core D) → IsKept Ran opening passes d old → Stays old new → new.vault ≡ old.vault → new.in_doubt ≡ old.in_doubt
+    → IsKept Ran opening passes d new
+kept_on {D = D} Ran ran_stays opening passes d old new kept stays files doubt = record {
   alone = kept.alone;
   passes = kept.passes;
   behind = behind_same opening (events d.book.history) old new kept.behind stays;
   legal = kept.legal;
   short = λ working. subst (λ (end : ℕ). length d.book.history ≤ end) (ap (λ (v : Vault D). v.journal.end) (sym files)) (kept.short (ap (λ (v : Vault D). v.halted) (sym files) ∙ working));
   turned = λ turned. kept.turned (ap (λ (v : Vault D). v.halted) (sym files) ∙ turned.0, sym doubt ∙ turned.1);
+  ran = ran_stays (events d.book.history) old new stays (ap (λ (v : Vault D). v.disk) files) (ap (λ (v : Vault D). v.halted) files) doubt kept.ran;
 }
 
 pub moves_stay : {D : Type 0} (old new : Core D) (instance : Inst) (to : State) → Moves old new instance to → Stays old new
 moves_stay old new instance to moves = record { graph = moves.machine.graph; facts = moves.machine.facts; environment = moves.machine.environment; allowance = moves.allowance }
 
-pub kept_moved : {D : Type 0} (opening : Opening) (passes : ℕ) (d : Desk) (old new : Core D) (instance : Inst) (to : State) → IsKept opening passes d old → Moves old new instance to → IsKept opening passes d new
-kept_moved opening passes d old new instance to kept moves = kept_on opening passes d old new kept (moves_stay old new instance to moves) moves.vault moves.in_doubt
+pub kept_moved : {D : Type 0} (Ran : List Event → Core D → Type 0) → RanStays Ran → (opening : Opening) (passes : ℕ) (d : Desk) (old new : Core D) (instance : Inst) (to : State) → IsKept Ran opening passes d old → Moves old new instance to
+    → IsKept Ran opening passes d new
+kept_moved Ran ran_stays opening passes d old new instance to kept moves = kept_on Ran ran_stays opening passes d old new kept (moves_stay old new instance to moves) moves.vault moves.in_doubt
 
 -- what a call tells of the core that is kept, it tells of the core that is seen, and of the event as it is named
 pub commits_as : {D T : Type 0} (files : D → Side → File) (moment : D → ℕ) (left_at : D → ℕ → Contents → Type 0) (failures refusals : D → ℕ) (honest : Type 0) (inside seen new : Core D) (why : Core D → Refusal → Type 0)
@@ -98,9 +107,10 @@ crash_leaves files opening history c behind kept not_turned contents may =
     subst (λ (at : Graph × (Facts × Facts)). StandsBeforeOrAfter at.0 at.1.0 at.1.1 c.in_doubt contents) (λ i. (behind.graph i, (behind.environment i, behind.facts i))) (kept.left not_turned contents may)
 
 -- a park leaves it as it was, whether it is refused or not
-pub kept_parked : {D : Type 0} (opening : Opening) (count : ℕ) (d : Desk) (old new : Core D) (task : Inst) (address : Addr) → IsKept opening count d old → LooksAgain old new task address → IsKept opening count d new
-kept_parked opening count d old new task address kept looks =
+pub kept_parked : {D : Type 0} (Ran : List Event → Core D → Type 0) → RanStays Ran → (opening : Opening) (count : ℕ) (d : Desk) (old new : Core D) (task : Inst) (address : Addr) → IsKept Ran opening count d old → LooksAgain old new task address
+    → IsKept Ran opening count d new
+kept_parked Ran ran_stays opening count d old new task address kept looks =
     ⊎_elim
-    (λ (waits : IsAbsent (facts old) address × Moves old new task (state.Waiting address)). kept_moved opening count d old new task (state.Waiting address) kept waits.1)
-    (λ (there : HasItem (facts old) address × Moves old new task state.Ready). kept_moved opening count d old new task state.Ready kept there.1)
+    (λ (waits : IsAbsent (facts old) address × Moves old new task (state.Waiting address)). kept_moved Ran ran_stays opening count d old new task (state.Waiting address) kept waits.1)
+    (λ (there : HasItem (facts old) address × Moves old new task state.Ready). kept_moved Ran ran_stays opening count d old new task state.Ready kept there.1)
     looks

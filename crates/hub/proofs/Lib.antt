@@ -10,4 +10,5 @@ pub mod Claimed
 pub mod Finished
 pub mod Opened
 pub mod Ran
+pub mod Since
 pub mod TwoPuts

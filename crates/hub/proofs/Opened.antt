@@ -1,6 +1,9 @@
 -- What stands under the lock when the hub is opened, and what the whole history is when it is closed.
 use Rattle.std.proofs.Common.{◌≡◌, ◌∙◌, ◌<◌, ◌++◌, ℕ, true, List, [], None, refl, sym, ap, subst, arith}
 use Rattle.std.specs.List.{AllByRecursion}
+use Rattle.disk.specs.declared.side.Side.{Side}
+use Rattle.disk.specs.File.{File}
+use Rattle.terms.specs.declared.event.Event.{Event}
 use Rattle.machine.specs.Machine.{IsPut}
 use Rattle.commit.specs.Core.{Core}
 use Rattle.commit.specs.Runs.{IsEnd}
@@ -13,8 +16,9 @@ use Rattle.hub.specs.Whole.{AllMade, IsWhole, has_number}
 use Rattle.hub.proofs.States.{with_nothing}
 use Rattle.hub.proofs.Gathered.{just_theirs, all_of_both}
 
-pub kept_opened : {D : Type 0} (opening : Opening) (count passes : ℕ) (d : Desk) (c : Core D) → opening ≡ opening_of c → passes ≡ count → d ≡ record { book = record { history = []; passes = passes }; guest = None } → IsKept opening count d c
-kept_opened opening count passes d c opened counted is = subst (λ (at : Desk). IsKept opening count at c) (sym is) (record {
+pub kept_opened : {D : Type 0} (files : D → Side → File) (moment failures refusals : D → ℕ) (Ran : List Event → Core D → Type 0) (opening : Opening) (count passes : ℕ) (d : Desk) (c : Core D) → opening ≡ opening_of files moment failures refusals c
+    → passes ≡ count → d ≡ record { book = record { history = []; passes = passes }; guest = None } → Ran [] c → IsKept Ran opening count d c
+kept_opened files moment failures refusals Ran opening count passes d c opened counted is ran = subst (λ (at : Desk). IsKept Ran opening count at c) (sym is) (record {
   alone = refl;
   passes = counted;
   behind = record {
@@ -26,13 +30,14 @@ kept_opened opening count passes d c opened counted is = subst (λ (at : Desk). 
   legal = tt;
   short = λ _. omega arith;
   turned = λ turned. (ap (λ (o : Opening). o.halted) opened ∙ turned.0, ap (λ (o : Opening). o.in_doubt) opened ∙ turned.1);
+  ran = ran;
 })
 
 -- each pass was compared with the history, and each number has its pass
-pub whole : {D : Type 0} (opening : Opening) (count : ℕ) (first looked gathered : Desk) (c : Core D) (history : List Made) (envs workers : List Known) → IsKept opening count first c → first.book.history ≡ history → looked ≡ first → IsCompared looked
+pub whole : {D : Type 0} (Ran : List Event → Core D → Type 0) (opening : Opening) (count : ℕ) (first looked gathered : Desk) (c : Core D) (history : List Made) (envs workers : List Known) → IsKept Ran opening count first c → first.book.history ≡ history → looked ≡ first → IsCompared looked
     → gathered ≡ looked → AllByRecursion (IsInHistory looked.book.history) envs → AllByRecursion (IsInHistory gathered.book.history) workers → AllMade IsPut envs → AllMade IsEnd workers
-    → ((number : ℕ) → number < count → has_number number (envs ++ workers) ≡ true) → IsWhole opening envs workers c history
-whole opening count first looked gathered c history envs workers kept history_is looked_is compared gathered_is one two puts ends here =
+    → ((number : ℕ) → number < count → has_number number (envs ++ workers) ≡ true) → IsWhole Ran opening envs workers c history
+whole Ran opening count first looked gathered c history envs workers kept history_is looked_is compared gathered_is one two puts ends here =
     let at_looked : looked.book.history ≡ history = ap (λ (d : Desk). d.book.history) looked_is ∙ history_is in
     let at_gathered : gathered.book.history ≡ history = ap (λ (d : Desk). d.book.history) gathered_is ∙ at_looked in
     let each : AllByRecursion (IsInHistory history) (envs ++ workers) = all_of_both (IsInHistory history) envs workers
@@ -47,4 +52,5 @@ whole opening count first looked gathered c history envs workers kept history_is
       puts = puts;
       ends = ends;
       turned = kept.turned;
+      ran = subst (λ (list : List Made). Ran (events list) c) history_is kept.ran;
     }

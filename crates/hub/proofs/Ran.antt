@@ -1,8 +1,8 @@
 -- A body that is run over what a hub has.
-use Rattle.std.proofs.Common.{◌≡◌, ◌∙◌, ◌++◌, ◌∷◌, [], ℤ, Option, Some, List, sym, ap, subst}
+use Rattle.std.proofs.Common.{◌≡◌, ◌∙◌, ◌∷◌, [], ℤ, Option, Some, sym, ap, subst}
 use Rattle.terms.specs.declared.name.Addr.{Addr}
 use Rattle.terms.specs.Facts.{FactsGoOn}
-use Rattle.terms.specs.Sets.{AmongBoth, Facts}
+use Rattle.terms.specs.Sets.{AmongBoth}
 use Rattle.steptree.specs.Run.{Read}
 use Rattle.steplang.specs.Running.{Running, IsDue, ValueOf, answered, reads_with}
 use Rattle.machine.specs.Meaning.{items}

@@ -11,7 +11,7 @@ use Rattle.commit.specs.declared.error.CoreError.{CoreError}
 use Rattle.commit.specs.Core.{Core}
 use Rattle.hub.specs.Known.{Known, Made, events, made_by}
 use Rattle.hub.specs.Rule.{IsInHistory}
-use Rattle.hub.specs.Opening.{Opening, opening_of, facts_behind, AreLegalBehind, IsBehind}
+use Rattle.hub.specs.Opening.{Opening, facts_behind, AreLegalBehind, IsBehind}
 use Rattle.hub.specs.Whole.{IsWhole, mine_of}
 use Rattle.hub.specs.Both.{Answers, BothPut, Puts}
 use Rattle.hub.proofs.States.{facts_more, stays}
@@ -72,10 +72,10 @@ answered one both go_on opening history c old new put (Err error) behind is puts
 
 -- ---- both
 
-pub both_put : OneFact → AmongBoth → FactsGoOn → {D : Type 0} (opening : Opening) (old new : Core D) (one two : Addr × ℤ) (first second first_later second_later : Known) (first_answer second_answer : Result (Unit {0}) CoreError) (envs workers : List Known)
-    (whole : (history : List Made) × IsWhole opening envs workers new history) → opening ≡ opening_of old → first.mine ≡ [] → second.mine ≡ [] → envs ≡ first_later ∷ second_later ∷ [] → workers ≡ []
-    → Puts opening first first_later one first_answer → Puts opening second second_later two second_answer → BothPut old new one two first_answer second_answer
-both_put fact both go_on opening old new one two first second first_later second_later first_answer second_answer envs workers whole opened first_none second_none are none puts_one puts_two =
+pub both_put : OneFact → AmongBoth → FactsGoOn → {D : Type 0} (Ran : List Event → Core D → Type 0) (opening opened : Opening) (new : Core D) (one two : Addr × ℤ) (first second first_later second_later : Known) (first_answer second_answer : Result (Unit {0}) CoreError) (envs workers : List Known)
+    (whole : (history : List Made) × IsWhole Ran opening envs workers new history) → opening ≡ opened → first.mine ≡ [] → second.mine ≡ [] → envs ≡ first_later ∷ second_later ∷ [] → workers ≡ []
+    → Puts opening first first_later one first_answer → Puts opening second second_later two second_answer → BothPut opened new one two first_answer second_answer
+both_put fact both go_on Ran opening opened new one two first second first_later second_later first_answer second_answer envs workers whole same first_none second_none are none puts_one puts_two =
     let such = λ (event : Event). (event ≡ EnvItem one.0 one.1) ⊎ (event ≡ EnvItem two.0 two.1) in
     let history = whole.0 in
     let these : envs ++ workers ≡ first_later ∷ second_later ∷ [] = ap (λ (list : List Known). envs ++ list) none ∙ ap (λ (list : List Known). list ++ []) are in
@@ -85,9 +85,9 @@ both_put fact both go_on opening old new one two first second first_later second
         (of_two such first_later second_later (made_with such opening first first_later one first_answer first_none (inl refl) puts_one) (made_with such opening second second_later two second_answer second_none (inr refl) puts_two) number) in
     record {
       history = history;
-      legal = subst (λ (o : Opening). AreLegalBehind o (events history)) opened whole.1.legal;
-      behind = subst (λ (o : Opening). IsBehind o (events history) new) opened whole.1.behind;
+      legal = subst (λ (o : Opening). AreLegalBehind o (events history)) same whole.1.legal;
+      behind = subst (λ (o : Opening). IsBehind o (events history) new) same whole.1.behind;
       only = all_made such history all;
-      answers_one = subst (λ (o : Opening). Answers o history new one first_answer) opened (answered fact both go_on opening history new first first_later one first_answer whole.1.behind each.0 puts_one);
-      answers_two = subst (λ (o : Opening). Answers o history new two second_answer) opened (answered fact both go_on opening history new second second_later two second_answer whole.1.behind each.1.0 puts_two);
+      answers_one = subst (λ (o : Opening). Answers o history new one first_answer) same (answered fact both go_on opening history new first first_later one first_answer whole.1.behind each.0 puts_one);
+      answers_two = subst (λ (o : Opening). Answers o history new two second_answer) same (answered fact both go_on opening history new second second_later two second_answer whole.1.behind each.1.0 puts_two);
     }

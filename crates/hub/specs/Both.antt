@@ -10,7 +10,7 @@ use Rattle.commit.specs.declared.error.CoreError.{CoreError}
 use Rattle.commit.specs.Core.{Core, facts}
 use Rattle.hub.specs.Known.{Known, Made, events}
 use Rattle.hub.specs.Rule.{IsInHistory}
-use Rattle.hub.specs.Opening.{Opening, opening_of, AreLegalBehind, IsBehind}
+use Rattle.hub.specs.Opening.{Opening, AreLegalBehind, IsBehind}
 use Rattle.hub.specs.Replies.{RefusesEvent, Sees, Adds, AddsNothing}
 
 -- why the put of this item is refused in the state that a pass knows
@@ -30,10 +30,10 @@ pub record Answers {D : Type 0} (opening : Opening) (history : List Made) (c : C
   pub refused : IfErr result (λ error. (known : Known) × IsInHistory history known × RefusesPut opening known put error)
 
 -- There is one history, which is legal and has nothing but these two puts. The core has the state behind it, and each thread is answered by it.
-pub record BothPut {D : Type 0} (old new : Core D) (one two : Addr × ℤ) (first second : Result (Unit {0}) CoreError) : Type 0 where
+pub record BothPut {D : Type 0} (opening : Opening) (new : Core D) (one two : Addr × ℤ) (first second : Result (Unit {0}) CoreError) : Type 0 where
   pub history : List Made
-  pub legal : AreLegalBehind (opening_of old) (events history)
-  pub behind : IsBehind (opening_of old) (events history) new
+  pub legal : AreLegalBehind opening (events history)
+  pub behind : IsBehind opening (events history) new
   pub only : AllByRecursion (λ event. (event ≡ EnvItem one.0 one.1) ⊎ (event ≡ EnvItem two.0 two.1)) (events history)
-  pub answers_one : Answers (opening_of old) history new one first
-  pub answers_two : Answers (opening_of old) history new two second
+  pub answers_one : Answers opening history new one first
+  pub answers_two : Answers opening history new two second

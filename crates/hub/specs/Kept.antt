@@ -10,23 +10,29 @@ use Rattle.commit.specs.declared.error.CoreError.{CoreError}
 use Rattle.commit.specs.Calls.{Commits, Halts, IsUnchanged}
 use Rattle.commit.specs.Core.{Core, is_halted}
 use Rattle.commit.specs.Kept.{IsHaltedByTurn}
+use Rattle.commit.specs.Runs.{RunsSince}
 use Rattle.hub.specs.Known.{Made, Desk, events}
-use Rattle.hub.specs.Opening.{Opening, facts_behind, environment_behind, WasTurned, AreLegalBehind, IsBehind}
+use Rattle.hub.specs.Opening.{Opening, begun_with, facts_behind, environment_behind, WasTurned, AreLegalBehind, IsBehind}
 
 -- the history, and the core
 pub record Kept (D : Type 0) : Type 0 where
   pub history : List Made
   pub core : Core D
 
+-- In a hub that has no pass of the environment, round a core that was not halted: all that was committed since its opening is one run.
+abbrev pub HasRun : {D : Type 0} → (D → ℕ) → (D → ℕ → Contents → Type 0) → (failures refusals : D → ℕ) → Type 0 → Opening → (left : ℕ → Contents → Type 0) → (envs : ℕ) → List Event → Core D → Type 0
+HasRun moment left_at failures refusals honest opening left envs events c = envs ≡ 0 → opening.halted ≡ false → RunsSince moment left_at failures refusals honest (begun_with opening) left c events
+
 -- The keeper is alone, and has the book of all passes. The core has the state behind the history, which is legal and no longer than the journal, since
--- each event moves its end. And where a turnover halted it, that was before the hub was opened.
-pub record IsKept {D : Type 0} (opening : Opening) (count : ℕ) (d : Desk) (c : Core D) : Type 0 where
+-- each event moves its end. And where a turnover halted it, that was before the hub was opened. `Ran` is what is known of how the events were committed.
+pub record IsKept {D : Type 0} (Ran : List Event → Core D → Type 0) (opening : Opening) (count : ℕ) (d : Desk) (c : Core D) : Type 0 where
   pub alone : d.guest ≡ None
   pub passes : d.book.passes ≡ count
   pub behind : IsBehind opening (events d.book.history) c
   pub legal : AreLegalBehind opening (events d.book.history)
   pub short : is_halted c ≡ false → length d.book.history ≤ c.vault.journal.end
   pub turned : IsHaltedByTurn c → WasTurned opening
+  pub ran : Ran (events d.book.history) c
 
 -- A crash leaves the state behind the history, or, once the core is halted, that with the event that is in doubt.
 abbrev pub CrashLeavesHistory : {D : Type 0} → (D → Side → File) → Opening → Kept D → Type 0

@@ -1,5 +1,8 @@
 -- What a hub is opened with, and the state behind events from there.
 use Rattle.std.specs.Prelude.{◌≡◌, ◌+◌, ℕ, Bool, true, false, List, [], ◌∷◌}
+use Rattle.disk.specs.declared.side.Side.{Side}
+use Rattle.disk.specs.File.{File}
+use Rattle.disk.specs.Time.{Contents}
 use Rattle.terms.specs.declared.event.Event.{Event}
 use Rattle.terms.specs.Facts.{Fact}
 use Rattle.terms.specs.Facts as stated
@@ -9,9 +12,11 @@ use Rattle.machine.specs.State.{AreLegalFrom}
 use Rattle.commit.specs.Core.{Core}
 use Rattle.commit.specs.Core as core
 use Rattle.commit.specs.Calls.{step_count}
+use Rattle.commit.specs.Runs.{Begun}
+use Rattle.vault.specs.Opened.{contents_of}
 
--- The graph, the facts that the store had, what of them the environment put, and how many steps the core might commit; and whether it was halted, and
--- which events were in doubt then.
+-- The graph, the facts that the store had, what of them the environment put, and how many steps the core might commit; whether it was halted, and which
+-- events were in doubt then; and of its disk the moment, the counts of errors, and the contents of both files.
 pub record Opening : Type 0 where
   pub graph : Graph
   pub facts : Facts
@@ -19,6 +24,10 @@ pub record Opening : Type 0 where
   pub allowance : ℕ
   pub halted : Bool
   pub in_doubt : List Event
+  pub moment : ℕ
+  pub failures : ℕ
+  pub refusals : ℕ
+  pub contents : Contents
 
 -- an empty store of an empty graph
 abbrev pub nothing : Opening
@@ -29,11 +38,39 @@ nothing = record {
   allowance = 0;
   halted = false;
   in_doubt = [];
+  moment = 0;
+  failures = 0;
+  refusals = 0;
+  contents = λ _. [];
 }
 
 -- what a core has when a hub is opened round it
-abbrev pub opening_of : {D : Type 0} → Core D → Opening
-opening_of c = record { graph = core.graph c; facts = core.facts c; environment = core.environment c; allowance = c.allowance; halted = core.is_halted c; in_doubt = c.in_doubt }
+abbrev pub opening_of : {D : Type 0} → (D → Side → File) → (D → ℕ) → (failures refusals : D → ℕ) → Core D → Opening
+opening_of files moment failures refusals c = record {
+  graph = core.graph c;
+  facts = core.facts c;
+  environment = core.environment c;
+  allowance = c.allowance;
+  halted = core.is_halted c;
+  in_doubt = c.in_doubt;
+  moment = moment c.vault.disk;
+  failures = failures c.vault.disk;
+  refusals = refusals c.vault.disk;
+  contents = contents_of (files c.vault.disk);
+}
+
+-- what a run from there began with
+abbrev pub begun_with : Opening → Begun
+begun_with opening = record {
+  graph = opening.graph;
+  facts = opening.facts;
+  environment = opening.environment;
+  allowance = opening.allowance;
+  moment = opening.moment;
+  failures = opening.failures;
+  refusals = opening.refusals;
+  contents = opening.contents;
+}
 
 -- the facts behind these events, and what of them the environment put
 abbrev pub facts_behind : Opening → List Event → Facts

@@ -34,8 +34,9 @@ AllMade such passes = AllByRecursion (λ known. AllByRecursion such known.mine) 
 
 -- The whole history of a hub that is closed with these passes. It is legal, and the core has the state behind it. It begins with what each pass has
 -- seen, and has just the passes' events, those of each pass in their order. Those of the environment's passes are its puts, and those of the workers'
--- passes are ends of instances. Where a turnover halted the core, that was before the hub was opened.
-pub record IsWhole {D : Type 0} (opening : Opening) (envs workers : List Known) (c : Core D) (history : List Made) : Type 0 where
+-- passes are ends of instances. Where a turnover halted the core, that was before the hub was opened. `Ran` is what is known of how the events were
+-- committed.
+pub record IsWhole {D : Type 0} (Ran : List Event → Core D → Type 0) (opening : Opening) (envs workers : List Known) (c : Core D) (history : List Made) : Type 0 where
   pub legal : AreLegalBehind opening (events history)
   pub behind : IsBehind opening (events history) c
   pub each : AllByRecursion (IsInHistory history) (envs ++ workers)
@@ -43,6 +44,7 @@ pub record IsWhole {D : Type 0} (opening : Opening) (envs workers : List Known) 
   pub puts : AllMade IsPut envs
   pub ends : AllMade IsEnd workers
   pub turned : IsHaltedByTurn c → WasTurned opening
+  pub ran : Ran (events history) c
 
 -- a blank: the table of its words, and how many passes it is for, of the environment and of workers
 pub record Blank : Type 0 where

@@ -1,5 +1,6 @@
 //! A hub from its opening to its close: two threads put an item each.
-ghost use Rattle.std.specs.Prelude.{◌≡◌, ◌+◌, IfErr, IfOk};
+ghost use Rattle.std.specs.Prelude.{◌≡◌, ◌+◌, ◌↔◌, ℕ, IfErr, IfOk};
+ghost use Rattle.disk.specs.Time.{Contents};
 ghost use Rattle.commit.specs.Runs.{NoneRuns};
 ghost use Rattle.hub.specs.Both.{Answers, BothPut, Puts};
 ghost use Rattle.hub.specs.Known.{newcomer};
@@ -63,10 +64,11 @@ fn put_both<J: Naming + Send + Sync, D: Disk + Drop + Send, R: Threads + Wait + 
     one: (Addr, i64),
     two: (Addr, i64),
 ) -> Result<Both<D>, NonePut<D>>
-    requires opening { J.opening ≡ opening_of core }
-    requires blank { (J.table ≡ blank.table) × (J.passes ≡ blank.envs + blank.workers) }
+    requires blank { (J.table ≡ blank.table) × (J.passes ≡ blank.envs + blank.workers) × (J.envs ≡ blank.envs) }
+    requires opening { J.opening ≡ opening_of D.files D.moment D.failures D.refusals core }
+    requires left { (moment : ℕ) (contents : Contents) → J.left moment contents ↔ D.left_at core.vault.disk moment contents }
     requires passes { (blank.envs ≡ 2) × (blank.workers ≡ 0) }
-    ensures ok { IfOk result (λ both. BothPut core both.core one two both.one both.two) }
+    ensures ok { IfOk result (λ both. BothPut (opening_of D.files D.moment D.failures D.refusals core) both.core one two both.one both.two) }
     ensures idle { IfOk result (λ both. NoneRuns both.core) }
     ensures err { IfErr result (λ none. none.core ≡ core) }
 {
@@ -113,7 +115,7 @@ pub fn put_two<D: Disk + Drop + Send, R: Threads + Wait + Sync>(
     one: (Addr, i64),
     two: (Addr, i64),
 ) -> Result<Both<D>, NonePut<D>>
-    ensures ok { IfOk result (λ both. BothPut core both.core one two both.one both.two) }
+    ensures ok { IfOk result (λ both. BothPut (opening_of D.files D.moment D.failures D.refusals core) both.core one two both.one both.two) }
     ensures idle { IfOk result (λ both. NoneRuns both.core) }
     ensures err { IfErr result (λ none. none.core ≡ core) }
 {

@@ -1,7 +1,8 @@
 //! The end of a hub.
-ghost use Rattle.std.specs.Prelude.{◌≡◌, ◌<◌, ◌++◌, ℕ, List, None, true, false, IfOk, IfErr};
+ghost use Rattle.std.specs.Prelude.{◌≡◌, ◌<◌, ◌++◌, ℕ, List, None, true, false, IfOk, IfErr, IsTrue};
 ghost use Rattle.std.specs.List.{AllByRecursion};
 ghost use Rattle.commit.specs.Runs.{NoneRuns};
+ghost use Rattle.hub.specs.Kept.{HasRun};
 ghost use Rattle.hub.specs.Known.{Made};
 ghost use Rattle.hub.specs.Rule.{IsInHistory};
 ghost use Rattle.hub.specs.Whole.{AllMade, IsWhole, WhyNotClosed, has_number};
@@ -48,7 +49,7 @@ impl<J: Naming, D: Disk> NotClosed<J, D> {
 
     // Tries once more.
     fn again(self) -> Result<Core<D>, NotClosed<J, D>>
-        ensures whole { IfOk result (λ core. (history : List Made) × IsWhole J.opening self.envs.items self.workers.items core history) }
+        ensures whole { IfOk result (λ core. (history : List Made) × IsWhole (HasRun D.moment D.left_at D.failures D.refusals (IsTrue D.is_honest) J.opening J.left J.envs) J.opening self.envs.items self.workers.items core history) }
         ensures idle { IfOk result NoneRuns }
         ensures err { IfErr result (λ again. (again.envs.items ≡ self.envs.items) × (again.workers.items ≡ self.workers.items)) }
     {
@@ -123,7 +124,7 @@ impl<J: Naming, D: Disk> Kept<J, D> {
     ) -> Core<D>
         requires { (number : ℕ) → number < J.passes → has_number number (envs.items ++ workers.items) ≡ true }
         ensures core { result ≡ self.core }
-        ensures whole { IsWhole J.opening envs.items workers.items result self.history }
+        ensures whole { IsWhole (HasRun D.moment D.left_at D.failures D.refusals (IsTrue D.is_honest) J.opening J.left J.envs) J.opening envs.items workers.items result self.history }
     {
         let (core, mut desk) = self.into_parts();
         board.look(&mut desk);
@@ -142,7 +143,7 @@ impl<J: Naming, D: Disk> Hub<J, D> {
         envs: Vec<EnvPass<J>>,
         workers: Vec<WorkPass<J>>,
     ) -> Result<Core<D>, NotClosed<J, D>>
-        ensures whole { IfOk result (λ core. (history : List Made) × IsWhole J.opening envs.items workers.items core history) }
+        ensures whole { IfOk result (λ core. (history : List Made) × IsWhole (HasRun D.moment D.left_at D.failures D.refusals (IsTrue D.is_honest) J.opening J.left J.envs) J.opening envs.items workers.items core history) }
         ensures idle { IfOk result NoneRuns }
         ensures err { IfErr result (λ not_closed. (not_closed.envs.items ≡ envs.items) × (not_closed.workers.items ≡ workers.items)) }
         ensures cause { IfErr result (λ not_closed. WhyNotClosed J.passes (envs.items ++ workers.items) not_closed.error) }
@@ -179,7 +180,7 @@ impl<J: Naming, D: Disk> Hub<J, D> {
         envs: Vec<EnvPass<J>>,
         workers: Vec<WorkPass<J>>,
     ) -> Core<D>
-        ensures whole { (history : List Made) × IsWhole J.opening envs.items workers.items result history }
+        ensures whole { (history : List Made) × IsWhole (HasRun D.moment D.left_at D.failures D.refusals (IsTrue D.is_honest) J.opening J.left J.envs) J.opening envs.items workers.items result history }
         ensures idle { NoneRuns result }
     {
         let mut closed = self.close(envs, workers);

@@ -27,9 +27,10 @@ impl<J: Naming, D: Disk + Drop> Drop for Kept<J, D> {
 }
 
 impl<J: Naming, D: Disk> Model for Kept<J, D> {
+    ghost use Rattle.std.specs.Prelude.{IsTrue};
     ghost use Rattle.std.specs.Coded.{codes};
     ghost use Rattle.machine.specs.contracts.machine.Machine as of_machine;
-    ghost use Rattle.hub.specs.Kept.{Kept as Seen, IsKept};
+    ghost use Rattle.hub.specs.Kept.{Kept as Seen, HasRun, IsKept};
 
     ghost Value = { Seen D };
 
@@ -37,7 +38,7 @@ impl<J: Naming, D: Disk> Model for Kept<J, D> {
 
     ghost view = { λ k. record { history = k.desk.book.history; core = k.core } };
 
-    ghost invariant = { λ k. IsKept J.opening J.passes k.desk k.core };
+    ghost invariant = { λ k. IsKept (HasRun D.moment D.left_at D.failures D.refusals (IsTrue D.is_honest) J.opening J.left J.envs) J.opening J.passes k.desk k.core };
 }
 
 impl<J: Naming, D: Disk> Kept<J, D> {
@@ -49,7 +50,7 @@ impl<J: Naming, D: Disk> Kept<J, D> {
     ghost use Rattle.commit.specs.Core.{facts, graph, is_halted};
     ghost use Rattle.hub.specs.Known.{events};
     ghost use Rattle.hub.specs.Opening.{AreLegalBehind, IsBehind, WasTurned, facts_behind};
-    ghost use Rattle.hub.specs.Kept.{CommitsAs, CrashLeavesHistory, IsKept};
+    ghost use Rattle.hub.specs.Kept.{CommitsAs, CrashLeavesHistory, HasRun, IsKept};
     ghost use Rattle.hub.specs.Ends.{MayAnswer, end_of};
     ghost use Rattle.hub.specs.Replies.{Adds, AddsNothing, MayRun, RefusesEvent, RefusesQuestion, RefusesWait, SaysHalted, Sees, Shows, Writes};
     ghost use Rattle.hub.specs.Tasks.{Claims, Ends, Gets, IsForeign, IsMade, OnTask, Parks, RefusesEndOf};
@@ -62,7 +63,7 @@ impl<J: Naming, D: Disk> Kept<J, D> {
     pub(crate) fn into_parts(self) -> (Core<D>, Desk<J>)
         ensures core { result.0 ≡ self.core }
         ensures book { result.1.book.history ≡ self.history }
-        ensures kept { IsKept J.opening J.passes result.1 result.0 }
+        ensures kept { IsKept (HasRun D.moment D.left_at D.failures D.refusals (IsTrue D.is_honest) J.opening J.left J.envs) J.opening J.passes result.1 result.0 }
     {
         let Kept { core, desk } = self;
         (core, desk)
@@ -96,6 +97,7 @@ impl<J: Naming, D: Disk> Kept<J, D> {
         facts_are_told_apart();
         facts_go_on();
         stores_go_on::<D>();
+        pass.number();
         let place = addr;
         match self.core.put_item(place, value) {
             Ok(()) => {
@@ -126,6 +128,7 @@ impl<J: Naming, D: Disk> Kept<J, D> {
         facts_are_told_apart();
         facts_go_on();
         stores_go_on::<D>();
+        pass.number();
         let name = tag;
         match self.core.put_tag(name) {
             Ok(()) => {
@@ -262,6 +265,7 @@ impl<J: Naming, D: Disk> Kept<J, D> {
         facts_go_on();
         results_are_meant();
         stores_go_on::<D>();
+        self.core.is_kept();
         board.show(&mut self.desk, pass);
         if !self.core.runs(&task) {
             return Err(TaskError::Foreign(task));

@@ -3,17 +3,23 @@ use std::marker::Brand;
 /// Which hub it is. A program picks it once, where it opens the hub; each pass has it in its type, and so belongs to that hub alone.
 pub trait Naming {
     ghost use Rattle.std.specs.Prelude.{ℕ};
+    ghost use Rattle.disk.specs.Time.{Contents};
     ghost use Rattle.atomic_table.specs.Seated.{TableId};
     ghost use Rattle.hub.specs.Opening.{Opening};
 
     /// The hub's two words.
     ghost table: { TableId };
 
-    /// How many passes there are.
+    /// How many passes there are, and how many of them are of the environment.
     ghost passes: { ℕ };
+
+    ghost envs: { ℕ };
 
     /// What the hub was opened with.
     ghost opening: { Opening };
+
+    /// What a crash might leave, at each moment until then.
+    ghost left: { ℕ → Contents → Type 0 };
 }
 
 impl Naming for Brand {
@@ -24,5 +30,9 @@ impl Naming for Brand {
 
     ghost passes = { 0 };
 
+    ghost envs = { 0 };
+
     ghost opening = { nothing };
+
+    ghost left = { λ _ _. ⊥ };
 }

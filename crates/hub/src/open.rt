@@ -1,5 +1,6 @@
 //! The beginning of a hub.
-ghost use Rattle.std.specs.Prelude.{◌≡◌, ◌+◌, ◌≤◌, [], ℕ, None, vec_capacity, IfOk, IfErr};
+ghost use Rattle.std.specs.Prelude.{◌≡◌, ◌+◌, ◌<◌, ◌≤◌, ◌↔◌, [], ℕ, None, vec_capacity, IfOk, IfErr};
+ghost use Rattle.disk.specs.Time.{Contents};
 ghost use Rattle.commit.specs.Core.{Core as Seen};
 ghost use Rattle.hub.specs.Known.{Desk as DeskSeen};
 ghost use Rattle.hub.specs.Opening.{opening_of};
@@ -13,6 +14,7 @@ use disk::Disk;
 use std::alloc::{AllocError, Global};
 use std::marker::{Model, PhantomData};
 use std::sync::{Arc, Mutex};
+use vault::stores_go_on;
 
 /// The two words of a hub that is not open yet, and how many passes it is to have: so many for the environment, and so many for workers.
 #[derive(Drop)]
@@ -84,6 +86,7 @@ fn deal<J: Naming, K: Kind>(
     count: u8,
 )
     requires room { (passes.old.items ≡ []) × (count ≤ vec_capacity passes.old) }
+    requires numbers { (number : ℕ) → number < first + count → K.is_numbered J.envs number }
     requires desk { desk.old ≡ record { book = record { history = []; passes = first }; guest = None } }
     ensures desk { desk.new ≡ record { book = record { history = []; passes = first + count }; guest = None } }
     ensures passes { passes.new.items ≡ new_passes first count }
@@ -101,11 +104,14 @@ fn deal<J: Naming, K: Kind>(
 impl<J: Naming, D: Disk> Hub<J, D> {
     /// Opens a hub round a core, with the passes that the blank tells.
     pub fn open(alloc: Global, core: Core<D>, blank: Blank) -> Result<Opened<J, D>, NotOpened<D>>
-        requires opening { J.opening ≡ opening_of core }
-        requires blank { (J.table ≡ blank.table) × (J.passes ≡ blank.envs + blank.workers) }
+        requires blank { (J.table ≡ blank.table) × (J.passes ≡ blank.envs + blank.workers) × (J.envs ≡ blank.envs) }
+        requires opening { J.opening ≡ opening_of D.files D.moment D.failures D.refusals core }
+        requires left { (moment : ℕ) (contents : Contents) → J.left moment contents ↔ D.left_at core.vault.disk moment contents }
         ensures ok { IfOk result (λ opened. (opened.1.items ≡ new_passes 0 blank.envs) × (opened.2.items ≡ new_passes blank.envs blank.workers)) }
         ensures err { IfErr result (λ not_opened. (not_opened.core ≡ core) × (not_opened.blank ≡ blank)) }
     {
+        stores_go_on::<D>();
+        core.is_kept();
         let mut envs = Vec::new(alloc);
         let mut workers = Vec::new(alloc);
         if envs.reserve(blank.envs as usize).is_err()

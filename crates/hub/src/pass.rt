@@ -4,28 +4,38 @@ use std::marker::{Model, PhantomData};
 
 /// Who has a pass: the environment, or a worker.
 pub trait Kind {
+    ghost use Rattle.std.specs.Prelude.{ℕ};
     ghost use Rattle.terms.specs.declared.event.Event.{Event};
 
     /// The events that may be made with it.
     ghost makes: { Event → Type 0 };
+
+    /// Which numbers it may have, where so many passes are of the environment: those have the first ones.
+    ghost is_numbered: { ℕ → ℕ → Type 0 };
 }
 
 /// The environment, which puts items and tags, and gets items.
 pub struct Env;
 
 impl Kind for Env {
+    ghost use Rattle.std.specs.Prelude.{◌<◌};
     ghost use Rattle.machine.specs.Machine.{IsPut};
 
     ghost makes = { IsPut };
+
+    ghost is_numbered = { λ envs number. number < envs };
 }
 
 /// A worker, who runs instances.
 pub struct Work;
 
 impl Kind for Work {
+    ghost use Rattle.std.specs.Prelude.{⊤};
     ghost use Rattle.commit.specs.Runs.{IsEnd};
 
     ghost makes = { IsEnd };
+
+    ghost is_numbered = { λ _ _. ⊤ };
 }
 
 /// A pass of the environment.
@@ -54,5 +64,17 @@ impl<J: Naming, K: Kind> Model for Pass<J, K> {
 
     ghost view = { λ p. known p.badge.views };
 
-    ghost invariant = { λ p. IsBadge J.table p.badge × (p.number ≡ (known p.badge.views).number) × AllByRecursion K.makes (known p.badge.views).mine };
+    ghost invariant = { λ p. IsBadge J.table p.badge × (p.number ≡ (known p.badge.views).number) × AllByRecursion K.makes (known p.badge.views).mine × K.is_numbered J.envs (known p.badge.views).number };
+}
+
+impl<J: Naming, K: Kind> Pass<J, K> {
+    ghost use Rattle.std.specs.Prelude.{◌≡◌};
+
+    // Its number, which is one of its kind.
+    pub(crate) fn number(&self) -> usize
+        ensures number { result ≡ self.now.number }
+        ensures of_kind { K.is_numbered J.envs self.now.number }
+    {
+        self.number
+    }
 }

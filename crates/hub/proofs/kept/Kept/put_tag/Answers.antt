@@ -5,21 +5,24 @@ use Rattle.terms.specs.declared.event.Event.TheVariants.{EnvTag}
 use Rattle.machine.specs.Machine.{RefusesTag}
 use Rattle.commit.specs.Core.{Core, graph, facts}
 use Rattle.hub.specs.Known.{Desk}
-use Rattle.hub.specs.Kept.{Kept, IsKept}
+use Rattle.hub.specs.Kept.{Kept, HasRun, IsKept}
 use Rattle.hub.specs.Replies.{Adds, RefusesEvent}
 use Rattle.hub.proofs.Keeping.{kept_more, kept_same, commits_as}
+use Rattle.hub.proofs.Since.{ran_put}
 use Rattle.hub.proofs.Telling.{sees_same, sees_more, adds_one, refuses_there}
 use Rattle.hub.proofs.kept.Kept.put_tag.Goals as goal
 
 pub invariant_of-self : goal.invariant_of-self
 invariant_of-self g c =
-    subst (λ (d : Desk). IsKept g.J.Naming.opening g.J.Naming.passes d c.put_tag.new.self) (sym c.record_tag.ensures.desk)
-    (kept_more c.facts_are_told_apart.ensures.among c.facts_go_on.ensures.all c.facts_go_on.ensures.environment _ _ c.args.pass.now.number _ _ _ _ c.self.invariant c.in-Ok.ensures.ok)
+    subst (λ (d : Desk). IsKept (HasRun g.D.Disk.moment g.D.Disk.left_at g.D.Disk.failures g.D.Disk.refusals (IsTrue g.D.Disk.is_honest) g.J.Naming.opening g.J.Naming.left g.J.Naming.envs) g.J.Naming.opening g.J.Naming.passes d c.put_tag.new.self) (sym c.record_tag.ensures.desk)
+    (kept_more c.facts_are_told_apart.ensures.among c.facts_go_on.ensures.all c.facts_go_on.ensures.environment _ _ _ c.args.pass.now.number _ _ _ _ c.self.invariant c.in-Ok.ensures.ok
+    (ran_put g.D.Disk.moment g.D.Disk.left_at g.D.Disk.failures g.D.Disk.refusals (IsTrue g.D.Disk.is_honest) g.J.Naming.opening g.J.Naming.left g.J.Naming.envs c.args.pass.now.number _ _ c.number.ensures.of_kind))
 
 pub invariant_of-self-in-Err : goal.invariant_of-self-in-Err
 invariant_of-self-in-Err g c =
-    subst (λ (d : Desk). IsKept g.J.Naming.opening g.J.Naming.passes d c.put_tag.new.self) (sym c.show.ensures.desk)
-    (kept_same g.D.Disk.failures g.D.Disk.refusals _ _ _ _ _ _ c.in-Err.error c.self.invariant c.in-Err.ensures.err.stays c.in-Err.ensures.halts c.in-Err.ensures.doubt)
+    subst (λ (d : Desk). IsKept (HasRun g.D.Disk.moment g.D.Disk.left_at g.D.Disk.failures g.D.Disk.refusals (IsTrue g.D.Disk.is_honest) g.J.Naming.opening g.J.Naming.left g.J.Naming.envs) g.J.Naming.opening g.J.Naming.passes d c.put_tag.new.self) (sym c.show.ensures.desk)
+    (kept_same g.D.Disk.failures g.D.Disk.refusals _ _ _ _ _ _ _ c.in-Err.error c.self.invariant c.in-Err.ensures.err.stays c.in-Err.ensures.halts c.in-Err.ensures.doubt
+    (ran_put g.D.Disk.moment g.D.Disk.left_at g.D.Disk.failures g.D.Disk.refusals (IsTrue g.D.Disk.is_honest) g.J.Naming.opening g.J.Naming.left g.J.Naming.envs c.args.pass.now.number _ _ c.number.ensures.of_kind))
 
 pub returns-in-Ok-clause-core : goal.returns-in-Ok-clause-core
 returns-in-Ok-clause-core g c =
