@@ -1,6 +1,9 @@
 -- Passes when a hub is opened, and when it is closed.
-use Rattle.std.specs.Prelude.{◌≡◌, ◌+◌, ◌<◌, ℕ, suc, zero, Bool, true, false, List, [], ◌∷◌, ◌++◌, if◌then◌else◌, nat_eq}
+use Rattle.std.specs.Prelude.{◌≡◌, ◌↔◌, ◌+◌, ◌<◌, ℕ, suc, zero, Bool, true, false, List, [], ◌∷◌, ◌++◌, if◌then◌else◌, nat_eq}
 use Rattle.std.specs.List.{AllByRecursion}
+use Rattle.disk.specs.declared.side.Side.{Side}
+use Rattle.disk.specs.File.{File}
+use Rattle.disk.specs.Time.{Contents}
 use Rattle.terms.specs.declared.event.Event.{Event}
 use Rattle.machine.specs.Machine.{IsPut}
 use Rattle.commit.specs.Core.{Core}
@@ -11,7 +14,7 @@ use Rattle.hub.specs.declared.close.CloseError.{CloseError}
 use Rattle.hub.specs.declared.close.CloseError.TheVariants.{PassMissing, TaskOut}
 use Rattle.hub.specs.Known.{Known, Made, events, made_by, newcomer}
 use Rattle.hub.specs.Rule.{IsInHistory}
-use Rattle.hub.specs.Opening.{Opening, WasTurned, AreLegalBehind, IsBehind}
+use Rattle.hub.specs.Opening.{Opening, opening_of, WasTurned, AreLegalBehind, IsBehind}
 
 -- so many new passes, the first of which has this number
 abbrev pub new_passes : ℕ → ℕ → List Known
@@ -51,6 +54,15 @@ pub record Blank : Type 0 where
   pub table : TableId
   pub envs : ℕ
   pub workers : ℕ
+
+-- A naming of a hub is one for this blank and this core: it has the blank's words and counts of passes, what the core has then, and what a crash might leave
+-- of its disk.
+pub record IsNamedFor {D : Type 0} (files : D → Side → File) (moment : D → ℕ) (left_at : D → ℕ → Contents → Type 0) (failures refusals : D → ℕ) (table : TableId) (passes envs : ℕ) (opening : Opening) (left : ℕ → Contents → Type 0) (blank : Blank) (c : Core D) : Type 0 where
+  pub words : table ≡ blank.table
+  pub passes_are : passes ≡ blank.envs + blank.workers
+  pub envs_are : envs ≡ blank.envs
+  pub opening_is : opening ≡ opening_of files moment failures refusals c
+  pub left_is : (t : ℕ) (contents : Contents) → left t contents ↔ left_at c.vault.disk t contents
 
 -- Why a hub with so many passes is not closed with these: one is missing; or none is, and an instance runs.
 abbrev pub WhyNotClosed : ℕ → List Known → CloseError → Type 0

@@ -1,10 +1,10 @@
 //! A hub from its opening to its close: two threads put an item each.
-ghost use Rattle.std.specs.Prelude.{◌≡◌, ◌+◌, ◌↔◌, ℕ, IfErr, IfOk};
-ghost use Rattle.disk.specs.Time.{Contents};
+ghost use Rattle.std.specs.Prelude.{◌≡◌, IfErr, IfOk};
 ghost use Rattle.commit.specs.Runs.{NoneRuns};
 ghost use Rattle.hub.specs.Both.{Answers, BothPut, Puts};
 ghost use Rattle.hub.specs.Known.{newcomer};
 ghost use Rattle.hub.specs.Opening.{opening_of};
+ghost use Rattle.hub.specs.Whole.{IsNamedFor};
 
 use crate::{Blank, EnvPass, Hub, Naming, hubs_cross};
 use commit::{Core, CoreError};
@@ -64,9 +64,7 @@ fn put_both<J: Naming + Send + Sync, D: Disk + Drop + Send, R: Threads + Wait + 
     one: (Addr, i64),
     two: (Addr, i64),
 ) -> Result<Both<D>, NonePut<D>>
-    requires blank { (J.table ≡ blank.table) × (J.passes ≡ blank.envs + blank.workers) × (J.envs ≡ blank.envs) }
-    requires opening { J.opening ≡ opening_of D.files D.moment D.failures D.refusals core }
-    requires left { (moment : ℕ) (contents : Contents) → J.left moment contents ↔ D.left_at core.vault.disk moment contents }
+    requires named { IsNamedFor D.files D.moment D.left_at D.failures D.refusals J.table J.passes J.envs J.opening J.left blank core }
     requires passes { (blank.envs ≡ 2) × (blank.workers ≡ 0) }
     ensures ok { IfOk result (λ both. BothPut (opening_of D.files D.moment D.failures D.refusals core) both.core one two both.one both.two) }
     ensures idle { IfOk result (λ both. NoneRuns both.core) }

@@ -1,10 +1,8 @@
 //! The beginning of a hub.
-ghost use Rattle.std.specs.Prelude.{◌≡◌, ◌+◌, ◌<◌, ◌≤◌, ◌↔◌, [], ℕ, None, vec_capacity, IfOk, IfErr};
-ghost use Rattle.disk.specs.Time.{Contents};
+ghost use Rattle.std.specs.Prelude.{◌≡◌, ◌+◌, ◌<◌, ◌≤◌, [], ℕ, None, vec_capacity, IfOk, IfErr};
 ghost use Rattle.commit.specs.Core.{Core as Seen};
 ghost use Rattle.hub.specs.Known.{Desk as DeskSeen};
-ghost use Rattle.hub.specs.Opening.{opening_of};
-ghost use Rattle.hub.specs.Whole.{new_passes};
+ghost use Rattle.hub.specs.Whole.{IsNamedFor, new_passes};
 
 use crate::rule::{Keeper, Words};
 use crate::{Board, Desk, EnvPass, Hub, Kept, Kind, Naming, Pass, WorkPass};
@@ -104,9 +102,7 @@ fn deal<J: Naming, K: Kind>(
 impl<J: Naming, D: Disk> Hub<J, D> {
     /// Opens a hub round a core, with the passes that the blank tells.
     pub fn open(alloc: Global, core: Core<D>, blank: Blank) -> Result<Opened<J, D>, NotOpened<D>>
-        requires blank { (J.table ≡ blank.table) × (J.passes ≡ blank.envs + blank.workers) × (J.envs ≡ blank.envs) }
-        requires opening { J.opening ≡ opening_of D.files D.moment D.failures D.refusals core }
-        requires left { (moment : ℕ) (contents : Contents) → J.left moment contents ↔ D.left_at core.vault.disk moment contents }
+        requires { IsNamedFor D.files D.moment D.left_at D.failures D.refusals J.table J.passes J.envs J.opening J.left blank core }
         ensures ok { IfOk result (λ opened. (opened.1.items ≡ new_passes 0 blank.envs) × (opened.2.items ≡ new_passes blank.envs blank.workers)) }
         ensures err { IfErr result (λ not_opened. (not_opened.core ≡ core) × (not_opened.blank ≡ blank)) }
     {

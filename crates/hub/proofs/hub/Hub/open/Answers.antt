@@ -6,6 +6,6 @@ use Rattle.hub.proofs.hub.Hub.open.Goals as goal
 
 pub invariant_of-new : goal.invariant_of-new
 invariant_of-new g c =
-    kept_opened g.D.Disk.files g.D.Disk.moment g.D.Disk.failures g.D.Disk.refusals _ g.J.Naming.opening g.J.Naming.passes (c.blank.inside.envs + c.blank.inside.workers) c.deal-2.new.desk c.args.core c.requires.opening
-    (ap (λ (blank : Blank). blank.envs + blank.workers) c.blank.view_is ∙ sym c.requires.blank.1) c.deal-2.ensures.desk
-    (ran_nothing g.D.Disk.files g.D.Disk.moment g.D.Disk.left_at g.D.Disk.failures g.D.Disk.refusals (IsTrue g.D.Disk.is_honest) g.J.Naming.opening g.J.Naming.left g.J.Naming.envs c.args.core c.stores_go_on.ensures.rest_leaves c.stores_go_on.ensures.gates_rest c.is_kept.ensures.kept c.is_kept.ensures.settled c.requires.opening c.requires.left)
+    kept_opened g.D.Disk.files g.D.Disk.moment g.D.Disk.failures g.D.Disk.refusals _ g.J.Naming.opening g.J.Naming.passes (c.blank.inside.envs + c.blank.inside.workers) c.deal-2.new.desk c.args.core c.requires.opening_is
+    (ap (λ (blank : Blank). blank.envs + blank.workers) c.blank.view_is ∙ sym c.requires.passes_are) c.deal-2.ensures.desk
+    (ran_nothing g.D.Disk.files g.D.Disk.moment g.D.Disk.left_at g.D.Disk.failures g.D.Disk.refusals (IsTrue g.D.Disk.is_honest) g.J.Naming.opening g.J.Naming.left g.J.Naming.envs c.args.core c.stores_go_on.ensures.rest_leaves c.stores_go_on.ensures.gates_rest c.is_kept.ensures.kept c.is_kept.ensures.settled c.requires.opening_is c.requires.left_is)
