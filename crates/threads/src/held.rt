@@ -1,6 +1,5 @@
 //! What a thread is answered while another one is within the sync of its put.
-ghost use Rattle.std.specs.Prelude.{◌≡◌, ◌+◌};
-ghost use Rattle.hub.specs.Opening.{opening_of};
+ghost use Rattle.hub.specs.Whole.{IsNamedFor};
 
 use crate::handles::Handles;
 use crate::held_disk::{Gate, HeldDisk};
@@ -18,11 +17,15 @@ use std::thread::join;
 pub(crate) fn try_held<R: Handles>(rt: &R) -> Result<(), Error> {
     let gate = Arc::new(rt.alloc(), Gate::new())?;
     let disk = HeldDisk::new(MemDisk::new(rt.alloc()), Arc::clone(&gate)?);
-    let core = created(rt.alloc(), disk)?;
-    let blank = Blank::new(rt.alloc(), 2, 0)?;
-    hold_as::<Brand, HeldDisk<MemDisk>, R>(rt, core, blank, &gate)?;
+    hold_on(rt, disk, &gate)?;
     println!(rt; "  in time: {}", gate.was_in_time())?;
     Ok(())
+}
+
+fn hold_on<D: Disk + Drop + Send, R: Handles>(rt: &R, disk: D, gate: &Gate) -> Result<(), Error> {
+    let core = created(rt.alloc(), disk)?;
+    let blank = Blank::new(rt.alloc(), 2, 0)?;
+    hold_as::<Brand, D, R>(rt, core, blank, gate)
 }
 
 fn hold_as<J: Naming + Send + Sync, D: Disk + Drop + Send, R: Handles>(
@@ -31,8 +34,7 @@ fn hold_as<J: Naming + Send + Sync, D: Disk + Drop + Send, R: Handles>(
     blank: Blank,
     gate: &Gate,
 ) -> Result<(), Error>
-    requires opening { J.opening ≡ opening_of core }
-    requires blank { (J.table ≡ blank.table) × (J.passes ≡ blank.envs + blank.workers) }
+    requires { IsNamedFor D.files D.moment D.left_at D.failures D.refusals J.table J.passes J.envs J.opening J.left blank core }
 {
     let Ok((hub, mut envs, _)) = Hub::<J, D>::open(rt.alloc(), core, blank) else {
         bail!("no hub was opened")

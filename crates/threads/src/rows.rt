@@ -1,11 +1,10 @@
 //! What threads do with a hub of their own: each call opens one round a new store, and tells what came of it.
-ghost use Rattle.std.specs.Prelude.{◌≡◌, ◌+◌};
-ghost use Rattle.hub.specs.Opening.{opening_of};
+ghost use Rattle.hub.specs.Whole.{IsNamedFor};
 
 use crate::handles::Handles;
+use crate::stores::{bytes, created, fib, number};
 use crate::strangers::release;
 use crate::task::keep;
-use crate::stores::{bytes, created, fib, number};
 use anyhow::{Error, bail};
 use commit::{Core, CoreError};
 use disk::{Disk, MemDisk};
@@ -33,10 +32,23 @@ pub(crate) enum Row {
 
 /// Tries it on a new store in memory.
 pub(crate) fn try_row<R: Handles>(rt: &R, row: Row, passes: u8) -> Result<(), Error> {
-    let core = created(rt.alloc(), MemDisk::new(rt.alloc()))?;
+    try_on(rt, MemDisk::new(rt.alloc()), row, passes)
+}
+
+fn try_on<D: Disk + Drop + Send, R: Handles>(
+    rt: &R,
+    disk: D,
+    row: Row,
+    passes: u8,
+) -> Result<(), Error> {
+    let core = created(rt.alloc(), disk)?;
     let blank = Blank::new(rt.alloc(), passes, 1)?;
-    let core = try_as::<Brand, MemDisk, R>(rt, core, blank, row)?;
-    println!(rt; "  {} items, A has {} bytes", core.counts().items, bytes(core)?)?;
+    let core = try_as::<Brand, D, R>(rt, core, blank, row)?;
+    println!(rt;
+        "  {} items, A has {} bytes",
+        core.counts().items,
+        bytes(core)?
+    )?;
     Ok(())
 }
 
@@ -46,8 +58,7 @@ fn try_as<J: Naming + Send + Sync, D: Disk + Drop + Send, R: Handles>(
     blank: Blank,
     row: Row,
 ) -> Result<Core<D>, Error>
-    requires opening { J.opening ≡ opening_of core }
-    requires blank { (J.table ≡ blank.table) × (J.passes ≡ blank.envs + blank.workers) }
+    requires { IsNamedFor D.files D.moment D.left_at D.failures D.refusals J.table J.passes J.envs J.opening J.left blank core }
 {
     let Ok((hub, envs, workers)) = Hub::<J, D>::open(rt.alloc(), core, blank) else {
         bail!("no hub was opened")

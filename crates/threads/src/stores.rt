@@ -7,7 +7,8 @@ use disk::{Disk, Side};
 use std::alloc::Global;
 use terms::{Addr, ItemCollection, Key, Tag, TagCollection};
 
-const FIBONACCI: &str = "[fib: i]; <n: i>; <n> :: (add); [fib] -> (add); (add) -> [fib]; env -> [fib]; env -> <n>; [fib] -> env;
+const FIBONACCI: &str =
+    "[fib: i]; <n: i>; <n> :: (add); [fib] -> (add); (add) -> [fib]; env -> [fib]; env -> <n>; [fib] -> env;
 step add(i) { var a, b; read { get a = [fib: i - 1]; get b = [fib: i - 2]; } write { put [fib: i] = a + b; } }";
 
 /// A new store of Fibonacci numbers.

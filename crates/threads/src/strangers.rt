@@ -1,11 +1,12 @@
 //! A task of another hub, given to `finish`.
-ghost use Rattle.std.specs.Prelude.{◌≡◌, ◌+◌, IfOk};
+ghost use Rattle.std.specs.Prelude.{◌≡◌, IfOk};
 ghost use Rattle.commit.specs.Came.{IsOutcomeIn};
-ghost use Rattle.hub.specs.Opening.{facts_behind, opening_of};
+ghost use Rattle.hub.specs.Opening.{facts_behind};
+ghost use Rattle.hub.specs.Whole.{IsNamedFor};
 
 use crate::handles::Handles;
-use crate::task::keep;
 use crate::stores::{created, fib, number};
+use crate::task::keep;
 use anyhow::{Error, bail};
 use commit::{Came, Core, Outcome};
 use disk::{Disk, MemDisk};
@@ -17,9 +18,7 @@ use terms::{Inst, equals_are_one};
 
 /// Tries it with two hubs, of stores with the same facts.
 pub(crate) fn try_foreign<R: Handles>(rt: &R) -> Result<(), Error> {
-    let blank = Blank::new(rt.alloc(), 0, 2)?;
-    let other = Blank::new(rt.alloc(), 0, 1)?;
-    open_here::<Brand, R>(rt, filled(rt)?, blank, filled(rt)?, other)
+    open_both(rt, filled(rt)?, filled(rt)?)
 }
 
 // A store in which `(add: 2)` is ready.
@@ -31,30 +30,47 @@ fn filled<R: Handles>(rt: &R) -> Result<Core<MemDisk>, Error> {
     Ok(core)
 }
 
-fn open_here<J: Naming, R: Handles>(
+fn open_both<D: Disk + Drop, R: Handles>(
     rt: &R,
-    core: Core<MemDisk>,
+    here: Core<D>,
+    there: Core<D>,
+) -> Result<(), Error> {
+    let blank = Blank::new(rt.alloc(), 0, 2)?;
+    let other = Blank::new(rt.alloc(), 0, 1)?;
+    open_here::<Brand, D, R>(rt, here, blank, there, other)
+}
+
+fn open_here<J: Naming, D: Disk + Drop, R: Handles>(
+    rt: &R,
+    core: Core<D>,
     blank: Blank,
-    other_core: Core<MemDisk>,
+    other_core: Core<D>,
     other_blank: Blank,
 ) -> Result<(), Error>
-    requires opening { J.opening ≡ opening_of core }
-    requires blank { (J.table ≡ blank.table) × (J.passes ≡ blank.envs + blank.workers) }
+    requires { IsNamedFor D.files D.moment D.left_at D.failures D.refusals J.table J.passes J.envs J.opening J.left blank core }
 {
-    let Ok((here, _, mut workers)) = Hub::<J, MemDisk>::open(rt.alloc(), core, blank) else {
+    let Ok((here, _, mut workers)) = Hub::<J, D>::open(rt.alloc(), core, blank) else {
         bail!("no hub was opened")
     };
     let (Some(mut runner), Some(mut releaser)) = (workers.pop(), workers.pop()) else {
         bail!("no pass")
     };
     let (instance, outcome) = outcome_here(rt, &here, &mut runner, &mut releaser)?;
-    open_there::<J, Brand, R>(rt, &here, &mut runner, instance, outcome, other_core, other_blank)
+    open_there::<J, Brand, D, R>(
+        rt,
+        &here,
+        &mut runner,
+        instance,
+        outcome,
+        other_core,
+        other_blank,
+    )
 }
 
 // What the instance that is ready comes to. It is ready again.
-fn outcome_here<'a, J: Naming, R: Handles>(
+fn outcome_here<'a, J: Naming, D: Disk + Drop, R: Handles>(
     rt: &R,
-    here: &'a Hub<J, MemDisk>,
+    here: &'a Hub<J, D>,
     runner: &mut WorkPass<J>,
     releaser: &mut WorkPass<J>,
 ) -> Result<(Inst, Outcome<'a>), Error>
@@ -72,20 +88,19 @@ fn outcome_here<'a, J: Naming, R: Handles>(
     }
 }
 
-fn open_there<J: Naming, K: Naming, R: Handles>(
+fn open_there<J: Naming, K: Naming, D: Disk + Drop, R: Handles>(
     rt: &R,
-    here: &Hub<J, MemDisk>,
+    here: &Hub<J, D>,
     runner: &mut WorkPass<J>,
     instance: Inst,
     outcome: Outcome<'_>,
-    core: Core<MemDisk>,
+    core: Core<D>,
     blank: Blank,
 ) -> Result<(), Error>
     requires outcome { IsOutcomeIn J.opening.graph (facts_behind J.opening runner.old.seen) instance outcome }
-    requires opening { K.opening ≡ opening_of core }
-    requires blank { (K.table ≡ blank.table) × (K.passes ≡ blank.envs + blank.workers) }
+    requires named { IsNamedFor D.files D.moment D.left_at D.failures D.refusals K.table K.passes K.envs K.opening K.left blank core }
 {
-    let Ok((there, _, mut workers)) = Hub::<K, MemDisk>::open(rt.alloc(), core, blank) else {
+    let Ok((there, _, mut workers)) = Hub::<K, D>::open(rt.alloc(), core, blank) else {
         bail!("no hub was opened")
     };
     let Some(mut stranger) = workers.pop() else {
@@ -101,9 +116,9 @@ fn open_there<J: Naming, K: Naming, R: Handles>(
 }
 
 // The task of this instance.
-fn claimed<K: Naming, R: Handles>(
+fn claimed<K: Naming, D: Disk + Drop, R: Handles>(
     rt: &R,
-    there: &Hub<K, MemDisk>,
+    there: &Hub<K, D>,
     stranger: &mut WorkPass<K>,
     instance: Inst,
 ) -> Result<Task, Error>
@@ -121,9 +136,9 @@ fn claimed<K: Naming, R: Handles>(
 }
 
 // The task, where a finish gives it back.
-fn foreign<J: Naming, R: Handles>(
+fn foreign<J: Naming, D: Disk + Drop, R: Handles>(
     rt: &R,
-    here: &Hub<J, MemDisk>,
+    here: &Hub<J, D>,
     runner: &mut WorkPass<J>,
     task: Task,
     outcome: Outcome<'_>,

@@ -18,6 +18,9 @@ fn put_at<R: Handles>(rt: &R, one: i64, two: i64) -> Result<(), Error> {
         bail!("nothing was put")
     };
     let ok = usize::from(both.one.is_ok()).saturating_add(usize::from(both.two.is_ok()));
-    println!(rt; "  at {one} and {two}: {ok} Ok, A has {} bytes", bytes(both.core)?)?;
+    println!(rt;
+        "  at {one} and {two}: {ok} Ok, A has {} bytes",
+        bytes(both.core)?
+    )?;
     Ok(())
 }

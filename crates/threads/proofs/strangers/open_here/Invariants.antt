@@ -3,4 +3,10 @@ use Rattle.hub.specs.Opening.{opening_of}
 use Rattle.threads.proofs.strangers.open_here.Given as goal
 
 abbrev pub ghosts-open_there : goal.ghosts-open_there
-ghosts-open_there g a = record { table = a.other_blank.table; passes = a.other_blank.envs + a.other_blank.workers; opening = opening_of a.other_core }
+ghosts-open_there g a = record {
+  table = a.blank.table;
+  passes = a.blank.envs + a.blank.workers;
+  envs = a.blank.envs;
+  opening = opening_of g.D.Disk.files g.D.Disk.moment g.D.Disk.failures g.D.Disk.refusals a.core;
+  left = g.D.Disk.left_at a.core.vault.disk;
+}
