@@ -1,20 +1,25 @@
 //! How long the calls of a hub take on a disk in memory, beside the same calls of a core under a lock of its own.
-ghost use Rattle.std.specs.Prelude.{◌≡◌, ◌+◌};
-ghost use Rattle.hub.specs.Opening.{opening_of};
+ghost use Rattle.hub.specs.Whole.{IsNamedFor};
 
 use anyhow::{Error, bail};
 use commit::Core;
-use disk::MemDisk;
-use graph::graphs_cross;
-use hub::{Blank, EnvPass, Hub, Naming};
+use disk::{Disk, MemDisk};
+use hub::{Blank, EnvPass, Hub, Naming, cores_go, hubs_cross};
+use std::alloc::Global;
 use std::io::Print;
 use std::marker::Brand;
-use std::sync::Mutex;
+use std::sync::{Mutex, Wait};
 use std::thread;
-use std::time::Instant;
+use std::thread::Threads;
+use std::time::{Clock, Instant};
 use terms::{Addr, ItemCollection, Key};
 
 const GRAPH: &str = "[out: i]; env -> [out]; [out] -> env;";
+
+// What is needed of the program.
+pub(crate) trait Handles: Threads + Wait + Sync + Clock + Print + Alloc<A = Global> {}
+
+impl<R: Threads + Wait + Sync + Clock + Print + Alloc<A = Global>> Handles for R {}
 
 // How often each is measured. The shortest time counts.
 const ROUNDS: u8 = 5;
@@ -26,17 +31,17 @@ enum Call {
 }
 
 /// So many calls by each of 1, 2 and 4 threads, and so many of the calls that take no lock.
-pub(crate) fn measure(rt: &HostRuntime, count: u32) -> Result<(), Error> {
+pub(crate) fn measure<R: Handles>(rt: &R, count: u32) -> Result<(), Error> {
     for threads in [1u8, 2, 4] {
         compare(rt, "get", Call::Get, threads, count)?;
         compare(rt, "put_item", Call::Put, threads, count)?;
     }
-    beside(rt, count)
+    beside(rt, MemDisk::new(rt.alloc()), count)
 }
 
 // Prints the microseconds of a call, in a hub and alone.
-fn compare(
-    rt: &HostRuntime,
+fn compare<R: Handles>(
+    rt: &R,
     name: &str,
     call: Call,
     threads: u8,
@@ -45,8 +50,8 @@ fn compare(
     let mut hub = f64::MAX;
     let mut alone = f64::MAX;
     for _ in 0..ROUNDS {
-        hub = hub.min(in_hub(rt, call, threads, count)?);
-        alone = alone.min(under_lock(rt, call, threads, count)?);
+        hub = hub.min(in_hub(rt, MemDisk::new(rt.alloc()), call, threads, count)?);
+        alone = alone.min(under_lock(rt, MemDisk::new(rt.alloc()), call, threads, count)?);
     }
     let one = 1e6 / (f64::from(threads) * f64::from(count.max(1)));
     println!(rt;
@@ -60,24 +65,34 @@ fn compare(
 
 // ---- a core under a lock
 
-fn under_lock(rt: &HostRuntime, call: Call, threads: u8, count: u32) -> Result<f64, Error> {
-    let core = Mutex::new(created(rt)?);
+fn under_lock<D: Disk + Drop + Send, R: Handles>(
+    rt: &R,
+    disk: D,
+    call: Call,
+    threads: u8,
+    count: u32,
+) -> Result<f64, Error> {
+    let core = Mutex::new(created(rt, disk)?);
     let shared = &core;
     let mut firsts = Vec::new(rt.alloc());
     for thread in 0..threads {
         firsts.push(i64::from(thread).saturating_mul(i64::from(count)))?;
     }
-    graphs_cross();
+    cores_go::<D>();
     let start = Instant::now(rt)?;
-    let answers = thread::map_vec(rt, firsts, &|first: i64| calls_alone(rt, shared, call, first, count))?;
+    let answers = thread::map_vec(
+        rt,
+        firsts,
+        &|first: i64| calls_alone(rt, shared, call, first, count),
+    )?;
     let seconds = start.elapsed(rt)?.as_secs_f64();
     are_all(answers.as_slice(), count)?;
     Ok(seconds)
 }
 
-fn calls_alone(
-    rt: &HostRuntime,
-    core: &Mutex<Core<MemDisk>>,
+fn calls_alone<D: Disk, R: Handles>(
+    rt: &R,
+    core: &Mutex<Core<D>>,
     call: Call,
     first: i64,
     count: u32,
@@ -108,31 +123,37 @@ fn are_all(answers: &[u32], count: u32) -> Result<(), Error> {
 
 // ---- a hub
 
-fn in_hub(rt: &HostRuntime, call: Call, threads: u8, count: u32) -> Result<f64, Error> {
+fn in_hub<D: Disk + Drop + Send, R: Handles>(
+    rt: &R,
+    disk: D,
+    call: Call,
+    threads: u8,
+    count: u32,
+) -> Result<f64, Error> {
     let blank = Blank::new(rt.alloc(), threads, 0)?;
-    let core = created(rt)?;
-    hub_as::<Brand>(rt, core, blank, call, count)
+    let core = created(rt, disk)?;
+    hub_as::<Brand, D, R>(rt, core, blank, call, count)
 }
 
+#[derive(Drop)]
 struct Job<J: Naming> {
     first: i64,
     pass: EnvPass<J>,
 }
 
-fn hub_as<J: Naming + Send + Sync>(
-    rt: &HostRuntime,
-    core: Core<MemDisk>,
+fn hub_as<J: Naming + Send + Sync, D: Disk + Drop + Send, R: Handles>(
+    rt: &R,
+    core: Core<D>,
     blank: Blank,
     call: Call,
     count: u32,
 ) -> Result<f64, Error>
-    requires opening { J.opening ≡ opening_of core }
-    requires blank { (J.table ≡ blank.table) × (J.passes ≡ blank.envs + blank.workers) }
+    requires { IsNamedFor D.files D.moment D.left_at D.failures D.refusals J.table J.passes J.envs J.opening J.left blank core }
 {
-    let Ok((hub, envs, _)) = Hub::<J, MemDisk>::open(rt.alloc(), core, blank) else {
+    let Ok((hub, envs, _)) = Hub::<J, D>::open(rt.alloc(), core, blank) else {
         bail!("no hub was opened")
     };
-    graphs_cross();
+    hubs_cross::<J, D>();
     let mut jobs = Vec::new(rt.alloc());
     let mut first = 0i64;
     for pass in envs {
@@ -141,15 +162,19 @@ fn hub_as<J: Naming + Send + Sync>(
     }
     let shared = &hub;
     let start = Instant::now(rt)?;
-    let answers = thread::map_vec(rt, jobs, &|job: Job<J>| calls_of(rt, shared, call, job, count))?;
+    let answers = thread::map_vec(
+        rt,
+        jobs,
+        &|job: Job<J>| calls_of(rt, shared, call, job, count),
+    )?;
     let seconds = start.elapsed(rt)?.as_secs_f64();
     are_all(answers.as_slice(), count)?;
     Ok(seconds)
 }
 
-fn calls_of<J: Naming>(
-    rt: &HostRuntime,
-    hub: &Hub<J, MemDisk>,
+fn calls_of<J: Naming, D: Disk, R: Handles>(
+    rt: &R,
+    hub: &Hub<J, D>,
     call: Call,
     job: Job<J>,
     count: u32,
@@ -171,23 +196,22 @@ fn calls_of<J: Naming>(
 
 // ---- beside the lock
 
-fn beside(rt: &HostRuntime, count: u32) -> Result<(), Error> {
+fn beside<D: Disk + Drop, R: Handles>(rt: &R, disk: D, count: u32) -> Result<(), Error> {
     let blank = Blank::new(rt.alloc(), 1, 0)?;
-    let core = created(rt)?;
-    beside_as::<Brand>(rt, core, blank, count)
+    let core = created(rt, disk)?;
+    beside_as::<Brand, D, R>(rt, core, blank, count)
 }
 
 // Prints the nanoseconds of the calls that take no lock.
-fn beside_as<J: Naming>(
-    rt: &HostRuntime,
-    core: Core<MemDisk>,
+fn beside_as<J: Naming, D: Disk + Drop, R: Handles>(
+    rt: &R,
+    core: Core<D>,
     blank: Blank,
     count: u32,
 ) -> Result<(), Error>
-    requires opening { J.opening ≡ opening_of core }
-    requires blank { (J.table ≡ blank.table) × (J.passes ≡ blank.envs + blank.workers) }
+    requires { IsNamedFor D.files D.moment D.left_at D.failures D.refusals J.table J.passes J.envs J.opening J.left blank core }
 {
-    let Ok((hub, mut envs, _)) = Hub::<J, MemDisk>::open(rt.alloc(), core, blank) else {
+    let Ok((hub, mut envs, _)) = Hub::<J, D>::open(rt.alloc(), core, blank) else {
         bail!("no hub was opened")
     };
     let Some(mut pass) = envs.pop() else {
@@ -208,7 +232,7 @@ fn beside_as<J: Naming>(
     Ok(())
 }
 
-fn ask_commits<J: Naming>(hub: &Hub<J, MemDisk>, pass: &mut EnvPass<J>, count: u32) -> u64 {
+fn ask_commits<J: Naming, D: Disk>(hub: &Hub<J, D>, pass: &mut EnvPass<J>, count: u32) -> u64 {
     let mut all = 0u64;
     for _ in 0..count {
         all = all.saturating_add(hub.commits(pass));
@@ -216,7 +240,7 @@ fn ask_commits<J: Naming>(hub: &Hub<J, MemDisk>, pass: &mut EnvPass<J>, count: u
     all
 }
 
-fn ask_stops<J: Naming>(hub: &Hub<J, MemDisk>, pass: &mut EnvPass<J>, count: u32) -> u32 {
+fn ask_stops<J: Naming, D: Disk>(hub: &Hub<J, D>, pass: &mut EnvPass<J>, count: u32) -> u32 {
     let mut yes = 0u32;
     for _ in 0..count {
         if hub.stop_asked(pass) {
@@ -228,8 +252,8 @@ fn ask_stops<J: Naming>(hub: &Hub<J, MemDisk>, pass: &mut EnvPass<J>, count: u32
 
 // ---- a store
 
-fn created(rt: &HostRuntime) -> Result<Core<MemDisk>, Error> {
-    match Core::create(rt.alloc(), MemDisk::new(rt.alloc()), GRAPH.as_bytes()) {
+fn created<D: Disk + Drop, R: Handles>(rt: &R, disk: D) -> Result<Core<D>, Error> {
+    match Core::create(rt.alloc(), disk, GRAPH.as_bytes()) {
         Ok(core) => Ok(core),
         Err(refused) => bail!("no store was made: {:?}", refused.error),
     }

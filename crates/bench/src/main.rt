@@ -3,6 +3,7 @@
 
 mod cores;
 mod evaluate;
+mod hubs;
 mod images;
 mod machines;
 mod stores;
@@ -17,6 +18,7 @@ const USAGE: &str = "usage: bench canonical FILE
        bench codec ITEMS
        bench core STEPS
        bench evaluate STATEMENTS
+       bench hub CALLS
        bench machine STEPS
        bench open RECORDS";
 
@@ -30,6 +32,7 @@ fn main(rt: HostRuntime) -> Result<ExitCode, Error> {
             ("codec", Ok(count)) => return done(images::measure(&rt, count)),
             ("core", Ok(count)) => return done(cores::measure(&rt, count)),
             ("evaluate", Ok(count)) => return done(evaluate::measure(&rt, count)),
+            ("hub", Ok(count)) => return done(hubs::measure(&rt, count)),
             ("machine", Ok(count)) => return done(machines::measure(&rt, count)),
             ("open", Ok(count)) => return done(stores::measure(&rt, count)),
             _ => {}

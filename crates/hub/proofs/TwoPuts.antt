@@ -81,8 +81,8 @@ both_put fact both go_on Ran opening opened new one two first second first_later
     let these : envs ++ workers ≡ first_later ∷ second_later ∷ [] = ap (λ (list : List Known). envs ++ list) none ∙ ap (λ (list : List Known). list ++ []) are in
     let each = subst (λ (list : List Known). AllByRecursion (IsInHistory history) list) these whole.1.each in
     let all : (number : ℕ) → AllByRecursion such (made_by number history) = λ number.
-        subst (λ (list : List Event). AllByRecursion such list) (sym (whole.1.made number ∙ ap (mine_of number) these))
-        (of_two such first_later second_later (made_with such opening first first_later one first_answer first_none (inl refl) puts_one) (made_with such opening second second_later two second_answer second_none (inr refl) puts_two) number) in
+    subst (λ (list : List Event). AllByRecursion such list) (sym (whole.1.made number ∙ ap (mine_of number) these))
+    (of_two such first_later second_later (made_with such opening first first_later one first_answer first_none (inl refl) puts_one) (made_with such opening second second_later two second_answer second_none (inr refl) puts_two) number) in
     record {
       history = history;
       legal = subst (λ (o : Opening). AreLegalBehind o (events history)) same whole.1.legal;

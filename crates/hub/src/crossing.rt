@@ -14,25 +14,18 @@ use terms::Event;
 
 /// Its caller has the clause of a type that the search finds.
 fn goes<T: Send>()
-ensures {
-    IsSend T.row
-}
-{
-}
+    ensures { IsSend T.row }
+{}
 
 /// The same, of what threads may share.
 fn is_shared<T: Sync>()
-ensures {
-    IsSync T.row
-}
-{
-}
+    ensures { IsSync T.row }
+{}
 
 /// A store on two files may go where its disk may.
 fn vaults_go<D: Disk + Send>()
     ensures { IsSend (of_vault.the_row D.row) }
-{
-}
+{}
 
 /// An event may go.
 fn events_go()
@@ -42,7 +35,7 @@ fn events_go()
 }
 
 /// A core may go from thread to thread where its disk may.
-fn cores_go<D: Disk + Send>()
+pub fn cores_go<D: Disk + Send>()
     ensures { IsSend (of_core.the_row D.row D.Disk) }
 {
     graphs_cross();

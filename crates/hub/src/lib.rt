@@ -26,7 +26,7 @@ mod visits;
 pub use board::Board;
 pub use both::{Both, BothError, NonePut, put_two};
 pub use close::{CloseError, NotClosed};
-pub use crossing::hubs_cross;
+pub use crossing::{cores_go, hubs_cross};
 pub use desk::Desk;
 pub use error::TaskError;
 pub use hub::Hub;
