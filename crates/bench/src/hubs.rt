@@ -21,6 +21,9 @@ pub(crate) trait Handles: Threads + Wait + Sync + Clock + Print + Alloc<A = Glob
 
 impl<R: Threads + Wait + Sync + Clock + Print + Alloc<A = Global>> Handles for R {}
 
+// There is one put for so many gets, since a disk in memory keeps a record of each call.
+const PUTS_ONE_IN: u32 = 64;
+
 // How often each is measured. The shortest time counts.
 const ROUNDS: u8 = 5;
 
@@ -34,7 +37,7 @@ enum Call {
 pub(crate) fn measure<R: Handles>(rt: &R, count: u32) -> Result<(), Error> {
     for threads in [1u8, 2, 4] {
         compare(rt, "get", Call::Get, threads, count)?;
-        compare(rt, "put_item", Call::Put, threads, count)?;
+        compare(rt, "put_item", Call::Put, threads, count / PUTS_ONE_IN)?;
     }
     beside(rt, MemDisk::new(rt.alloc()), count)
 }
