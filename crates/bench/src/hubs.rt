@@ -22,7 +22,7 @@ pub(crate) trait Handles: Threads + Wait + Sync + Clock + Print + Alloc<A = Glob
 impl<R: Threads + Wait + Sync + Clock + Print + Alloc<A = Global>> Handles for R {}
 
 // There is one put for so many gets, since a disk in memory keeps a record of each call.
-const PUTS_ONE_IN: u32 = 64;
+const PUTS_ONE_IN: u32 = 2_048;
 
 // How often each is measured. The shortest time counts.
 const ROUNDS: u8 = 5;

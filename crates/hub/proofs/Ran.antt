@@ -9,6 +9,7 @@ use Rattle.machine.specs.Meaning.{items}
 use Rattle.machine.specs.Results.{AreItems, ReadsStay}
 use Rattle.hub.specs.Known.{Known}
 use Rattle.hub.specs.Opening.{Opening, facts_behind}
+use Rattle.hub.specs.Replies.{Sees, AddsNothing}
 use Rattle.hub.specs.Running.{IsAhead}
 use Rattle.hub.proofs.Gathered.{all_of_both}
 use Rattle.hub.proofs.Lists.{prefix_further}
@@ -22,7 +23,7 @@ pub record GoesOn (opening : Opening) (old new : Known) (first run : Running) (a
   pub instance : run.instance ≡ first.instance
   pub read : AreItems (facts_behind opening new.seen) (reads_with run.reads run.awaits answer)
 
-ahead_further : (old mid new : Known) → IsAhead old mid → IsAhead mid new → IsAhead old new
+pub ahead_further : (old mid new : Known) → IsAhead old mid → IsAhead mid new → IsAhead old new
 ahead_further old mid new one two = record {
   starts = prefix_further old.seen mid.seen new.seen one.starts two.starts;
   number = two.number ∙ one.number;
@@ -30,6 +31,10 @@ ahead_further old mid new one two = record {
   told = two.told ∙ one.told;
   asked = two.asked ∙ one.asked;
 }
+
+-- a pass that was shown the history, and made nothing
+pub ahead_of : (opening : Opening) (old new : Known) → Sees opening old new → AddsNothing old new → IsAhead old new
+ahead_of opening old new sees nothing = record { starts = sees.starts; number = sees.same.0; mine = nothing; told = sees.same.1; asked = sees.same.2 }
 
 -- an item more was read
 pub reads_more : AmongBoth → FactsGoOn → ReadsStay → (opening : Opening) (old mid new : Known) (first run later : Running) (answer : Option ℤ) (address : Addr) (value : ℤ) → GoesOn opening old mid first run answer

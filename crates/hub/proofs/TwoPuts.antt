@@ -1,93 +1,144 @@
 -- Two threads that put an item each.
-use Rattle.std.proofs.Common.{◌≡◌, ◌⊎◌, ◌∙◌, ◌||◌, ℕ, ℤ, Bool, true, false, eqb, eq-eqb, if◌then◌else◌, List, [], ◌∷◌, ◌++◌, Result, Ok, Err, refl, sym, ap, subst, inl, inr}
+use Rattle.std.proofs.Common.{◌≡◌, ◌≢◌, ◌⊎◌, ◌∙◌, ◌≤◌, ℕ, zero, suc, ℤ, Bool, true, false, true≢false, eqb, eq-eqb, ne_eqb, if◌then◌else◌, List, [], ◌∷◌, ◌++◌, length, Result, Ok, Err, IfErr, refl, sym, ap, subst, inl, inr, arith}
+use Rattle.std.proofs.lemmas.Bool.Decides.{nat_tests}
 use Rattle.std.specs.List.{AllByRecursion}
 use Rattle.terms.specs.declared.name.Addr.{Addr}
 use Rattle.terms.specs.declared.event.Event.{Event}
-use Rattle.terms.specs.declared.event.Event.TheVariants.{EnvItem}
-use Rattle.terms.specs.declared.producer.Producer.TheVariants.{Env}
-use Rattle.terms.specs.Facts.{Fact, FactsGoOn, item}
-use Rattle.terms.specs.Sets.{AmongBoth, Facts, OneFact, is_fact}
 use Rattle.commit.specs.declared.error.CoreError.{CoreError}
 use Rattle.commit.specs.Core.{Core}
-use Rattle.hub.specs.Known.{Known, Made, events, made_by}
+use Rattle.commit.specs.Kept.{IsHaltedByTurn}
+use Rattle.hub.specs.Known.{Known, Made, events, made_by, newcomer}
 use Rattle.hub.specs.Rule.{IsInHistory}
-use Rattle.hub.specs.Opening.{Opening, facts_behind, AreLegalBehind, IsBehind}
+use Rattle.hub.specs.Opening.{Opening, AreLegalBehind, IsBehind, WasTurned}
 use Rattle.hub.specs.Whole.{IsWhole, mine_of}
-use Rattle.hub.specs.Both.{Answers, BothPut, Puts}
-use Rattle.hub.proofs.States.{facts_more, stays}
+use Rattle.hub.specs.Both.{BothPut, IsRefused, Puts, put_by}
 
--- ---- nothing else was put
+-- ---- lists of what was made
 
--- where all that was made with each pass is such, all that was made is
-all_made : (such : Event → Type 0) (history : List Made) → ((number : ℕ) → AllByRecursion such (made_by number history)) → AllByRecursion such (events history)
-all_made such [] each = tt
-all_made such (made ∷ history) each = (own, all_made such history rest)
+number_is : (a b : ℕ) → eqb a b ≡ true → a ≡ b
+number_is a b is = grind (arith, nat_tests)
+
+apart : (a b : ℕ) → eqb a b ≡ false → a ≢ b
+apart a b is same = true≢false (sym (eq-eqb a b same) ∙ is)
+
+fewer : (made : Made) (number : ℕ) (history : List Made) → made_by number (made ∷ history) ≡ [] → made_by number history ≡ []
+fewer made number history none = by_case (eqb made.pass number) none
   where
-    own : such made.event
-    own = (subst (λ (same : Bool). AllByRecursion such (if same then made.event ∷ made_by made.pass history else made_by made.pass history)) (eq-eqb made.pass made.pass refl) (each made.pass)).0
-
-    rest : (number : ℕ) → AllByRecursion such (made_by number history)
-    rest number = by_case (eqb made.pass number) (each number)
+    by_case : (same : Bool) → (if same then made.event ∷ made_by number history else made_by number history) ≡ [] → made_by number history ≡ []
+    by_case true is = absurd (some (ap length is))
       where
-        by_case : (same : Bool) → AllByRecursion such (if same then made.event ∷ made_by number history else made_by number history) → AllByRecursion such (made_by number history)
-        by_case true all = all.1
-        by_case false all = all
+        some : length (made.event ∷ made_by number history) ≡ 0 → ⊥
+        some is = omega (arith, is)
+    by_case false is = is
 
--- what was made with the pass of a thread that put an item
-made_with : (such : Event → Type 0) (opening : Opening) (old new : Known) (put : Addr × ℤ) (result : Result (Unit {0}) CoreError) → old.mine ≡ [] → such (EnvItem put.0 put.1) → Puts opening old new put result → AllByRecursion such new.mine
-made_with such opening old new put (Ok done) none is puts = subst (λ (list : List Event). AllByRecursion such list) (sym (puts.ok.mine ∙ ap (λ (list : List Event). list ++ EnvItem put.0 put.1 ∷ []) none)) (is, tt)
-made_with such opening old new put (Err error) none is puts = subst (λ (list : List Event). AllByRecursion such list) (sym (puts.err ∙ none)) tt
+made_own : (made : Made) (history : List Made) → made_by made.pass (made ∷ history) ≡ [] → ⊥
+made_own made history none =
+    let is : length (made.event ∷ made_by made.pass history) ≡ 0 =
+    ap length (sym (ap (λ (same : Bool). if same then made.event ∷ made_by made.pass history else made_by made.pass history) (eq-eqb made.pass made.pass refl)) ∙ none) in
+    omega (arith, is)
 
--- and with each of two passes
-of_two : (such : Event → Type 0) (one two : Known) → AllByRecursion such one.mine → AllByRecursion such two.mine → (number : ℕ) → AllByRecursion such (mine_of number (one ∷ two ∷ []))
-of_two such one two first second number = by_case (eqb one.number number) (eqb two.number number)
+none_left : (list : List Event) → length list ≡ 0 → list ≡ []
+none_left [] is = refl
+none_left (event ∷ list) is = absurd (omega (arith, is))
+
+-- ---- what was put
+
+-- a history that has events of one pass alone has just those
+of_one : (only : ℕ) (history : List Made) → ((number : ℕ) → number ≢ only → made_by number history ≡ []) → events history ≡ made_by only history
+of_one only [] none = refl
+of_one only (made ∷ history) none = by_case (of_one only history (λ number other. fewer made number history (none number other))) (eqb made.pass only) refl
   where
-    by_case : (here there : Bool) → AllByRecursion such (if here then one.mine else (if there then two.mine else []))
-    by_case true there = first
-    by_case false true = second
-    by_case false false = tt
+    by_case : events history ≡ made_by only history → (same : Bool) → eqb made.pass only ≡ same → made.event ∷ events history ≡ (if same then made.event ∷ made_by only history else made_by only history)
+    by_case rest true is = ap (λ (list : List Event). made.event ∷ list) rest
+    by_case rest false is = absurd (made_own made history (none made.pass (apart made.pass only is)))
 
--- ---- what each thread is told
-
-is_there : OneFact → AmongBoth → FactsGoOn → (opening : Opening) (before : List Event) (put : Addr × ℤ) (seen : List Event) → seen ≡ before ++ EnvItem put.0 put.1 ∷ [] → facts_behind opening seen (item put.0 put.1 Env) ≡ true
-is_there one both go_on opening before put seen ends =
-    let fact : Fact = item put.0 put.1 Env in
-    ap (λ (list : List Event). facts_behind opening list fact) ends ∙ ap (λ (X : Facts). X fact) (facts_more both go_on opening before (EnvItem put.0 put.1))
-    ∙ last (facts_behind opening before fact) (is_fact fact fact) (one fact fact).0
+-- each of two passes has one event at most: so these are all, in one order or the other
+pub of_both : (history : List Made) (ones twos : List Event) → ((number : ℕ) → number ≢ 0 → number ≢ 1 → made_by number history ≡ []) → made_by 0 history ≡ ones → made_by 1 history ≡ twos → length ones ≤ 1 → length twos ≤ 1
+    → (events history ≡ ones ++ twos) ⊎ (events history ≡ twos ++ ones)
+of_both [] ones twos none first second few_ones few_twos = inl (ap (λ (list : List Event). list ++ []) first ∙ ap (λ (list : List Event). ones ++ list) second)
+of_both (made ∷ history) ones twos none first second few_ones few_twos = by_case (eqb made.pass 0) (eqb made.pass 1) refl refl first second
   where
-    last : (a b : Bool) → b ≡ true → (a || (b || false)) ≡ true
-    last true b is = refl
-    last false true is = refl
-    last false false is = is
+    by_case : (zeroth other : Bool) → eqb made.pass 0 ≡ zeroth → eqb made.pass 1 ≡ other → (if zeroth then made.event ∷ made_by 0 history else made_by 0 history) ≡ ones → (if other then made.event ∷ made_by 1 history else made_by 1 history) ≡ twos
+        → (made.event ∷ events history ≡ ones ++ twos) ⊎ (made.event ∷ events history ≡ twos ++ ones)
+    by_case true other is_zero is_one firsts seconds = inl (
+        ap (λ (list : List Event). made.event ∷ list) (of_one 1 history (λ number apart_one. others number apart_one) ∙ seconds_are other is_one seconds)
+        ∙ ap (λ (list : List Event). list ++ twos) (ap (λ (list : List Event). made.event ∷ list) (sym no_more) ∙ firsts))
+      where
+        no_more : made_by 0 history ≡ []
+        no_more = none_left (made_by 0 history) (omega (arith, few_ones, ap length firsts))
 
-answered : OneFact → AmongBoth → FactsGoOn → {D : Type 0} (opening : Opening) (history : List Made) (c : Core D) (old new : Known) (put : Addr × ℤ) (result : Result (Unit {0}) CoreError) → IsBehind opening (events history) c
-    → IsInHistory history new → Puts opening old new put result → Answers opening history c put result
-answered one both go_on opening history c old new put (Ok done) behind is puts = record {
-  there =
-      ap (λ (X : Facts). X (item put.0 put.1 Env)) behind.facts
-      ∙ stays both go_on opening new.seen (events history) is.seen (item put.0 put.1 Env) (is_there one both go_on opening puts.ok.before put new.seen puts.ok.ends);
-  refused = tt;
-}
-answered one both go_on opening history c old new put (Err error) behind is puts = record { there = tt; refused = (new, is, puts.refused) }
+        others : (number : ℕ) → number ≢ 1 → made_by number history ≡ []
+        others zero apart_one = no_more
+        others (suc number) apart_one = fewer made (suc number) history (none (suc number) (λ is. omega (arith, is)) apart_one)
+
+        not_both : ◌≡◌ {A = ℕ} 0 1 → ⊥
+        not_both is = omega (arith, is)
+
+        seconds_are : (o : Bool) → eqb made.pass 1 ≡ o → (if o then made.event ∷ made_by 1 history else made_by 1 history) ≡ twos → made_by 1 history ≡ twos
+        seconds_are true is list = absurd (not_both (sym (number_is made.pass 0 is_zero) ∙ number_is made.pass 1 is))
+        seconds_are false is list = list
+    by_case false true is_zero is_one firsts seconds = inr (
+        ap (λ (list : List Event). made.event ∷ list) (of_one 0 history (λ number apart_zero. others number apart_zero) ∙ firsts)
+        ∙ ap (λ (list : List Event). list ++ ones) (ap (λ (list : List Event). made.event ∷ list) (sym no_more) ∙ seconds))
+      where
+        no_more : made_by 1 history ≡ []
+        no_more = none_left (made_by 1 history) (omega (arith, few_twos, ap length seconds))
+
+        others : (number : ℕ) → number ≢ 0 → made_by number history ≡ []
+        others zero apart_zero = absurd (apart_zero refl)
+        others (suc zero) apart_zero = no_more
+        others (suc (suc number)) apart_zero = fewer made (suc (suc number)) history (none (suc (suc number)) (λ is. omega (arith, is)) (λ is. omega (arith, is)))
+    by_case false false is_zero is_one firsts seconds = absurd (made_own made history (none made.pass (apart made.pass 0 is_zero) (apart made.pass 1 is_one)))
 
 -- ---- both
 
-pub both_put : OneFact → AmongBoth → FactsGoOn → {D : Type 0} (Ran : List Event → Core D → Type 0) (opening opened : Opening) (new : Core D) (one two : Addr × ℤ) (first second first_later second_later : Known) (first_answer second_answer : Result (Unit {0}) CoreError) (envs workers : List Known)
-    (whole : (history : List Made) × IsWhole Ran opening envs workers new history) → opening ≡ opened → first.mine ≡ [] → second.mine ≡ [] → envs ≡ first_later ∷ second_later ∷ [] → workers ≡ []
+-- what is made with the pass of a thread that puts an item
+made_with : (opening : Opening) (old new : Known) (put : Addr × ℤ) (result : Result (Unit {0}) CoreError) → old.mine ≡ [] → Puts opening old new put result → new.mine ≡ put_by put result
+made_with opening old new put (Ok done) none puts = puts.ok.mine ∙ ap (λ (list : List Event). list ++ put_by put (Ok done)) none
+made_with opening old new put (Err error) none puts = puts.err ∙ none
+
+few : (put : Addr × ℤ) (result : Result (Unit {0}) CoreError) → length (put_by put result) ≤ 1
+few put (Ok done) = omega arith
+few put (Err error) = omega arith
+
+refused : (opening : Opening) (history : List Made) (old new : Known) (put : Addr × ℤ) (result : Result (Unit {0}) CoreError) → IsInHistory history new → Puts opening old new put result → IsRefused opening history put result
+refused opening history old new put (Ok done) is puts = tt
+refused opening history old new put (Err error) is puts = (new.seen, is.seen, puts.refused)
+
+-- of two passes, whose numbers are 0 and 1
+first_of : (one two : Known) → one.number ≡ 0 → mine_of 0 (one ∷ two ∷ []) ≡ one.mine
+first_of one two is = ap (λ (same : Bool). if same then one.mine else mine_of 0 (two ∷ [])) (eq-eqb one.number 0 is)
+
+second_of : (one two : Known) → one.number ≡ 0 → two.number ≡ 1 → mine_of 1 (one ∷ two ∷ []) ≡ two.mine
+second_of one two is_zero is_one =
+    ap (λ (same : Bool). if same then one.mine else mine_of 1 (two ∷ [])) (ne_eqb one.number 1 (λ is. omega (arith, is, is_zero)))
+    ∙ ap (λ (same : Bool). if same then two.mine else []) (eq-eqb two.number 1 is_one)
+
+none_of : (one two : Known) (number : ℕ) → one.number ≡ 0 → two.number ≡ 1 → number ≢ 0 → number ≢ 1 → mine_of number (one ∷ two ∷ []) ≡ []
+none_of one two number is_zero is_one not_zero not_one =
+    ap (λ (same : Bool). if same then one.mine else mine_of number (two ∷ [])) (ne_eqb one.number number (λ is. not_zero (sym is ∙ is_zero)))
+    ∙ ap (λ (same : Bool). if same then two.mine else []) (ne_eqb two.number number (λ is. not_one (sym is ∙ is_one)))
+
+pub both_put : {D : Type 0} (Ran : List Event → Core D → Type 0) (opening opened : Opening) (new : Core D) (one two : Addr × ℤ) (first second first_later second_later : Known) (first_answer second_answer : Result (Unit {0}) CoreError)
+    (envs workers : List Known) (whole : (history : List Made) × IsWhole Ran opening envs workers new history) → opening ≡ opened → first ≡ newcomer 0 → second ≡ newcomer 1 → envs ≡ first_later ∷ second_later ∷ [] → workers ≡ []
     → Puts opening first first_later one first_answer → Puts opening second second_later two second_answer → BothPut opened new one two first_answer second_answer
-both_put fact both go_on Ran opening opened new one two first second first_later second_later first_answer second_answer envs workers whole same first_none second_none are none puts_one puts_two =
-    let such = λ (event : Event). (event ≡ EnvItem one.0 one.1) ⊎ (event ≡ EnvItem two.0 two.1) in
+both_put Ran opening opened new one two first second first_later second_later first_answer second_answer envs workers whole same is_first is_second are none puts_one puts_two =
     let history = whole.0 in
     let these : envs ++ workers ≡ first_later ∷ second_later ∷ [] = ap (λ (list : List Known). envs ++ list) none ∙ ap (λ (list : List Known). list ++ []) are in
     let each = subst (λ (list : List Known). AllByRecursion (IsInHistory history) list) these whole.1.each in
-    let all : (number : ℕ) → AllByRecursion such (made_by number history) = λ number.
-    subst (λ (list : List Event). AllByRecursion such list) (sym (whole.1.made number ∙ ap (mine_of number) these))
-    (of_two such first_later second_later (made_with such opening first first_later one first_answer first_none (inl refl) puts_one) (made_with such opening second second_later two second_answer second_none (inr refl) puts_two) number) in
+    let zeroth : first_later.number ≡ 0 = puts_one.seen.same.0 ∙ ap (λ (known : Known). known.number) is_first in
+    let next : second_later.number ≡ 1 = puts_two.seen.same.0 ∙ ap (λ (known : Known). known.number) is_second in
+    let made : (number : ℕ) → made_by number history ≡ mine_of number (first_later ∷ second_later ∷ []) = λ number. whole.1.made number ∙ ap (mine_of number) these in
     record {
       history = history;
       legal = subst (λ (o : Opening). AreLegalBehind o (events history)) same whole.1.legal;
       behind = subst (λ (o : Opening). IsBehind o (events history) new) same whole.1.behind;
-      only = all_made such history all;
-      answers_one = subst (λ (o : Opening). Answers o history new one first_answer) same (answered fact both go_on opening history new first first_later one first_answer whole.1.behind each.0 puts_one);
-      answers_two = subst (λ (o : Opening). Answers o history new two second_answer) same (answered fact both go_on opening history new second second_later two second_answer whole.1.behind each.1.0 puts_two);
+      just = of_both history (put_by one first_answer) (put_by two second_answer)
+          (λ number not_zero not_one. made number ∙ none_of first_later second_later number zeroth next not_zero not_one)
+          (made 0 ∙ first_of first_later second_later zeroth ∙ made_with opening first first_later one first_answer (ap (λ (known : Known). known.mine) is_first) puts_one)
+          (made 1 ∙ second_of first_later second_later zeroth next ∙ made_with opening second second_later two second_answer (ap (λ (known : Known). known.mine) is_second) puts_two)
+          (few one first_answer) (few two second_answer);
+      refused_one = subst (λ (o : Opening). IsRefused o history one first_answer) same (refused opening history first first_later one first_answer each.0 puts_one);
+      refused_two = subst (λ (o : Opening). IsRefused o history two second_answer) same (refused opening history second second_later two second_answer each.1.0 puts_two);
+      turned = λ turned. subst WasTurned same (whole.1.turned turned);
     }

@@ -1,17 +1,16 @@
 -- Two threads that put an item each.
-use Rattle.std.specs.Prelude.{◌≡◌, ◌⊎◌, ℤ, true, List, Result, OnOk, OnErr, IfErr}
-use Rattle.std.specs.List.{AllByRecursion}
+use Rattle.std.specs.Prelude.{◌≡◌, ◌⊎◌, ℤ, List, ◌++◌, ◌∷◌, [], Result, Ok, Err, OnOk, OnErr, IfErr}
+use mathlib.Core.List.{IsPrefix}
 use Rattle.terms.specs.declared.name.Addr.{Addr}
-use Rattle.terms.specs.declared.producer.Producer.TheVariants.{Env}
+use Rattle.terms.specs.declared.event.Event.{Event}
 use Rattle.terms.specs.declared.event.Event.TheVariants.{EnvItem}
-use Rattle.terms.specs.Facts.{item}
 use Rattle.machine.specs.Machine.{RefusesItem}
 use Rattle.commit.specs.declared.error.CoreError.{CoreError}
-use Rattle.commit.specs.Core.{Core, facts}
+use Rattle.commit.specs.Core.{Core}
+use Rattle.commit.specs.Kept.{IsHaltedByTurn}
 use Rattle.hub.specs.Known.{Known, Made, events}
-use Rattle.hub.specs.Rule.{IsInHistory}
-use Rattle.hub.specs.Opening.{Opening, AreLegalBehind, IsBehind}
-use Rattle.hub.specs.Replies.{RefusesEvent, Sees, Adds, AddsNothing}
+use Rattle.hub.specs.Opening.{Opening, facts_behind, AreLegalBehind, IsBehind, WasTurned}
+use Rattle.hub.specs.Replies.{RefusesAt, RefusesEvent, Sees, Adds, AddsNothing}
 
 -- why the put of this item is refused in the state that a pass knows
 abbrev pub RefusesPut : Opening → Known → Addr × ℤ → CoreError → Type 0
@@ -24,16 +23,23 @@ pub record Puts (opening : Opening) (old new : Known) (put : Addr × ℤ) (resul
   pub err : OnErr result (AddsNothing old new)
   pub refused : IfErr result (RefusesPut opening new put)
 
--- what is answered to the thread that puts this item: the item is there, as one of the environment; or why it is not, in a state of this history
-pub record Answers {D : Type 0} (opening : Opening) (history : List Made) (c : Core D) (put : Addr × ℤ) (result : Result (Unit {0}) CoreError) : Type 0 where
-  pub there : OnOk result (facts c (item put.0 put.1 Env) ≡ true)
-  pub refused : IfErr result (λ error. (known : Known) × IsInHistory history known × RefusesPut opening known put error)
+-- what an answer says was put: the item at `Ok`, and nothing at an error
+abbrev pub put_by : Addr × ℤ → Result (Unit {0}) CoreError → List Event
+put_by put (Ok done) = EnvItem put.0 put.1 ∷ []
+put_by put (Err error) = []
 
--- There is one history, which is legal and has nothing but these two puts. The core has the state behind it, and each thread is answered by it.
+-- why an item is not put, in the state behind some first events of the history. That the core is halted tells no cause.
+abbrev pub IsRefused : Opening → List Made → Addr × ℤ → Result (Unit {0}) CoreError → Type 0
+IsRefused opening history put result =
+    IfErr result (λ error. (before : List Event) × IsPrefix before (events history) × RefusesAt opening.graph (facts_behind opening before) (RefusesItem opening.graph (facts_behind opening before) put.0) (EnvItem put.0 put.1) error)
+
+-- There is one history, which is legal and has just what the two answers say was put, in one order or the other. The core has the state behind it, and an item that is not
+-- put is refused by it. Where a turnover halted the core, that was before.
 pub record BothPut {D : Type 0} (opening : Opening) (new : Core D) (one two : Addr × ℤ) (first second : Result (Unit {0}) CoreError) : Type 0 where
   pub history : List Made
   pub legal : AreLegalBehind opening (events history)
   pub behind : IsBehind opening (events history) new
-  pub only : AllByRecursion (λ event. (event ≡ EnvItem one.0 one.1) ⊎ (event ≡ EnvItem two.0 two.1)) (events history)
-  pub answers_one : Answers opening history new one first
-  pub answers_two : Answers opening history new two second
+  pub just : (events history ≡ put_by one first ++ put_by two second) ⊎ (events history ≡ put_by two second ++ put_by one first)
+  pub refused_one : IsRefused opening history one first
+  pub refused_two : IsRefused opening history two second
+  pub turned : IsHaltedByTurn new → WasTurned opening

@@ -55,8 +55,8 @@ pub record Blank : Type 0 where
   pub envs : ℕ
   pub workers : ℕ
 
--- A naming of a hub is one for this blank and this core: it has the blank's words and counts of passes, what the core has then, and what a crash might leave
--- of its disk.
+-- The names of a hub fit this blank and this core: they have the blank's words and counts of passes, what the core has when the hub is opened, and for each moment what a
+-- crash may leave, as the disk tells then.
 pub record IsNamedFor {D : Type 0} (files : D → Side → File) (moment : D → ℕ) (left_at : D → ℕ → Contents → Type 0) (failures refusals : D → ℕ) (table : TableId) (passes envs : ℕ) (opening : Opening) (left : ℕ → Contents → Type 0) (blank : Blank) (c : Core D) : Type 0 where
   pub words : table ≡ blank.table
   pub passes_are : passes ≡ blank.envs + blank.workers
@@ -64,7 +64,7 @@ pub record IsNamedFor {D : Type 0} (files : D → Side → File) (moment : D →
   pub opening_is : opening ≡ opening_of files moment failures refusals c
   pub left_is : (t : ℕ) (contents : Contents) → left t contents ↔ left_at c.vault.disk t contents
 
--- Why a hub with so many passes is not closed with these: one is missing; or none is, and an instance runs.
+-- Why a hub with so many passes is not closed with these: one is missing; or, for `TaskOut`, none is.
 abbrev pub WhyNotClosed : ℕ → List Known → CloseError → Type 0
 WhyNotClosed count passes PassMissing = (number : ℕ) × (number < count) × (has_number number passes ≡ false)
 WhyNotClosed count passes TaskOut = (number : ℕ) → number < count → has_number number passes ≡ true

@@ -1,7 +1,8 @@
 //! A hub from its opening to its close: two threads put an item each.
 ghost use Rattle.std.specs.Prelude.{◌≡◌, IfErr, IfOk};
 ghost use Rattle.commit.specs.Runs.{NoneRuns};
-ghost use Rattle.hub.specs.Both.{Answers, BothPut, Puts};
+ghost use Rattle.hub.specs.declared.both.BothError.TheVariants.{TaskOut, NoMemory};
+ghost use Rattle.hub.specs.Both.{BothPut, Puts};
 ghost use Rattle.hub.specs.Known.{newcomer};
 ghost use Rattle.hub.specs.Opening.{opening_of};
 ghost use Rattle.hub.specs.Whole.{IsNamedFor};
@@ -13,7 +14,7 @@ use std::alloc::Global;
 use std::marker::Brand;
 use std::sync::Wait;
 use std::thread::{Threads, join};
-use terms::{Addr, facts_are_told_apart, facts_go_on};
+use terms::Addr;
 use thiserror::Error;
 
 /// What came of two puts, with the core behind them.
@@ -55,7 +56,7 @@ fn put_as<J: Naming, D: Disk, R: Wait>(
     (pass, answer)
 }
 
-// Two threads put an item each into a hub that is opened for them, and closed behind them.
+// Two threads put an item each into a hub that is opened for them, and closed after them.
 fn put_both<J: Naming + Send + Sync, D: Disk + Drop + Send, R: Threads + Wait + Sync>(
     rt: &R,
     alloc: Global,
@@ -68,10 +69,8 @@ fn put_both<J: Naming + Send + Sync, D: Disk + Drop + Send, R: Threads + Wait + 
     requires passes { (blank.envs ≡ 2) × (blank.workers ≡ 0) }
     ensures ok { IfOk result (λ both. BothPut (opening_of D.files D.moment D.failures D.refusals core) both.core one two both.one both.two) }
     ensures idle { IfOk result (λ both. NoneRuns both.core) }
-    ensures err { IfErr result (λ none. none.core ≡ core) }
+    ensures err { IfErr result (λ none. (none.core ≡ core) × (none.error ≡ NoMemory)) }
 {
-    facts_are_told_apart();
-    facts_go_on();
     let (hub, mut envs, workers) = match Hub::<J, D>::open(alloc, core, blank) {
         Ok(opened) => opened,
         Err(not_opened) => {
@@ -105,7 +104,8 @@ fn put_both<J: Naming + Send + Sync, D: Disk + Drop + Send, R: Threads + Wait + 
 
 /// Two threads put an item each, through a hub that is opened for them.
 ///
-/// Each thread's answer tells whether its item is there. Nothing is put where memory is refused at first, and where an instance runs in the core.
+/// The store has the item of a thread that is answered `Ok`, and of no other; an error tells why. `NonePut` comes where an instance runs in the core, and where memory
+/// is refused before the threads are started.
 pub fn put_two<D: Disk + Drop + Send, R: Threads + Wait + Sync>(
     rt: &R,
     alloc: Global,
@@ -114,8 +114,9 @@ pub fn put_two<D: Disk + Drop + Send, R: Threads + Wait + Sync>(
     two: (Addr, i64),
 ) -> Result<Both<D>, NonePut<D>>
     ensures ok { IfOk result (λ both. BothPut (opening_of D.files D.moment D.failures D.refusals core) both.core one two both.one both.two) }
-    ensures idle { IfOk result (λ both. NoneRuns both.core) }
+    ensures idle { IfOk result (λ both. NoneRuns both.core × NoneRuns core) }
     ensures err { IfErr result (λ none. none.core ≡ core) }
+    ensures cause { IfErr result (λ none. none.error ≡ TaskOut → NoneRuns core → ⊥) }
 {
     if core.running() != 0 {
         return Err(NonePut {

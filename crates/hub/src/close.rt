@@ -1,5 +1,5 @@
 //! The end of a hub.
-ghost use Rattle.std.specs.Prelude.{◌≡◌, ◌<◌, ◌++◌, ℕ, List, None, true, false, IfOk, IfErr, IsTrue};
+ghost use Rattle.std.specs.Prelude.{◌≡◌, ◌<◌, ◌++◌, ℕ, List, None, true, false, IfOk, IfErr, IsTrue, OnOk};
 ghost use Rattle.std.specs.List.{AllByRecursion};
 ghost use Rattle.commit.specs.Runs.{NoneRuns};
 ghost use Rattle.hub.specs.Kept.{HasRun};
@@ -49,6 +49,7 @@ impl<J: Naming, D: Disk> NotClosed<J, D> {
 
     // Tries once more.
     fn again(self) -> Result<Core<D>, NotClosed<J, D>>
+        ensures all { OnOk result ((number : ℕ) → number < J.passes → has_number number (self.envs.items ++ self.workers.items) ≡ true) }
         ensures whole { IfOk result (λ core. (history : List Made) × IsWhole (HasRun D.moment D.left_at D.failures D.refusals (IsTrue D.is_honest) J.opening J.left J.envs) J.opening self.envs.items self.workers.items core history) }
         ensures idle { IfOk result NoneRuns }
         ensures err { IfErr result (λ again. (again.envs.items ≡ self.envs.items) × (again.workers.items ≡ self.workers.items)) }
@@ -137,12 +138,14 @@ impl<J: Naming, D: Disk> Kept<J, D> {
 impl<J: Naming, D: Disk> Hub<J, D> {
     /// Ends the hub, and gives the core.
     ///
-    /// It is refused, with hub and passes given back, where a pass is missing, and else where an instance runs.
+    /// At `Ok` all passes were here, and no instance runs. Else hub and passes come back: `PassMissing` is answered only where a pass is missing, and `TaskOut` only
+    /// where none is.
     pub fn close(
         self,
         envs: Vec<EnvPass<J>>,
         workers: Vec<WorkPass<J>>,
     ) -> Result<Core<D>, NotClosed<J, D>>
+        ensures all { OnOk result ((number : ℕ) → number < J.passes → has_number number (envs.items ++ workers.items) ≡ true) }
         ensures whole { IfOk result (λ core. (history : List Made) × IsWhole (HasRun D.moment D.left_at D.failures D.refusals (IsTrue D.is_honest) J.opening J.left J.envs) J.opening envs.items workers.items core history) }
         ensures idle { IfOk result NoneRuns }
         ensures err { IfErr result (λ not_closed. (not_closed.envs.items ≡ envs.items) × (not_closed.workers.items ≡ workers.items)) }
@@ -173,13 +176,14 @@ impl<J: Naming, D: Disk> Hub<J, D> {
         Ok(kept.close(&board, envs, workers))
     }
 
-    /// Ends the hub, as `close` does, for a caller who has all its passes and has spent each task. Before that is so it does not return.
+    /// Ends the hub, as `close` does. Where `close` would refuse it does not return: the hub and its passes are in this call, so that nobody can change that.
     pub fn close_when_idle<R: Wait>(
         self,
         rt: &R,
         envs: Vec<EnvPass<J>>,
         workers: Vec<WorkPass<J>>,
     ) -> Core<D>
+        ensures all { (number : ℕ) → number < J.passes → has_number number (envs.items ++ workers.items) ≡ true }
         ensures whole { (history : List Made) × IsWhole (HasRun D.moment D.left_at D.failures D.refusals (IsTrue D.is_honest) J.opening J.left J.envs) J.opening envs.items workers.items result history }
         ensures idle { NoneRuns result }
     {

@@ -12,29 +12,29 @@ use machine::Machine;
 use std::sync::{Arc, Mutex};
 use terms::Event;
 
-/// Its caller has the clause of a type that the search finds.
+// Gives its caller the clause that `T` is `Send`, where the search of traits finds it.
 fn goes<T: Send>()
     ensures { IsSend T.row }
 {}
 
-/// The same, of what threads may share.
+// The same of `Sync`.
 fn is_shared<T: Sync>()
     ensures { IsSync T.row }
 {}
 
-/// A store on two files may go where its disk may.
+// A `Vault` is `Send` if its disk is.
 fn vaults_go<D: Disk + Send>()
     ensures { IsSend (of_vault.the_row D.row) }
 {}
 
-/// An event may go.
+// An `Event` is `Send`.
 fn events_go()
     ensures { IsSend of_event.the_row }
 {
     goes::<Event>();
 }
 
-/// A core may go from thread to thread where its disk may.
+/// A `Core` is `Send` if its disk is.
 pub fn cores_go<D: Disk + Send>()
     ensures { IsSend (of_core.the_row D.row D.Disk) }
 {
@@ -44,7 +44,7 @@ pub fn cores_go<D: Disk + Send>()
     events_go();
 }
 
-/// A hub may be shared by threads where its disk may go from thread to thread.
+/// A `Hub` is `Sync` if its disk is `Send`.
 pub fn hubs_cross<J: Naming + Send + Sync, D: Disk + Send>()
     ensures { IsSync (of_hub.the_row J.row D.row J.Naming D.Disk) }
 {

@@ -12,8 +12,8 @@ use vault::stores_go_on;
 
 /// What stands under the lock of a hub: the core, and the keeper's seat. A contract sees the history and the core.
 ///
-/// Between two calls the core has the state behind the history. On an honest disk a crash leaves that state, or, once the core is halted, perhaps that with
-/// the event in doubt (`is_kept`).
+/// Between two calls the core has the state behind the history. On an honest disk, and unless a turnover had halted the core before the hub was opened, a crash leaves that
+/// state, or, once the core is halted, perhaps that with the event in doubt (`is_kept`).
 pub struct Kept<J: Naming, D: Disk> {
     pub(crate) core: Core<D>,
     pub(crate) desk: Desk<J>,

@@ -10,18 +10,20 @@ pub trait Naming {
     /// The hub's two words.
     ghost table: { TableId };
 
-    /// How many passes there are, and how many of them are of the environment.
+    /// How many passes there are.
     ghost passes: { ℕ };
 
+    /// How many of them are of the environment.
     ghost envs: { ℕ };
 
     /// What the hub was opened with.
     ghost opening: { Opening };
 
-    /// What a crash might leave, at each moment until then.
+    /// For each moment what a crash may leave, as the disk tells when the hub is opened.
     ghost left: { ℕ → Contents → Type 0 };
 }
 
+// Placeholders: where `Brand` is passed, the proof of the call picks these.
 impl Naming for Brand {
     ghost use Rattle.std.specs.Prelude.{[]};
     ghost use Rattle.hub.specs.Opening.{nothing};

@@ -10,7 +10,7 @@ pub trait Kind {
     /// The events that may be made with it.
     ghost makes: { Event → Type 0 };
 
-    /// Which numbers it may have, where so many passes are of the environment: those have the first ones.
+    /// Whether a pass of this kind may have the number, where the first so many are the environment's.
     ghost is_numbered: { ℕ → ℕ → Type 0 };
 }
 
@@ -70,7 +70,7 @@ impl<J: Naming, K: Kind> Model for Pass<J, K> {
 impl<J: Naming, K: Kind> Pass<J, K> {
     ghost use Rattle.std.specs.Prelude.{◌≡◌};
 
-    // Its number, which is one of its kind.
+    // Its number, which its kind may have.
     pub(crate) fn number(&self) -> usize
         ensures number { result ≡ self.now.number }
         ensures of_kind { K.is_numbered J.envs self.now.number }

@@ -1,7 +1,6 @@
 //! A body that is run over what a hub has, outside the lock.
-ghost use Rattle.std.specs.Prelude.{◌≡◌, [], IfErr, IfOk, IfSome};
+ghost use Rattle.std.specs.Prelude.{◌≡◌, [], IfErr, IfOk};
 ghost use Rattle.graph.specs.Fits.{InstanceIsOf};
-ghost use Rattle.machine.specs.Meaning.{items};
 ghost use Rattle.machine.specs.Results.{IsBodyOf};
 ghost use Rattle.steplang.specs.Running.{Nothing};
 ghost use Rattle.hub.specs.Opening.{facts_behind};
@@ -16,13 +15,13 @@ use std::alloc::Global;
 use std::sync::Wait;
 use steplang::{Run, Turn};
 use steptree::ends_within_limits;
-use terms::{Addr, facts_are_told_apart, facts_go_on};
+use terms::{facts_are_told_apart, facts_go_on};
 use vault::VaultError;
 
 impl<J: Naming, D: Disk> Hub<J, D> {
     /// Runs the body of the instance of a task, to its end or to an item that is not there.
     ///
-    /// Each read takes the lock for itself. `Halted` is answered where the core is halted at one of them, and `NoMemory` where a growth was refused.
+    /// Each read is a `read` by itself, and takes the lock for that alone. No other error is answered than `NoMemory`, and that of a read.
     pub fn run<'a, R: Wait>(
         &'a self,
         rt: &R,
@@ -33,7 +32,7 @@ impl<J: Naming, D: Disk> Hub<J, D> {
         requires { InstanceIsOf J.opening.graph task.now }
         ensures pass { IsAhead pass.old pass.new }
         ensures came { IfOk result (CameIn J.opening.graph (facts_behind J.opening pass.new.seen) task.now) }
-        ensures refused { IfErr result StopsRun }
+        ensures refused { IfErr result (StopsRun J.opening.graph) }
     {
         let instance = task.inst();
         let checked = self.graph().body(instance.collection).unwrap();
@@ -55,7 +54,7 @@ impl<J: Naming, D: Disk> Hub<J, D> {
         requires nothing_read { run.reads ≡ [] }
         ensures pass { IsAhead pass.old pass.new }
         ensures came { IfOk result (CameIn J.opening.graph (facts_behind J.opening pass.new.seen) run.entry.instance) }
-        ensures refused { IfErr result StopsRun }
+        ensures refused { IfErr result (StopsRun J.opening.graph) }
     {
         ends_within_limits();
         facts_are_told_apart();
@@ -64,7 +63,7 @@ impl<J: Naming, D: Disk> Hub<J, D> {
         let mut answer = None;
         loop {
             match run.advance(answer) {
-                Ok(Turn::Need(address)) => match self.value_at(rt, pass, address)? {
+                Ok(Turn::Need(address)) => match self.read(rt, pass, address)? {
                     Some(value) => answer = Some(value),
                     None => return Ok(Came::Waits(run.park())),
                 },
@@ -72,24 +71,6 @@ impl<J: Naming, D: Disk> Hub<J, D> {
                 Ok(Turn::Fault(bad)) => return Ok(Came::Ended(Outcome::Fault(bad))),
                 Err(_) => return Err(CoreError::Store(VaultError::NoMemory)),
             }
-        }
-    }
-
-    // The value at an address; none where no item is there, nor can be.
-    fn value_at<R: Wait>(
-        &self,
-        rt: &R,
-        pass: &mut WorkPass<J>,
-        address: Addr,
-    ) -> Result<Option<i64>, CoreError>
-        ensures pass { IsAhead pass.old pass.new }
-        ensures value { IfOk result (λ found. IfSome found (items (facts_behind J.opening pass.new.seen) address)) }
-        ensures refused { IfErr result StopsRun }
-    {
-        match self.read(rt, pass, address) {
-            Ok(found) => Ok(found),
-            Err(CoreError::Refused(_)) => Ok(None),
-            Err(CoreError::Store(error)) => Err(CoreError::Store(error)),
         }
     }
 }

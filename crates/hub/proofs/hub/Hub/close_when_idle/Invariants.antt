@@ -1,8 +1,8 @@
-use Rattle.std.proofs.Common.{◌≡◌, List, IfOk, IfErr, IsTrue}
+use Rattle.std.proofs.Common.{◌≡◌, ◌<◌, ◌++◌, ℕ, true, List, IfOk, IfErr, IsTrue, OnOk}
 use Rattle.commit.specs.Runs.{NoneRuns}
 use Rattle.hub.specs.Kept.{HasRun}
 use Rattle.hub.specs.Known.{Made}
-use Rattle.hub.specs.Whole.{IsWhole}
+use Rattle.hub.specs.Whole.{IsWhole, has_number}
 use Rattle.hub.proofs.hub.Hub.close_when_idle.Given as goal
 
 -- what the last try came to
@@ -11,6 +11,7 @@ invariant-loop g l = record {
   next : (goal.iterator-loop g).can_next l.iterator';
   finished : (goal.iterator-loop g).is_finite l.iterator';
   whole : IfOk l.closed (λ core. (history : List Made) × IsWhole (HasRun g.D.Disk.moment g.D.Disk.left_at g.D.Disk.failures g.D.Disk.refusals (IsTrue g.D.Disk.is_honest) g.J.Naming.opening g.J.Naming.left g.J.Naming.envs) g.J.Naming.opening l.fn.envs.items l.fn.workers.items core history);
+  all : OnOk l.closed ((number : ℕ) → number < g.J.Naming.passes → has_number number (l.fn.envs.items ++ l.fn.workers.items) ≡ true);
   idle : IfOk l.closed NoneRuns;
   back : IfErr l.closed (λ not_closed. (not_closed.envs.items ≡ l.fn.envs.items) × (not_closed.workers.items ≡ l.fn.workers.items));
 }

@@ -1,12 +1,12 @@
-use Rattle.std.proofs.Common.{◌≡◌, rules, subst, sym, IfSome, Option, Some, ℤ, to_z, of_z, w64}
+use Rattle.std.proofs.Common.{◌≡◌, rules, subst, sym, Option, Some, ℤ, to_z, of_z, w64}
 use Rattle.std.proofs.lemmas.Int.{to_z-of_z}
 use Rattle.steplang.specs.Running.{answered}
 use Rattle.steplang.specs.Turns.{Tells}
 use Rattle.steplang.specs.declared.outcome.Turn.{Turn}
 use Rattle.steplang.specs.declared.outcome.Turn.TheVariants.{Need}
-use Rattle.machine.specs.Meaning.{items}
+use Rattle.machine.specs.Machine.{IsValueAt}
 use Rattle.hub.specs.Opening.{facts_behind}
-use Rattle.hub.proofs.Ran.{GoesOn, reads_more}
+use Rattle.hub.proofs.Ran.{GoesOn, ahead_of, reads_more}
 use Rattle.hub.proofs.hub.Hub.go_on.Goals as goal
 
 pub loop-address-preserved : goal.loop-address-preserved
@@ -15,7 +15,7 @@ loop-address-preserved g c =
     subst (λ (turn : Turn). Tells turn (answered c.loop-address.run c.loop-address.answer) c.advance.new.self) c.in-Ok-Need.field-0-is c.in-Ok-Need.ensures.turn
     in
     let same : to_z w64 (of_z w64 c.in-Some.value) ≡ c.in-Some.value = to_z-of_z w64 c.in-Some.value (search rules) in
-    subst (λ (value : ℤ). GoesOn g.J.Naming.opening c.args.pass.now c.value_at.new.pass c.args.run c.advance.new.self (Some value)) (sym same)
-    (reads_more c.facts_are_told_apart.ensures.among c.facts_go_on.ensures.all c.results_are_meant.ensures.stay g.J.Naming.opening c.args.pass.now c.loop-address.pass c.value_at.new.pass c.args.run c.loop-address.run c.advance.new.self
-    c.loop-address.answer c.in-Ok-Need.address c.in-Some.value c.loop-address.invariant told.1 c.value_at.ensures.pass
-    (subst (λ (found : Option ℤ). IfSome found (items (facts_behind g.J.Naming.opening c.value_at.new.pass.seen) c.in-Ok-Need.address)) c.in-Some.is c.in_ok-value-in-Ok-Need.ensures.value))
+    subst (λ (value : ℤ). GoesOn g.J.Naming.opening c.args.pass.now c.read.new.pass c.args.run c.advance.new.self (Some value)) (sym same)
+    (reads_more c.facts_are_told_apart.ensures.among c.facts_go_on.ensures.all c.results_are_meant.ensures.stay g.J.Naming.opening c.args.pass.now c.loop-address.pass c.read.new.pass c.args.run c.loop-address.run c.advance.new.self
+    c.loop-address.answer c.in-Ok-Need.address c.in-Some.value c.loop-address.invariant told.1 (ahead_of g.J.Naming.opening c.loop-address.pass c.read.new.pass c.read.ensures.seen.0 c.read.ensures.seen.1)
+    (subst (λ (found : Option ℤ). IsValueAt (facts_behind g.J.Naming.opening c.read.new.pass.seen) c.in-Ok-Need.address found) c.in-Some.is c.in_ok-value-in-Ok-Need.ensures.value))
