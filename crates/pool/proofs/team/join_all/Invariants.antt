@@ -1,0 +1,12 @@
+use Rattle.std.proofs.Common.{◌≡◌, ◌≤◌, ◌+◌, true, vec_capacity, vec_len}
+use Rattle.pool.proofs.team.join_all.Given as goal
+
+-- there is room for the passes of all that are still to come
+abbrev pub invariant-loop-handle : goal.invariant-loop-handle
+invariant-loop-handle g l = record {
+  room : vec_len l.handles + vec_len l.passes ≤ vec_capacity l.passes;
+  asked : l.causes.asked ≡ true → g.P.Probe.may_stop ≡ true;
+}
+
+abbrev pub decreases-loop-handle : goal.decreases-loop-handle
+decreases-loop-handle g l = vec_len l.handles

@@ -1,0 +1,55 @@
+use Rattle.std.proofs.Common.{◌≡◌, ◌∙◌, ◌+◌, ◌≤◌, ap, sym, subst, false, length, vec_capacity, vec_len, IsTrue, arith}
+use Rattle.commit.specs.Core.{Core}
+use Rattle.commit.specs.Runs.{RunsOn}
+use Rattle.commit.proofs.Running.{as_it_was}
+use Rattle.hub.specs.Known.{events}
+use Rattle.hub.specs.Opening.{Opening}
+use Rattle.pool.proofs.Teams.{as_many, one_out, runs_of_team}
+use Rattle.pool.proofs.team.run_team.Goals as goal
+
+pub returns-in-Err-clause-runs : goal.returns-in-Err-clause-runs
+returns-in-Err-clause-runs g c =
+    subst (λ (back : Core g.row.D.Denot). RunsOn g.D.Disk.files g.D.Disk.moment g.D.Disk.left_at g.D.Disk.failures g.D.Disk.refusals (IsTrue g.D.Disk.is_honest) c.args.core back) (sym (c.into_core.ensures ∙ c.in-Err.ensures.err.0))
+    (as_it_was g.D.Disk.files g.D.Disk.moment g.D.Disk.left_at g.D.Disk.failures g.D.Disk.refusals (IsTrue g.D.Disk.is_honest) c.stores_go_on.ensures.rest_leaves c.stores_go_on.ensures.gates_rest c.args.core c.requires.working
+    (c.is_kept.ensures.settled c.requires.working) c.is_kept.ensures.kept)
+
+pub returns-clause-runs : goal.returns-clause-runs
+returns-clause-runs g c =
+    let whole = c.close_when_idle-core.ensures.whole in
+    let none : g.J.Naming.envs ≡ 0 = c.requires.named.envs_are ∙ c.requires.passes.0 in
+    let working : g.J.Naming.opening.halted ≡ false = ap (λ (o : Opening). o.halted) c.requires.named.opening_is ∙ c.requires.working in
+    record {
+      ends = events whole.0;
+      runs = runs_of_team g.D.Disk.files g.D.Disk.moment g.D.Disk.left_at g.D.Disk.failures g.D.Disk.refusals (IsTrue g.D.Disk.is_honest) g.J.Naming.opening g.J.Naming.left c.args.core c.close_when_idle-core.result (events whole.0)
+          c.requires.named.opening_is c.requires.named.left_is (whole.1.ran none working);
+    }
+
+pub returns-in_default-clause-runs : goal.returns-in_default-clause-runs
+returns-in_default-clause-runs g c =
+    as_it_was g.D.Disk.files g.D.Disk.moment g.D.Disk.left_at g.D.Disk.failures g.D.Disk.refusals (IsTrue g.D.Disk.is_honest) c.stores_go_on.ensures.rest_leaves c.stores_go_on.ensures.gates_rest c.args.core c.requires.working
+    (c.is_kept.ensures.settled c.requires.working) c.is_kept.ensures.kept
+
+pub returns-in_default-reserve-clause-runs : goal.returns-in_default-reserve-clause-runs
+returns-in_default-reserve-clause-runs g c =
+    as_it_was g.D.Disk.files g.D.Disk.moment g.D.Disk.left_at g.D.Disk.failures g.D.Disk.refusals (IsTrue g.D.Disk.is_honest) c.stores_go_on.ensures.rest_leaves c.stores_go_on.ensures.gates_rest c.args.core c.requires.working
+    (c.is_kept.ensures.settled c.requires.working) c.is_kept.ensures.kept
+
+pub unwrap-boss-requires : goal.unwrap-boss-requires
+unwrap-boss-requires g c =
+    let opened = c.in-Ok-open.opened.2 in
+    let count : length opened.items ≡ c.args.workers + 1 = ap length c.in-Ok-open.ensures.ok.1 ∙ as_many c.args.blank.envs c.args.blank.workers ∙ c.requires.passes.1 in
+    c.pop.ensures.variant.1 (omega (arith, count, opened.ok))
+
+pub in_threads-back-requires-clause-room : goal.in_threads-back-requires-clause-room
+in_threads-back-requires-clause-room g c =
+    let opened = c.in-Ok-open.opened.2 in
+    let count : length opened.items ≡ c.args.workers + 1 = ap length c.in-Ok-open.ensures.ok.1 ∙ as_many c.args.blank.envs c.args.blank.workers ∙ c.requires.passes.1 in
+    let out = one_out c.pop.result (c.pop.ensures.variant.1 (omega (arith, count, opened.ok))) in
+    let len = c.pop.ensures.len in
+    let first = c.in-Ok.ensures.ok in
+    let second = c.in-Ok-reserve.ensures.ok in
+    let both : (vec_len c.pop.new.self + vec_len c.reserve.new.self ≤ vec_capacity c.reserve.new.self) × (vec_len c.pop.new.self + vec_len c.reserve.new.self + vec_len c.reserve-2.new.self + 1 ≤ vec_capacity c.reserve-2.new.self) = (
+      omega (arith, count, opened.ok, out, len, first, c.reserve.ensures.len, c.new-handles.ensures.len),
+      omega (arith, count, opened.ok, out, len, second, c.reserve.ensures.len, c.reserve-2.ensures.len, c.new-handles.ensures.len, c.new-passes.ensures.len),
+    ) in
+    λ _ _. both

@@ -1,0 +1,113 @@
+ghost use Rattle.std.specs.Prelude.{◌≡◌, ◌≤◌, false, true, Ok, IsTrue};
+ghost use Rattle.commit.specs.declared.verdict.Verdict.TheVariants.{Halted};
+ghost use Rattle.commit.specs.Core.{is_halted};
+ghost use Rattle.commit.specs.Runs.{NoneRuns, RunsOn, RunsWithin};
+ghost use Rattle.pool.specs.Concluded.{Concludes};
+
+use crate::Probe;
+use crate::team::{Causes, run_team};
+use commit::{Core, First, RunError, Status, Verdict, run_with};
+use disk::Disk;
+use hub::Blank;
+use std::alloc::Global;
+use std::marker::Brand;
+use std::sync::Wait;
+use std::thread::Threads;
+use terms::facts_are_told_apart;
+use vault::stores_go_on;
+
+/// Runs the steps of a store on so many workers, 1 to 64, each in a thread of its own, until nothing is left to do, or as many of them came to their end as the limit
+/// says, or the probe answers `Stop`.
+///
+/// It gives the core back with the verdict. An error leaves all that was committed. Nothing runs in the core that is given, nor in the one that is given
+/// back. Where the workers leave something to do, and none of them was asked to stop or refused memory, the calling thread does it.
+pub fn drive<D: Disk + Send, P: Probe + Sync, R: Threads + Wait + Sync>(
+    rt: &R,
+    alloc: Global,
+    core: Core<D>,
+    workers: u8,
+    limit: u64,
+    probe: &P,
+) -> (Core<D>, Result<Verdict, RunError>)
+    requires idle { NoneRuns core }
+    requires workers { (1 ≤ workers) × (workers ≤ 64) }
+    ensures idle { NoneRuns result.0 }
+    ensures halted { is_halted core ≡ true → (result.0 ≡ core) × (result.1 ≡ Ok Halted) }
+    ensures runs { is_halted core ≡ false → RunsWithin D.files D.moment D.left_at D.failures D.refusals (IsTrue D.is_honest) P.may_stop true core result.0 limit result.1 }
+{
+    facts_are_told_apart();
+    stores_go_on::<D>();
+    core.is_kept();
+    let mut core = core;
+    match core.allow(limit) {
+        Ok(()) => {
+            let (core, causes) = worked(rt, alloc, core, workers, probe);
+            core.is_kept();
+            conclude::<D, P>(alloc, core, causes)
+        }
+        Err(_) => (core, Ok(Verdict::Halted)),
+    }
+}
+
+// Lets the workers run.
+fn worked<D: Disk + Send, P: Probe + Sync, R: Threads + Wait + Sync>(
+    rt: &R,
+    alloc: Global,
+    core: Core<D>,
+    workers: u8,
+    probe: &P,
+) -> (Core<D>, Causes)
+    requires idle { NoneRuns core }
+    requires working { is_halted core ≡ false }
+    requires workers { workers ≤ 64 }
+    ensures runs { RunsOn D.files D.moment D.left_at D.failures D.refusals (IsTrue D.is_honest) core result.0 }
+    ensures idle { NoneRuns result.0 }
+    ensures asked { result.1.asked ≡ true → P.may_stop ≡ true }
+{
+    stores_go_on::<D>();
+    core.is_kept();
+    match Blank::new(alloc, 0, workers + 1) {
+        Ok(blank) => run_team::<Brand, D, P, R>(rt, alloc, core, blank, workers, probe),
+        Err(_) => (core, Causes::memory()),
+    }
+}
+
+// What is answered behind the workers. What they left without a cause is done here.
+fn conclude<D: Disk, P: Probe>(
+    alloc: Global,
+    core: Core<D>,
+    causes: Causes,
+) -> (Core<D>, Result<Verdict, RunError>)
+    requires idle { NoneRuns core }
+    requires asked { causes.asked ≡ true → P.may_stop ≡ true }
+    ensures idle { NoneRuns result.0 }
+    ensures concludes { Concludes D.files D.moment D.left_at D.failures D.refusals (IsTrue D.is_honest) P.may_stop core result.0 result.1 }
+{
+    match core.status() {
+        Ok(Status::Stopped(instance, kind)) => (core, Ok(Verdict::Stopped(instance, kind))),
+        Ok(Status::Quiet { blocked }) => {
+            if blocked == 0 {
+                (core, Ok(Verdict::Complete))
+            } else {
+                (core, Ok(Verdict::Blocked(blocked)))
+            }
+        }
+        Ok(Status::Working) => {
+            if causes.no_thread {
+                return (core, Err(RunError::Spawn));
+            }
+            if causes.no_memory {
+                return (core, Err(RunError::NoMemory));
+            }
+            let left = core.allowance();
+            if left == 0 {
+                return (core, Ok(Verdict::Limit));
+            }
+            if causes.asked {
+                return (core, Ok(Verdict::Asked));
+            }
+            run_with(alloc, core, &mut First, left)
+        }
+        Err(_) => (core, Ok(Verdict::Halted)),
+    }
+}

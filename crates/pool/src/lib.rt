@@ -1,0 +1,14 @@
+//! The worker pool: 1 to 64 threads run the steps of a store to the one answer.
+//!
+//! `drive` opens a hub round the core, with a pass for each worker, and closes it behind them. A worker claims an instance, asks its probe, runs the body outside the
+//! lock, and commits the end, or lets the instance wait. What is committed is a run of legal ends, whoever made them in whatever order. That is all that the
+//! layer above needs (`RunsWithin` of `commit`).
+#![tactic(auto)]
+
+mod driving;
+mod probe;
+mod team;
+mod worker;
+
+pub use driving::drive;
+pub use probe::{Answer, Free, Probe};

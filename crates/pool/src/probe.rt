@@ -1,0 +1,38 @@
+use std::marker::Sync;
+use terms::Inst;
+
+/// What a probe answers.
+#[derive(Clone, Copy, Debug, PartialEq, Eq)]
+pub enum Answer {
+    /// The instance is run.
+    Go,
+    /// The instance is given back, and all workers end.
+    Stop,
+}
+
+/// Is asked by a worker behind each claim, outside the lock. Any number of workers may be in it at one time.
+pub trait Probe: Sync {
+    ghost use Rattle.std.specs.Prelude.{◌≡◌, Bool, true};
+    ghost use Rattle.pool.specs.declared.probe.Answer.TheVariants.{Stop};
+
+    /// Whether it may ever answer `Stop`.
+    ghost may_stop: { Bool };
+
+    /// Whether this instance is to be run now.
+    fn enter(&self, instance: Inst) -> Answer
+        ensures { result ≡ Stop → may_stop ≡ true };
+}
+
+/// Lets every instance run.
+#[derive(Clone, Copy, Debug, PartialEq, Eq)]
+pub struct Free;
+
+impl Probe for Free {
+    ghost use Rattle.std.specs.Prelude.{false};
+
+    ghost may_stop = { false };
+
+    fn enter(&self, _instance: Inst) -> Answer {
+        Answer::Go
+    }
+}

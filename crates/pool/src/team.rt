@@ -1,0 +1,222 @@
+//! A hub for workers, from its opening to its close.
+ghost use Rattle.std.specs.Prelude.{◌≡◌, ◌⊎◌, ◌+◌, ◌≤◌, Some, true, false, IfOk, IfErr, IsTrue, vec_capacity, vec_len};
+ghost use Rattle.commit.specs.Core.{is_halted};
+ghost use Rattle.commit.specs.Runs.{NoneRuns, RunsOn};
+ghost use Rattle.hub.specs.Whole.{IsNamedFor};
+ghost use Rattle.pool.specs.declared.worker.Met.TheVariants.{Asked as MetAsked};
+
+use crate::Probe;
+use crate::worker::{AsProbed, Ended, Met, work};
+use commit::Core;
+use disk::Disk;
+use hub::{Blank, Hub, Naming, WorkPass, hubs_cross};
+use std::alloc::Global;
+use std::marker::PhantomData;
+use std::sync::Wait;
+use std::thread::{PromisedHandle, Scope, Threads, scope, scope_env};
+use vault::stores_go_on;
+
+/// What kept workers from their work.
+#[derive(Clone, Copy, Debug, PartialEq, Eq)]
+pub(crate) struct Causes {
+    /// A thread could not be started.
+    pub(crate) no_thread: bool,
+    /// Memory was refused.
+    pub(crate) no_memory: bool,
+    /// The probe answered `Stop`.
+    pub(crate) asked: bool,
+}
+
+impl Causes {
+    // Memory was refused.
+    pub(crate) fn memory() -> Causes
+        ensures { result.asked ≡ false }
+    {
+        Causes {
+            no_thread: false,
+            no_memory: true,
+            asked: false,
+        }
+    }
+
+    // Whether a thread could not be started.
+    fn of_start(no_thread: bool) -> Causes
+        ensures { result.asked ≡ false }
+    {
+        Causes {
+            no_thread,
+            no_memory: false,
+            asked: false,
+        }
+    }
+
+    // With what a worker met.
+    fn also(self, met: Option<Met>) -> Causes
+        ensures { result.asked ≡ true → (self.asked ≡ true) ⊎ (met ≡ Some MetAsked) }
+    {
+        match met {
+            Some(Met::Asked) => Causes {
+                asked: true,
+                ..self
+            },
+            Some(Met::NoMemory) => Causes {
+                no_memory: true,
+                ..self
+            },
+            Some(Met::Other) | None => self,
+        }
+    }
+}
+
+// The passes of a hub's workers, and what they met.
+#[derive(Drop)]
+struct Back<J: Naming> {
+    passes: Vec<WorkPass<J>>,
+    causes: Causes,
+}
+
+// Threads that were started, with the passes of those that were not, and of the thread that started them.
+struct Started<J: Naming, P: Probe> {
+    handles: Vec<PromisedHandle<Ended<J>, AsProbed<P>>>,
+    passes: Vec<WorkPass<J>>,
+    no_thread: bool,
+}
+
+/// Runs the steps of a core on as many workers as the blank has passes, but one, which the calling thread keeps. The core comes back, with what they met. Where
+/// memory is refused before the first thread it is as it was.
+pub(crate) fn run_team<
+    J: Naming + Send + Sync,
+    D: Disk + Send,
+    P: Probe + Sync,
+    R: Threads + Wait + Sync,
+>(rt: &R, alloc: Global, core: Core<D>, blank: Blank, workers: u8, probe: &P) -> (Core<D>, Causes)
+    requires named { IsNamedFor D.files D.moment D.left_at D.failures D.refusals J.table J.passes J.envs J.opening J.left blank core }
+    requires passes { (blank.envs ≡ 0) × (blank.workers ≡ workers + 1) }
+    requires working { is_halted core ≡ false }
+    requires idle { NoneRuns core }
+    ensures runs { RunsOn D.files D.moment D.left_at D.failures D.refusals (IsTrue D.is_honest) core result.0 }
+    ensures idle { NoneRuns result.0 }
+    ensures asked { result.1.asked ≡ true → P.may_stop ≡ true }
+{
+    stores_go_on::<D>();
+    core.is_kept();
+    let mut handles = Vec::new(alloc);
+    let mut passes = Vec::new(alloc);
+    let Ok(()) = handles.reserve(workers as usize) else {
+        return (core, Causes::memory());
+    };
+    let Ok(()) = passes.reserve(workers as usize + 1) else {
+        return (core, Causes::memory());
+    };
+    let (hub, envs, mut work_passes) = match Hub::<J, D>::open(alloc, core, blank) {
+        Ok(opened) => opened,
+        Err(not_opened) => return (not_opened.into_core(), Causes::memory()),
+    };
+    let boss = work_passes.pop().unwrap();
+    let back = in_threads(rt, alloc, &hub, probe, boss, work_passes, handles, passes);
+    let core = hub.close_when_idle(rt, envs, back.passes);
+    (core, back.causes)
+}
+
+// Runs a worker with each of these passes, in a thread of its own, until all have ended.
+fn in_threads<
+    'x,
+    J: Naming + Send + Sync,
+    D: Disk + Send,
+    P: Probe + Sync,
+    R: Threads + Wait + Sync,
+>(
+    rt: &'x R,
+    alloc: Global,
+    hub: &'x Hub<J, D>,
+    probe: &'x P,
+    boss: WorkPass<J>,
+    workers: Vec<WorkPass<J>>,
+    handles: Vec<PromisedHandle<Ended<J>, AsProbed<P>>>,
+    passes: Vec<WorkPass<J>>,
+) -> Back<J>
+    requires room { (vec_len workers + vec_len handles ≤ vec_capacity handles) × (vec_len workers + vec_len handles + vec_len passes + 1 ≤ vec_capacity passes) }
+    ensures asked { result.causes.asked ≡ true → P.may_stop ≡ true }
+{
+    scope(
+        scope_env(),
+        rt,
+        move |scope| -> Back<J>
+            requires { (vec_len workers + vec_len handles ≤ vec_capacity handles) × (vec_len workers + vec_len handles + vec_len passes + 1 ≤ vec_capacity passes) }
+            ensures { result.causes.asked ≡ true → P.may_stop ≡ true }
+        {
+            let started = start(scope, rt, alloc, hub, probe, boss, workers, handles, passes);
+            join_all(rt, started)
+        },
+    )
+}
+
+// Starts a thread for each of these passes, up to the first that cannot be started: then those that were started are asked to stop.
+fn start<
+    's,
+    'e: 's,
+    J: Naming + Send + Sync,
+    D: Disk + Send,
+    P: Probe + Sync,
+    R: Threads + Wait + Sync,
+>(
+    scope: &'s Scope<'s, &'e ()>,
+    rt: &'e R,
+    alloc: Global,
+    hub: &'e Hub<J, D>,
+    probe: &'e P,
+    mut boss: WorkPass<J>,
+    mut workers: Vec<WorkPass<J>>,
+    mut handles: Vec<PromisedHandle<Ended<J>, AsProbed<P>>>,
+    mut passes: Vec<WorkPass<J>>,
+) -> Started<J, P>
+    requires room { (vec_len workers + vec_len handles ≤ vec_capacity handles) × (vec_len workers + vec_len handles + vec_len passes + 1 ≤ vec_capacity passes) }
+    ensures room { vec_len result.handles + vec_len result.passes ≤ vec_capacity result.passes }
+{
+    hubs_cross::<J, D>();
+    let mut no_thread = false;
+    while let Some(pass) = workers.pop() {
+        if no_thread {
+            passes.push_reserved(pass);
+        } else {
+            match scope.spawn_with(
+                AsProbed { of: PhantomData },
+                move || work(rt, alloc, hub, pass, probe),
+            ) {
+                Ok(handle) => handles.push_reserved(handle),
+                Err(refused) => {
+                    // The worker comes back. It is run here, and ends at once, since a stop was asked.
+                    no_thread = true;
+                    hub.ask_stop(&mut boss);
+                    let here = refused.value;
+                    passes.push_reserved(here().pass);
+                }
+            }
+        }
+    }
+    passes.push_reserved(boss);
+    Started {
+        handles,
+        passes,
+        no_thread,
+    }
+}
+
+// Waits for the threads.
+fn join_all<J: Naming, P: Probe, R: Threads>(rt: &R, started: Started<J, P>) -> Back<J>
+    requires room { vec_len started.handles + vec_len started.passes ≤ vec_capacity started.passes }
+    ensures asked { result.causes.asked ≡ true → P.may_stop ≡ true }
+{
+    let Started {
+        mut handles,
+        mut passes,
+        no_thread,
+    } = started;
+    let mut causes = Causes::of_start(no_thread);
+    while let Some(handle) = handles.pop() {
+        let Ended { pass, met } = handle.join(rt);
+        causes = causes.also(met);
+        passes.push_reserved(pass);
+    }
+    Back { passes, causes }
+}

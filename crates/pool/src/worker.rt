@@ -1,0 +1,173 @@
+//! What one worker does.
+ghost use Rattle.std.specs.Prelude.{◌≡◌, Some, true};
+ghost use Rattle.graph.specs.Fits.{InstanceIsOf};
+ghost use Rattle.pool.specs.declared.worker.Met.TheVariants.{Asked as MetAsked};
+
+use crate::{Answer, Probe};
+use commit::{Came, CoreError};
+use disk::Disk;
+use hub::{Hub, Naming, TaskError, WorkPass};
+use instances::Task;
+use std::alloc::Global;
+use std::hint::spin_loop;
+use std::marker::PhantomData;
+use std::sync::Wait;
+use std::thread::{Promise, yield_now};
+use vault::VaultError;
+
+/// Why a worker asked all to end.
+#[derive(Clone, Copy, Debug, PartialEq, Eq)]
+pub(crate) enum Met {
+    /// The probe answered `Stop`.
+    Asked,
+    /// Memory was refused.
+    NoMemory,
+    /// Something that the core tells by itself: it is halted or stopped, or a record does not fit.
+    Other,
+}
+
+/// A worker that has ended. Its pass comes back.
+#[derive(Drop)]
+pub(crate) struct Ended<J: Naming> {
+    pub(crate) pass: WorkPass<J>,
+    pub(crate) met: Option<Met>,
+}
+
+/// What a thread promises of its worker: it met `Asked` only of a probe that may answer `Stop`.
+#[derive(Drop)]
+pub(crate) struct AsProbed<P: Probe> {
+    pub(crate) of: PhantomData<P>,
+}
+
+impl<J: Naming, P: Probe> Promise<Ended<J>> for AsProbed<P> {
+    ghost kept_by = { λ _ ended. ended.met ≡ Some MetAsked → P.may_stop ≡ true };
+}
+
+// How often a worker that found nothing to do looks whether something was committed, before it looks for something to do again.
+const LOOKS: u32 = 64;
+
+// How many of these looks come at once. Between the others it lets other threads run.
+const SPINS: u32 = 8;
+
+/// Runs instances until there is nothing to do, or a stop was asked.
+pub(crate) fn work<J: Naming, D: Disk, P: Probe, R: Wait>(
+    rt: &R,
+    alloc: Global,
+    hub: &Hub<J, D>,
+    mut pass: WorkPass<J>,
+    probe: &P,
+) -> Ended<J>
+    ensures { result.met ≡ Some MetAsked → P.may_stop ≡ true }
+{
+    let met = run_all(rt, alloc, hub, &mut pass, probe);
+    if met.is_some() {
+        hub.ask_stop(&mut pass);
+    }
+    Ended { pass, met }
+}
+
+// Runs them, and tells why it ended.
+fn run_all<J: Naming, D: Disk, P: Probe, R: Wait>(
+    rt: &R,
+    alloc: Global,
+    hub: &Hub<J, D>,
+    pass: &mut WorkPass<J>,
+    probe: &P,
+) -> Option<Met>
+    ensures { result ≡ Some MetAsked → P.may_stop ≡ true }
+{
+    for _ in rt.forever() {
+        if hub.stop_asked(pass) {
+            return None;
+        }
+        match hub.claim(rt, pass, 0) {
+            Ok(Some(task)) => {
+                let met = run_task(rt, alloc, hub, pass, probe, task);
+                if met.is_some() {
+                    return met;
+                }
+            }
+            Ok(None) => {
+                if !hub.busy(rt, pass) {
+                    return None;
+                }
+                look_for_commits(hub, pass);
+            }
+            Err(_) => return Some(Met::Other),
+        }
+    }
+    unreachable!()
+}
+
+// Waits a little for a commit, since only a commit makes an instance ready.
+fn look_for_commits<J: Naming, D: Disk>(hub: &Hub<J, D>, pass: &mut WorkPass<J>) {
+    let before = hub.commits(pass);
+    for look in 0..LOOKS {
+        if look < SPINS {
+            spin_loop();
+        } else {
+            yield_now();
+        }
+        if hub.commits(pass) != before {
+            return;
+        }
+    }
+}
+
+// Runs one instance: what ended the worker, if something did.
+fn run_task<J: Naming, D: Disk, P: Probe, R: Wait>(
+    rt: &R,
+    alloc: Global,
+    hub: &Hub<J, D>,
+    pass: &mut WorkPass<J>,
+    probe: &P,
+    task: Task,
+) -> Option<Met>
+    requires { InstanceIsOf J.opening.graph task }
+    ensures { result ≡ Some MetAsked → P.may_stop ≡ true }
+{
+    if probe.enter(task.inst()) == Answer::Stop {
+        let _ = settled(rt, hub.release(rt, pass, task));
+        return Some(Met::Asked);
+    }
+    match hub.run(rt, alloc, pass, &task) {
+        Ok(Came::Ended(outcome)) => settled(rt, hub.finish(rt, pass, task, outcome)),
+        Ok(Came::Waits(parked)) => settled(rt, hub.park(rt, pass, task, parked)),
+        Err(error) => {
+            let _ = settled(rt, hub.release(rt, pass, task));
+            Some(met_of(error))
+        }
+    }
+}
+
+// What ends the worker, of the answer of a call that spent its task.
+fn settled<T: Drop, R: Wait>(rt: &R, answer: Result<T, TaskError>) -> Option<Met>
+    ensures { result ≡ Some MetAsked → ⊥ }
+{
+    match answer {
+        Ok(done) => {
+            drop(done);
+            None
+        }
+        Err(TaskError::Refused(error)) => Some(met_of(error)),
+        Err(TaskError::Foreign(task)) => stranded(rt, task),
+    }
+}
+
+// A task of this hub is never foreign to it, which no clause says. So this is not called. It would not return, since a task is not let go.
+fn stranded<R: Wait>(rt: &R, task: Task) -> Option<Met>
+    ensures { result ≡ Some MetAsked → ⊥ }
+{
+    for _ in rt.forever() {}
+    let _ = task.inst();
+    unreachable!()
+}
+
+fn met_of(error: CoreError) -> Met
+    ensures { result ≡ MetAsked → ⊥ }
+{
+    match error {
+        CoreError::Store(VaultError::NoMemory) => Met::NoMemory,
+        _ => Met::Other,
+    }
+}
