@@ -24,6 +24,9 @@ impl<R: Threads + Wait + Sync + Clock + Print + Alloc<A = Global>> Handles for R
 // There is one put for so many gets, since a disk in memory keeps a record of each call.
 const PUTS_ONE_IN: u32 = 2_048;
 
+// How many items the store has.
+const HELD: u32 = 1_000;
+
 // How often each is measured. The shortest time counts.
 const ROUNDS: u8 = 5;
 
@@ -102,7 +105,7 @@ fn calls_alone<D: Disk, R: Handles>(
 ) -> u32 {
     let mut ok = 0u32;
     for number in 0..count {
-        let address = out(first.saturating_add(i64::from(number)));
+        let address = address_of(call, first, number);
         let went = match call {
             Call::Get => core.lock(rt).get(address).is_ok(),
             Call::Put => core.lock(rt).put_item(address, 0).is_ok(),
@@ -185,7 +188,7 @@ fn calls_of<J: Naming, D: Disk, R: Handles>(
     let Job { first, mut pass } = job;
     let mut ok = 0u32;
     for number in 0..count {
-        let address = out(first.saturating_add(i64::from(number)));
+        let address = address_of(call, first, number);
         let went = match call {
             Call::Get => hub.get(rt, &mut pass, address).is_ok(),
             Call::Put => hub.put_item(rt, &mut pass, address, 0).is_ok(),
@@ -257,8 +260,28 @@ fn ask_stops<J: Naming, D: Disk>(hub: &Hub<J, D>, pass: &mut EnvPass<J>, count: 
 
 fn created<D: Disk + Drop, R: Handles>(rt: &R, disk: D) -> Result<Core<D>, Error> {
     match Core::create(rt.alloc(), disk, GRAPH.as_bytes()) {
-        Ok(core) => Ok(core),
+        Ok(core) => filled(core),
         Err(refused) => bail!("no store was made: {:?}", refused.error),
+    }
+}
+
+fn filled<D: Disk + Drop>(core: Core<D>) -> Result<Core<D>, Error> {
+    let mut core = core;
+    for key in 0..HELD {
+        core.put_item(out(i64::from(key)), 0)?;
+    }
+    Ok(core)
+}
+
+// The address of a call by its number: a get is of an item that is there, a put of one that is not.
+fn address_of(call: Call, first: i64, number: u32) -> Addr {
+    match call {
+        Call::Get => out(i64::from(number % HELD)),
+        Call::Put => out(
+            first
+                .saturating_add(i64::from(number))
+                .saturating_add(i64::from(HELD)),
+        ),
     }
 }
 
