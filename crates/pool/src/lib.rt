@@ -11,4 +11,4 @@ mod team;
 mod worker;
 
 pub use driving::drive;
-pub use probe::{Answer, Free, Probe};
+pub use probe::{AlwaysGo, Answer, Probe};

@@ -23,11 +23,11 @@ pub trait Probe: Sync {
         ensures { result ≡ Stop → may_stop ≡ true };
 }
 
-/// Lets every instance run.
+/// A probe that always answers `Go`.
 #[derive(Clone, Copy, Debug, PartialEq, Eq)]
-pub struct Free;
+pub struct AlwaysGo;
 
-impl Probe for Free {
+impl Probe for AlwaysGo {
     ghost use Rattle.std.specs.Prelude.{false};
 
     ghost may_stop = { false };

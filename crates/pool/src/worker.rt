@@ -99,7 +99,7 @@ fn run_all<J: Naming, D: Disk, P: Probe, R: Wait>(
     unreachable!()
 }
 
-// Waits a little for a commit, since only a commit makes an instance ready.
+// Waits a little for a commit, since it is mostly a commit that makes an instance ready.
 fn look_for_commits<J: Naming, D: Disk>(hub: &Hub<J, D>, pass: &mut WorkPass<J>) {
     let before = hub.commits(pass);
     for look in 0..LOOKS {
@@ -154,7 +154,7 @@ fn settled<T: Drop, R: Wait>(rt: &R, answer: Result<T, TaskError>) -> Option<Met
     }
 }
 
-// A task of this hub is never foreign to it, which no clause says. So this is not called. It would not return, since a task is not let go.
+// No task of this hub is foreign to it, though no clause says so: this is never called. It does not return, since a task cannot be let go.
 fn stranded<R: Wait>(rt: &R, task: Task) -> Option<Met>
     ensures { result ≡ Some MetAsked → ⊥ }
 {
