@@ -6,6 +6,7 @@ use Rattle.std.proofs.lemmas.List.{append_assoc, append-nil, length-append}
 use Rattle.std.specs.List.{AllByRecursion}
 use Rattle.disk.specs.declared.side.Side.{Side}
 use Rattle.disk.specs.File.{File}
+use Rattle.disk.specs.Moments.{joined_since}
 use Rattle.disk.specs.Time.{Contents, LeavesOnly, LeavesSince}
 use Rattle.terms.specs.declared.event.Event.{Event}
 use Rattle.terms.specs.Commits.{Commit, facts_behind, environment_behind}
@@ -50,21 +51,6 @@ erred_later f g h r s t later calm (inl grew) = elim (cases_lt f g) [
 erred_later f g h r s t later calm (inr changed) = inr (λ is. changed (is ∙ same_number s r (λ differs. calm (inr differs))))
 
 module _ {D : Type 0} (moment : D → ℕ) (left_at : D → ℕ → Contents → Type 0) (begun : ℕ) (left : ℕ → Contents → Type 0) where
-  -- two lists of calls, one after the other
-  leaves_joined : (mid new : D) (P Q R : Contents → Type 0) → LeavesSince moment left_at begun left mid P → LeavesOnly moment left_at mid new Q
-      → ((c : Contents) → P c → R c) → ((c : Contents) → Q c → R c) → LeavesSince moment left_at begun left new R
-  leaves_joined mid new P Q R first second from_first from_second = record {
-    later = omega (arith, first.later, second.later);
-    each = λ t c from to was. elim (cases_lt (moment mid) t) [
-      | inl after ↦ from_second c (second.each t c (omega (arith, after)) to was)
-      | inr before ↦ from_first c (first.each t c from before ((second.stays t c before).0 was))
-    ];
-    stays = λ t c le.
-        let last = second.stays t c (omega (arith, le, first.later)) in
-        let early = first.stays t c le in
-        (λ was. early.0 (last.0 was), λ was. last.1 (early.1 was));
-  }
-
   -- of the last moment by itself
   leaves_at_last : (mid : D) (P : Contents → Type 0) → LeavesSince moment left_at begun left mid P → LeavesOnly moment left_at mid mid P
   leaves_at_last mid P first = record {
@@ -125,7 +111,7 @@ module _ {D : Type 0} (files : D → Side → File) (moment : D → ℕ) (left_a
         spent = ap (λ n. new.allowance + n) (length-append first second) ∙ omega (arith, one.spent, two.spent);
         crashes = λ on.
             subst (λ (commits : List Commit). LeavesSince moment left_at begun.moment left new.vault.disk (StandsForBeginning begun.graph begun.environment begun.facts [] commits)) (sym pending)
-            (leaves_joined moment left_at begun.moment left mid.vault.disk new.vault.disk
+            (joined_since moment left_at begun.moment left mid.vault.disk new.vault.disk
             (StandsForBeginning begun.graph begun.environment begun.facts [] (one_by_one (first ++ mid.in_doubt)))
             (StandsForBeginning (graph mid) (environment mid) (facts mid) [] (one_by_one (second ++ new.in_doubt)))
             (StandsForBeginning begun.graph begun.environment begun.facts [] (one_by_one first ++ one_by_one (second ++ new.in_doubt)))
@@ -139,7 +125,7 @@ module _ {D : Type 0} (files : D → Side → File) (moment : D → ℕ) (left_a
         gates = λ on has.
             let here = one.gates on has in
             let at_last = leaves_at_last moment left_at begun.moment left mid.vault.disk HasGates here in
-            leaves_joined moment left_at begun.moment left mid.vault.disk new.vault.disk HasGates HasGates HasGates here
+            joined_since moment left_at begun.moment left mid.vault.disk new.vault.disk HasGates HasGates HasGates here
             (two.gates on (gates_stay on mid.vault.disk mid.vault.disk at_last)) (λ c so. so) (λ c so. so);
         halts = (
           λ is. later_erred begun.failures (failures mid.vault.disk) (failures new.vault.disk) begun.refusals (refusals mid.vault.disk) (refusals new.vault.disk) one.later calm (two.halts.0 is),

@@ -4,7 +4,7 @@ use Rattle.std.proofs.lemmas.Bool.{cases_lt}
 use Rattle.std.specs.Prelude.{◌↔◌}
 use Rattle.disk.specs.declared.side.Side.{Side}
 use Rattle.disk.specs.File.{File, MayLeave}
-use Rattle.disk.specs.Time.{Contents, MayLeaveNow, OtherStays, OtherMayBe, Elapses, LeavesOnly}
+use Rattle.disk.specs.Time.{Contents, MayLeaveNow, OtherStays, OtherMayBe, Elapses, LeavesOnly, LeavesSince}
 
 module _ {D : Type 0} (moment : D → ℕ) (left_at : D → ℕ → Contents → Type 0) where
   -- before the first call
@@ -34,20 +34,24 @@ module _ {D : Type 0} (moment : D → ℕ) (left_at : D → ℕ → Contents →
   pub weakened : (old new : D) (P Q : Contents → Type 0) → LeavesOnly moment left_at old new P → ((c : Contents) → P c → Q c) → LeavesOnly moment left_at old new Q
   weakened old new P Q only so = record { later = only.later; each = λ t c from to left. so c (only.each t c from to left); stays = only.stays }
 
-  -- two lists of calls, one after the other
-  pub joined : (old mid new : D) (P Q R : Contents → Type 0) → LeavesOnly moment left_at old mid P → LeavesOnly moment left_at mid new Q
-      → ((c : Contents) → P c → R c) → ((c : Contents) → Q c → R c) → LeavesOnly moment left_at old new R
-  joined old mid new P Q R first second from_first from_second = record {
+  -- two lists of calls, one after the other, the first of them told from when it began and what a crash might leave before
+  pub joined_since : (from : ℕ) (left : ℕ → Contents → Type 0) (mid new : D) (P Q R : Contents → Type 0) → LeavesSince moment left_at from left mid P → LeavesOnly moment left_at mid new Q
+      → ((c : Contents) → P c → R c) → ((c : Contents) → Q c → R c) → LeavesSince moment left_at from left new R
+  joined_since from left mid new P Q R first second from_first from_second = record {
     later = omega (arith, first.later, second.later);
-    each = λ t c from to left. elim (cases_lt (moment mid) t) [
-      | inl after ↦ from_second c (second.each t c (omega (arith, after)) to left)
-      | inr before ↦ from_first c (first.each t c from before ((second.stays t c before).0 left))
+    each = λ t c after_from to was. elim (cases_lt (moment mid) t) [
+      | inl after ↦ from_second c (second.each t c (omega (arith, after)) to was)
+      | inr before ↦ from_first c (first.each t c after_from before ((second.stays t c before).0 was))
     ];
     stays = λ t c le.
         let last = second.stays t c (omega (arith, le, first.later)) in
         let early = first.stays t c le in
-        (λ left. early.0 (last.0 left), λ left. last.1 (early.1 left));
+        (λ was. early.0 (last.0 was), λ was. last.1 (early.1 was));
   }
+
+  pub joined : (old mid new : D) (P Q R : Contents → Type 0) → LeavesOnly moment left_at old mid P → LeavesOnly moment left_at mid new Q
+      → ((c : Contents) → P c → R c) → ((c : Contents) → Q c → R c) → LeavesOnly moment left_at old new R
+  joined old = joined_since (moment old) (left_at old)
 
   -- at each moment of one call a crash may leave what it may leave before the call and behind it
   pub call_keeps : (files : D → Side → File) (at_now : (disk : D) (c : Contents) → left_at disk (moment disk) c ↔ MayLeaveNow (files disk) c) (old new : D)

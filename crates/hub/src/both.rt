@@ -3,7 +3,6 @@ ghost use Rattle.std.specs.Prelude.{◌≡◌, IfErr, IfOk};
 ghost use Rattle.commit.specs.Runs.{NoneRuns};
 ghost use Rattle.hub.specs.declared.both.BothError.TheVariants.{TaskOut, NoMemory};
 ghost use Rattle.hub.specs.Both.{BothPut, Puts};
-ghost use Rattle.hub.specs.Known.{newcomer};
 ghost use Rattle.hub.specs.Opening.{opening_of};
 ghost use Rattle.hub.specs.Whole.{IsNamedFor};
 

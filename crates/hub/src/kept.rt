@@ -97,6 +97,7 @@ impl<J: Naming, D: Disk> Kept<J, D> {
         facts_are_told_apart();
         facts_go_on();
         stores_go_on::<D>();
+        // What is known of every pass: it has a place among those of its table.
         pass.number();
         let place = addr;
         match self.core.put_item(place, value) {
@@ -128,6 +129,7 @@ impl<J: Naming, D: Disk> Kept<J, D> {
         facts_are_told_apart();
         facts_go_on();
         stores_go_on::<D>();
+        // What is known of every pass: it has a place among those of its table.
         pass.number();
         let name = tag;
         match self.core.put_tag(name) {

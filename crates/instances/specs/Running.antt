@@ -5,11 +5,11 @@ use Rattle.instances.specs.declared.state.State.TheVariants.{Running}
 use Rattle.instances.specs.Known.{Known, state_at, total}
 use Rattle.instances.specs.OfStep.{is_running}
 
--- Where each that runs now ran before, no more run than before.
+-- Where each instance that runs now ran before, no more of them run than before.
 abbrev pub NoMoreRun : Type 0
 NoMoreRun = (old new : Known) → ((instance : Inst) → state_at new instance ≡ Some Running → state_at old instance ≡ Some Running) → total is_running new ≤ total is_running old
 
--- Where besides one that ran does not any more, at least one less runs.
+-- Where, in addition, one that ran before does not run now, at least one fewer runs.
 abbrev pub OneLessRuns : Type 0
 OneLessRuns =
     (old new : Known) (ended : Inst) → state_at old ended ≡ Some Running →
