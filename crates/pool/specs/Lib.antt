@@ -1,1 +1,2 @@
 pub mod Concluded
+pub mod Driver

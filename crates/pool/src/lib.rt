@@ -5,10 +5,14 @@
 //! layer above needs (`RunsWithin` of `commit`).
 #![tactic(auto)]
 
+mod crew;
+mod driver;
 mod driving;
 mod probe;
 mod team;
 mod worker;
 
+pub use crew::Crew;
+pub use driver::Driver;
 pub use driving::drive;
 pub use probe::{AlwaysGo, Answer, Probe};

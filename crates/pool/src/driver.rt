@@ -1,0 +1,44 @@
+//! Who runs the steps of a store.
+ghost use Rattle.std.specs.Prelude.{◌≡◌, false, true, Ok, IsTrue};
+ghost use Rattle.commit.specs.declared.verdict.Verdict.TheVariants.{Halted};
+ghost use Rattle.commit.specs.Core.{is_halted};
+ghost use Rattle.commit.specs.Runs.{NoneRuns, RunsWithin};
+ghost use Rattle.pool.specs.Driver.{may_be_asked, may_spawn};
+
+use crate::{Crew, Probe};
+use commit::{Core, First, RunError, Verdict, run_with};
+use disk::Disk;
+use std::alloc::Global;
+use std::marker::Sync;
+use std::sync::Wait;
+use std::thread::Threads;
+
+/// Who runs the steps of a store.
+#[derive(Drop)]
+pub enum Driver<'a, R, P> {
+    /// The thread that calls, always the first of the ready instances.
+    Alone,
+    /// Workers, each on a thread of its own.
+    Crew(Crew<'a, R, P>),
+}
+
+impl<'a, R: Threads + Wait + Sync, P: Probe> Driver<'a, R, P> {
+    /// Runs the steps of a store, until nothing is left to do, or as many of them came to their end as the limit says, and gives the core
+    /// back with the verdict. Nothing runs in the core that is given, nor in the one that is given back.
+    pub fn run<D: Disk + Send>(
+        &self,
+        alloc: Global,
+        core: Core<D>,
+        limit: u64,
+    ) -> (Core<D>, Result<Verdict, RunError>)
+        requires { NoneRuns core }
+        ensures idle { NoneRuns result.0 }
+        ensures halted { is_halted core ≡ true → (result.0 ≡ core) × (result.1 ≡ Ok Halted) }
+        ensures runs { is_halted core ≡ false → RunsWithin D.files D.moment D.left_at D.failures D.refusals (IsTrue D.is_honest) (may_be_asked P.may_stop self.now) (may_spawn self.now) core result.0 limit result.1 }
+    {
+        match self {
+            Driver::Alone => run_with(alloc, core, &mut First, limit),
+            Driver::Crew(crew) => crew.run(alloc, core, limit),
+        }
+    }
+}
