@@ -3,4 +3,4 @@ mod Lines
 mod Names
 mod OneReport
 mod Reports
-mod SameMembers
+pub mod SameMembers

@@ -1,10 +1,11 @@
--- Instances in the order of the names of their steps and of their keys.
+-- Instances in the order of the names of their steps, and then of their numbers and keys.
 use Rattle.std.proofs.Common.{◌≡◌, ◌∙◌, ℕ, Bor, Option, Some, None, List, [], get_or, ap, slice_get}
 use Rattle.std.specs.Option.{option_map, unwrap_or}
 use Rattle.std.proofs.lemmas.Option.{unwrap_or-slice_get}
-use Rattle.std.specs.Cmp.{IsTotalOrder, int_cmp_total, on_total, then_total}
-use Rattle.std.specs.Cmp.Lexicographic.{lists_total, nat_list_cmp_total}
+use Rattle.std.specs.Cmp.{IsTotalOrder, on_total, then_total}
+use Rattle.std.specs.Cmp.Lexicographic.{nat_list_cmp_total}
 use Rattle.terms.specs.declared.name.Inst.{Inst}
+use Rattle.terms.proofs.Numbered as numbered
 use Rattle.steptree.specs.Names.{Text}
 use Rattle.graph.specs.Graph.{Graph}
 use Rattle.graph.specs.Prescribed.{names_of_steps}
@@ -17,5 +18,4 @@ told_name None none names number empty is = empty ∙ ap (λ (o : Option Text). 
 told_name (Some name) none names number empty is = ap (λ (o : Option Text). unwrap_or o []) is ∙ unwrap_or-slice_get names number []
 
 pub instances_total : (g : Graph) → IsTotalOrder (instance_cmp g)
-instances_total g =
-    then_total (on_total (λ (a : Inst). get_or (names_of_steps g.steps) a.collection.0 []) nat_list_cmp_total) (on_total (λ (a : Inst). a.key) (lists_total int_cmp_total))
+instances_total g = then_total (on_total (λ (a : Inst). get_or (names_of_steps g.steps) a.collection.0 []) nat_list_cmp_total) numbered.instances_total

@@ -2,8 +2,13 @@ pub mod ByName
 pub mod Coming
 pub mod Lines
 pub mod Listed
+pub mod OneRefusal
+pub mod OneReply
+pub mod OneWaiting
 pub mod Puts
 pub mod Ran
+pub mod SameText
+pub mod Strictly
 pub mod Taken
 pub mod Told
 pub mod Turns

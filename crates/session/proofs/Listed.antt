@@ -1,10 +1,11 @@
 -- A list of entries in the order of their keys: what is found by a key is what stands in the list.
-use Rattle.std.proofs.Common.{◌≡◌, ◌∙◌, ap, refl, sym, subst, Bool, true, false, cond, T, List, [], ◌∷◌, get_or, Option, Some}
+use Rattle.std.proofs.Common.{◌≡◌, ◌∙◌, ap, refl, sym, subst, Bool, true, false, cond, T, List, [], ◌∷◌, get_or, map, Option, Some}
 use Rattle.std.proofs.lemmas.List.Elements.{All-nil, All-cons, All-head, All-contains_itself, Contains-append_right}
 use Rattle.std.specs.Cmp.{Equal-is, IsTotalOrder, tied_itself}
 use Rattle.std.specs.FinMap.{IsAntisymmetric, find, is_sorted}
 use Rattle.std.specs.FinMap.Entries.{below_all}
-use Rattle.std.specs.List.{All, Contains}
+use Rattle.std.specs.List.{All, AllByRecursion, Contains}
+use Rattle.std.specs.List.Sorted.{IsStrictlySortedBy}
 use Rattle.std.specs.Option.{unwrap_or}
 use Rattle.std.specs.Ordering.{eq_by_cmp, is_eq, is_lt, ordering_reverse}
 use Rattle.std.specs.declared.cmp.Ordering.{Ordering}
@@ -40,3 +41,13 @@ module _ {K X : Type 0} (cmp : K → K → Ordering) where
       at : (b : Bool) → eq_by_cmp cmp key one.0 ≡ b → (find cmp key list ≡ Some value → Contains list (key, value)) → Contains (one ∷ list) (key, value)
       at true tied rest = subst (Contains (one ∷ list)) (here tied) (All-head (Contains (one ∷ list)) one list (All-contains_itself (one ∷ list)))
       at false apart rest = Contains-append_right (one ∷ []) list (key, value) (rest (ap (λ b. cond b (Some one.1) (find cmp key list)) (sym apart) ∙ is))
+
+  -- the keys of entries in order rise
+  pub keys_rise : (list : List (K × X)) → T (is_sorted cmp list) → IsStrictlySortedBy cmp (map (λ entry. entry.0) list)
+  unfolding IsStrictlySortedBy
+  keys_rise [] sorted = tt
+  keys_rise (one ∷ list) sorted = (all_below one.0 list (first _ _ sorted), keys_rise list (second (below_all cmp one.0 list) _ sorted))
+    where
+      all_below : (key : K) (list : List (K × X)) → T (below_all cmp key list) → AllByRecursion (λ other. cmp key other ≡ Less) (map (λ entry. entry.0) list)
+      all_below key [] below = tt
+      all_below key (entry ∷ list) below = (less (cmp key entry.0) (first _ _ below), all_below key list (second (is_lt (cmp key entry.0)) _ below))

@@ -29,6 +29,7 @@ use Rattle.session.specs.Answers.{AreAllDone, AreWaiting, TellsBlocked, TellsRun
 use Rattle.session.specs.Went.{HasCause}
 use Rattle.session.proofs.Listed.{found, listed}
 use Rattle.session.proofs.Puts.{other_cause}
+use Rattle.session.proofs.Strictly.{strictly}
 
 -- ---- states and facts
 
@@ -89,7 +90,7 @@ told_waiting total one_key m kept idle some blocked list are same rises = (
   record {
     wait = All-permutation (λ (entry : Inst × Addr). Waits m.graph (facts m) entry.0 entry.1) blocked list same (λ place entry within. are.waits _ _ (found inst_cmp total blocked are.rises place entry within));
     all = λ instance it unfinished. (let at = are.all idle instance it unfinished in (at.0, Contains-permutation blocked list (instance, at.0) same (listed inst_cmp one_key blocked instance at.0 at.1)));
-    rises = rises;
+    rises = strictly total m.graph blocked list are.rises same rises;
   },
   λ empty. some ((kept.counted is_waiting).1 (fails m (subst (AreBlocked m) (is_empty blocked (sym (length_permutation blocked list same) ∙ ap length empty)) are))),
 )

@@ -1,8 +1,8 @@
 -- What the lines of a script come to: the events that each of them commits, and what is replied to it, by the graph and the facts that are there before it.
-use Rattle.std.specs.Prelude.{◌≡◌, ◌≢◌, ◌↔◌, ⊤, ◌≤◌, ℕ, Bool, true, false, List, [], ◌∷◌, length, get_or, Some, None, Result, Ok, Err, All}
+use Rattle.std.specs.Prelude.{◌≡◌, ◌≢◌, ◌↔◌, ⊤, ◌≤◌, ℕ, Bool, true, false, List, [], ◌∷◌, length, map, get_or, Some, None, Result, Ok, Err, All}
 use Rattle.std.specs.List.{AllByRecursion, Contains}
-use Rattle.std.specs.List.Sorted.{IsSortedBy}
-use Rattle.std.specs.Ordering.{nat_cmp, is_lt, ordering_then}
+use Rattle.std.specs.List.Sorted.{IsStrictlySortedBy}
+use Rattle.std.specs.Ordering.{nat_cmp, ordering_then}
 use Rattle.std.specs.Cmp.Lexicographic.{slice_cmp}
 use Rattle.std.specs.declared.cmp.Ordering.{Ordering}
 use Rattle.terms.specs.declared.name.Addr.{Addr}
@@ -11,7 +11,7 @@ use Rattle.terms.specs.declared.event.Event.{Event}
 use Rattle.terms.specs.declared.event.Event.TheVariants.{EnvItem, EnvTag}
 use Rattle.terms.specs.Facts.{bad, done}
 use Rattle.terms.specs.Facts as stated
-use Rattle.terms.specs.Key.{key_cmp}
+use Rattle.terms.specs.Name.{inst_cmp}
 use Rattle.terms.specs.Sets.{Facts, with_facts}
 use Rattle.graph.specs.Graph.{Graph, EnvironmentMayGet}
 use Rattle.graph.specs.Fits.{HasNoFault, IsPrescribed}
@@ -70,15 +70,15 @@ AreAllDone g X = (instance : Inst) → IsPrescribed g X instance → X (done ins
 abbrev pub HasMoreToDo : Graph → Facts → Type 0
 HasMoreToDo g X = HasNoFault X × (AreAllDone g X → ⊥)
 
--- two instances by the name of their step, in the order of the bytes, and then by key
+-- two instances by the name of their step, in the order of the bytes, and then by number and key
 abbrev pub instance_cmp : Graph → Inst → Inst → Ordering
-instance_cmp g one two = ordering_then (slice_cmp nat_cmp (get_or (names_of_steps g.steps) one.collection.0 []) (get_or (names_of_steps g.steps) two.collection.0 [])) (key_cmp one.key two.key)
+instance_cmp g one two = ordering_then (slice_cmp nat_cmp (get_or (names_of_steps g.steps) one.collection.0 []) (get_or (names_of_steps g.steps) two.collection.0 [])) (inst_cmp one two)
 
--- all instances that are prescribed and not done, each with the address of the item that it needs, by the name of the step and then by key
+-- all instances that are prescribed and not done, each once, with the address of the item that it needs; in that order
 pub record AreWaiting (g : Graph) (X : Facts) (list : List (Inst × Addr)) : Type 0 where
   pub wait : All (λ entry. Waits g X entry.0 entry.1) list
   pub all : (instance : Inst) → IsPrescribed g X instance → X (done instance) ≡ false → (address : Addr) × Contains list (instance, address)
-  pub rises : IsSortedBy (λ one two. is_lt (instance_cmp g one.0 two.0)) list
+  pub rises : IsStrictlySortedBy (instance_cmp g) (map (λ entry. entry.0) list)
 
 -- what is told behind a run that committed so many ends, by the facts behind it
 abbrev pub TellsRun : Graph → Drive → Facts → (count : ℕ) → Reply → Type 0

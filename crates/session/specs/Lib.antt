@@ -1,5 +1,6 @@
 pub mod Answers
 pub mod Fails
+pub mod OneText
 pub mod Replies
 pub mod Session
 pub mod Went

@@ -9,31 +9,36 @@ ghost use Rattle.machine.specs.Status.{NoneIsActive};
 ghost use Rattle.commit.specs.Core.{facts, graph, is_halted};
 ghost use Rattle.commit.specs.Runs.{NoneRuns, TellsVerdict};
 ghost use Rattle.script.specs.declared.command.Command.TheVariants.{Get, Put, Run, Tag as Label};
+ghost use Rattle.pool.specs.Driver.{may_be_asked, may_spawn};
 ghost use Rattle.session.specs.Answers.{Replies, RepliesGet, RepliesPut, RepliesRun, TellsBlocked, TellsRun, drive_of, put_reply, reply_of};
 ghost use Rattle.session.specs.Session.{stop_of};
 ghost use Rattle.session.specs.Went.{GoesOn, HasCause};
 
 use crate::reply::Reply;
 use crate::waiting::sort_by_name;
-use commit::{Core, CoreError, Driver, RunError, Verdict};
+use commit::{Core, CoreError, RunError, Verdict};
 use disk::Disk;
+use pool::{Driver, Probe};
 use script::Command;
 use std::alloc::Global;
+use std::marker::Sync;
+use std::sync::Wait;
+use std::thread::Threads;
 use terms::{Addr, Tag, orders_are_total};
 use vault::{VaultError, stores_go_on};
 
 /// Does what a command asks for, and gives the store back with the reply.
-pub(crate) fn answer<D: Disk + Send, V: Driver>(
+pub(crate) fn answer<D: Disk + Send, H: Threads + Wait + Sync, P: Probe>(
     alloc: Global,
     core: Core<D>,
     command: Command,
-    driver: &mut V,
+    driver: &Driver<'_, H, P>,
     limit: u64,
 ) -> (Core<D>, Reply)
     requires idle { NoneRuns core }
     ensures idle { NoneRuns result.0 }
     ensures replies { (came : List Came) × GoesOn D.files D.moment D.left_at D.failures D.refusals (IsTrue D.is_honest) core result.0 came
-        × Replies (graph core) (drive_of limit V.may_be_asked V.may_spawn (is_halted core)) (facts core) command came result.1 }
+        × Replies (graph core) (drive_of limit (may_be_asked P.may_stop driver.now) (may_spawn driver.now) (is_halted core)) (facts core) command came result.1 }
     ensures cause { HasCause D.failures core result.0 command result.1 }
     ensures stays { stop_of result.1 ≡ None → is_halted result.0 ≡ is_halted core }
 {
@@ -141,16 +146,16 @@ fn refusal(error: CoreError) -> Reply
 }
 
 // Runs the steps.
-fn run<D: Disk + Send, V: Driver>(
+fn run<D: Disk + Send, H: Threads + Wait + Sync, P: Probe>(
     alloc: Global,
     core: Core<D>,
-    driver: &mut V,
+    driver: &Driver<'_, H, P>,
     limit: u64,
 ) -> (Core<D>, Reply)
     requires idle { NoneRuns core }
     ensures idle { NoneRuns result.0 }
     ensures replies { (came : List Came) × GoesOn D.files D.moment D.left_at D.failures D.refusals (IsTrue D.is_honest) core result.0 came
-        × RepliesRun (graph core) (drive_of limit V.may_be_asked V.may_spawn (is_halted core)) (facts core) came result.1 }
+        × RepliesRun (graph core) (drive_of limit (may_be_asked P.may_stop driver.now) (may_spawn driver.now) (is_halted core)) (facts core) came result.1 }
     ensures cause { HasCause D.failures core result.0 Run result.1 }
     ensures halt { is_halted core ≡ true → result.1 ≡ Halted }
     ensures stays { stop_of result.1 ≡ None → is_halted result.0 ≡ is_halted core }

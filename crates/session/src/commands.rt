@@ -2,32 +2,37 @@
 ghost use Rattle.std.specs.Prelude.{IsTrue};
 ghost use Rattle.commit.specs.Core.{is_halted};
 ghost use Rattle.commit.specs.Runs.{NoneRuns};
+ghost use Rattle.pool.specs.Driver.{may_be_asked, may_spawn};
 ghost use Rattle.session.specs.Answers.{drive_of};
 ghost use Rattle.session.specs.Fails.{AnswersLines};
 
 use crate::answers::answer;
 use crate::reply::NamedReply;
 use crate::{Ending, SessionError};
-use commit::{Core, Driver};
+use commit::Core;
 use disk::Disk;
+use pool::{Driver, Probe};
 use script::Command;
 use std::alloc::Global;
 use std::io::Write;
+use std::marker::Sync;
+use std::sync::Wait;
+use std::thread::Threads;
 use terms::facts_are_told_apart;
 use vault::stores_go_on;
 
 /// Does what the commands ask for, one after another, and writes the replies; up to a reply that ends the session.
-pub(crate) fn run_commands<D: Disk + Send, W: Write, V: Driver>(
+pub(crate) fn run_commands<D: Disk + Send, W: Write, H: Threads + Wait + Sync, P: Probe>(
     alloc: Global,
     core: Core<D>,
     commands: &[Command],
     out: &mut W,
-    driver: &mut V,
+    driver: &Driver<'_, H, P>,
     limit: u64,
 ) -> (Core<D>, Result<Ending, SessionError>)
     requires idle { NoneRuns core }
     ensures idle { NoneRuns result.0 }
-    ensures answers { AnswersLines D.files D.moment D.left_at D.failures D.refusals (IsTrue D.is_honest) (drive_of limit V.may_be_asked V.may_spawn (is_halted core)) commands.now (W.contents out.old) (W.contents out.new) core result.0 result.1 }
+    ensures answers { AnswersLines D.files D.moment D.left_at D.failures D.refusals (IsTrue D.is_honest) (drive_of limit (may_be_asked P.may_stop driver.now) (may_spawn driver.now) (is_halted core)) commands.now (W.contents out.old) (W.contents out.new) core result.0 result.1 }
 {
     facts_are_told_apart();
     stores_go_on::<D>();

@@ -7,10 +7,12 @@ mod answers;
 mod commands;
 mod ending;
 mod error;
+mod laws;
 mod reply;
 mod sessions;
 mod waiting;
 
 pub use ending::{Ending, Stop};
 pub use error::SessionError;
+pub use laws::texts_are_one;
 pub use sessions::session;

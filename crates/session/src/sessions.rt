@@ -4,19 +4,24 @@ ghost use Rattle.std.specs.Io.KnownBytes.{Appends};
 ghost use Rattle.script.specs.Script.{IsScript};
 ghost use Rattle.commit.specs.Core.{facts, graph, is_halted};
 ghost use Rattle.commit.specs.Runs.{NoneRuns};
+ghost use Rattle.pool.specs.Driver.{may_be_asked, may_spawn};
 ghost use Rattle.session.specs.Answers.{drive_of};
 ghost use Rattle.session.specs.Fails.{Answers, AnswersCommands, FailsToRead, IsAllOf, IsOfOutput, IsRefusedAs};
 ghost use Rattle.session.specs.Session.{IsClosing};
 
 use crate::commands::run_commands;
 use crate::{Ending, SessionError};
-use commit::{Core, Driver};
+use commit::Core;
 use disk::Disk;
 use graph::Graph;
+use pool::{Driver, Probe};
 use report::{ReportError, write_report};
 use script::{Command, MOST_BYTES, ScriptError, parse_script};
 use std::alloc::Global;
 use std::io::{ErrorKind, Read, Write};
+use std::marker::Sync;
+use std::sync::Wait;
+use std::thread::Threads;
 use vault::stores_go_on;
 
 /// Runs a script on a store: reads it whole, does what its lines ask for one after another, and writes what is replied, and then the report.
@@ -24,17 +29,17 @@ use vault::stores_go_on;
 /// A run of the steps is the driver's, with this limit. A reply of `refused 8`, `9` or `10`, or that a thread could not be started, ends the session without a
 /// report. An error before the first line leaves the store and the output as they were; behind one later, what was committed stays. A crash at any moment of a line
 /// leaves all that came by the lines before it, and of its own commits the first few.
-pub fn session<D: Disk + Send, R: Read, W: Write, V: Driver>(
+pub fn session<D: Disk + Send, R: Read, W: Write, H: Threads + Wait + Sync, P: Probe>(
     alloc: Global,
     core: Core<D>,
     input: &mut R,
     out: &mut W,
-    driver: &mut V,
+    driver: &Driver<'_, H, P>,
     limit: u64,
 ) -> (Core<D>, Result<Ending, SessionError>)
     requires idle { NoneRuns core }
     ensures idle { NoneRuns result.0 }
-    ensures answers { Answers D.files D.moment D.left_at D.failures D.refusals (IsTrue D.is_honest) (drive_of limit V.may_be_asked V.may_spawn (is_halted core)) (R.remaining input.old) (W.contents out.old) (W.contents out.new) core result.0 result.1 }
+    ensures answers { Answers D.files D.moment D.left_at D.failures D.refusals (IsTrue D.is_honest) (drive_of limit (may_be_asked P.may_stop driver.now) (may_spawn driver.now) (is_halted core)) (R.remaining input.old) (W.contents out.old) (W.contents out.new) core result.0 result.1 }
 {
     stores_go_on::<D>();
     core.is_kept();
@@ -76,17 +81,17 @@ fn parsed(alloc: Global, graph: &Graph, text: &[u8]) -> Result<Vec<Command>, Ses
 }
 
 // Does what the commands ask for, and writes the replies and the report.
-fn run_script<D: Disk + Send, W: Write, V: Driver>(
+fn run_script<D: Disk + Send, W: Write, H: Threads + Wait + Sync, P: Probe>(
     alloc: Global,
     core: Core<D>,
     commands: &[Command],
     out: &mut W,
-    driver: &mut V,
+    driver: &Driver<'_, H, P>,
     limit: u64,
 ) -> (Core<D>, Result<Ending, SessionError>)
     requires idle { NoneRuns core }
     ensures idle { NoneRuns result.0 }
-    ensures answers { AnswersCommands D.files D.moment D.left_at D.failures D.refusals (IsTrue D.is_honest) (drive_of limit V.may_be_asked V.may_spawn (is_halted core)) commands.now (W.contents out.old) (W.contents out.new) core result.0 result.1 }
+    ensures answers { AnswersCommands D.files D.moment D.left_at D.failures D.refusals (IsTrue D.is_honest) (drive_of limit (may_be_asked P.may_stop driver.now) (may_spawn driver.now) (is_halted core)) commands.now (W.contents out.old) (W.contents out.new) core result.0 result.1 }
 {
     let (core, went) = run_commands(alloc, core, commands, out, driver, limit);
     match went {

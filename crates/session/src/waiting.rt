@@ -9,7 +9,7 @@ use graph::Graph;
 use std::cmp::Ordering;
 use terms::{Addr, Inst};
 
-/// Puts instances in the order of the names of their steps, and of their keys.
+/// Puts instances in the order of the names of their steps, and then of their numbers and keys.
 pub(crate) fn sort_by_name(graph: &Graph, waiting: &mut Vec<(Inst, Addr)>)
     ensures same { IsPermutation waiting.old.items waiting.new.items }
     ensures rises { IsSortedBy (λ one two. is_lt (instance_cmp graph.now one.0 two.0)) waiting.new.items }
@@ -17,13 +17,11 @@ pub(crate) fn sort_by_name(graph: &Graph, waiting: &mut Vec<(Inst, Addr)>)
     waiting.sort_unstable_by(|one, two| compare(graph, &one.0, &two.0));
 }
 
-// Two instances by the names of their steps, and then by their keys.
+// Two instances by the names of their steps, and then by their numbers and keys.
 fn compare(graph: &Graph, one: &Inst, two: &Inst) -> Ordering
     ensures { result ≡ instance_cmp graph.now one.now two.now }
 {
-    name(graph, one)
-        .cmp(name(graph, two))
-        .then(one.key.cmp(&two.key))
+    name(graph, one).cmp(name(graph, two)).then(one.cmp(two))
 }
 
 // The name of the step of an instance.

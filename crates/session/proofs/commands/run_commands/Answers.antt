@@ -2,6 +2,7 @@ use Rattle.std.proofs.Common.{◌∙◌, ap, refl, sym, subst, suc, List, ◌∷
 use Rattle.std.proofs.lemmas.List.{take_all}
 use Rattle.commit.specs.Core.{facts, graph, is_halted}
 use Rattle.script.specs.declared.command.Command.{Command}
+use Rattle.pool.specs.Driver.{may_be_asked, may_spawn}
 use Rattle.session.specs.declared.ending.Ending.{Ending}
 use Rattle.terms.specs.declared.event.Event.{Event}
 use Rattle.session.specs.Answers.{Replies, drive_of}
@@ -15,7 +16,7 @@ use Rattle.session.proofs.commands.run_commands.Goals as goal
 
 pub loop-command-init : goal.loop-command-init
 loop-command-init g c =
-    let drive = drive_of c.args.limit g.V.Driver.may_be_asked g.V.Driver.may_spawn (is_halted c.args.core) in
+    let drive = drive_of c.args.limit (may_be_asked g.P.Probe.may_stop c.args.driver.now) (may_spawn c.args.driver.now) (is_halted c.args.core) in
     record {
       idle = c.requires.idle;
       none = ap (λ (ending : Ending). ending.stop) c.new-ending.ensures;
@@ -38,8 +39,8 @@ returns-then-is_err-clause-answers g c =
     let command = c.command-item.result in
     let reply = c.answer-next.result.1 in
     let replied = subst (λ (was_halted : Bool). (came : List Event) × GoesOn g.D.Disk.files g.D.Disk.moment g.D.Disk.left_at g.D.Disk.failures g.D.Disk.refusals (IsTrue g.D.Disk.is_honest) c.loop-command.core new came
-    × Replies (graph c.loop-command.core) (drive_of c.args.limit g.V.Driver.may_be_asked g.V.Driver.may_spawn was_halted) (facts c.loop-command.core) command came reply) it.same c.answer-next.ensures.replies in
-    let turn = turned g.D.Disk.files g.D.Disk.moment g.D.Disk.left_at g.D.Disk.failures g.D.Disk.refusals (IsTrue g.D.Disk.is_honest) (drive_of c.args.limit g.V.Driver.may_be_asked g.V.Driver.may_spawn (is_halted c.args.core))
+    × Replies (graph c.loop-command.core) (drive_of c.args.limit (may_be_asked g.P.Probe.may_stop c.args.driver.now) (may_spawn c.args.driver.now) was_halted) (facts c.loop-command.core) command came reply) it.same c.answer-next.ensures.replies in
+    let turn = turned g.D.Disk.files g.D.Disk.moment g.D.Disk.left_at g.D.Disk.failures g.D.Disk.refusals (IsTrue g.D.Disk.is_honest) (drive_of c.args.limit (may_be_asked g.P.Probe.may_stop c.args.driver.now) (may_spawn c.args.driver.now) (is_halted c.args.core))
     c.facts_are_told_apart.ensures.among c.stores_go_on.ensures.gates_stay old c.loop-command.core new (take place commands) command c.loop-command.ending it.replies reply it.events it.goes it.linked it.went replied c.answer-next.ensures.cause in
     let begun = take place commands ++ command ∷ [] in
     record {
@@ -70,8 +71,8 @@ returns-then-is_some-clause-answers g c =
     let command = c.command-item.result in
     let reply = c.answer-next.result.1 in
     let replied = subst (λ (was_halted : Bool). (came : List Event) × GoesOn g.D.Disk.files g.D.Disk.moment g.D.Disk.left_at g.D.Disk.failures g.D.Disk.refusals (IsTrue g.D.Disk.is_honest) c.loop-command.core new came
-    × Replies (graph c.loop-command.core) (drive_of c.args.limit g.V.Driver.may_be_asked g.V.Driver.may_spawn was_halted) (facts c.loop-command.core) command came reply) it.same c.answer-next.ensures.replies in
-    let turn = turned g.D.Disk.files g.D.Disk.moment g.D.Disk.left_at g.D.Disk.failures g.D.Disk.refusals (IsTrue g.D.Disk.is_honest) (drive_of c.args.limit g.V.Driver.may_be_asked g.V.Driver.may_spawn (is_halted c.args.core))
+    × Replies (graph c.loop-command.core) (drive_of c.args.limit (may_be_asked g.P.Probe.may_stop c.args.driver.now) (may_spawn c.args.driver.now) was_halted) (facts c.loop-command.core) command came reply) it.same c.answer-next.ensures.replies in
+    let turn = turned g.D.Disk.files g.D.Disk.moment g.D.Disk.left_at g.D.Disk.failures g.D.Disk.refusals (IsTrue g.D.Disk.is_honest) (drive_of c.args.limit (may_be_asked g.P.Probe.may_stop c.args.driver.now) (may_spawn c.args.driver.now) (is_halted c.args.core))
     c.facts_are_told_apart.ensures.among c.stores_go_on.ensures.gates_stay old c.loop-command.core new (take place commands) command c.loop-command.ending it.replies reply it.events it.goes it.linked it.went replied c.answer-next.ensures.cause in
     let left = drop (suc place) commands in
     let split = split_at commands place command c.loop-command-test.true c.command-item.is in
@@ -86,7 +87,7 @@ returns-then-is_some-clause-answers g c =
       closes = (
         refl,
         record {
-          answered = subst (λ (all : List Command). AreReplies (graph old) (drive_of c.args.limit g.V.Driver.may_be_asked g.V.Driver.may_spawn (is_halted c.args.core)) (facts old) all (it.replies ++ reply ∷ []) turn.events) (sym split) (turn.last left stops);
+          answered = subst (λ (all : List Command). AreReplies (graph old) (drive_of c.args.limit (may_be_asked g.P.Probe.may_stop c.args.driver.now) (may_spawn c.args.driver.now) (is_halted c.args.core)) (facts old) all (it.replies ++ reply ∷ []) turn.events) (sym split) (turn.last left stops);
           ends = c.with_reply-ending.ensures ∙ turn.ends left ∙ ap (λ (all : List Command). ending_of all (it.replies ++ reply ∷ [])) (sym split);
           written =
               written_more (g.W.Write.contents c.args.out.now) (g.W.Write.contents c.loop-command.out) (g.W.Write.contents c.write_fmt.new.self) (graph old) c.deref.result.now it.replies reply (c.deref.ensures ∙ c.graph.ensures ∙ turn.same_graph) it.written
@@ -106,8 +107,8 @@ loop-command-preserved g c =
     let command = c.command-item.result in
     let reply = c.answer-next.result.1 in
     let replied = subst (λ (was_halted : Bool). (came : List Event) × GoesOn g.D.Disk.files g.D.Disk.moment g.D.Disk.left_at g.D.Disk.failures g.D.Disk.refusals (IsTrue g.D.Disk.is_honest) c.loop-command.core new came
-    × Replies (graph c.loop-command.core) (drive_of c.args.limit g.V.Driver.may_be_asked g.V.Driver.may_spawn was_halted) (facts c.loop-command.core) command came reply) it.same c.answer-next.ensures.replies in
-    let turn = turned g.D.Disk.files g.D.Disk.moment g.D.Disk.left_at g.D.Disk.failures g.D.Disk.refusals (IsTrue g.D.Disk.is_honest) (drive_of c.args.limit g.V.Driver.may_be_asked g.V.Driver.may_spawn (is_halted c.args.core))
+    × Replies (graph c.loop-command.core) (drive_of c.args.limit (may_be_asked g.P.Probe.may_stop c.args.driver.now) (may_spawn c.args.driver.now) was_halted) (facts c.loop-command.core) command came reply) it.same c.answer-next.ensures.replies in
+    let turn = turned g.D.Disk.files g.D.Disk.moment g.D.Disk.left_at g.D.Disk.failures g.D.Disk.refusals (IsTrue g.D.Disk.is_honest) (drive_of c.args.limit (may_be_asked g.P.Probe.may_stop c.args.driver.now) (may_spawn c.args.driver.now) (is_halted c.args.core))
     c.facts_are_told_apart.ensures.among c.stores_go_on.ensures.gates_stay old c.loop-command.core new (take place commands) command c.loop-command.ending it.replies reply it.events it.goes it.linked it.went replied c.answer-next.ensures.cause in
     let goes_on = none (stop_of reply) (c.if-is_some.ensures ∙ ap (λ (ending : Ending). is_some ending.stop) c.with_reply-ending.ensures) in
     let one_more = sym (up_to commands place command c.loop-command-test.true c.command-item.is) in
@@ -120,8 +121,8 @@ loop-command-preserved g c =
       goes = turn.goes;
       linked = subst (λ (begun : List Command). Linked g.D.Disk.files g.D.Disk.moment g.D.Disk.left_at g.D.Disk.failures g.D.Disk.refusals (IsTrue g.D.Disk.is_honest) old new begun (it.replies ++ reply ∷ []) turn.events) one_more turn.linked;
       went =
-          subst (λ (begun : List Command). Went (graph old) (drive_of c.args.limit g.V.Driver.may_be_asked g.V.Driver.may_spawn (is_halted c.args.core)) (facts old) begun c.with_reply-ending.result (it.replies ++ reply ∷ []) turn.events) one_more
-          (subst (λ (ending : Ending). Went (graph old) (drive_of c.args.limit g.V.Driver.may_be_asked g.V.Driver.may_spawn (is_halted c.args.core)) (facts old) (take place commands ++ command ∷ []) ending (it.replies ++ reply ∷ []) turn.events) (sym c.with_reply-ending.ensures) (turn.on goes_on));
+          subst (λ (begun : List Command). Went (graph old) (drive_of c.args.limit (may_be_asked g.P.Probe.may_stop c.args.driver.now) (may_spawn c.args.driver.now) (is_halted c.args.core)) (facts old) begun c.with_reply-ending.result (it.replies ++ reply ∷ []) turn.events) one_more
+          (subst (λ (ending : Ending). Went (graph old) (drive_of c.args.limit (may_be_asked g.P.Probe.may_stop c.args.driver.now) (may_spawn c.args.driver.now) (is_halted c.args.core)) (facts old) (take place commands ++ command ∷ []) ending (it.replies ++ reply ∷ []) turn.events) (sym c.with_reply-ending.ensures) (turn.on goes_on));
       written =
           written_more (g.W.Write.contents c.args.out.now) (g.W.Write.contents c.loop-command.out) (g.W.Write.contents c.write_fmt.new.self) (graph old) c.deref.result.now it.replies reply (c.deref.ensures ∙ c.graph.ensures ∙ turn.same_graph) it.written
           (where_ok c.write_fmt.result c.write_fmt.ensures.bytes c.if-is_err.ensures.value);
@@ -131,7 +132,7 @@ pub returns-clause-answers : goal.returns-clause-answers
 returns-clause-answers g c =
     let old = c.args.core in
     let new = c.loop-command.core in
-    let drive = drive_of c.args.limit g.V.Driver.may_be_asked g.V.Driver.may_spawn (is_halted c.args.core) in
+    let drive = drive_of c.args.limit (may_be_asked g.P.Probe.may_stop c.args.driver.now) (may_spawn c.args.driver.now) (is_halted c.args.core) in
     let commands = c.args.commands.now in
     let it = c.loop-command.invariant in
     let all = take_all c.loop-command.command-index commands c.loop-command-test.false in

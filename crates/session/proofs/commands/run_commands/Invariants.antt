@@ -3,6 +3,7 @@ use Rattle.std.specs.Io.KnownBytes.{Appends}
 use Rattle.terms.specs.declared.event.Event.{Event}
 use Rattle.commit.specs.Core.{facts, graph, is_halted}
 use Rattle.commit.specs.Runs.{NoneRuns}
+use Rattle.pool.specs.Driver.{may_be_asked, may_spawn}
 use Rattle.session.specs.declared.reply.Reply.{Reply}
 use Rattle.session.specs.Answers.{drive_of}
 use Rattle.session.specs.Session.{all_of, replies_text}
@@ -21,6 +22,6 @@ invariant-loop-command g l = record {
   replies : List Reply;
   goes : GoesOn g.D.Disk.files g.D.Disk.moment g.D.Disk.left_at g.D.Disk.failures g.D.Disk.refusals (IsTrue g.D.Disk.is_honest) l.initial.core l.core (all_of events);
   linked : Linked g.D.Disk.files g.D.Disk.moment g.D.Disk.left_at g.D.Disk.failures g.D.Disk.refusals (IsTrue g.D.Disk.is_honest) l.initial.core l.core (take l.command-index l.commands) replies events;
-  went : Went (graph l.initial.core) (drive_of l.limit g.V.Driver.may_be_asked g.V.Driver.may_spawn (is_halted l.initial.core)) (facts l.initial.core) (take l.command-index l.commands) l.ending replies events;
+  went : Went (graph l.initial.core) (drive_of l.limit (may_be_asked g.P.Probe.may_stop l.driver) (may_spawn l.driver) (is_halted l.initial.core)) (facts l.initial.core) (take l.command-index l.commands) l.ending replies events;
   written : Appends (g.W.Write.contents l.initial.out) (g.W.Write.contents l.out) (replies_text (graph l.initial.core) replies);
 }

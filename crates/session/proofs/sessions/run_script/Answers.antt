@@ -5,6 +5,7 @@ use Rattle.terms.specs.Facts as stated
 use Rattle.terms.specs.Sets.{Facts, with_facts}
 use Rattle.graph.specs.Graph.{Graph}
 use Rattle.commit.specs.Core.{facts, graph, is_halted}
+use Rattle.pool.specs.Driver.{may_be_asked, may_spawn}
 use Rattle.session.specs.declared.ending.Ending.{Ending}
 use Rattle.session.specs.declared.error.SessionError.{SessionError}
 use Rattle.session.specs.Answers.{drive_of}
@@ -18,7 +19,7 @@ pub returns-in-Ok-clause-answers : goal.returns-in-Ok-clause-answers
 returns-in-Ok-clause-answers g c =
     let old = c.args.core in
     let new = c.run_commands-core.result.0 in
-    let drive = drive_of c.args.limit g.V.Driver.may_be_asked g.V.Driver.may_spawn (is_halted c.args.core) in
+    let drive = drive_of c.args.limit (may_be_asked g.P.Probe.may_stop c.args.driver.now) (may_spawn c.args.driver.now) (is_halted c.args.core) in
     let commands = c.args.commands.now in
     let it = c.run_commands-core.ensures.answers in
     let written = subst (λ (r : Result Ending SessionError). IfOk r (λ ending. (it.begun ≡ commands)
@@ -51,7 +52,7 @@ returns-in-Ok-clause-answers g c =
 pub returns-in-Err-clause-answers : goal.returns-in-Err-clause-answers
 returns-in-Err-clause-answers g c =
     let old = c.args.core in
-    let drive = drive_of c.args.limit g.V.Driver.may_be_asked g.V.Driver.may_spawn (is_halted c.args.core) in
+    let drive = drive_of c.args.limit (may_be_asked g.P.Probe.may_stop c.args.driver.now) (may_spawn c.args.driver.now) (is_halted c.args.core) in
     let it = c.run_commands-core.ensures.answers in
     let failed = subst (λ (r : Result Ending SessionError). IfErr r (λ error. IsOfOutput error × HasBegun (graph old) drive (facts old) c.args.commands.now it.begun it.replies it.events)) c.in-Err.is it.fails in
     record {
