@@ -63,9 +63,13 @@ step() {
     fi
 }
 
+# As many workers as there are processors, of which a crew has 64 at most.
+workers=$(getconf _NPROCESSORS_ONLN)
+if [ "$workers" -gt 64 ]; then workers=64; fi
+
 step 0 create "$example/graph" "$directory"
-step 0 run "$directory" "$example/script"
+step 0 run "$directory" "$example/script" --workers "$workers"
 step 0 report "$directory"
 step 0 turn "$directory"
-echo run | step 0 run "$directory" -
+echo run | step 0 run "$directory" - --workers "$workers"
 echo "Done: each command was a process of its own, and what one put on the disk was there for the next."

@@ -172,7 +172,7 @@ module _ {D : Type 0} (files : D → Side → File) (moment : D → ℕ) (left_a
   -- what the command did, and what it came to
   abbrev pub Obeys : Drive → Command → (input before behind : Option (List ℕ)) → D → D → Outcome → Type 0
   Obeys drive (asked.Create text directory) input before behind old new outcome = CreatesOrNot input before behind old new outcome
-  Obeys drive (asked.Run directory script limit) input before behind old new outcome = IsNotOpened before behind old new outcome ⊎ Runs (record drive { most = limit }) input before behind old new outcome
+  Obeys drive (asked.Run directory script limit workers) input before behind old new outcome = IsNotOpened before behind old new outcome ⊎ Runs (record drive { most = limit }) input before behind old new outcome
   Obeys drive (asked.Report directory) input before behind old new outcome = IsNotOpened before behind old new outcome ⊎ Reports before behind old new outcome
   Obeys drive (asked.Turn directory) input before behind old new outcome = IsNotOpened before behind old new outcome ⊎ TurnsOver before behind old new outcome
   Obeys drive (asked.Draw text) input before behind old new outcome = (new ≡ old) × Draws input before behind outcome

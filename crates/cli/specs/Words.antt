@@ -4,11 +4,11 @@ use Rattle.clap.specs.declared.error.kind.ErrorKind.{ErrorKind}
 use Rattle.clap.specs.declared.error.kind.ErrorKind.TheVariants as kind
 use Rattle.cli.specs.declared.words.Command.{Command}
 use Rattle.cli.specs.declared.words.Command.TheVariants.{Create, Run, Report, Turn, Draw, DrawStore}
-use Rattle.cli.specs.declared.words.TheConstants.{MOST_LIMIT}
+use Rattle.cli.specs.declared.words.TheConstants.{MOST_LIMIT, MOST_WORKERS}
 
--- a run commits no more ends of steps than there may be
+-- a run commits no more ends of steps than it may, and has as many workers as it may have
 abbrev pub IsInRange : Command → Type 0
-IsInRange (Run directory script limit) = limit ≤ MOST_LIMIT
+IsInRange (Run directory script limit workers) = (limit ≤ MOST_LIMIT) × (1 ≤ workers) × (workers ≤ MOST_WORKERS)
 IsInRange (Create graph directory) = ⊤
 IsInRange (Report directory) = ⊤
 IsInRange (Turn directory) = ⊤

@@ -2,6 +2,7 @@
 ghost use Rattle.std.specs.Prelude.{◌≡◌, ◌⊎◌, ◌++◌, false, IfOk, IfErr, IsTrue, codes};
 ghost use Rattle.std.specs.Fmt.{decimal};
 ghost use Rattle.graph.specs.declared.limits.TheConstants.{MOST_TEXT};
+ghost use Rattle.pool.specs.Driver.{may_be_asked, may_spawn};
 ghost use Rattle.session.specs.Answers.{drive_of};
 ghost use Rattle.session.specs.Fails.{IsAllOrTooLarge};
 ghost use Rattle.cli.specs.Obeyed.{CreatesOrNot, Draws, DrawsStore, IsDrawn, IsLeft, IsNotOpened, Obeys, Reports, Runs, SaysOrFails, TellsReport, TellsSession, TellsTurn, TurnsOver};
@@ -15,14 +16,18 @@ use crate::hints::{graph_hint, script_hint};
 use crate::outcome::NamedFailure;
 use crate::words::MOST_LIMIT;
 use crate::{Command, Failure, Left, Outcome};
-use commit::{Core, CoreError, CreateError, Driver, NotCreated};
+use commit::{Core, CoreError, CreateError, NotCreated};
 use disk::Disk;
 use drawing::{DrawError, draw_graph, draw_store};
 use graph::{Graph, MOST_TEXT, parse};
+use pool::{Driver, Probe};
 use report::{ReportError, write_report};
 use session::{Ending, SessionError, session};
 use std::alloc::Global;
 use std::io::{ErrorKind, Read, Write};
+use std::marker::Sync;
+use std::sync::Wait;
+use std::thread::Threads;
 use vault::Refused;
 
 /// Where failures are told.
@@ -40,20 +45,20 @@ impl Errors for Vec<u8> {
 /// Does what a command asks for on a disk, and answers the disk and the status.
 ///
 /// The input is the graph or the script. What the command says goes to `out`, and why it failed to `err`: nothing where the output failed, or a reply ended the
-/// session. A store is opened before its script is read. Statuses, the first that holds: 2 where the graph or the script is refused or cannot be read; 5 where
+/// session. A store is opened before its script is read, and its steps are run by the driver. Statuses, the first that holds: 2 where the graph or the script is refused or cannot be read; 5 where
 /// the device failed, memory was refused, the store is halted, or the output failed; 4 where the store is refused, or a put or a run met that it is full; 3 where
 /// a fault stopped the store; 6 where the last `run` met its limit; 1 where a prescribed instance is not done; else 0.
-pub fn obey<D: Disk + Send, R: Read, W: Write, E: Errors, V: Driver>(
+pub fn obey<D: Disk + Send, R: Read, W: Write, E: Errors, H: Threads + Wait + Sync, P: Probe>(
     alloc: Global,
     command: &Command<'_>,
     disk: D,
     input: &mut R,
     out: &mut W,
     err: &mut E,
-    driver: &mut V,
+    driver: &Driver<'_, H, P>,
 ) -> (D, u8)
     ensures { (outcome : Came) × (result.1 ≡ status_of outcome)
-        × Obeys D.files D.moment D.left_at D.failures D.refusals (IsTrue D.is_honest) (drive_of MOST_LIMIT V.may_be_asked V.may_spawn false) command.now (R.remaining input.old) (W.contents out.old) (W.contents out.new) disk result.0 outcome }
+        × Obeys D.files D.moment D.left_at D.failures D.refusals (IsTrue D.is_honest) (drive_of MOST_LIMIT (may_be_asked P.may_stop driver.now) (may_spawn driver.now) false) command.now (R.remaining input.old) (W.contents out.old) (W.contents out.new) disk result.0 outcome }
 {
     let (disk, outcome) = obeyed(alloc, command, disk, input, out, driver);
     if let Outcome::Failed(failure) = &outcome {
@@ -63,15 +68,15 @@ pub fn obey<D: Disk + Send, R: Read, W: Write, E: Errors, V: Driver>(
 }
 
 // Does what a command asks for.
-fn obeyed<D: Disk + Send, R: Read, W: Write, V: Driver>(
+fn obeyed<D: Disk + Send, R: Read, W: Write, H: Threads + Wait + Sync, P: Probe>(
     alloc: Global,
     command: &Command<'_>,
     disk: D,
     input: &mut R,
     out: &mut W,
-    driver: &mut V,
+    driver: &Driver<'_, H, P>,
 ) -> (D, Outcome)
-    ensures { Obeys D.files D.moment D.left_at D.failures D.refusals (IsTrue D.is_honest) (drive_of MOST_LIMIT V.may_be_asked V.may_spawn false) command.now (R.remaining input.old) (W.contents out.old) (W.contents out.new) disk result.0 result.1 }
+    ensures { Obeys D.files D.moment D.left_at D.failures D.refusals (IsTrue D.is_honest) (drive_of MOST_LIMIT (may_be_asked P.may_stop driver.now) (may_spawn driver.now) false) command.now (R.remaining input.old) (W.contents out.old) (W.contents out.new) disk result.0 result.1 }
 {
     match *command {
         Command::Create { .. } => create(alloc, disk, input, out),
@@ -209,16 +214,16 @@ fn told_generation<W: Write>(generation: u64, out: &mut W) -> Outcome
 }
 
 // Runs a script on a store.
-fn run<D: Disk + Send, R: Read, W: Write, V: Driver>(
+fn run<D: Disk + Send, R: Read, W: Write, H: Threads + Wait + Sync, P: Probe>(
     alloc: Global,
     disk: D,
     input: &mut R,
     out: &mut W,
-    driver: &mut V,
+    driver: &Driver<'_, H, P>,
     limit: u64,
 ) -> (D, Outcome)
     ensures { IsNotOpened D.files D.moment D.left_at D.failures D.refusals (IsTrue D.is_honest) (W.contents out.old) (W.contents out.new) disk result.0 result.1
-        ⊎ Runs D.files D.moment D.left_at D.failures D.refusals (IsTrue D.is_honest) (drive_of limit V.may_be_asked V.may_spawn false) (R.remaining input.old) (W.contents out.old) (W.contents out.new) disk result.0 result.1 }
+        ⊎ Runs D.files D.moment D.left_at D.failures D.refusals (IsTrue D.is_honest) (drive_of limit (may_be_asked P.may_stop driver.now) (may_spawn driver.now) false) (R.remaining input.old) (W.contents out.old) (W.contents out.new) disk result.0 result.1 }
 {
     match Core::open(alloc, disk) {
         Ok(core) => {

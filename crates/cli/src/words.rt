@@ -1,5 +1,5 @@
 //! The words of a command line, read by `clap`.
-ghost use Rattle.std.specs.Prelude.{◌≡◌, ◌⊎◌, IfErr, IfOk, IfSome};
+ghost use Rattle.std.specs.Prelude.{◌≡◌, ◌≤◌, ◌⊎◌, IfErr, IfOk, IfSome};
 ghost use Rattle.clap.specs.Words.{kind_of};
 ghost use Rattle.cli.specs.Words.{IsInRange, usage_status_of};
 
@@ -14,6 +14,9 @@ use std::{env, io};
 /// The most ends of steps that one run may commit.
 pub const MOST_LIMIT: u64 = 1_000_000_000;
 
+/// The most workers.
+pub const MOST_WORKERS: u8 = 64;
+
 // What is told of a graph's file.
 const GRAPH_HELP: &str = "The file with the text of the graph; - is the standard input";
 
@@ -25,11 +28,13 @@ pub enum Command<'a> {
         graph: &'a str,
         directory: &'a str,
     },
-    /// Run the script in this file on the store in the directory; each of its runs commits as many ends of steps at most as the limit says.
+    /// Run the script in this file on the store in the directory with so many workers; each of its runs commits as many ends of steps at most as the
+    /// limit says.
     Run {
         directory: &'a str,
         script: &'a str,
         limit: u64,
+        workers: u8,
     },
     /// Print the report of the store in the directory.
     Report {
@@ -59,6 +64,17 @@ impl<'a> Command<'a> {
             | Command::Turn { directory }
             | Command::DrawStore { directory } => directory,
             Command::Draw { .. } => "",
+        }
+    }
+
+    /// How many workers run its steps. A command that runs none has one.
+    pub fn workers(&self) -> u8
+        requires { IsInRange self.now }
+        ensures { (1 ≤ result) × (result ≤ 64) }
+    {
+        match self {
+            Command::Run { workers, .. } => *workers,
+            _ => 1,
         }
     }
 
@@ -130,13 +146,15 @@ fn command_in<'a>(matches: &ArgMatches<'a>) -> Option<Command<'a>>
         "run" => {
             let script = found.get_str("SCRIPT")?;
             let limit = found.get_one::<u64>("limit")?;
-            if limit > MOST_LIMIT {
+            let workers = u8::try_from(found.get_one::<u64>("workers")?).ok()?;
+            if limit > MOST_LIMIT || workers == 0 || workers > MOST_WORKERS {
                 return None;
             }
             Some(Command::Run {
                 directory,
                 script,
                 limit,
+                workers,
             })
         }
         "report" => Some(Command::Report { directory }),
@@ -203,7 +221,7 @@ fn create_line<'a>(alloc: Global) -> Result<clap::Command<'a>, AllocError> {
 fn run_line<'a>(alloc: Global) -> Result<clap::Command<'a>, AllocError> {
     let line = clap::Command::new(alloc, "run")
         .about("Run a script on a store, and print the replies and the report")
-        .after_help("Example: cnc run store fib.script --limit 1000");
+        .after_help("Example: cnc run store fib.script --workers 4");
     let line = with_argument(Ok(line), directory(alloc));
     let line = with_argument(line, script(alloc));
     let line = with_argument(line, workers(alloc));
@@ -277,9 +295,9 @@ fn workers<'a>(alloc: Global) -> Arg<'a> {
     Arg::new(alloc, "workers")
         .long("workers")
         .value_name("N")
-        .value_parser(ValueParser::Unsigned(1, 1))
+        .value_parser(ValueParser::Unsigned(1, MOST_WORKERS as u64))
         .default_value("1")
-        .help("How many workers run the steps: one, for now")
+        .help("How many workers run the steps, each on a thread of its own, 1 to 64")
 }
 
 fn limit<'a>(alloc: Global) -> Arg<'a> {

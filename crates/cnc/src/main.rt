@@ -1,18 +1,30 @@
 //! The program: it does what its words ask for, and ends with the status that says how that went.
 #![tactic(auto)]
 
+ghost use Rattle.cli.specs.Words.{IsInRange};
+
 mod console;
 mod progress;
 
 use clap::Error;
 use cli::{Command, collect_words, obey, read_words, usage_status};
-use commit::{Alone, Driver};
 use console::{Console, Kept, Place};
 use disk::{Disk, DiskError, FileDisk, MemDisk};
-use progress::Telling;
+use pool::{AlwaysGo, Crew, Driver, Probe};
+use progress::{Cleared, Telling};
 use std::fs::File;
-use std::io::{IsTerminal, LineWriter, Read, Write};
+use std::io::{Eprint, IsTerminal, LineWriter, Read, Write};
+use std::marker::Sync;
 use std::process::ExitCode;
+use std::sync::Wait;
+use std::sync::atomic::AtomicU64;
+use std::thread::Threads;
+use std::time::Clock;
+
+/// What workers need of the program: they start, wait, and tell how far they are.
+trait Handles: Threads + Wait + Sync + Clock + Eprint {}
+
+impl<H: Threads + Wait + Sync + Clock + Eprint> Handles for H {}
 
 // The statuses of a file that cannot be read, and of a device, a memory or an output that fails.
 const CANNOT_READ: u8 = 2;
@@ -20,7 +32,7 @@ const CANNOT_READ: u8 = 2;
 const FAILED: u8 = 5;
 
 fn main(rt: HostRuntime) -> ExitCode {
-    let status = match run(&rt) {
+    let status = match run(&rt, &rt) {
         Ok(status) => status,
         Err(error) => {
             let status = usage_status(&error);
@@ -37,20 +49,22 @@ fn main(rt: HostRuntime) -> ExitCode {
 /// Does what the words ask for, and answers with the exit status.
 ///
 /// An `Err` says why the words ask for nothing.
-fn run(rt: &HostRuntime) -> Result<u8, Error> {
+fn run<H: Handles>(rt: &HostRuntime, threads: &H) -> Result<u8, Error> {
     let words = collect_words(rt)?;
     let command = read_words(rt.alloc(), words.as_slice())?;
-    Ok(with_input(rt, &command))
+    Ok(with_input(rt, threads, &command))
 }
 
 // Opens the input of a command, and does it. A command that reads nothing has an empty one.
-fn with_input(rt: &HostRuntime, command: &Command<'_>) -> u8 {
+fn with_input<H: Handles>(rt: &HostRuntime, threads: &H, command: &Command<'_>) -> u8
+    requires { IsInRange command.now }
+{
     let path = command.input();
     match path {
-        "" => with_disk(rt, command, &mut [].as_slice()),
-        "-" => with_disk(rt, command, &mut rt.stdin()),
+        "" => with_disk(rt, threads, command, &mut [].as_slice()),
+        "-" => with_disk(rt, threads, command, &mut rt.stdin()),
         _ => match File::open(rt, path) {
-            Ok(mut file) => with_disk(rt, command, &mut file),
+            Ok(mut file) => with_disk(rt, threads, command, &mut file),
             Err(_) => {
                 let _ = writeln!(rt.stderr(), "cannot read {path}");
                 CANNOT_READ
@@ -60,29 +74,48 @@ fn with_input(rt: &HostRuntime, command: &Command<'_>) -> u8 {
 }
 
 // Opens the directory of a command, if it needs one, and does it.
-fn with_disk<R: Read>(rt: &HostRuntime, command: &Command<'_>, input: &mut R) -> u8 {
+fn with_disk<R: Read, H: Handles>(
+    rt: &HostRuntime,
+    threads: &H,
+    command: &Command<'_>,
+    input: &mut R,
+) -> u8
+    requires { IsInRange command.now }
+{
     if let Command::Draw { .. } = command {
-        return pointed(rt, command, MemDisk::new(rt.alloc()), input);
+        return pointed(rt, threads, command, MemDisk::new(rt.alloc()), input);
     }
     match FileDisk::open(rt.alloc(), rt, command.directory()) {
-        Ok(disk) => pointed(rt, command, disk, input),
+        Ok(disk) => pointed(rt, threads, command, disk, input),
         Err(DiskError::Device) => no_directory(rt, command.directory()),
         Err(DiskError::NoMemory) => refused(rt, "no memory"),
     }
 }
 
-// Does a command on a disk. Where a person looks at the error output, a fault is pointed at, and a long run tells how far it is.
-fn pointed<D: Disk + Send + Drop, R: Read>(
+// Does a command on a disk, with a crew for its steps. Where a person looks at the error output, a fault is pointed at, and a long run tells how far it is.
+fn pointed<D: Disk + Send + Drop, R: Read, H: Handles>(
     rt: &HostRuntime,
+    threads: &H,
     command: &Command<'_>,
     disk: D,
     input: &mut R,
-) -> u8 {
+) -> u8
+    requires { IsInRange command.now }
+{
+    let workers = command.workers();
+    let Ok(mut out) = LineWriter::new(rt.alloc(), rt.stdout()) else {
+        return refused(rt, "no memory");
+    };
     if !rt.stderr().is_terminal() {
-        return done(rt, command, disk, input, &mut Alone).0;
+        let driver = Driver::Crew(Crew::new(threads, workers, AlwaysGo));
+        return done(rt, command, disk, input, &mut out, &driver).0;
     }
+    let shown = AtomicU64::new(0);
+    let telling = Telling::new(threads, workers, &shown);
+    let driver = Driver::Crew(Crew::new(threads, workers, telling));
     let mut input = Kept::new(rt.alloc(), input);
-    let (status, place) = done(rt, command, disk, &mut input, &mut Telling { rt });
+    let mut out = Cleared::new(threads, out, &shown);
+    let (status, place) = done(rt, command, disk, &mut input, &mut out, &driver);
     if let Some(place) = place {
         input.point(rt, place);
     }
@@ -90,20 +123,18 @@ fn pointed<D: Disk + Send + Drop, R: Read>(
 }
 
 // Does a command: its status, and the place of its fault, if it has one.
-fn done<D: Disk + Send + Drop, R: Read, V: Driver>(
+fn done<D: Disk + Send + Drop, R: Read, W: Write, H: Handles, P: Probe>(
     rt: &HostRuntime,
     command: &Command<'_>,
     disk: D,
     input: &mut R,
-    driver: &mut V,
+    out: &mut W,
+    driver: &Driver<'_, H, P>,
 ) -> (u8, Option<Place>) {
-    let Ok(mut out) = LineWriter::new(rt.alloc(), rt.stdout()) else {
-        return (refused(rt, "no memory"), None);
-    };
     let mut err = Console::new(rt);
-    let (disk, status) = obey(rt.alloc(), command, disk, input, &mut out, &mut err, driver);
+    let (disk, status) = obey(rt.alloc(), command, disk, input, out, &mut err, driver);
     drop(disk);
-    (flushed(&mut out, status), err.place())
+    (flushed(out, status), err.place())
 }
 
 // Tells that a directory could not be opened, and a person why that may be.

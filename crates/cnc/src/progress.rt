@@ -1,68 +1,41 @@
 //! A run that tells how far it is.
-use commit::{Choose, Core, Driver, RunError, Verdict, run_with};
-use disk::Disk;
-use std::alloc::Global;
-use std::io::Write;
-use std::time::Instant;
+use pool::{Answer, Probe};
+use std::io::{self, Eprint, Write};
+use std::marker::Sync;
+use std::sync::atomic::{AtomicU64, Ordering};
+use std::time::{Clock, Instant};
+use terms::Inst;
 
-// How many instances are claimed between two looks at the clock.
+// How many instances are entered between two looks at the clock.
 const BETWEEN: u64 = 64;
 
-/// Runs the steps on the thread that calls it. A run that takes longer than a second tells how many instances ran, how many are ready, and how many run in a
-/// second.
+/// Counts the instances that are run. Once a second it tells how many ran, on how many workers, and how many in a second.
 #[derive(Drop)]
-pub(crate) struct Telling<'a> {
-    pub(crate) rt: &'a HostRuntime,
-}
-
-impl<'a> Driver for Telling<'a> {
-    ghost use Rattle.std.specs.Prelude.{false};
-
-    ghost may_be_asked = { false };
-
-    ghost may_spawn = { false };
-
-    fn run<D: Disk + Send>(
-        &mut self,
-        alloc: Global,
-        core: Core<D>,
-        limit: u64,
-    ) -> (Core<D>, Result<Verdict, RunError>) {
-        let mut chooser = Counted {
-            rt: self.rt,
-            start: Instant::now(self.rt).ok(),
-            ran: 0,
-            told: 0,
-        };
-        let (core, verdict) = run_with(alloc, core, &mut chooser, limit);
-        chooser.clear();
-        (core, verdict)
-    }
-}
-
-// Always picks the first, and counts.
-#[derive(Drop)]
-struct Counted<'a> {
-    rt: &'a HostRuntime,
+pub(crate) struct Telling<'a, R> {
+    rt: &'a R,
+    workers: u8,
     start: Option<Instant>,
-    ran: u64,
-    // The second in which it was told how far the run is.
-    told: u64,
+    ran: AtomicU64,
+    // The second in which it was told last.
+    told: AtomicU64,
+    // Whether what was told stands on the screen: 0 or 1.
+    shown: &'a AtomicU64,
 }
 
-impl<'a> Choose for Counted<'a> {
-    fn pick(&mut self, ready: usize) -> usize {
-        self.ran = self.ran.saturating_add(1);
-        if self.ran % BETWEEN == 0 {
-            self.tell(ready);
+impl<'a, R: Clock + Eprint> Telling<'a, R> {
+    pub(crate) fn new(rt: &'a R, workers: u8, shown: &'a AtomicU64) -> Self {
+        Telling {
+            rt,
+            workers,
+            start: Instant::now(rt).ok(),
+            ran: AtomicU64::new(0),
+            told: AtomicU64::new(0),
+            shown,
         }
-        0
     }
-}
 
-impl<'a> Counted<'a> {
     // Tells how far the run is, once a second.
-    fn tell(&mut self, ready: usize) {
+    fn tell(&self, ran: u64) {
         let Some(start) = &self.start else {
             return;
         };
@@ -70,21 +43,55 @@ impl<'a> Counted<'a> {
             return;
         };
         let seconds = elapsed.as_secs();
-        if seconds > self.told {
-            self.told = seconds;
-            let ran = self.ran;
+        let before = self.told.fetch_max(seconds, Ordering::Relaxed);
+        if seconds > before {
+            let workers = self.workers;
             let rate = ran / seconds;
-            let _ = write!(
-                self.rt.stderr(),
-                "\r{ran} steps ran, {ready} ready, {rate} a second\u{1b}[K"
+            let _ = eprint!(self.rt;
+                "\r{ran} steps ran, {workers} at a time, {rate} a second\u{1b}[K"
             );
+            self.shown.store(1, Ordering::Relaxed);
         }
     }
+}
 
-    // Takes away what was told.
-    fn clear(&mut self) {
-        if self.told > 0 {
-            let _ = write!(self.rt.stderr(), "\r\u{1b}[K");
+impl<'a, R: Clock + Eprint + Sync> Probe for Telling<'a, R> {
+    ghost use Rattle.std.specs.Prelude.{false};
+
+    ghost may_stop = { false };
+
+    fn enter(&self, _instance: Inst) -> Answer {
+        let ran = self.ran.fetch_add(1, Ordering::Relaxed).wrapping_add(1);
+        if ran % BETWEEN == 0 {
+            self.tell(ran);
         }
+        Answer::Go
+    }
+}
+
+/// An output that takes away what was told of a run before it writes.
+#[derive(Drop)]
+pub(crate) struct Cleared<'a, R, W> {
+    rt: &'a R,
+    inner: W,
+    shown: &'a AtomicU64,
+}
+
+impl<'a, R, W> Cleared<'a, R, W> {
+    pub(crate) fn new(rt: &'a R, inner: W, shown: &'a AtomicU64) -> Self {
+        Cleared { rt, inner, shown }
+    }
+}
+
+impl<'a, R: Eprint, W: Write> Write for Cleared<'a, R, W> {
+    fn write(&mut self, buf: &[u8]) -> io::Result<usize> {
+        if self.shown.swap(0, Ordering::Relaxed) > 0 {
+            let _ = eprint!(self.rt; "\r\u{1b}[K");
+        }
+        self.inner.write(buf)
+    }
+
+    fn flush(&mut self) -> io::Result<()> {
+        self.inner.flush()
     }
 }
