@@ -2,19 +2,10 @@
 //!
 //! A block is a command and its input, a line `----`, and what must come. Where the line is `---- not` something else must
 //! come: such a case shows that a difference is seen. A line that begins with `# ` is a comment.
-use anyhow::{Error, bail};
+use anyhow::Error;
 use std::alloc::{AllocError, Global};
+use std::fs;
 use std::io::Print;
-use std::{env, fs};
-
-/// Who answers the commands of a file.
-pub trait Answers {
-    /// One who knows no name yet.
-    fn new(alloc: Global) -> Self;
-
-    /// What a command answers to its input.
-    fn answer(&mut self, alloc: Global, command: &str, input: &str) -> Result<String, AllocError>;
-}
 
 /// How many cases a file has, and how many of them differ.
 #[derive(Clone, Copy, Debug)]
@@ -66,36 +57,32 @@ impl Block {
     }
 }
 
-/// Runs the files that are named by the arguments of the program, and prints of each which of its cases differ, and how many it has.
-pub fn run_files<A: Answers + Drop>(rt: &HostRuntime) -> Result<(), Error> {
-    let mut differ = 0u64;
-    for path in env::args(rt)?.skip(1) {
-        let tally = run_file::<A>(rt, path.as_str())?;
-        differ = differ.saturating_add(tally.differ);
-    }
-    if differ > 0 {
-        bail!("{differ} cases differ");
-    }
-    Ok(())
-}
-
-/// Runs the cases of a file, and prints those that differ, and how many there are.
-pub fn run_file<A: Answers + Drop>(rt: &HostRuntime, path: &str) -> Result<Tally, Error> {
+/// Runs the cases of a file, each of which is answered by this function of its command and its input. Prints those that differ, and how many there are.
+pub fn run_file<F: FnMut(&str, &str) -> Result<String, AllocError>>(
+    rt: &HostRuntime,
+    path: &str,
+    answer: F,
+) -> Result<Tally, Error>
+    requires { (state : F) (command input : _) → F.pre state command input }
+{
     let text = fs::read_to_string(rt, path)?;
     let mut told = String::new(rt.alloc());
-    let tally = run_cases::<A>(rt.alloc(), path, text.as_str(), &mut told)?;
+    let tally = run_cases(rt.alloc(), path, text.as_str(), answer, &mut told)?;
     rt.print(told.as_str())?;
     Ok(tally)
 }
 
 /// Runs the cases of a file with this text, and tells of those that differ, and how many there are.
-pub fn run_cases<A: Answers + Drop>(
+pub fn run_cases<F: FnMut(&str, &str) -> Result<String, AllocError>>(
     alloc: Global,
     path: &str,
     text: &str,
+    answer: F,
     told: &mut String,
-) -> Result<Tally, AllocError> {
-    let mut answers = A::new(alloc);
+) -> Result<Tally, AllocError>
+    requires { (state : F) (command input : _) → F.pre state command input }
+{
+    let mut answer = answer;
     let mut tally = Tally {
         cases: 0,
         differ: 0,
@@ -103,14 +90,14 @@ pub fn run_cases<A: Answers + Drop>(
     let mut block = Block::new(alloc);
     for (number, line) in text.lines().enumerate() {
         if line.is_empty() {
-            run_block(alloc, path, &mut answers, &block, &mut tally, told)?;
+            run_block(path, &mut answer, &block, &mut tally, told)?;
             block = Block::new(alloc);
         } else {
             block.line = number;
             block.take(line)?;
         }
     }
-    run_block(alloc, path, &mut answers, &block, &mut tally, told)?;
+    run_block(path, &mut answer, &block, &mut tally, told)?;
     writeln!(
         told,
         "{path}: {} cases, {} differ",
@@ -120,14 +107,15 @@ pub fn run_cases<A: Answers + Drop>(
 }
 
 // Runs a block, if it has a command, and tells of it if it differs.
-fn run_block<A: Answers>(
-    alloc: Global,
+fn run_block<F: FnMut(&str, &str) -> Result<String, AllocError>>(
     path: &str,
-    answers: &mut A,
+    answer: &mut F,
     block: &Block,
     tally: &mut Tally,
     told: &mut String,
-) -> Result<(), AllocError> {
+) -> Result<(), AllocError>
+    requires { (state : F) (command input : _) → F.pre state command input }
+{
     let (command, input) = block
         .asked
         .as_str()
@@ -136,7 +124,7 @@ fn run_block<A: Answers>(
     if command.is_empty() {
         return Ok(());
     }
-    let came = answers.answer(alloc, command, input)?;
+    let came = answer(command, input)?;
     if !block.is_answered && came.is_empty() {
         return Ok(());
     }

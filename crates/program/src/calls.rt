@@ -1,10 +1,14 @@
 //! A call of the program, with all that it wrote.
+ghost use Rattle.cli.specs.Words.{IsInRange};
+
 use cases::Names;
 use cli::{Command, obey, read_words, usage_status};
-use commit::Alone;
 use disk::MemDisk;
+use pool::{AlwaysGo, Crew, Driver};
 use std::alloc::{AllocError, Global};
 use std::io::{self, Read, Write};
+use std::sync::Wait;
+use std::thread::Threads;
 
 /// Whether the input and the output of a call work.
 #[derive(Clone, Copy, Debug, PartialEq, Eq)]
@@ -34,8 +38,10 @@ impl Write for Failing {
     }
 }
 
-/// Reads the words, does what they ask for on the disk, and tells what was written, and the status where that is not 0.
-pub(crate) fn call(
+/// Reads the words, does what they ask for on the disk, and tells what was written, and the status where that is not 0. Where the words tell the workers, a crew of
+/// so many runs the steps, and else the thread that calls.
+pub(crate) fn call<R: Threads + Wait + Sync>(
+    rt: &R,
     alloc: Global,
     names: &Names,
     line: &str,
@@ -45,7 +51,18 @@ pub(crate) fn call(
 ) -> Result<(MemDisk, String), AllocError> {
     let words: Vec<&str> = line.split(' ').collect(alloc)?;
     match read_words(alloc, words.as_slice()) {
-        Ok(command) => obeyed(alloc, names, &command, text, streams, disk),
+        Ok(command) => {
+            let input = match names.bytes(command.input()) {
+                Some(bytes) => bytes,
+                None => text.as_bytes(),
+            };
+            let driver = if line.contains("--workers") {
+                crew(rt, &command)
+            } else {
+                Driver::Alone
+            };
+            obeyed(alloc, &command, input, streams, disk, &driver)
+        }
         Err(error) => {
             let mut told = String::new(alloc);
             writeln!(told, "usage: status {}", usage_status(&error))?;
@@ -54,25 +71,27 @@ pub(crate) fn call(
     }
 }
 
-/// Does a command on the disk, and tells what was written, and the status where that is not 0.
-pub(crate) fn obeyed(
+// A crew of as many workers as the command says.
+fn crew<'a, R: Threads + Wait + Sync>(rt: &'a R, command: &Command<'_>) -> Driver<'a, R, AlwaysGo>
+    requires { IsInRange command.now }
+{
+    Driver::Crew(Crew::new(rt, command.workers(), AlwaysGo))
+}
+
+// Does a command on the disk, with this driver for its steps. Tells what was written, and the status where that is not 0.
+fn obeyed<R: Threads + Wait + Sync>(
     alloc: Global,
-    names: &Names,
     command: &Command<'_>,
-    text: &str,
+    input: &[u8],
     streams: Streams,
     disk: MemDisk,
+    driver: &Driver<'_, R, AlwaysGo>,
 ) -> Result<(MemDisk, String), AllocError> {
-    let mut input = match names.bytes(command.input()) {
-        Some(bytes) => bytes,
-        None => text.as_bytes(),
-    };
+    let mut input = input;
     let mut out = Vec::new(alloc);
     let mut err = Vec::new(alloc);
     let (disk, status) = match streams {
-        Streams::Work => obey(
-            alloc, command, disk, &mut input, &mut out, &mut err, &mut Alone,
-        ),
+        Streams::Work => obey(alloc, command, disk, &mut input, &mut out, &mut err, driver),
         Streams::InputFails => obey(
             alloc,
             command,
@@ -80,7 +99,7 @@ pub(crate) fn obeyed(
             &mut Failing,
             &mut out,
             &mut err,
-            &mut Alone,
+            driver,
         ),
         Streams::OutputFails => obey(
             alloc,
@@ -89,7 +108,7 @@ pub(crate) fn obeyed(
             &mut input,
             &mut Failing,
             &mut err,
-            &mut Alone,
+            driver,
         ),
     };
     let mut told = String::new(alloc);

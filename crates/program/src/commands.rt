@@ -10,27 +10,41 @@
 //! - `byte SIDE PLACE VALUE`: this byte is changed
 //! - `sizes`: how many bytes the two files have
 use crate::calls;
-use cases::{Answers, Names, texts};
+use cases::{Names, texts};
 use disk::{Disk, DiskError, MemDisk, Side};
 use std::alloc::{AllocError, Global};
 use std::mem;
+use std::sync::Wait;
+use std::thread::Threads;
 
 /// The commands, with the names that a file has given and its disk.
 #[derive(Drop)]
-pub(crate) struct Commands {
+pub(crate) struct Commands<'a, R> {
+    rt: &'a R,
+    // How many workers run the steps where the words do not say it, or nothing.
+    workers: &'a str,
     names: Names,
     disk: MemDisk,
 }
 
-impl Answers for Commands {
-    fn new(alloc: Global) -> Self {
+impl<'a, R: Threads + Wait + Sync> Commands<'a, R> {
+    /// On an empty disk, with no name yet; with so many workers, where the words do not say it.
+    pub(crate) fn new(rt: &'a R, alloc: Global, workers: &'a str) -> Self {
         Commands {
+            rt,
+            workers,
             names: Names::new(alloc),
             disk: MemDisk::new(alloc),
         }
     }
 
-    fn answer(&mut self, alloc: Global, command: &str, input: &str) -> Result<String, AllocError> {
+    /// What a command answers to its input.
+    pub(crate) fn answer(
+        &mut self,
+        alloc: Global,
+        command: &str,
+        input: &str,
+    ) -> Result<String, AllocError> {
         let (word, rest) = command.split_once(' ').unwrap_or((command, ""));
         match word {
             "text" => {
@@ -48,9 +62,7 @@ impl Answers for Commands {
             _ => self.on_disk(alloc, word, rest),
         }
     }
-}
 
-impl Commands {
     // Calls the program on the disk.
     fn call(
         &mut self,
@@ -60,10 +72,32 @@ impl Commands {
         streams: calls::Streams,
     ) -> Result<String, AllocError> {
         let text = texts::lines_of(alloc, input)?;
+        let words = self.with_workers(alloc, words)?;
         let disk = mem::replace(&mut self.disk, MemDisk::new(alloc));
-        let (disk, told) = calls::call(alloc, &self.names, words, text.as_str(), streams, disk)?;
+        let (disk, told) = calls::call(
+            self.rt,
+            alloc,
+            &self.names,
+            words.as_str(),
+            text.as_str(),
+            streams,
+            disk,
+        )?;
         self.disk = disk;
         Ok(told)
+    }
+
+    // The words of a command, with the workers where they run a script and do not say it.
+    fn with_workers(&self, alloc: Global, words: &str) -> Result<String, AllocError> {
+        let mut line = String::from_str(alloc, words)?;
+        if words.starts_with("cnc run ")
+            && !words.contains("--workers")
+            && !self.workers.is_empty()
+        {
+            line.push_str(" --workers ")?;
+            line.push_str(self.workers)?;
+        }
+        Ok(line)
     }
 
     // A command on the disk itself.

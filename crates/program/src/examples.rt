@@ -1,52 +1,91 @@
 //! Examples: a folder has a `graph`, a `script`, and in `output` what the program writes where the script is run on a new store of the graph. Where there is a
-//! `script_again`, it is run on the same store behind the first one, and `output_again` is what it writes.
-use crate::calls::{Streams, call, obeyed};
+//! `script_again`, it is run on the same store behind the first one, and `output_again` is what it writes. It is the same however many workers run the steps.
+use crate::calls::{Streams, call};
 use anyhow::Error;
 use cases::Names;
-use cli::Command;
 use disk::MemDisk;
 use std::fs;
 use std::io::Print;
+use std::sync::Wait;
+use std::thread::Threads;
 
-/// Runs an example, and prints whether its outputs are as they must be: how many are not.
-pub(crate) fn run(rt: &HostRuntime, folder: &str) -> Result<u64, Error> {
+// How a script is run: by the thread that calls, and by crews.
+const RUNS: [&str; 5] = [
+    "cnc run . -",
+    "cnc run . - --workers 1",
+    "cnc run . - --workers 2",
+    "cnc run . - --workers 4",
+    "cnc run . - --workers 8",
+];
+
+/// Runs an example in each of these ways, and prints whether its outputs are as they must be: how many are not.
+pub(crate) fn run<R: Threads + Wait + Sync>(
+    rt: &HostRuntime,
+    threads: &R,
+    folder: &str,
+) -> Result<u64, Error> {
     let graph = read(rt, folder, "graph")?;
     let script = read(rt, folder, "script")?;
     let wanted = read(rt, folder, "output")?;
-    let disk = created(rt, graph.as_str())?;
-    let (disk, came) = ran(rt, disk, script.as_str())?;
-    let differ = told(rt, folder, wanted.as_str(), came.as_str())?;
-    match read(rt, folder, "script_again") {
-        Ok(again) => {
-            let wanted = read(rt, folder, "output_again")?;
-            let (_, came) = ran(rt, disk, again.as_str())?;
-            let more = told(rt, folder, wanted.as_str(), came.as_str())?;
-            Ok(differ.saturating_add(more))
+    let again = match read(rt, folder, "script_again") {
+        Ok(again) => Some((again, read(rt, folder, "output_again")?)),
+        Err(_) => None,
+    };
+    let mut differ = 0u64;
+    for line in RUNS {
+        let disk = MemDisk::new(rt.alloc());
+        let (disk, _) = said(rt, threads, disk, "cnc create - .", graph.as_str())?;
+        let (disk, came) = said(rt, threads, disk, line, script.as_str())?;
+        let mut more = told(rt, folder, line, wanted.as_str(), came.as_str())?;
+        if let Some((again, wanted)) = &again {
+            let (_, came) = said(rt, threads, disk, line, again.as_str())?;
+            more = more.saturating_add(told(rt, folder, line, wanted.as_str(), came.as_str())?);
         }
-        Err(_) => Ok(differ),
+        differ = differ.saturating_add(more);
     }
+    if differ == 0 {
+        rt.println(format_args!(
+            "{folder}: as it must be, by one thread and by 1, 2, 4 and 8 workers"
+        ))?;
+    }
+    Ok(differ)
 }
 
 /// Shows an example: makes a store of its graph, runs its script, prints the report, turns the store over, and runs what is left to run. Each command is
 /// printed, with all that it writes.
-pub(crate) fn show(rt: &HostRuntime, folder: &str) -> Result<(), Error> {
+pub(crate) fn show<R: Threads + Wait + Sync>(
+    rt: &HostRuntime,
+    threads: &R,
+    folder: &str,
+) -> Result<(), Error> {
     let graph = read(rt, folder, "graph")?;
     let script = read(rt, folder, "script")?;
-    let disk = MemDisk::new(rt.alloc());
-    let disk = shown(rt, disk, "cnc create graph store", graph.as_str())?;
-    let disk = shown(rt, disk, "cnc run store script", script.as_str())?;
-    let disk = shown(rt, disk, "cnc report store", "")?;
-    let disk = shown(rt, disk, "cnc turn store", "")?;
-    shown(rt, disk, "cnc run store -", "run\n")?;
+    let mut disk = MemDisk::new(rt.alloc());
+    for (line, text) in [
+        ("cnc create graph store", graph.as_str()),
+        ("cnc run store script", script.as_str()),
+        ("cnc report store", ""),
+        ("cnc turn store", ""),
+        ("cnc run store -", "run\n"),
+    ] {
+        let (next, told) = said(rt, threads, disk, line, text)?;
+        rt.print(format_args!("> {line}\n{told}"))?;
+        disk = next;
+    }
     Ok(())
 }
 
-// Does a command, and prints it with all that it writes.
-fn shown(rt: &HostRuntime, disk: MemDisk, line: &str, text: &str) -> Result<MemDisk, Error> {
+// Does a command, and tells all that it wrote.
+fn said<R: Threads + Wait + Sync>(
+    rt: &HostRuntime,
+    threads: &R,
+    disk: MemDisk,
+    line: &str,
+    text: &str,
+) -> Result<(MemDisk, String), Error> {
     let alloc = rt.alloc();
-    let (disk, told) = call(alloc, &Names::new(alloc), line, text, Streams::Work, disk)?;
-    rt.print(format_args!("> {line}\n{told}"))?;
-    Ok(disk)
+    let names = Names::new(alloc);
+    Ok(call(threads, alloc, &names, line, text, Streams::Work, disk)?)
 }
 
 fn read(rt: &HostRuntime, folder: &str, name: &str) -> Result<String, Error> {
@@ -56,49 +95,18 @@ fn read(rt: &HostRuntime, folder: &str, name: &str) -> Result<String, Error> {
     Ok(fs::read_to_string(rt, path.as_str())?)
 }
 
-// A new store of a graph.
-fn created(rt: &HostRuntime, graph: &str) -> Result<MemDisk, Error> {
-    let alloc = rt.alloc();
-    let command = Command::Create {
-        graph: "-",
-        directory: ".",
-    };
-    let (disk, _) = obeyed(
-        alloc,
-        &Names::new(alloc),
-        &command,
-        graph,
-        Streams::Work,
-        MemDisk::new(alloc),
-    )?;
-    Ok(disk)
-}
-
-// What a script comes to on a store.
-fn ran(rt: &HostRuntime, disk: MemDisk, script: &str) -> Result<(MemDisk, String), Error> {
-    let alloc = rt.alloc();
-    let command = Command::Run {
-        directory: ".",
-        script: "-",
-        limit: 1_000_000_000,
-    };
-    Ok(obeyed(
-        alloc,
-        &Names::new(alloc),
-        &command,
-        script,
-        Streams::Work,
-        disk,
-    )?)
-}
-
-// Prints whether an output is as it must be, but for a line with a status behind it: 0, or 1 where it is not.
-fn told(rt: &HostRuntime, folder: &str, wanted: &str, came: &str) -> Result<u64, Error> {
+// Prints an output that is not as it must be, but for a line with a status behind it: 0, or 1 where it is not.
+fn told(
+    rt: &HostRuntime,
+    folder: &str,
+    line: &str,
+    wanted: &str,
+    came: &str,
+) -> Result<u64, Error> {
     let came = came.split("status ").next().unwrap_or(came);
     if came == wanted {
-        rt.println(format_args!("{folder}: as it must be"))?;
         return Ok(0);
     }
-    rt.println(format_args!("{folder}: wanted:\n{wanted}came:\n{came}"))?;
+    rt.println(format_args!("{folder}: {line}: wanted:\n{wanted}came:\n{came}"))?;
     Ok(1)
 }

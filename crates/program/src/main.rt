@@ -1,6 +1,7 @@
 //! Runs the program on memory disks: cases, each the words of a command, what it reads, and what it must write and answer; and the examples, each a folder.
 //!
-//! `cases` tells what a file of cases is, `commands` lists the commands, and `examples` tells what a folder has. `--show=FOLDER` shows an example.
+//! `cases` tells what a file of cases is, `commands` lists the commands, and `examples` tells what a folder has. `--workers=N` has the files behind it run by crews of
+//! N workers, where they say nothing else. `--show=FOLDER` shows an example.
 #![tactic(auto)]
 
 mod calls;
@@ -11,18 +12,29 @@ use anyhow::{Error, bail};
 use cases::run_file;
 use commands::Commands;
 use std::env;
+use std::io::Print;
 
 fn main(rt: HostRuntime) -> Result<(), Error> {
+    let alloc = rt.alloc();
     let mut differ = 0u64;
+    let mut workers = String::new(alloc);
     for path in env::args(&rt)?.skip(1) {
         let path = path.as_str();
-        let more = if path.ends_with(".rows") {
-            run_file::<Commands>(&rt, path)?.differ
+        let more = if let Some(number) = path.strip_prefix("--workers=") {
+            workers = String::from_str(alloc, number)?;
+            rt.println(format_args!("on so many workers: {number}"))?;
+            0
+        } else if path.ends_with(".rows") {
+            let mut commands = Commands::new(&rt, alloc, workers.as_str());
+            run_file(&rt, path, |command: &str, input: &str| {
+                commands.answer(alloc, command, input)
+            })?
+            .differ
         } else if let Some(folder) = path.strip_prefix("--show=") {
-            examples::show(&rt, folder)?;
+            examples::show(&rt, &rt, folder)?;
             0
         } else {
-            examples::run(&rt, path)?
+            examples::run(&rt, &rt, path)?
         };
         differ = differ.saturating_add(more);
     }

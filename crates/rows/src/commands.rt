@@ -15,29 +15,11 @@ use crate::{
     bodies, bytes, codecs, cores, crashes, graphs, item_calls, journals, orders, states, stories,
     vaults,
 };
-use cases::{Answers, Names, texts};
+use cases::{Names, texts};
 use std::alloc::{AllocError, Global};
 
-/// The commands, with the names that a file has given.
-#[derive(Drop)]
-pub(crate) struct Commands {
-    names: Names,
-}
-
-impl Answers for Commands {
-    fn new(alloc: Global) -> Self {
-        Commands {
-            names: Names::new(alloc),
-        }
-    }
-
-    fn answer(&mut self, alloc: Global, command: &str, input: &str) -> Result<String, AllocError> {
-        answer(alloc, &mut self.names, command, input)
-    }
-}
-
-// What a command answers to its input.
-fn answer(
+/// What a command answers to its input, with the names that a file has given.
+pub(crate) fn answer(
     alloc: Global,
     names: &mut Names,
     command: &str,
