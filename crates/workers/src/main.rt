@@ -1,0 +1,34 @@
+//! Workers on real threads: each line that it prints was derived by hand from what a graph means, and is the same on every schedule.
+#![tactic(auto)]
+
+mod meeting;
+mod rows;
+mod stopping;
+mod stores;
+
+use anyhow::Error;
+use rows::{Row, try_row};
+use std::io::Print;
+
+// On how many workers each row is run.
+const COUNTS: [u8; 4] = [1, 2, 8, 64];
+
+fn main(rt: HostRuntime) -> Result<(), Error> {
+    for row in [Row::Complete, Row::Blocked, Row::Overflow, Row::PutTwice] {
+        rt.println(row.title())?;
+        for workers in COUNTS {
+            try_row(&rt, &rt, row, workers)?;
+        }
+    }
+    rt.println("a run that may commit nothing")?;
+    for workers in COUNTS {
+        stopping::try_limit(&rt, &rt, workers)?;
+    }
+    rt.println("a probe that stops at its second call, on one worker")?;
+    stopping::try_probe(&rt, &rt)?;
+    rt.println(
+        "two workers, with a probe that holds each of two instances until it has seen the other",
+    )?;
+    meeting::try_meeting(&rt, &rt)?;
+    Ok(())
+}

@@ -1,0 +1,75 @@
+//! Runs whose verdict and facts are the same on every number of workers.
+ghost use Rattle.std.specs.Prelude.{◌≤◌};
+
+use crate::stores::{fibonacci, idle, put_tags, tell};
+use anyhow::Error;
+use pool::{AlwaysGo, drive};
+use std::io::Print;
+use std::sync::Wait;
+use std::thread::Threads;
+
+/// What a row runs.
+#[derive(Clone, Copy, Debug, PartialEq, Eq)]
+pub(crate) enum Row {
+    /// Four numbers from the first two.
+    Complete,
+    /// A number of which one before is wanting.
+    Blocked,
+    /// All numbers that an `i64` holds, and then one more.
+    Overflow,
+    /// A number that the environment put already.
+    PutTwice,
+}
+
+// More than any of the rows commits.
+const LIMIT: u64 = 1_000;
+
+impl Row {
+    /// What is printed above it.
+    pub(crate) fn title(self) -> &'static str {
+        match self {
+            Row::Complete => "four numbers from the first two",
+            Row::Blocked => "a number of which one before is wanting",
+            Row::Overflow => "all numbers that fit, and then one more",
+            Row::PutTwice => "a number that is there already",
+        }
+    }
+}
+
+/// Runs it on so many workers, and prints the verdict, the report's end and the bytes.
+pub(crate) fn try_row<R: Threads + Wait + Sync>(
+    rt: &HostRuntime,
+    threads: &R,
+    row: Row,
+    workers: u8,
+) -> Result<(), Error>
+    requires { (1 ≤ workers) × (workers ≤ 64) }
+{
+    let alloc = rt.alloc();
+    match row {
+        Row::Complete => {
+            let core = fibonacci(alloc, &[0, 1], 2..6)?;
+            let (core, verdict) = drive(threads, alloc, core, workers, LIMIT, &AlwaysGo);
+            tell(rt, workers, core, verdict, 7)
+        }
+        Row::Blocked => {
+            let core = fibonacci(alloc, &[0], 2..3)?;
+            let (core, verdict) = drive(threads, alloc, core, workers, LIMIT, &AlwaysGo);
+            tell(rt, workers, core, verdict, 2)
+        }
+        Row::Overflow => {
+            let core = fibonacci(alloc, &[0, 1], 2..93)?;
+            let (mut core, verdict) = drive(threads, alloc, core, workers, LIMIT, &AlwaysGo);
+            rt.println(format_args!("  {workers}: {verdict:?}"))?;
+            put_tags(&mut core, 93..94)?;
+            let core = idle(core)?;
+            let (core, verdict) = drive(threads, alloc, core, workers, LIMIT, &AlwaysGo);
+            tell(rt, workers, core, verdict, 3)
+        }
+        Row::PutTwice => {
+            let core = fibonacci(alloc, &[0, 1, 7], 2..3)?;
+            let (core, verdict) = drive(threads, alloc, core, workers, LIMIT, &AlwaysGo);
+            tell(rt, workers, core, verdict, 5)
+        }
+    }
+}

@@ -1,0 +1,119 @@
+//! Stores of Fibonacci numbers, and what a run came to in one.
+ghost use Rattle.std.specs.Prelude.{IfOk};
+ghost use Rattle.commit.specs.Runs.{NoneRuns};
+
+use anyhow::{Error, bail};
+use commit::{Core, CoreError, RunError, Verdict};
+use disk::{Disk, MemDisk, Side};
+use machine::Refusal;
+use report::write_report;
+use std::alloc::Global;
+use std::io::Print;
+use std::ops::Range;
+use terms::{Addr, ItemCollection, Key, Tag, TagCollection};
+
+const FIBONACCI: &str =
+    "[fib: i]; <n: i>; <n> :: (add); [fib] -> (add); (add) -> [fib]; env -> [fib]; env -> <n>; [fib] -> env;
+step add(i) { var a, b; read { get a = [fib: i - 1]; get b = [fib: i - 2]; } write { put [fib: i] = a + b; } }";
+
+/// A new store of a graph.
+pub(crate) fn created(alloc: Global, graph: &str) -> Result<Core<MemDisk>, Error> {
+    match Core::create(alloc, MemDisk::new(alloc), graph.as_bytes()) {
+        Ok(core) => Ok(core),
+        Err(refused) => bail!("no store was made: {:?}", refused.error),
+    }
+}
+
+/// A new store with these numbers, and these tags put.
+pub(crate) fn fibonacci(
+    alloc: Global,
+    numbers: &[i64],
+    tags: Range<i64>,
+) -> Result<Core<MemDisk>, Error>
+    ensures { IfOk result NoneRuns }
+{
+    let mut core = created(alloc, FIBONACCI)?;
+    put_numbers(&mut core, numbers)?;
+    put_tags(&mut core, tags)?;
+    idle(core)
+}
+
+/// The core, if no instance runs in it.
+pub(crate) fn idle(core: Core<MemDisk>) -> Result<Core<MemDisk>, Error>
+    ensures { IfOk result NoneRuns }
+{
+    if core.running() != 0 {
+        bail!("an instance runs")
+    }
+    Ok(core)
+}
+
+fn put_numbers(core: &mut Core<MemDisk>, numbers: &[i64]) -> Result<(), Error> {
+    let mut key = 0i64;
+    for number in numbers {
+        went(core.put_item(fib(key), *number))?;
+        key = key.saturating_add(1);
+    }
+    Ok(())
+}
+
+/// Puts a tag for each of these numbers.
+pub(crate) fn put_tags(core: &mut Core<MemDisk>, tags: Range<i64>) -> Result<(), Error> {
+    for key in tags {
+        went(core.put_tag(number(key)))?;
+    }
+    Ok(())
+}
+
+// Tells why a put was refused.
+fn went(put: Result<(), CoreError>) -> Result<(), Error> {
+    match put {
+        Ok(()) => Ok(()),
+        Err(CoreError::Refused(Refusal::AlreadyPut(value))) => bail!("already put as {value}"),
+        Err(error) => bail!("a put was refused: {error}"),
+    }
+}
+
+/// `[fib: key]`
+pub(crate) fn fib(key: i64) -> Addr {
+    Addr {
+        collection: ItemCollection(0),
+        key: Key::new(&[key]),
+    }
+}
+
+/// `<n: key>`
+pub(crate) fn number(key: i64) -> Tag {
+    Tag {
+        collection: TagCollection(0),
+        key: Key::new(&[key]),
+    }
+}
+
+/// Prints the verdict of a run, the last lines of the report, and how many bytes the file A has.
+pub(crate) fn tell(
+    rt: &HostRuntime,
+    workers: u8,
+    core: Core<MemDisk>,
+    verdict: Result<Verdict, RunError>,
+    lines: usize,
+) -> Result<(), Error> {
+    let alloc = rt.alloc();
+    let mut text = Vec::new(alloc);
+    write_report(alloc, &core, &mut text)?;
+    let text = str::from_utf8(text.as_slice()).unwrap_or("");
+    let all = text.lines().count();
+    let mut disk = core.into_disk();
+    let bytes = disk.len(Side::A)?;
+    match verdict {
+        Ok(Verdict::Stopped(_, kind)) => rt.print(format_args!(
+            "  {workers}: stopped by {kind:?}"
+        ))?,
+        other => rt.print(format_args!("  {workers}: {other:?}"))?,
+    }
+    rt.println(format_args!(", {all} lines, {bytes} bytes"))?;
+    for line in text.lines().skip(all.saturating_sub(lines)) {
+        rt.println(format_args!("    {line}"))?;
+    }
+    Ok(())
+}
