@@ -1,11 +1,14 @@
 //! How long a store on files takes for its steps, beside the writes and syncs of the same records alone.
-ghost use Rattle.std.specs.Prelude.{◌≤◌, length};
+ghost use Rattle.std.specs.Prelude.{◌≤◌, length, IfOk};
+ghost use Rattle.commit.specs.Runs.{NoneRuns};
 ghost use Rattle.terms.specs.declared.key.TheConstants.{MAX_COMPONENTS};
 
+use crate::hubs::Handles;
 use anyhow::{Error, bail};
 use codec::encode_event;
-use commit::{Core, First, Verdict, run_with};
+use commit::{Core, First, RunError, Verdict, run_with};
 use disk::{Disk, DiskError, FileDisk, Side};
+use pool::{AlwaysGo, drive};
 use std::alloc::Global;
 use std::fs;
 use std::io::Print;
@@ -13,6 +16,9 @@ use std::time::Instant;
 use terms::{
     Addr, Event, Inst, ItemCollection, Key, Put, Puts, StepCollection, Tag, TagCollection,
 };
+
+// More than is committed.
+const LIMIT: u64 = 1_000_000_000;
 
 // Each step by itself; each needs the one before; each needs two.
 const WIDE: &str =
@@ -27,19 +33,90 @@ const WAVEFRONT: &str =
     "[out: i, j]; <t: i, j>; <t> :: (cell); [out] -> (cell); (cell) -> [out]; env -> <t>; env -> [out]; [out] -> env;
 step cell(i, j) { var a, b; read { get a = [out: i - 1, j]; get b = [out: i, j - 1]; } write { if (a < b) { put [out: i, j] = b; } else { put [out: i, j] = a; } } }";
 
+/// A graph whose steps are run.
+#[derive(Clone, Copy, Debug, PartialEq, Eq)]
+pub(crate) enum Load {
+    Wide,
+    Chain,
+    Wavefront,
+}
+
+impl Load {
+    fn name(self) -> &'static str {
+        match self {
+            Load::Wide => "wide",
+            Load::Chain => "chain",
+            Load::Wavefront => "wavefront",
+        }
+    }
+
+    fn text(self) -> &'static str {
+        match self {
+            Load::Wide => WIDE,
+            Load::Chain => CHAIN,
+            Load::Wavefront => WAVEFRONT,
+        }
+    }
+
+    // The keys of the tags of so many steps, which for a wavefront are those of a square.
+    fn tags(self, alloc: Global, steps: u32) -> Result<Vec<Key>, Error> {
+        match self {
+            Load::Wide | Load::Chain => line(alloc, steps),
+            Load::Wavefront => cells(alloc, square(steps)),
+        }
+    }
+
+    // The keys of the items that are there before.
+    fn items(self, alloc: Global, steps: u32) -> Result<Vec<Key>, Error> {
+        match self {
+            Load::Wide => Ok(Vec::new(alloc)),
+            Load::Chain => {
+                let mut items = Vec::new(alloc);
+                items.push(key(&[-1]))?;
+                Ok(items)
+            }
+            Load::Wavefront => edges(alloc, square(steps)),
+        }
+    }
+}
+
 /// Runs so many steps of each of the three graphs, the last one in a square, on the files A and B of the folder that it is run in, which it empties, and
 /// prints the microseconds of one, beside those of a record of as many bytes, which is written behind a closed gate, synced, opened, and synced.
 pub(crate) fn measure(rt: &HostRuntime, steps: u32) -> Result<(), Error> {
-    let side = square(steps);
-    report(rt, "wide", WIDE, &line(rt.alloc(), steps)?, &[])?;
-    report(rt, "chain", CHAIN, &line(rt.alloc(), steps)?, &[key(&[-1])])?;
-    report(
-        rt,
-        "wavefront",
-        WAVEFRONT,
-        &cells(rt.alloc(), side)?,
-        &edges(rt.alloc(), side)?,
-    )
+    for load in [Load::Wide, Load::Chain, Load::Wavefront] {
+        let tags = load.tags(rt.alloc(), steps)?;
+        let core = prepared(rt, load, &tags, steps)?;
+        let start = Instant::now(rt)?;
+        let (core, verdict) = run_with(rt.alloc(), core, &mut First, LIMIT);
+        let seconds = start.elapsed(rt)?.as_secs_f64();
+        drop(core);
+        is_complete(verdict)?;
+        let alone = records(rt, &tags)?;
+        tell(rt, load, tags.len(), seconds, alone)?;
+    }
+    Ok(())
+}
+
+/// The same of one graph, on so many workers.
+pub(crate) fn report_by<R: Handles>(
+    rt: &HostRuntime,
+    threads: &R,
+    load: Load,
+    steps: u32,
+    workers: u8,
+) -> Result<(), Error>
+    requires { (1 ≤ workers) × (workers ≤ 64) }
+{
+    let tags = load.tags(rt.alloc(), steps)?;
+    let core = prepared(rt, load, &tags, steps)?;
+    let start = Instant::now(rt)?;
+    let (core, verdict) = drive(threads, rt.alloc(), core, workers, LIMIT, &AlwaysGo);
+    let seconds = start.elapsed(rt)?.as_secs_f64();
+    drop(core);
+    is_complete(verdict)?;
+    let alone = records(rt, &tags)?;
+    print!(rt; "{workers} workers, ")?;
+    tell(rt, load, tags.len(), seconds, alone)
 }
 
 // The greatest side of a square of so many cells.
@@ -55,46 +132,35 @@ fn square(steps: u32) -> i64 {
     i64::from(side)
 }
 
-// Runs a graph with these tags, over these items, and then the records alone.
-fn report(
-    rt: &HostRuntime,
-    told: &str,
-    text: &str,
-    tags: &[Key],
-    items: &[Key],
-) -> Result<(), Error> {
-    let (run, steps) = ran(rt, text, tags, items)?;
-    let alone = records(rt, tags)?;
+// Prints the microseconds of a step and of its record.
+fn tell(rt: &HostRuntime, load: Load, steps: usize, seconds: f64, alone: f64) -> Result<(), Error> {
     let one = 1e6 / f64::from(u32::try_from(steps)?.max(1));
     println!(rt;
-        "{told}: {steps} steps, {:.2} µs each; the records alone {:.2} µs; beyond them {:.2} µs",
-        run * one,
+        "{}: {steps} steps, {:.2} µs each; the records alone {:.2} µs; beyond them {:.2} µs",
+        load.name(),
+        seconds * one,
         alone * one,
-        (run - alone) * one
+        (seconds - alone) * one
     )?;
     Ok(())
 }
 
-// The seconds of a run, and how many steps it had.
-fn ran(rt: &HostRuntime, text: &str, tags: &[Key], items: &[Key]) -> Result<(f64, usize), Error> {
-    let mut core = created(rt, text)?;
-    filled(&mut core, tags, items)?;
-    let start = Instant::now(rt)?;
-    let (core, verdict) = run(rt.alloc(), core)?;
-    let seconds = start.elapsed(rt)?.as_secs_f64();
-    drop(core);
-    match verdict {
-        Verdict::Complete => Ok((seconds, tags.len())),
+/// Whether nothing was left to do.
+pub(crate) fn is_complete(verdict: Result<Verdict, RunError>) -> Result<(), Error> {
+    match verdict? {
+        Verdict::Complete => Ok(()),
         other => bail!("the run ended as {other:?}"),
     }
 }
 
-fn run(alloc: Global, core: Core<FileDisk>) -> Result<(Core<FileDisk>, Verdict), Error> {
-    if core.running() != 0 {
-        bail!("an instance runs")
-    }
-    let (core, verdict) = run_with(alloc, core, &mut First, 1_000_000_000);
-    Ok((core, verdict?))
+// A new store of a graph, with its items and these tags.
+fn prepared(rt: &HostRuntime, load: Load, tags: &[Key], steps: u32) -> Result<Core<FileDisk>, Error>
+    ensures { IfOk result NoneRuns }
+{
+    let items = load.items(rt.alloc(), steps)?;
+    let mut core = created(rt, load.text())?;
+    filled(&mut core, tags, &items)?;
+    idle(core)
 }
 
 // A new store of a graph.
@@ -132,12 +198,23 @@ fn put_item(core: &mut Core<FileDisk>, key: Key) -> Result<(), Error> {
     }
 }
 
-fn put_tag(core: &mut Core<FileDisk>, key: Key) -> Result<(), Error> {
+/// Puts the tag with this key.
+pub(crate) fn put_tag<D: Disk>(core: &mut Core<D>, key: Key) -> Result<(), Error> {
     let collection = TagCollection(0);
     match core.put_tag(Tag { collection, key }) {
         Ok(()) => Ok(()),
         Err(error) => bail!("a tag was refused: {error}"),
     }
+}
+
+/// The core, if no instance runs in it.
+pub(crate) fn idle<D: Disk + Drop>(core: Core<D>) -> Result<Core<D>, Error>
+    ensures { IfOk result NoneRuns }
+{
+    if core.running() != 0 {
+        bail!("an instance runs")
+    }
+    Ok(core)
 }
 
 // The seconds of as many records, each of the bytes of the end of such a step, with its two syncs.

@@ -6,6 +6,8 @@ mod evaluate;
 mod hubs;
 mod images;
 mod machines;
+mod plain_disk;
+mod pools;
 mod stores;
 mod texts;
 
@@ -20,7 +22,8 @@ const USAGE: &str = "usage: bench canonical FILE
        bench evaluate STATEMENTS
        bench hub CALLS
        bench machine STEPS
-       bench open RECORDS";
+       bench open RECORDS
+       bench pool STEPS";
 
 fn main(rt: HostRuntime) -> Result<ExitCode, Error> {
     let words: Vec<String> = env::args(&rt)?.collect(rt.alloc())?;
@@ -35,6 +38,7 @@ fn main(rt: HostRuntime) -> Result<ExitCode, Error> {
             ("hub", Ok(count)) => return done(hubs::measure(&rt, count)),
             ("machine", Ok(count)) => return done(machines::measure(&rt, count)),
             ("open", Ok(count)) => return done(stores::measure(&rt, count)),
+            ("pool", Ok(count)) => return done(pools::measure(&rt, &rt, count)),
             _ => {}
         }
     }

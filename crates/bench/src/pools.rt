@@ -1,0 +1,149 @@
+//! How long steps take on several workers, beside the same steps on the thread that calls.
+ghost use Rattle.std.specs.Prelude.{◌≤◌, IfOk};
+ghost use Rattle.commit.specs.Runs.{NoneRuns};
+
+use crate::cores::{self, Load};
+use crate::hubs::Handles;
+use crate::plain_disk::PlainDisk;
+use anyhow::{Error, bail};
+use commit::{Core, First, run_with};
+use disk::Disk;
+use pool::{AlwaysGo, drive};
+use std::alloc::Global;
+use std::io::Print;
+use std::thread;
+use std::time::Instant;
+use terms::Key;
+
+// A step that reads nothing and puts nothing.
+const EMPTY: &str = "<t: i>; <t> :: (one); env -> <t>; step one(k) { read { } write { } }";
+
+// A step of some 1,000,000 instructions: 2 for each turn and its assignment.
+const HEAVY: &str =
+    "<t: i>; <t> :: (one); env -> <t>; step one(k) { var a, b; read { } write { a = 0; for b in 0 .. 80000 { a = a + b; } } }";
+
+// More than is committed.
+const LIMIT: u64 = 1_000_000_000;
+
+// On how many workers each is measured.
+const COUNTS: [u8; 3] = [1, 2, 4];
+
+// How many runs by themselves go side by side.
+const COPIES: u8 = 4;
+
+/// So many empty steps in memory; a five-hundredth of as many that take a millisecond each; and a fiftieth of as many on the files A and B of the folder that this is
+/// run in, which it empties: by the thread that calls, and by 1, 2 and 4 workers.
+pub(crate) fn measure<R: Handles>(rt: &HostRuntime, threads: &R, steps: u32) -> Result<(), Error> {
+    empty(threads, steps)?;
+    heavy(threads, steps / 500)?;
+    on_files(rt, threads, steps / 50)
+}
+
+// ---- in memory
+
+// Prints the microseconds of an empty step.
+fn empty<R: Handles>(rt: &R, steps: u32) -> Result<(), Error> {
+    let one = 1e6 / f64::from(steps.max(1));
+    let alone = by_itself(rt, EMPTY, steps)?;
+    println!(rt; "empty steps: alone {:.2} µs", alone * one)?;
+    for workers in COUNTS {
+        let seconds = by_workers(rt, EMPTY, steps, workers)?;
+        println!(rt; "empty steps, {workers} workers: {:.2} µs", seconds * one)?;
+    }
+    Ok(())
+}
+
+// Prints the milliseconds of a heavy step, and how much faster several workers are; beside what the machine gives to as many runs side by side.
+fn heavy<R: Handles>(rt: &R, steps: u32) -> Result<(), Error> {
+    let one = 1e3 / f64::from(steps.max(1));
+    let alone = by_itself(rt, HEAVY, steps)?;
+    println!(rt; "heavy steps: alone {:.3} ms", alone * one)?;
+    let beside = side_by_side(rt, steps)?;
+    let given = alone * f64::from(COPIES) / beside;
+    println!(rt;
+        "heavy steps, {COPIES} runs side by side: the machine gives {given:.2} processors"
+    )?;
+    for workers in COUNTS {
+        let seconds = by_workers(rt, HEAVY, steps, workers)?;
+        let faster = alone / seconds;
+        println!(rt;
+            "heavy steps, {workers} workers: {:.3} ms; {faster:.2} times as fast as alone; of {COPIES} processors that were given whole {:.2}",
+            seconds * one,
+            faster * f64::from(COPIES) / given
+        )?;
+    }
+    Ok(())
+}
+
+// The seconds of runs of as many steps each, side by side.
+fn side_by_side<R: Handles>(rt: &R, steps: u32) -> Result<f64, Error> {
+    let mut copies = Vec::new(rt.alloc());
+    for copy in 0..COPIES {
+        copies.push(copy)?;
+    }
+    let start = Instant::now(rt)?;
+    let went = thread::map_vec(rt, copies, &|_copy: u8| by_itself(rt, HEAVY, steps).is_ok())?;
+    let seconds = start.elapsed(rt)?.as_secs_f64();
+    for ok in went {
+        if !ok {
+            bail!("a run beside others failed")
+        }
+    }
+    Ok(seconds)
+}
+
+// The seconds of a run by the thread that calls.
+fn by_itself<R: Handles>(rt: &R, text: &str, steps: u32) -> Result<f64, Error> {
+    let core = created(rt.alloc(), PlainDisk::new(rt.alloc()), text, steps)?;
+    let start = Instant::now(rt)?;
+    let (core, verdict) = run_with(rt.alloc(), core, &mut First, LIMIT);
+    let seconds = start.elapsed(rt)?.as_secs_f64();
+    drop(core);
+    cores::is_complete(verdict)?;
+    Ok(seconds)
+}
+
+// And by workers.
+fn by_workers<R: Handles>(rt: &R, text: &str, steps: u32, workers: u8) -> Result<f64, Error>
+    requires { (1 ≤ workers) × (workers ≤ 64) }
+{
+    let core = created(rt.alloc(), PlainDisk::new(rt.alloc()), text, steps)?;
+    let start = Instant::now(rt)?;
+    let (core, verdict) = drive(rt, rt.alloc(), core, workers, LIMIT, &AlwaysGo);
+    let seconds = start.elapsed(rt)?.as_secs_f64();
+    drop(core);
+    cores::is_complete(verdict)?;
+    Ok(seconds)
+}
+
+// A new store of a graph, with so many tags.
+fn created<D: Disk + Drop>(alloc: Global, disk: D, text: &str, steps: u32) -> Result<Core<D>, Error>
+    ensures { IfOk result NoneRuns }
+{
+    match Core::create(alloc, disk, text.as_bytes()) {
+        Ok(core) => tagged(core, steps),
+        Err(refused) => bail!("no store was made: {:?}", refused.error),
+    }
+}
+
+fn tagged<D: Disk + Drop>(core: Core<D>, steps: u32) -> Result<Core<D>, Error>
+    ensures { IfOk result NoneRuns }
+{
+    let mut core = core;
+    for number in 0..steps {
+        cores::put_tag(&mut core, Key::new(&[i64::from(number)]))?;
+    }
+    cores::idle(core)
+}
+
+// ---- on files
+
+// Prints the microseconds of a step of each graph.
+fn on_files<R: Handles>(rt: &HostRuntime, threads: &R, steps: u32) -> Result<(), Error> {
+    for load in [Load::Wide, Load::Chain, Load::Wavefront] {
+        for workers in COUNTS {
+            cores::report_by(rt, threads, load, steps, workers)?;
+        }
+    }
+    Ok(())
+}
