@@ -11,7 +11,7 @@ use Rattle.instances.specs.declared.state.State.{State}
 use Rattle.instances.specs.declared.state.State.TheVariants.{Ready, Running, Waiting, Done}
 use Rattle.instances.specs.OfStep.{OfStep, is_ready, is_running, one_if, times, IsKept, IsWaiting, Moves, AddsInstance}
 use Rattle.instances.proofs.Counted.{one_counts, one_fewer}
-use Rattle.instances.proofs.Kept.{Keys, at_key, kept, as_many, one_more, times_pushed, times_taken, stood}
+use Rattle.instances.proofs.Kept.{Keys, at_key, kept, as_many, one_more, times_pushed, times_put_first, times_taken, stood}
 
 -- an instance is ready where it stands among the ready ones
 only_ready : (o : Option State) → 1 ≤ one_if is_ready o → o ≡ Some Ready
@@ -71,18 +71,18 @@ module _ (states : FinMap key_cmp State) (key : List ℤ) (ready : Keys) (runnin
       (omega (arith, as_many states key to ready running capacity is (ap is_some there), is.enough))
 
   -- one that is not ready becomes ready
-  back : (new_running : ℕ) → one_if is_ready (get states key) ≡ 0 → new_running + one_if is_running (get states key) ≡ running → is_some (get states key) ≡ true → IsKept (insert states key Ready) (ready ++ key ∷ []) new_running capacity
+  back : (new_running : ℕ) → one_if is_ready (get states key) ≡ 0 → new_running + one_if is_running (get states key) ≡ running → is_some (get states key) ≡ true → IsKept (insert states key Ready) (key ∷ ready) new_running capacity
   back new_running was runs there =
-      kept states key Ready ready running capacity is (ready ++ key ∷ []) new_running
-      (λ q. omega (arith, times_pushed q key ready, ap (at_key q key) was, no_more q key))
-      (omega (arith, was, length_push ready key))
+      kept states key Ready ready running capacity is (key ∷ ready) new_running
+      (λ q. omega (arith, times_put_first q key ready, ap (at_key q key) was, no_more q key))
+      (omega (arith, was))
       (omega (arith, runs))
       (omega (arith, as_many states key Ready ready running capacity is there, is.enough))
 
-  pub comes_back : get states key ≡ Some Running → IsKept (insert states key Ready) (ready ++ key ∷ []) (running - 1) capacity
+  pub comes_back : get states key ≡ Some Running → IsKept (insert states key Ready) (key ∷ ready) (running - 1) capacity
   comes_back there = back (running - 1) (ap (one_if is_ready) there) (omega (arith, ap (one_if is_running) there, one_runs there)) (ap is_some there)
 
-  pub wakes : IsWaiting (get states key) → IsKept (insert states key Ready) (ready ++ key ∷ []) running capacity
+  pub wakes : IsWaiting (get states key) → IsKept (insert states key Ready) (key ∷ ready) running capacity
   wakes waits = let none = waits_not_ready (get states key) waits in back running none.0 (omega (arith, none.1)) none.2
 
   -- one that is taken out of the ready ones runs

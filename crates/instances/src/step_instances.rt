@@ -13,8 +13,9 @@ use terms::{Addr, Key};
 #[derive(Drop)]
 pub struct StepInstances {
     states: KeyMap<State>,
-    // The keys of those that are ready, with room for all. It is a queue, so that they are claimed in the order in which they came:
-    // items are then written in about the order of their keys, which spares moves. No promise speaks of that order.
+    // The keys of those that are ready, with room for all. A new one goes to the end of the queue, and one that ran already to its front, so that
+    // they run in about the order in which they came, whether they had to wait or not: items are then put in about the order of their keys, which
+    // spares moves. No promise speaks of that order.
     ready: VecDeque<Key>,
     running: usize,
 }
@@ -197,7 +198,7 @@ impl StepInstances {
         ensures { Moves self.old self.new key Ready }
     {
         self.states.set(key, State::Ready);
-        self.ready.push_back_reserved(key);
+        self.ready.push_front_reserved(key);
         self.running -= 1;
     }
 
@@ -207,7 +208,7 @@ impl StepInstances {
         ensures { Moves self.old self.new key Ready }
     {
         self.states.set(key, State::Ready);
-        self.ready.push_back_reserved(key);
+        self.ready.push_front_reserved(key);
     }
 }
 
