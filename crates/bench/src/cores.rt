@@ -6,9 +6,9 @@ ghost use Rattle.terms.specs.declared.key.TheConstants.{MAX_COMPONENTS};
 use crate::hubs::Handles;
 use anyhow::{Error, bail};
 use codec::encode_event;
-use commit::{Core, First, RunError, Verdict, run_with};
+use commit::{Core, RunError, Verdict};
 use disk::{Disk, DiskError, FileDisk, Side};
-use pool::{AlwaysGo, drive};
+use pool::{AlwaysGo, Driver};
 use std::alloc::Global;
 use std::fs;
 use std::io::Print;
@@ -17,8 +17,8 @@ use terms::{
     Addr, Event, Inst, ItemCollection, Key, Put, Puts, StepCollection, Tag, TagCollection,
 };
 
-// More than is committed.
-const LIMIT: u64 = 1_000_000_000;
+/// More than is committed.
+pub(crate) const LIMIT: u64 = 1_000_000_000;
 
 // Each step by itself; each needs the one before; each needs two.
 const WIDE: &str =
@@ -40,6 +40,9 @@ pub(crate) enum Load {
     Chain,
     Wavefront,
 }
+
+/// All of them.
+pub(crate) const LOADS: [Load; 3] = [Load::Wide, Load::Chain, Load::Wavefront];
 
 impl Load {
     fn name(self) -> &'static str {
@@ -80,42 +83,30 @@ impl Load {
     }
 }
 
-/// Runs so many steps of each of the three graphs, the last one in a square, on the files A and B of the folder that it is run in, which it empties, and
-/// prints the microseconds of one, beside those of a record of as many bytes, which is written behind a closed gate, synced, opened, and synced.
-pub(crate) fn measure(rt: &HostRuntime, steps: u32) -> Result<(), Error> {
-    for load in [Load::Wide, Load::Chain, Load::Wavefront] {
-        let tags = load.tags(rt.alloc(), steps)?;
-        let core = prepared(rt, load, &tags, steps)?;
-        let start = Instant::now(rt)?;
-        let (core, verdict) = run_with(rt.alloc(), core, &mut First, LIMIT);
-        let seconds = start.elapsed(rt)?.as_secs_f64();
-        drop(core);
-        is_complete(verdict)?;
-        let alone = records(rt, &tags)?;
-        tell(rt, load, tags.len(), seconds, alone)?;
+/// Prints what `report` does of each graph, on the thread that calls.
+pub(crate) fn measure<R: Handles>(rt: &HostRuntime, _threads: &R, steps: u32) -> Result<(), Error> {
+    for load in LOADS {
+        report::<R>(rt, load, steps, &Driver::Alone)?;
     }
     Ok(())
 }
 
-/// The same of one graph, on so many workers.
-pub(crate) fn report_by<R: Handles>(
+/// Runs so many steps of a graph, of a wavefront those of a square, on the files A and B of the folder that this is run in, which it empties, and
+/// prints the microseconds of one, beside those of a record of as many bytes, which is written behind a closed gate, synced, opened, and synced.
+pub(crate) fn report<R: Handles>(
     rt: &HostRuntime,
-    threads: &R,
     load: Load,
     steps: u32,
-    workers: u8,
-) -> Result<(), Error>
-    requires { (1 ≤ workers) × (workers ≤ 64) }
-{
+    driver: &Driver<'_, R, AlwaysGo>,
+) -> Result<(), Error> {
     let tags = load.tags(rt.alloc(), steps)?;
     let core = prepared(rt, load, &tags, steps)?;
     let start = Instant::now(rt)?;
-    let (core, verdict) = drive(threads, rt.alloc(), core, workers, LIMIT, &AlwaysGo);
+    let (core, verdict) = driver.run(rt.alloc(), core, LIMIT);
     let seconds = start.elapsed(rt)?.as_secs_f64();
     drop(core);
     is_complete(verdict)?;
     let alone = records(rt, &tags)?;
-    print!(rt; "{workers} workers, ")?;
     tell(rt, load, tags.len(), seconds, alone)
 }
 

@@ -33,7 +33,7 @@ fn main(rt: HostRuntime) -> Result<ExitCode, Error> {
             ("canonical", _) => return texts::print_canonical(&rt, &words[2]),
             ("parse", _) => return done(texts::measure(&rt, &words[2])),
             ("codec", Ok(count)) => return done(images::measure(&rt, count)),
-            ("core", Ok(count)) => return done(cores::measure(&rt, count)),
+            ("core", Ok(count)) => return done(cores::measure(&rt, &rt, count)),
             ("evaluate", Ok(count)) => return done(evaluate::measure(&rt, count)),
             ("hub", Ok(count)) => return done(hubs::measure(&rt, count)),
             ("machine", Ok(count)) => return done(machines::measure(&rt, count)),

@@ -2,13 +2,13 @@
 ghost use Rattle.std.specs.Prelude.{◌≤◌, IfOk};
 ghost use Rattle.commit.specs.Runs.{NoneRuns};
 
-use crate::cores::{self, Load};
+use crate::cores::{self, LIMIT, LOADS};
 use crate::hubs::Handles;
 use crate::plain_disk::PlainDisk;
 use anyhow::{Error, bail};
-use commit::{Core, First, run_with};
+use commit::Core;
 use disk::Disk;
-use pool::{AlwaysGo, drive};
+use pool::{AlwaysGo, Crew, Driver};
 use std::alloc::Global;
 use std::io::Print;
 use std::thread;
@@ -21,9 +21,6 @@ const EMPTY: &str = "<t: i>; <t> :: (one); env -> <t>; step one(k) { read { } wr
 // A step of some 1,000,000 instructions: 2 for each turn and its assignment.
 const HEAVY: &str =
     "<t: i>; <t> :: (one); env -> <t>; step one(k) { var a, b; read { } write { a = 0; for b in 0 .. 80000 { a = a + b; } } }";
-
-// More than is committed.
-const LIMIT: u64 = 1_000_000_000;
 
 // On how many workers each is measured.
 const COUNTS: [u8; 3] = [1, 2, 4];
@@ -44,10 +41,10 @@ pub(crate) fn measure<R: Handles>(rt: &HostRuntime, threads: &R, steps: u32) -> 
 // Prints the microseconds of an empty step.
 fn empty<R: Handles>(rt: &R, steps: u32) -> Result<(), Error> {
     let one = 1e6 / f64::from(steps.max(1));
-    let alone = by_itself(rt, EMPTY, steps)?;
+    let alone = seconds_of(rt, EMPTY, steps, &Driver::Alone)?;
     println!(rt; "empty steps: alone {:.2} µs", alone * one)?;
     for workers in COUNTS {
-        let seconds = by_workers(rt, EMPTY, steps, workers)?;
+        let seconds = seconds_of(rt, EMPTY, steps, &crew(rt, workers))?;
         println!(rt; "empty steps, {workers} workers: {:.2} µs", seconds * one)?;
     }
     Ok(())
@@ -56,7 +53,7 @@ fn empty<R: Handles>(rt: &R, steps: u32) -> Result<(), Error> {
 // Prints the milliseconds of a heavy step, and how much faster several workers are; beside what the machine gives to as many runs side by side.
 fn heavy<R: Handles>(rt: &R, steps: u32) -> Result<(), Error> {
     let one = 1e3 / f64::from(steps.max(1));
-    let alone = by_itself(rt, HEAVY, steps)?;
+    let alone = seconds_of(rt, HEAVY, steps, &Driver::Alone)?;
     println!(rt; "heavy steps: alone {:.3} ms", alone * one)?;
     let beside = side_by_side(rt, steps)?;
     let given = alone * f64::from(COPIES) / beside;
@@ -64,7 +61,7 @@ fn heavy<R: Handles>(rt: &R, steps: u32) -> Result<(), Error> {
         "heavy steps, {COPIES} runs side by side: the machine gives {given:.2} processors"
     )?;
     for workers in COUNTS {
-        let seconds = by_workers(rt, HEAVY, steps, workers)?;
+        let seconds = seconds_of(rt, HEAVY, steps, &crew(rt, workers))?;
         let faster = alone / seconds;
         println!(rt;
             "heavy steps, {workers} workers: {:.3} ms; {faster:.2} times as fast as alone; of {COPIES} processors that were given whole {:.2}",
@@ -82,7 +79,11 @@ fn side_by_side<R: Handles>(rt: &R, steps: u32) -> Result<f64, Error> {
         copies.push(copy)?;
     }
     let start = Instant::now(rt)?;
-    let went = thread::map_vec(rt, copies, &|_copy: u8| by_itself(rt, HEAVY, steps).is_ok())?;
+    let went = thread::map_vec(
+        rt,
+        copies,
+        &|_copy: u8| seconds_of(rt, HEAVY, steps, &Driver::Alone).is_ok(),
+    )?;
     let seconds = start.elapsed(rt)?.as_secs_f64();
     for ok in went {
         if !ok {
@@ -92,28 +93,27 @@ fn side_by_side<R: Handles>(rt: &R, steps: u32) -> Result<f64, Error> {
     Ok(seconds)
 }
 
-// The seconds of a run by the thread that calls.
-fn by_itself<R: Handles>(rt: &R, text: &str, steps: u32) -> Result<f64, Error> {
+// The seconds of a run of so many steps of a graph.
+fn seconds_of<R: Handles>(
+    rt: &R,
+    text: &str,
+    steps: u32,
+    driver: &Driver<'_, R, AlwaysGo>,
+) -> Result<f64, Error> {
     let core = created(rt.alloc(), PlainDisk::new(rt.alloc()), text, steps)?;
     let start = Instant::now(rt)?;
-    let (core, verdict) = run_with(rt.alloc(), core, &mut First, LIMIT);
+    let (core, verdict) = driver.run(rt.alloc(), core, LIMIT);
     let seconds = start.elapsed(rt)?.as_secs_f64();
     drop(core);
     cores::is_complete(verdict)?;
     Ok(seconds)
 }
 
-// And by workers.
-fn by_workers<R: Handles>(rt: &R, text: &str, steps: u32, workers: u8) -> Result<f64, Error>
+// So many workers.
+fn crew<R: Handles>(rt: &R, workers: u8) -> Driver<'_, R, AlwaysGo>
     requires { (1 ≤ workers) × (workers ≤ 64) }
 {
-    let core = created(rt.alloc(), PlainDisk::new(rt.alloc()), text, steps)?;
-    let start = Instant::now(rt)?;
-    let (core, verdict) = drive(rt, rt.alloc(), core, workers, LIMIT, &AlwaysGo);
-    let seconds = start.elapsed(rt)?.as_secs_f64();
-    drop(core);
-    cores::is_complete(verdict)?;
-    Ok(seconds)
+    Driver::Crew(Crew::new(rt, workers, AlwaysGo))
 }
 
 // A new store of a graph, with so many tags.
@@ -140,9 +140,10 @@ fn tagged<D: Disk + Drop>(core: Core<D>, steps: u32) -> Result<Core<D>, Error>
 
 // Prints the microseconds of a step of each graph.
 fn on_files<R: Handles>(rt: &HostRuntime, threads: &R, steps: u32) -> Result<(), Error> {
-    for load in [Load::Wide, Load::Chain, Load::Wavefront] {
+    for load in LOADS {
         for workers in COUNTS {
-            cores::report_by(rt, threads, load, steps, workers)?;
+            print!(rt; "{workers} workers, ")?;
+            cores::report(rt, load, steps, &crew(threads, workers))?;
         }
     }
     Ok(())
