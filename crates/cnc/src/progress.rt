@@ -14,9 +14,11 @@ const BETWEEN: u64 = 64;
 pub(crate) struct Telling<'a, R> {
     rt: &'a R,
     workers: u8,
-    start: Option<Instant>,
+    made: Option<Instant>,
+    // How many milliseconds later the first instance ran.
+    first: AtomicU64,
     ran: AtomicU64,
-    // The second in which it was told last.
+    // The second of the run in which it was told last.
     told: AtomicU64,
     // Whether what was told stands on the screen: 0 or 1.
     shown: &'a AtomicU64,
@@ -27,22 +29,29 @@ impl<'a, R: Clock + Eprint> Telling<'a, R> {
         Telling {
             rt,
             workers,
-            start: Instant::now(rt).ok(),
+            made: Instant::now(rt).ok(),
+            first: AtomicU64::new(0),
             ran: AtomicU64::new(0),
             told: AtomicU64::new(0),
             shown,
         }
     }
 
+    // The milliseconds since it was made; 0 where the clock does not tell.
+    fn milliseconds(&self) -> u64 {
+        let Some(made) = &self.made else {
+            return 0;
+        };
+        match made.elapsed(self.rt) {
+            Ok(elapsed) => u64::try_from(elapsed.as_millis()).unwrap_or(0),
+            Err(_) => 0,
+        }
+    }
+
     // Tells how far the run is, once a second.
     fn tell(&self, ran: u64) {
-        let Some(start) = &self.start else {
-            return;
-        };
-        let Ok(elapsed) = start.elapsed(self.rt) else {
-            return;
-        };
-        let seconds = elapsed.as_secs();
+        let first = self.first.load(Ordering::Relaxed);
+        let seconds = self.milliseconds().saturating_sub(first) / 1000;
         let before = self.told.fetch_max(seconds, Ordering::Relaxed);
         if seconds > before {
             let workers = self.workers;
@@ -62,7 +71,9 @@ impl<'a, R: Clock + Eprint + Sync> Probe for Telling<'a, R> {
 
     fn enter(&self, _instance: Inst) -> Answer {
         let ran = self.ran.fetch_add(1, Ordering::Relaxed).wrapping_add(1);
-        if ran % BETWEEN == 0 {
+        if ran == 1 {
+            self.first.store(self.milliseconds(), Ordering::Relaxed);
+        } else if ran % BETWEEN == 0 {
             self.tell(ran);
         }
         Answer::Go
