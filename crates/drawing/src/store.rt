@@ -39,37 +39,44 @@ fn park_all<D: Disk>(alloc: Global, core: &mut Core<D>) -> Result<(), CoreError>
 {
     core.allow(u64::MAX)?;
     let graph = Arc::clone(core.graph())?;
-    // From the last one on, since one that is given back may change its place with a later one.
-    for at in (0..core.ready()).rev() {
-        park(alloc, core, &graph, at)?;
+    // How many were given back. They are the first of the ready ones: a claim puts the first in the place of the one that it takes, and one that is given back goes in
+    // front.
+    let mut able: usize = 0;
+    for _ in 0..core.ready() {
+        if !park(alloc, core, &graph, able)? {
+            able = able.saturating_add(1);
+        }
     }
     Ok(())
 }
 
-// Lets a ready instance wait, if it has to.
+// Lets a ready instance wait, if it has to, and tells whether it does.
 fn park<D: Disk>(
     alloc: Global,
     core: &mut Core<D>,
     graph: &Graph,
     at: usize,
-) -> Result<(), CoreError>
+) -> Result<bool, CoreError>
     requires graph { graph.now ≡ graph_of core.old }
     ensures vault { core.new.vault ≡ core.old.vault }
     ensures graph { graph_of core.new ≡ graph_of core.old }
 {
     match core.claim(at) {
         Ok(Some(task)) => match core.run(alloc, graph, &task) {
-            Ok(Came::Waits(parked)) => core.park(task, parked),
+            Ok(Came::Waits(parked)) => {
+                core.park(task, parked)?;
+                Ok(true)
+            }
             Ok(Came::Ended(_)) => {
                 core.release(task);
-                Ok(())
+                Ok(false)
             }
             Err(error) => {
                 core.release(task);
                 Err(error)
             }
         },
-        Ok(None) => Ok(()),
+        Ok(None) => Ok(false),
         Err(error) => Err(error),
     }
 }
