@@ -18,7 +18,7 @@ use terms::Key;
 // A step that reads nothing and puts nothing.
 const EMPTY: &str = "<t: i>; <t> :: (one); env -> <t>; step one(k) { read { } write { } }";
 
-// A step of some 1,000,000 instructions: 2 for each turn and its assignment.
+// A step of 80,000 turns, with an assignment each: about a millisecond.
 const HEAVY: &str =
     "<t: i>; <t> :: (one); env -> <t>; step one(k) { var a, b; read { } write { a = 0; for b in 0 .. 80000 { a = a + b; } } }";
 
@@ -29,7 +29,7 @@ const COUNTS: [u8; 3] = [1, 2, 4];
 const COPIES: u8 = 4;
 
 /// So many empty steps in memory; a five-hundredth of as many that take a millisecond each; and a fiftieth of as many on the files A and B of the folder that this is
-/// run in, which it empties: by the thread that calls, and by 1, 2 and 4 workers.
+/// run in, which it empties: by 1, 2 and 4 workers, and in memory by the thread that calls too.
 pub(crate) fn measure<R: Handles>(rt: &HostRuntime, threads: &R, steps: u32) -> Result<(), Error> {
     empty(threads, steps)?;
     heavy(threads, steps / 500)?;

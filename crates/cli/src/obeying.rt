@@ -46,7 +46,7 @@ impl Errors for Vec<u8> {
 ///
 /// The input is the graph or the script. What the command says goes to `out`, and why it failed to `err`: nothing where the output failed, or a reply ended the
 /// session. A store is opened before its script is read, and its steps are run by the driver. Statuses, the first that holds: 2 where the graph or the script is refused or cannot be read; 5 where
-/// the device failed, memory was refused, the store is halted, or the output failed; 4 where the store is refused, or a put or a run met that it is full; 3 where
+/// the device failed, memory or a thread was refused, the store is halted, or the output failed; 4 where the store is refused, or a put or a run met that it is full; 3 where
 /// a fault stopped the store; 6 where the last `run` met its limit; 1 where a prescribed instance is not done; else 0.
 pub fn obey<D: Disk + Send, R: Read, W: Write, E: Errors, H: Threads + Wait + Sync, P: Probe>(
     alloc: Global,

@@ -9,7 +9,7 @@ use terms::Inst;
 // How many instances are entered between two looks at the clock.
 const BETWEEN: u64 = 64;
 
-/// Counts the instances that are run. Once a second it tells how many ran, on how many workers, and how many in a second.
+/// Counts how often an instance is run. It tells the count, on how many workers, and how many in a second since the first: once a second at most, behind every 64th.
 #[derive(Drop)]
 pub(crate) struct Telling<'a, R> {
     rt: &'a R,

@@ -1,6 +1,7 @@
 ghost use Rattle.std.specs.Prelude.{◌<◌};
 
-/// Who picks which of the ready instances runs next. The answers of a store don't depend on it.
+/// Who picks which of the ready instances runs next. What a run comes to doesn't depend on it, but for which fault is told and where a
+/// limit is met.
 pub trait Choose {
     /// The number of one of so many ready instances, from 0.
     fn pick(&mut self, ready: usize) -> usize

@@ -1,8 +1,8 @@
 use terms::{FaultKind, Inst};
 use thiserror::Error;
 
-/// How a run ended: the first of these that holds behind it, in the order `Halted`, `Stopped`, `Complete` or `Blocked`, then each `RunError`, `Limit`,
-/// `Asked`.
+/// How a run ended: the first of these that holds behind it, in the order `Halted`, `Stopped`, `Complete` or `Blocked`. Where something is left to do, any of `Limit`,
+/// `Asked` and each `RunError` that holds.
 #[derive(Clone, Copy, Debug, PartialEq, Eq)]
 pub enum Verdict {
     /// Nothing is left to do, and each prescribed instance is done.
@@ -19,7 +19,7 @@ pub enum Verdict {
     Halted,
 }
 
-/// Why a run ended before its limit, where the store is neither halted, stopped nor quiet. What was committed stays.
+/// Why a run ended where the store is neither halted, stopped nor quiet. What was committed stays.
 #[derive(Clone, Copy, Debug, PartialEq, Eq, Error)]
 pub enum RunError {
     /// A thread could not be started.

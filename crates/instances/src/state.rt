@@ -5,7 +5,7 @@ use terms::Addr;
 pub enum State {
     /// It can be claimed.
     Ready,
-    /// It was claimed, and is neither done nor given back.
+    /// It was claimed, and was neither ended, parked nor given back since.
     Running,
     /// It waits for the item at the address.
     Waiting(Addr),

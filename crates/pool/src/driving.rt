@@ -20,7 +20,7 @@ use vault::stores_go_on;
 /// says, or the probe answers `Stop`.
 ///
 /// It gives the core back with the verdict. An error leaves all that was committed. Nothing runs in the core that is given, nor in the one that is given
-/// back. Where the workers leave something to do, and none of them was asked to stop or refused memory, the calling thread does it.
+/// back. Where the workers leave something to do, each had its thread, and none of them was asked to stop or refused memory, the calling thread does it, and asks no probe.
 pub fn drive<D: Disk + Send, P: Probe + Sync, R: Threads + Wait + Sync>(
     rt: &R,
     alloc: Global,

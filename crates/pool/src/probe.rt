@@ -10,7 +10,7 @@ pub enum Answer {
     Stop,
 }
 
-/// Is asked by a worker behind each claim, outside the lock. Any number of workers may be in it at one time.
+/// Is asked by a worker behind each claim, outside the lock. Any number of workers may be in it at one time. What the calling thread runs behind the workers it is not asked.
 pub trait Probe: Sync {
     ghost use Rattle.std.specs.Prelude.{◌≡◌, Bool, true};
     ghost use Rattle.pool.specs.declared.probe.Answer.TheVariants.{Stop};

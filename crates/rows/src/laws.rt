@@ -54,9 +54,11 @@ fn graphs_hold() {
     graph::reads_textual();
     graph::reads_without_fault();
     graph::canonical_example();
+    graph::graphs_cross();
 }
 
 fn meanings_hold() {
+    instances::runs_are_counted();
     machine::fibonacci_numbers();
     machine::item_put_twice();
     machine::refused_examples();
@@ -92,4 +94,7 @@ fn stores_hold() {
     vault::one_store();
     vault::stores_go_on::<MemDisk>();
     vault::half_a_commit();
+    commit::calls_are_moves::<MemDisk>();
+    commit::histories_go_on::<MemDisk>();
+    commit::acknowledged_stays();
 }

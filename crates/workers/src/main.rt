@@ -1,4 +1,5 @@
-//! Workers on real threads: each line that it prints was derived by hand from what a graph means, and is the same on every schedule.
+//! Workers on real threads: each line that it prints was derived by hand from what a graph means, and is the same on every schedule, unless a
+//! thread looks for another 10,000,000 times in vain.
 #![tactic(auto)]
 
 mod meeting;
