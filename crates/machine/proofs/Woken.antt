@@ -77,7 +77,7 @@ module _ (total : IsTotalOrder inst_cmp) (tie : IsAntisymmetric inst_cmp) where
     states = λ i.
         wakes.states i
         ∙ merged (is_one_of i (take k ws)) (eq_by_cmp inst_cmp i last) (Some Ready) (state_at mid i) (state_at old i) (λ same. ap (state_at mid) (one_instance i last same) ∙ moves.here)
-          (λ other. moves.others i (λ same. false≢true (sym other ∙ ap (λ (j : Inst). eq_by_cmp inst_cmp j last) same ∙ itself last)))
+        (λ other. moves.others i (λ same. false≢true (sym other ∙ ap (λ (j : Inst). eq_by_cmp inst_cmp j last) same ∙ itself last)))
         ∙ ap (λ b. cond b (Some Ready) (state_at old i)) (sym (one_more i k ws last within is));
     prescribers = λ n. wakes.prescribers n ∙ moves.prescribers n;
     room = λ c. wakes.room c ∙ moves.room c;

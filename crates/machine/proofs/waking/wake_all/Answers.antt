@@ -11,7 +11,7 @@ wake-requires c =
     let all : c.loop-number.number ≡ suc k = omega (arith, c.loop-number-test.true) in
     let within : k < length ws = omega (arith, c.loop-number-test.true, c.loop-number.auto.number) in
     (last_waits c.orders_are_total.ensures.instances c.orders_are_total.ensures.instances_tie c.loop-number.instances k ws c.index-waiters-number.result within c.index-waiters-number.is
-     (subst (λ n. EachWaits c.loop-number.instances (take n ws)) all c.loop-number.invariant.0)).0
+    (subst (λ n. EachWaits c.loop-number.instances (take n ws)) all c.loop-number.invariant.0)).0
 
 pub loop-number-preserved : goal.loop-number-preserved
 loop-number-preserved c =
@@ -23,9 +23,8 @@ loop-number-preserved c =
     let all : c.loop-number.number ≡ suc k = omega (arith, c.loop-number-test.true) in
     let within : k < length ws = omega (arith, c.loop-number-test.true, c.loop-number.auto.number) in
     let kept =
-        subst (λ n. EachWaits c.loop-number.instances (take n ws) × ((new : Known) → Wakes c.loop-number.instances new (take n ws) → Wakes c.args.instances.now new ws)) all c.loop-number.invariant in
-    let waits = last_waits total tie c.loop-number.instances k ws last within c.index-waiters-number.is kept.0 in
-    (
+    subst (λ n. EachWaits c.loop-number.instances (take n ws) × ((new : Known) → Wakes c.loop-number.instances new (take n ws) → Wakes c.args.instances.now new ws)) all c.loop-number.invariant in
+    let waits = last_waits total tie c.loop-number.instances k ws last within c.index-waiters-number.is kept.0 in (
       still_wait total tie c.loop-number.instances c.wake.new.self last (take k ws) c.wake.ensures waits.1 waits.2,
       λ new wakes. kept.1 new (wakes_more total tie c.loop-number.instances c.wake.new.self new k ws last within c.index-waiters-number.is c.wake.ensures wakes),
     )
