@@ -1,7 +1,13 @@
 //! Two workers run two instances at one time.
+ghost use Rattle.std.specs.Prelude.{IfOk};
+ghost use Rattle.commit.specs.Runs.{NoneRuns};
+
 use crate::stores::{created, idle, put_tags};
 use anyhow::Error;
-use pool::{Answer, Probe, drive};
+use commit::{Core, RunError, Verdict};
+use disk::MemDisk;
+use pool::{Answer, Crew, Driver, Probe, drive};
+use std::alloc::Global;
 use std::io::Print;
 use std::sync::Wait;
 use std::sync::atomic::{AtomicU64, Ordering};
@@ -19,13 +25,22 @@ const LIMIT: u64 = 1_000;
 
 // Holds each of two instances until it has seen the other enter, or has looked for it too often.
 #[derive(Drop)]
-struct Meeting {
+struct Meeting<'a> {
     entered: AtomicU64,
     // How many have seen the other.
-    met: AtomicU64,
+    met: &'a AtomicU64,
 }
 
-impl Probe for Meeting {
+impl<'a> Meeting<'a> {
+    fn new(met: &'a AtomicU64) -> Self {
+        Meeting {
+            entered: AtomicU64::new(0),
+            met,
+        }
+    }
+}
+
+impl<'a> Probe for Meeting<'a> {
     ghost use Rattle.std.specs.Prelude.{false};
 
     ghost may_stop = { false };
@@ -43,21 +58,49 @@ impl Probe for Meeting {
     }
 }
 
-/// Tries it on a new store with two ready instances.
+/// Tries it on a new store with two ready instances, by `drive` and by a crew.
 pub(crate) fn try_meeting<R: Threads + Wait + Sync>(
     rt: &HostRuntime,
     threads: &R,
 ) -> Result<(), Error> {
-    let mut core = created(rt.alloc(), TWO)?;
+    let alloc = rt.alloc();
+    let met = AtomicU64::new(0);
+    let (core, verdict) = drive(
+        threads,
+        alloc,
+        two_ready(alloc)?,
+        2,
+        LIMIT,
+        &Meeting::new(&met),
+    );
+    tell_met(rt, "drive", &core, verdict, &met)?;
+    let met = AtomicU64::new(0);
+    let driver = Driver::Crew(Crew::new(threads, 2, Meeting::new(&met)));
+    let (core, verdict) = driver.run(alloc, two_ready(alloc)?, LIMIT);
+    tell_met(rt, "a crew", &core, verdict, &met)
+}
+
+// A store with two ready instances.
+fn two_ready(alloc: Global) -> Result<Core<MemDisk>, Error>
+    ensures { IfOk result NoneRuns }
+{
+    let mut core = created(alloc, TWO)?;
     put_tags(&mut core, 1..3)?;
-    let core = idle(core)?;
-    let probe = Meeting {
-        entered: AtomicU64::new(0),
-        met: AtomicU64::new(0),
-    };
-    let (core, verdict) = drive(threads, rt.alloc(), core, 2, LIMIT, &probe);
+    idle(core)
+}
+
+// Prints what a run came to, and how many instances have seen the other.
+fn tell_met(
+    rt: &HostRuntime,
+    name: &str,
+    core: &Core<MemDisk>,
+    verdict: Result<Verdict, RunError>,
+    met: &AtomicU64,
+) -> Result<(), Error> {
     let done = core.counts().done;
-    let met = probe.met.load(Ordering::SeqCst);
-    rt.println(format_args!("  {verdict:?}: {done} steps done, of which {met} saw the other"))?;
+    let met = met.load(Ordering::SeqCst);
+    rt.println(format_args!(
+        "  {name}: {verdict:?}, {done} steps done, of which {met} saw the other"
+    ))?;
     Ok(())
 }
