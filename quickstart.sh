@@ -40,7 +40,7 @@ echo "What the prover says goes to $log."
 for crate in $crates; do
     number=$((number + 1))
     if (cd "crates/$crate" && rt lib) >>"$log" 2>&1; then
-        echo "proved: $crate ($((count - number)) crates left)"
+        echo "proved: $crate (crates left: $((count - number)))"
     else
         echo "quickstart: $crate was not proved; see $log" >&2
         exit 1
