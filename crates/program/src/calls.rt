@@ -38,6 +38,26 @@ impl Write for Failing {
     }
 }
 
+/// Reads the words, and tells the command that they ask for.
+pub(crate) fn read(alloc: Global, line: &str) -> Result<String, AllocError> {
+    let words: Vec<&str> = line.split(' ').collect(alloc)?;
+    let mut told = String::new(alloc);
+    match read_words(alloc, words.as_slice()) {
+        Ok(command) => {
+            let file = command.input();
+            let directory = command.directory();
+            let workers = command.workers();
+            writeln!(told, "{command:?}")?;
+            writeln!(
+                told,
+                "file {file:?}, directory {directory:?}, workers {workers}"
+            )?;
+        }
+        Err(error) => writeln!(told, "usage: status {}", usage_status(&error))?,
+    }
+    Ok(told)
+}
+
 /// Reads the words, does what they ask for on the disk, and tells what was written, and the status where that is not 0. Where the words tell the workers, a crew of
 /// so many runs the steps, and else the thread that calls.
 pub(crate) fn call<R: Threads + Wait + Sync>(

@@ -6,6 +6,7 @@
 //!   wrote on its error output behind `! `, and a line with its status where that is not 0
 //! - `full WORDS`: the same, where each write of the output fails
 //! - `unreadable WORDS`: the same, where each read of the input fails
+//! - `words WORDS`: the command that these words ask for, with the file that it reads, its directory and its workers
 //! - `fail N`: the call of the disk that comes as the N-th from now fails
 //! - `byte SIDE PLACE VALUE`: this byte is changed
 //! - `sizes`: how many bytes the two files have
@@ -56,6 +57,7 @@ impl<'a, R: Threads + Wait + Sync> Commands<'a, R> {
                 self.disk = MemDisk::new(alloc);
                 Ok(String::new(alloc))
             }
+            "words" => calls::read(alloc, command),
             "cnc" => self.call(alloc, command, input, calls::Streams::Work),
             "full" => self.call(alloc, command, input, calls::Streams::OutputFails),
             "unreadable" => self.call(alloc, command, input, calls::Streams::InputFails),
