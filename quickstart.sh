@@ -33,7 +33,7 @@ directory=$(mktemp -d)
 trap 'rm -rf "$directory"' EXIT
 
 # The crates that stand above `cnc` in crates.txt, lowest first, are those that it is made of, and a program that it is not stands below.
-crates=$(sed -n '/^cnc[ :]/q; s/^\([a-z_]*\)\( [^:]*\)\{0,1\}:.*/\1/p' crates.txt)
+crates=$(sed -n '/^cnc[ :]/q; s/^\([a-z_]*\)[ :].*/\1/p' crates.txt)
 count=$(echo "$crates" | wc -l)
 number=0
 echo "What the prover says goes to $log."
