@@ -10,6 +10,7 @@ pub struct Names {
 }
 
 impl Names {
+    /// No names yet.
     pub fn new(alloc: Global) -> Self {
         Names {
             alloc,

@@ -74,6 +74,8 @@ fn meanings_hold() {
     machine::reached_within();
     machine::reached_and_quiet();
     machine::unfinished_wait();
+    machine::given_are_of_graph();
+    machine::results_are_meant();
 }
 
 fn files_hold() {
