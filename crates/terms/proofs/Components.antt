@@ -1,4 +1,4 @@
--- What the order of keys says of two lists of components.
+-- How the order of keys compares two lists of components.
 use Rattle.std.proofs.Common.{◌≡◌, ◌≢◌, ℤ, List, [], ◌∷◌, ◌++◌, refl, ap, ◌∙◌}
 use Rattle.std.specs.declared.cmp.Ordering.{Ordering}
 use Rattle.std.specs.declared.cmp.Ordering.TheVariants.{Less, Equal, Greater}
@@ -11,7 +11,7 @@ use Rattle.terms.specs.Key.{key_cmp, BeginningFirst, FirstDifferenceDecides}
 same_first : (x : ℤ) (xs ys : List ℤ) → key_cmp (x ∷ xs) (x ∷ ys) ≡ key_cmp xs ys
 same_first x xs ys = ap (λ (r : Ordering). ordering_then r (key_cmp xs ys)) (tied_itself int_cmp_total x)
 
--- after different ones it does not
+-- after two components that differ, the rest does not matter
 decided : (r rest : Ordering) → r ≢ Equal → ordering_then r rest ≡ r
 decided Less rest differ = refl
 decided Equal rest differ = absurd (differ refl)

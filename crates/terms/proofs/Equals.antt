@@ -1,4 +1,4 @@
--- Values that `==` holds of are one.
+-- Two values are the same if `==` is true of them.
 use Rattle.std.proofs.Common.{◌≡◌, ℕ, ℤ, Bool, true, false, ◌&&◌, ◌==◌, List, refl, ap, subst}
 use Rattle.std.proofs.lemmas.Bool.{false≢true}
 use Rattle.std.specs.Cmp.{IsEquivalence, signed_Decides, unsigned_Decides}
@@ -27,7 +27,7 @@ both : (a b : Bool) → (a && b) ≡ true → (a ≡ true) × (b ≡ true)
 both true b holds = (refl, holds)
 both false b holds = absurd (false≢true holds)
 
--- a test that holds of each value and itself
+-- a test that is an equivalence, and is true only of equal values
 tells : {X : Type 0} {is_one : X → X → Bool} → IsEquivalence is_one → ((one two : X) → is_one one two ≡ true → one ≡ two) → TellsEqual is_one
 tells {X} {is_one} laws same one two = (same one two, λ is. subst (λ (other : X). is_one one other ≡ true) is (laws.refl one))
 

@@ -20,7 +20,7 @@ go_on instance number (one ∷ first) second =
     ap (λ (list : List Fact). put_fact instance number one ∷ list)
     (go_on instance (suc number) first second ∙ ap (λ (n : ℕ). put_facts instance (suc number) first ++ put_facts instance n second) same)
 
--- the put with this number states the fact
+-- some put of the list states the fact; `number` is the number of the first put
 abbrev pub IsPutAt : Inst → ℕ → List Put → Fact → Type 0
 IsPutAt instance number puts fact = (at : ℕ) × (one : Put) × (slice_get puts at ≡ Some one) × (put_fact instance (number + at) one ≡ fact)
 

@@ -18,7 +18,7 @@ keys_total = lists_total int_cmp_total
 pub keys_tie : IsAntisymmetric key_cmp
 keys_tie = slice_cmp-IsAntisymmetric int_cmp-IsAntisymmetric
 
--- one order and then another tie where both do
+-- one order and then another tie only where both do
 pub both_tie : (first second : Ordering) → ordering_then first second ≡ Equal → (first ≡ Equal) × (second ≡ Equal)
 both_tie Less second tie = absurd (cc)
 both_tie Equal second tie = (refl, tie)

@@ -8,7 +8,7 @@ use Rattle.terms.specs.Key.{padded}
 abbrev pub written : List ℤ → List ℤ
 written components = components ++ drop (length components) (replicate MAX_COMPONENTS (pos 0))
 
--- they are the components, and zeros behind them
+-- the places are the components, and zeros after them
 pub written_whole : (components : List ℤ) → (length components ≤ length (written components)) × (written components ≡ padded (take (length components) (written components)))
 written_whole components =
     let zeros = drop (length components) (replicate MAX_COMPONENTS (pos 0)) in

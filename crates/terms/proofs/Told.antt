@@ -1,4 +1,4 @@
--- Facts are told apart.
+-- Facts can be distinguished.
 use Rattle.std.proofs.Common.{◌≡◌, ℕ, Bool, true, false, ◌&&◌, ◌||◌, ◌==◌, [], ◌∷◌, refl, ap}
 use Rattle.std.specs.declared.cmp.Ordering.{Ordering}
 use Rattle.std.specs.Ordering.{is_eq, int_eq}
@@ -24,7 +24,7 @@ both false b holds = absurd (false≢true holds)
 and : (a b : Bool) → a ≡ true → b ≡ true → (a && b) ≡ true
 and a b one two = cc
 
--- by an order that ties at equal values alone
+-- by an order that ties only at equal values
 itself : {K : Type 0} {R : K → K → Ordering} → IsTotalOrder R → (x : K) → is_eq (R x x) ≡ true
 itself order x = ap is_eq (tied_itself order x)
 

@@ -49,7 +49,7 @@ module _ {A B : Type 0} (R : A → A → Ordering) (S : B → B → Ordering) wh
     alike (inr x) (inr y) (inl z) tie = refl
     alike (inr x) (inr y) (inr z) tie = second.congr x y z tie
 
-    -- an order that is this one of the kinds of two values
+    -- an order that compares two values as `kinds_cmp` compares their kinds
     kinds_total : {K : Type 0} (kind : K → A ⊎ B) (T : K → K → Ordering) → ((x y : K) → kinds_cmp (kind x) (kind y) ≡ T x y) → IsTotalOrder T
     kinds_total {K} kind T same =
         subst (λ (U : K → K → Ordering). IsTotalOrder U) (λ i x y. same x y i) (on_total kind (record { antisymm = turned; trans = chained; congr = alike }))

@@ -1,4 +1,4 @@
--- Commits: events that become durable together, all of them or none; and the state behind a list of commits.
+-- Commits: events that become durable together, all of them or none; and the state after a list of commits.
 use Rattle.std.specs.Prelude.{List, [], ◌∷◌, ◌++◌}
 use Rattle.terms.specs.declared.event.Event.{Event}
 use Rattle.terms.specs.Facts.{facts, environment}
@@ -8,15 +8,15 @@ use Rattle.terms.specs.Sets.{Facts, with_facts}
 abbrev pub Commit : Type 0
 Commit = List Event
 
--- the events of commits, one behind another
+-- the events of several commits, one after another
 abbrev pub events_of : List Commit → List Event
 events_of [] = []
 events_of (commit ∷ commits) = commit ++ events_of commits
 
--- what is there behind these commits, where the facts X were there before them
+-- the facts after these commits, if the facts before them were X
 abbrev pub facts_behind : Facts → List Commit → Facts
 facts_behind X commits = with_facts X (facts (events_of commits))
 
--- and what of that the environment put, where it had put E
+-- and the part of them that the environment put, if that part was E before
 abbrev pub environment_behind : Facts → List Commit → Facts
 environment_behind E commits = with_facts E (environment (events_of commits))

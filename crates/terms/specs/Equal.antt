@@ -1,4 +1,4 @@
--- What `==` computes of two values, and that it tells exactly whether they are one.
+-- What `==` computes of two values, and that it is true exactly when they are the same.
 use Rattle.std.specs.Prelude.{◌≡◌, ◌↔◌, ℤ, Bool, true, List}
 use Rattle.std.specs.Ordering.{int_eq}
 use Rattle.std.specs.Cmp.Lexicographic.{pointwise}
@@ -17,7 +17,7 @@ use Rattle.terms.specs.contracts.producer.ProducerPartialEq.TheImpl as producer_
 use Rattle.terms.specs.contracts.put.PutPartialEq.TheImpl as put_eq
 use Rattle.terms.specs.contracts.event.EventPartialEq.TheImpl as event_eq
 
--- what `==` computes: of keys component by component, and of lists of puts put by put
+-- what `==` computes: it compares keys component by component, and lists of puts put by put
 abbrev pub is_key : List ℤ → List ℤ → Bool
 is_key = pointwise int_eq
 
@@ -45,6 +45,6 @@ are_puts = pointwise is_put
 abbrev pub is_event : Event → Event → Bool
 is_event = (event_eq.ghosts).eq
 
--- the test tells exactly whether two values are one
+-- the test is true exactly when the two values are the same
 abbrev pub TellsEqual : {X : Type 0} → (X → X → Bool) → Type 0
 TellsEqual {X} is_one = (one two : X) → (is_one one two ≡ true) ↔ (one ≡ two)

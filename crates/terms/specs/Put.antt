@@ -8,14 +8,14 @@ use Rattle.terms.specs.declared.producer.Producer.TheVariants.{Env, By}
 use Rattle.terms.specs.declared.put.Put.{Put}
 use Rattle.terms.specs.declared.put.Put.TheVariants as put
 
--- items before tags; of two items the address decides, then the value
+-- items come before tags; between two items the address decides, then the value
 abbrev pub put_cmp : Put → Put → Ordering
 put_cmp (put.Item a v) (put.Item b w) = ordering_then (addr_cmp a b) (int_cmp v w)
 put_cmp (put.Item a v) (put.Tag b) = Less
 put_cmp (put.Tag a) (put.Item b w) = Greater
 put_cmp (put.Tag a) (put.Tag b) = tag_cmp a b
 
--- the environment before every instance; then the instance decides, and of one instance the number of the put
+-- the environment comes before every instance; between instances the instance decides, then the number of the put
 abbrev pub producer_cmp : Producer → Producer → Ordering
 producer_cmp Env Env = Equal
 producer_cmp Env (By b n) = Less

@@ -1,4 +1,4 @@
--- Whether two addresses are one.
+-- Whether two addresses are the same.
 use Rattle.std.specs.Prelude.{◌≡◌, Bool, true}
 use Rattle.std.specs.Ordering.{is_eq, nat_cmp, ordering_then}
 use Rattle.std.specs.declared.cmp.Ordering.{Ordering}

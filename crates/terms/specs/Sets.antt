@@ -8,7 +8,7 @@ use Rattle.terms.specs.Same.{is_same}
 use Rattle.terms.specs.declared.event.Event.{Event}
 use Rattle.terms.specs.Facts.{Fact, tag, item, done, bad, facts, environment}
 
--- whether two facts are one
+-- whether two facts are the same
 abbrev pub is_fact : Fact → Fact → Bool
 is_fact (tag a) (tag b) = is_eq (tag_cmp a b)
 is_fact (item a v p) (item b w q) = is_same a b && (int_eq v w && is_eq (producer_cmp p q))
@@ -16,30 +16,30 @@ is_fact (done a) (done b) = is_eq (inst_cmp a b)
 is_fact (bad a k) (bad b l) = is_eq (inst_cmp a b) && (fault_number k == fault_number l)
 is_fact one two = false
 
--- a set of facts, as a function that tells which are in it
+-- a set of facts, as a function that says which facts are in it
 abbrev pub Facts : Type 0
 Facts = Fact → Bool
 
--- the set of those in a list, in whatever order and however often
+-- the set of the facts in a list; their order and repetitions do not matter
 abbrev pub among : List Fact → Facts
 among [] fact = false
 among (first ∷ rest) fact = is_fact first fact || among rest fact
 
--- the set with these facts too
+-- the set with these facts added
 abbrev pub with_facts : Facts → List Fact → Facts
 with_facts X more fact = X fact || among more fact
 
--- what the events of a list state, and what of it the environment put
+-- the set of the facts that the events of a list state, and the part of it that the environment put
 abbrev pub stated : List Event → Facts
 stated events = among (facts events)
 
 abbrev pub put_by_environment : List Event → Facts
 put_by_environment events = among (environment events)
 
--- two facts are one where this tells so, and nowhere else
+-- `is_fact` is true exactly when the two facts are the same
 abbrev pub OneFact : Type 0
 OneFact = (one two : Fact) → (is_fact one one ≡ true) × (is_fact one two ≡ true → one ≡ two)
 
--- those of two lists, one behind the other, are those of each
+-- a fact is in two joined lists exactly when it is in one of them
 abbrev pub AmongBoth : Type 0
 AmongBoth = (one two : List Fact) (fact : Fact) → among (one ++ two) fact ≡ (among one fact || among two fact)

@@ -3,7 +3,7 @@ ghost use Rattle.terms.specs.Equal.{TellsEqual, is_key, is_addr, is_tag, is_inst
 
 use crate::Event;
 
-/// A law, with nothing to run: what `==` computes tells exactly whether two values are one.
+/// A law, with nothing to run: `==` is true exactly when the two values are the same.
 pub fn equals_are_one()
     ensures keys { TellsEqual is_key }
     ensures addresses { TellsEqual is_addr }
@@ -16,7 +16,7 @@ pub fn equals_are_one()
     ensures events { TellsEqual is_event }
 {}
 
-/// Whether two events are one, by `==`.
+/// Whether two events are the same, by `==`.
 pub fn same_event(one: &Event, two: &Event) -> bool
     ensures { (result ≡ true) ↔ (one.now ≡ two.now) }
 {

@@ -4,7 +4,7 @@ ghost use Rattle.terms.specs.Facts.{IsDone};
 use crate::{Addr, FaultKind, Inst, Puts, Tag};
 use std::alloc::{AllocError, Global};
 
-/// What is committed as one: a put of the environment, or the end of an instance.
+/// A put of the environment, or the end of an instance. An event is committed as a whole.
 #[derive(PartialEq, Eq, Drop)]
 pub enum Event {
     /// The environment put an item.
@@ -18,7 +18,7 @@ pub enum Event {
 }
 
 impl Event {
-    /// An equal event. It is the only call of this crate that takes memory: for the puts of `Done`, and for no other.
+    /// Clones the event. No other call of this crate allocates, and this one allocates only for the puts of `Done`.
     pub fn try_clone(&self, alloc: Global) -> Result<Event, AllocError>
         ensures ok { IfOk result (λ event. event ≡ self.now) }
         ensures refused { OnErr result (IsDone self.now) }

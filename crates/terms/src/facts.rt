@@ -1,7 +1,7 @@
 ghost use Rattle.terms.specs.Sets.{OneFact, AmongBoth};
 ghost use Rattle.terms.specs.Facts.{FactsGoOn, EnvironmentGoesOn, EnvironmentIsStated, FactsOfExample, EnvironmentOfExample, NumbersOfPuts};
 
-/// A law, with nothing to run: what is stated by events, and by others behind them.
+/// A law, with nothing to run: what two lists of events state, one after the other.
 pub fn facts_go_on()
     ensures all { FactsGoOn }
     ensures environment { EnvironmentGoesOn }
@@ -12,7 +12,7 @@ pub fn environment_is_stated()
     ensures { EnvironmentIsStated }
 {}
 
-/// A law, with nothing to run: facts are told apart, and so lists of facts are sets.
+/// A law, with nothing to run: facts can be distinguished, and so lists of facts are sets.
 pub fn facts_are_told_apart()
     ensures one { OneFact }
     ensures among { AmongBoth }

@@ -12,9 +12,9 @@ use std::marker::Model;
 /// The greatest number of components of a key.
 pub const MAX_COMPONENTS: usize = 4;
 
-/// What names an item, a tag or an instance within its collection: 0 to `MAX_COMPONENTS` whole numbers.
+/// The name of an item, a tag or an instance within its collection: 0 to `MAX_COMPONENTS` whole numbers.
 ///
-/// Keys are ordered component by component, and a key stands before each longer one that it begins.
+/// Keys are ordered component by component, and a key comes before every longer key that it is a prefix of.
 #[derive(Clone, Copy, Debug)]
 pub struct Key {
     components: [i64; MAX_COMPONENTS],
@@ -26,7 +26,7 @@ impl Model for Key {
 
     ghost view = { λ k. take k.count k.components };
 
-    // The places behind the count hold zeros, so that a list of components has one key.
+    // The places after the first `count` hold zeros, so that a list of components has one key.
     ghost invariant = { λ k. (k.count ≤ length k.components) × (k.components ≡ padded (take k.count k.components)) };
 
     ghost inverse = { λ components. record { components = padded components; count = length components } };
@@ -35,7 +35,7 @@ impl Model for Key {
 }
 
 impl Key {
-    /// The key with these components. A list that comes from outside is measured against `MAX_COMPONENTS` first.
+    /// The key with these components. Check a list that comes from outside against `MAX_COMPONENTS` first.
     pub fn new(components: &[i64]) -> Self
         requires { length components.now ≤ MAX_COMPONENTS }
         ensures { result ≡ components.now }

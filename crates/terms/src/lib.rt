@@ -1,13 +1,14 @@
 //! The names of Concurrent Collections: keys, addresses of items, tags and instances of steps, with their orders. And
 //! what is committed under these names: events, with the puts of an instance or its fault.
 //!
-//! A `Key` is seen as the list of its components, and `Puts` as the list of an instance's puts. Addresses, tags and
-//! instances are a collection's number and a key.
+//! Clauses see a `Key` as the list of its components, and `Puts` as the list of an instance's puts. An address, a tag
+//! or an instance is a collection's number and a key.
 //!
-//! The layer above stands on `cmp`: of keys it is `key_cmp`, and of the others `addr_cmp`, `tag_cmp` and `inst_cmp`,
-//! where the collection's number comes first, `put_cmp` and `producer_cmp`. The functions of `order` carry the laws of
-//! the six, and `equals_are_one` that `==` holds of one value alone. What events state is `facts` of `specs/Facts.antt`,
-//! and the functions of `facts` and `puts_stated` carry its laws.
+//! The crates above rely on `cmp`. It is `key_cmp` for keys, and `addr_cmp`, `tag_cmp` and `inst_cmp` for addresses,
+//! tags and instances, where the collection's number comes first; then there are `put_cmp` and `producer_cmp`. The
+//! functions of `order` state the laws of these six orders. `equals_are_one` states that `==` is true exactly when the
+//! two values are the same. What events state is `facts` of `specs/Facts.antt`, and the functions of `facts` and
+//! `puts_stated` state its laws.
 #![tactic(auto)]
 
 mod equal;

@@ -12,21 +12,21 @@ pub struct TagCollection(pub u16);
 #[derive(Clone, Copy, Debug, PartialEq, Eq, PartialOrd, Ord)]
 pub struct StepCollection(pub u16);
 
-/// What names an item: its collection and its key.
+/// The name of an item: its collection and its key.
 #[derive(Clone, Copy, Debug, PartialEq, Eq, PartialOrd, Ord)]
 pub struct Addr {
     pub collection: ItemCollection,
     pub key: Key,
 }
 
-/// What names a tag: its collection and its key.
+/// The name of a tag: its collection and its key.
 #[derive(Clone, Copy, Debug, PartialEq, Eq, PartialOrd, Ord)]
 pub struct Tag {
     pub collection: TagCollection,
     pub key: Key,
 }
 
-/// What names an instance of a step: the step's collection and the tag's key.
+/// The name of an instance of a step: the step's collection and the tag's key.
 #[derive(Clone, Copy, Debug, PartialEq, Eq, PartialOrd, Ord)]
 pub struct Inst {
     pub collection: StepCollection,

@@ -14,36 +14,36 @@ pub fn key_order()
     ensures first_difference { FirstDifferenceDecides }
 {}
 
-/// What `cmp` answers of two addresses: the collection's number decides, and then the key.
+/// What `cmp` returns for two addresses: the collection's number decides, and then the key.
 pub fn addr_order(a: &Addr, b: &Addr) -> Ordering
     ensures { result ≡ addr_cmp a.now b.now }
 {
     a.cmp(b)
 }
 
-/// What `cmp` answers of two tags, by the same rule.
+/// What `cmp` returns for two tags, by the same rule.
 pub fn tag_order(a: &Tag, b: &Tag) -> Ordering
     ensures { result ≡ tag_cmp a.now b.now }
 {
     a.cmp(b)
 }
 
-/// What `cmp` answers of two instances, by the same rule.
+/// What `cmp` returns for two instances, by the same rule.
 pub fn inst_order(a: &Inst, b: &Inst) -> Ordering
     ensures { result ≡ inst_cmp a.now b.now }
 {
     a.cmp(b)
 }
 
-/// What `cmp` answers of two puts: an item comes before a tag, and of two items the address decides, then the value.
+/// What `cmp` returns for two puts: an item comes before a tag; between two items the address decides, then the value.
 pub fn put_order(a: &Put, b: &Put) -> Ordering
     ensures { result ≡ put_cmp a.now b.now }
 {
     a.cmp(b)
 }
 
-/// What `cmp` answers of two producers: the environment comes before every instance, then the instance decides, then
-/// the number of the put.
+/// What `cmp` returns for two producers: the environment comes before every instance; between instances the instance
+/// decides, then the number of the put.
 pub fn producer_order(a: &Producer, b: &Producer) -> Ordering
     ensures { result ≡ producer_cmp a.now b.now }
 {

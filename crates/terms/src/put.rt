@@ -29,14 +29,14 @@ impl Model for Puts {
 }
 
 impl Puts {
-    /// These puts. It takes no memory.
+    /// These puts. It does not allocate.
     pub fn new(puts: Vec<Put>) -> Self
         ensures { result ≡ puts.items }
     {
         Puts { puts }
     }
 
-    /// The puts as a vector. It takes no memory.
+    /// The puts as a vector. It does not allocate.
     pub fn into_vec(self) -> Vec<Put>
         ensures { result.items ≡ self }
     {
