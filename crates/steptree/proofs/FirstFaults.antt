@@ -1,17 +1,17 @@
--- The first of the faults of several parts.
+-- The first fault among the faults of several parts.
 use Rattle.std.proofs.Common.{◌≡◌, List, [], ◌∷◌, ◌++◌, sym, subst, inl, inr}
 use Rattle.std.specs.Prelude.{Result, Ok, Err, IsErrAnd}
 use Rattle.steptree.specs.declared.checker.CheckFault.{CheckFault}
 use Rattle.steptree.specs.Statements.{IsFirst, Reports}
 use Rattle.steptree.proofs.Lists.{empty_in_front}
 
--- the first fault of what stands in front is the first of all
+-- the first fault of the part in front is the first of all
 pub in_front : (front others : List CheckFault) (fault : CheckFault) → IsFirst front fault → IsFirst (front ++ others) fault
 in_front [] others fault (inl memory) = inl memory
 in_front [] others fault (inr first) = absurd (cc)
 in_front (x ∷ front) others fault first = first
 
--- where nothing in front is at fault, the first of the others is the first of all
+-- if the part in front has no fault, the first of the others is the first of all
 pub behind_none : (front others : List CheckFault) (fault : CheckFault) → front ≡ [] → IsFirst others fault → IsFirst (front ++ others) fault
 behind_none front others fault none first = subst (λ (l : List CheckFault). IsFirst l fault) (sym (empty_in_front front others none)) first
 

@@ -1,4 +1,4 @@
--- Statements, one behind another.
+-- Statements, one after another.
 use Rattle.std.proofs.Common.{◌≡◌, List, [], ◌∷◌, ◌++◌, refl, ap}
 use Rattle.steptree.specs.declared.block.Block.{Block}
 use Rattle.steptree.specs.Statements.{with_rest, joined}

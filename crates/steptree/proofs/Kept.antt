@@ -52,7 +52,7 @@ module _ (sheet : Nameable) where
   abbrev Puttable : List Put → Type 0
   Puttable puts = AllByRecursion (PutIsAllowed sheet) puts
 
-  -- from these reads on only what is allowed was read and put, and is asked for
+  -- from these reads on, the outcome reads, puts and asks for only what is allowed
   abbrev Kept : List Read → Outcome → Type 0
   Kept reads (ends state) = (Readable state.reads → Readable reads) × Puttable state.puts
   Kept reads (faults kind left) = Readable left → Readable reads

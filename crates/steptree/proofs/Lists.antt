@@ -2,7 +2,7 @@
 use Rattle.std.proofs.Common.{◌≡◌, ◌<◌, ℕ, suc, ◌+◌, List, [], ◌∷◌, ◌++◌, length, drop, get_or, refl, sym, ap, ◌∙◌, arith}
 use Rattle.std.proofs.Math.Seq.{drop-cons}
 
--- what is left at an index: the element there, and those behind it
+-- the rest of a list from an index on: the element there, and those after it
 pub opened : {X : Type 0} (xs : List X) (index : ℕ) (this : X) → index < length xs → this ≡ get_or xs index this → drop index xs ≡ this ∷ drop (index + 1) xs
 opened xs index this within is =
     let next : suc index ≡ index + 1 = omega arith in
@@ -12,7 +12,7 @@ past_all : {X : Type 0} (xs : List X) → drop (length xs) xs ≡ []
 past_all [] = refl
 past_all (x ∷ xs) = past_all xs
 
--- nothing is left behind the last
+-- nothing is left after the last element
 pub past : {X : Type 0} (xs : List X) (index : ℕ) → index ≡ length xs → drop index xs ≡ []
 past xs index all = ap (λ (n : ℕ). drop n xs) all ∙ past_all xs
 

@@ -4,7 +4,7 @@ use Rattle.std.specs.Prelude.{option_map}
 use Rattle.steptree.specs.Names.{Text, is_text, place_of}
 use Rattle.steptree.proofs.Lists.{opened, past}
 
--- so many places further on
+-- `count` places further on
 abbrev pub further : ℕ → Option ℕ → Option ℕ
 further count place = option_map (λ k. count + k) place
 
@@ -19,7 +19,7 @@ further_one count (Some k) =
     ap (λ (n : ℕ). Some n) e
 
 module _ {X : Type 0} (name : X → Text) (text : Text) where
-  -- the place among those that are left
+  -- the place of the text is its place among the names that are left
   abbrev pub Left : List X → ℕ → Type 0
   Left xs index = place_of (map name xs) text ≡ further index (place_of (map name (drop index xs)) text)
 

@@ -11,7 +11,7 @@ use Rattle.steptree.proofs.FirstFaults.{in_front}
 use Rattle.steptree.proofs.Lists.{opened, past, with_none, empty_in_front}
 
 module _ (names : List Text) (expressions : List NamedExpression) where
-  -- those in front of the index are resolved, and none of them is at fault
+  -- the expressions before the index are resolved, and none of them has a fault
   pub record SoFar (index : ℕ) (front : List Expression) : Type 0 where
     pub resolves : (others : List Expression) → AreExpressions names (drop index expressions) others → AreExpressions names expressions (front ++ others)
     pub as_many : length front ≡ index

@@ -19,7 +19,7 @@ use Rattle.steptree.specs.Values.{value_of, values_of}
 use Rattle.steptree.specs.Run.{Read, State, Outcome, ends, faults, asks, strays, followed, counting, given, assigned, answered, putting, turns, run}
 use Rattle.steptree.specs.Bodies.{Ending, Gives, Faults, used_up, ending_of, begun, outcome_of, Along}
 
--- so many reads at most were counted or are left
+-- `reads` is at most the statements counted and the reads left together, and the count is within the budget
 abbrev Covers : ℕ → State → Type 0
 Covers reads state = (reads ≤ state.counted + length state.reads) × (state.counted ≤ BUDGET)
 
@@ -55,7 +55,7 @@ module _ (all : ℕ) where
   behind (asks address) next covered stays = covered
   behind strays next covered stays = tt
 
-  -- behind the count there is one more
+  -- after a statement is counted, one more read is covered
   counted : (next : State → Outcome) → ((now : State) → Covers (suc all) now → Covered (next now)) → StaysCovered (λ state. counting state next)
   counted next stays state covers =
       where_it_holds (nat_lt state.counted BUDGET) (next (record state { counted = suc state.counted })) (faults Budget state.reads)
@@ -65,7 +65,7 @@ module _ (all : ℕ) where
   with_result (Ok v) state next covers stays = stays v
   with_result (Err kind) state next covers stays = left state covers
 
-  -- a read uses it
+  -- a read uses that one
   with_answer : (address : Addr) (state : State) (reads : List Read) (next : ℤ → List Read → Outcome) → Covers (suc all) (record state { reads = reads })
       → ((v : ℤ) (rest : List Read) → Covers all (record state { reads = rest }) → Covered (next v rest)) → Covered (answered address reads next)
   with_answer address state [] next covers stays = omega (arith, covers.0, covers.1)

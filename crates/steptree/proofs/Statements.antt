@@ -16,7 +16,7 @@ use Rattle.steptree.proofs.FirstFaults.{in_front}
 use Rattle.steptree.proofs.Joining.{joined_last}
 use Rattle.steptree.proofs.Lists.{empty_in_front}
 
--- what becomes of a statement becomes of a block that begins with it
+-- the result for a statement is the result for the first statement of a block that begins with it
 pub firsts : (names : List Text) (sheet : Nameable) (block : NamedBlock) (statement : NamedBlock → NamedBlock) (rest : NamedBlock) (faults : List CheckFault) (result : Result Block CheckFault)
     → block ≡ statement rest → behind (statement rest) ≡ rest → block_faults names sheet (statement rest) ≡ faults ++ block_faults names sheet rest
     → IfOk result (IsStatement names sheet statement) → Reports faults result
@@ -42,7 +42,7 @@ shallower (named.PutItem' item value p rest) = omega (arith, sized-PutItem item 
 shallower (named.PutTag' tag p rest) = omega (arith, sized-PutTag tag (record { ptr = p.ptr; alloc = p.alloc; value = rest }))
 
 module _ (names : List Text) (sheet : Nameable) (block : NamedBlock) where
-  -- the statements in front of those that are left are resolved, and none of them is at fault
+  -- the statements before those that are left are resolved, and none of them has a fault
   pub record Resolved (left : NamedBlock) (statements : List Block) : Type 0 where
     pub resolves : (rest : Block) → IsBlock names sheet left rest → IsBlock names sheet block (joined statements rest)
     pub keeps : (rest : Block) → KeepsTo sheet rest → KeepsTo sheet (joined statements rest)

@@ -1,4 +1,4 @@
--- The laws of trees: a tree asks for its reads in order, over a look-up it ends in some way, and over pairs in one at most.
+-- The laws of trees: a tree asks for its reads in order, ends in some way over a look-up, and ends in at most one way over pairs.
 use Rattle.std.proofs.Common.{◌≡◌, ℤ, Bool, true, false, List, [], ◌∷◌, ◌++◌, if◌then◌else◌, Option, Some, None, refl, sym, ap, subst, ◌∙◌}
 use Rattle.std.specs.List.{AllByRecursion}
 use Rattle.terms.specs.declared.name.Addr.{Addr}
@@ -17,12 +17,12 @@ taken : (holds : Bool) (outcome : Outcome) (ending : Ending) → ending_of (if h
 taken true outcome ending is = (refl, is)
 taken false outcome ending is = absurd (cc)
 
--- the tree goes on by the value of a read where that is of its item
+-- the tree goes on with the value of a read if the read is of its item
 goes_on : (address : Addr) (next : ℤ → Tree) (read : Read) (reads : List Read) (ending : Ending) → is_same read.0 address ≡ true
     → EndsAlong (next read.1) reads ending → EndsAlong (Needs address next) (read ∷ reads) ending
 goes_on address next read reads ending same is = ap (λ (b : Bool). ending_of (if b then led (next read.1) reads else strays)) same ∙ is
 
--- and only there
+-- and only then
 went_on : (address : Addr) (next : ℤ → Tree) (read : Read) (reads : List Read) (ending : Ending) → EndsAlong (Needs address next) (read ∷ reads) ending
     → (is_same read.0 address ≡ true) × EndsAlong (next read.1) reads ending
 went_on address next read reads ending is = taken (is_same read.0 address) (led (next read.1) reads) ending is
@@ -82,7 +82,7 @@ module _ (pairs : Addr → ℤ → Type 0) (one_value : (address : Addr) (v w : 
   same_end [] (read ∷ reads') end one two is is' = absurd (cc)
   same_end (read ∷ reads) reads' end one two is is' = absurd (cc)
 
-  -- a tree does not end in asking for what another list of found reads answers
+  -- a tree does not end by asking for an item that another list of found reads answers
   asks_no_more : (address : Addr) (next : ℤ → Tree) (read : Read) (reads : List Read) (one two : Ending) → Some (Asks address) ≡ Some one → AsksOutside one
       → pairs read.0 read.1 → EndsAlong (Needs address next) (read ∷ reads) two → ⊥
   asks_no_more address next read reads one two is lacking found goes =

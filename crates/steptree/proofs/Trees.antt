@@ -18,7 +18,7 @@ use Rattle.steptree.specs.Values.{value_of, values_of}
 use Rattle.steptree.specs.Run.{Read, State, Outcome, ends, faults, strays, followed, given, assigned, answered, putting, turns, run}
 use Rattle.steptree.specs.Bodies.{begun, outcome_of}
 
--- it ends, is at fault, or asks for an item and goes on by its value
+-- it ends, is at fault, or asks for an item and goes on with its value
 pub data Tree : Type 0 where
   Ends : State → Tree
   Fails : FaultKind → Tree
@@ -33,11 +33,11 @@ led (Ends state) reads = ends (with_reads state reads)
 led (Fails kind) reads = faults kind reads
 led (Needs address next) reads = answered address reads (λ value rest. led (next value) rest)
 
--- along each list of reads it goes where some tree leads
+-- along each list of reads it has the outcome to which some tree leads
 abbrev pub IsTree : (List Read → Outcome) → Type 0
 IsTree outcome = (tree : Tree) × ((reads : List Read) → outcome reads ≡ led tree reads)
 
--- and this from each state
+-- and this holds from each state
 abbrev pub AreTrees : (State → Outcome) → Type 0
 AreTrees step = (state : State) → IsTree (λ reads. step (with_reads state reads))
 
@@ -68,7 +68,7 @@ with_result (Err kind) state next = failed kind
 with_answer : (address : Addr) {next : ℤ → List Read → Outcome} → ((value : ℤ) → IsTree (next value)) → IsTree (λ reads. answered address reads next)
 with_answer address next = (Needs address (λ value. (next value).0), λ reads i. answered address reads (λ value rest. (next value).1 rest i))
 
--- ---- one block behind another
+-- ---- one block after another
 
 -- a tree, with others in place of its ends
 abbrev grown : Tree → (State → Tree) → Tree

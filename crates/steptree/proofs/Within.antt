@@ -25,7 +25,7 @@ use Rattle.steptree.specs.Bodies.{Ending, Gives, Faults, Asks, used_up, ending_o
 
 -- ---- expressions
 
--- a fault that stands in place of a value is no double put
+-- a fault in place of a value is never a double put
 abbrev Valued : {X : Type 0} → Result X FaultKind → Type 0
 Valued (Ok value) = ⊤
 Valued (Err kind) = kind ≢ DoublePut
@@ -157,7 +157,7 @@ blocks (PutTag collection components rest) state few =
     put_one (put.Tag (record { collection = collection; key = key })) (run rest) (blocks rest) now still))
     state few
 
--- what is said of the ending of an outcome
+-- the same limits, for the ending of an outcome
 abbrev EndsWithin : Ending → Type 0
 EndsWithin (Gives puts) = length puts ≤ MOST_PUTS
 EndsWithin (Faults kind) = kind ≢ DoublePut

@@ -1,4 +1,4 @@
--- What the body of a step means: along which reads it ends as what, and what that is over a set of items.
+-- What the body of a step means: how it ends along a list of reads, and how it ends over a set of items.
 use Rattle.std.specs.Prelude.{◌≡◌, ◌-◌, ℤ, pos, List, [], ◌∷◌, ◌++◌, length, replicate, Option, Some, None}
 use Rattle.std.specs.List.{AllByRecursion}
 use Rattle.terms.specs.declared.name.Addr.{Addr}
@@ -14,15 +14,15 @@ pub data Ending : Type 0 where
   Faults : FaultKind → Ending
   Asks : Addr → Ending
 
--- an instance before its first statement: the parameters are the key's components, and the variables are 0
+-- an instance before its first statement: its parameters are the key's components, and its variables are 0
 abbrev pub begun : List ℤ → List Read → State
 begun key reads = record { variables = key ++ replicate (MOST_NAMES - length key) (pos 0); counted = 0; reads = reads; puts = [] }
 
--- the read block, and behind it the write block
+-- the read block, and after it the write block
 abbrev pub outcome_of : Body → List ℤ → List Read → Outcome
 outcome_of body key reads = followed (run body.read (begun key reads)) (run body.write)
 
--- the ending, where no read is left
+-- the ending, if no read is left
 abbrev pub used_up : List Read → Ending → Option Ending
 used_up [] ending = Some ending
 used_up (read ∷ reads) ending = None
@@ -33,12 +33,12 @@ ending_of (faults kind reads) = used_up reads (Faults kind)
 ending_of (asks address) = Some (Asks address)
 ending_of strays = None
 
--- where the gets of the body of an instance with this key are answered by these reads in order, it ends so, and has used all of them
+-- if the gets of an instance with this key are answered by these reads in order, the body ends with `ending` and uses all of the reads
 abbrev pub Along : Body → List ℤ → List Read → Ending → Type 0
 Along body key reads ending = ending_of (outcome_of body key reads) ≡ Some ending
 
--- Over these pairs of an address and a value the body ends so: along some reads that are all among them; and where it asks
--- for an item, none of them is of that item. An address may have several values there.
+-- Over these pairs of an address and a value the body ends with `ending`: along some reads that are all among the pairs; and
+-- if it asks for an item, no pair has that item's address. An address may have several values in `pairs`.
 pub record Means (body : Body) (key : List ℤ) (pairs : Addr → ℤ → Type 0) (ending : Ending) : Type 0 where
   pub reads : List Read
   pub among : AllByRecursion (λ read. pairs read.0 read.1) reads

@@ -17,11 +17,11 @@ use Rattle.steptree.specs.Names.{Text, names_of, slot_of, number_of}
 abbrev pub no_memory : CheckFault
 no_memory = record { error = NoMemory; place = 0 }
 
--- a fault at a name, if it is there
+-- a fault at a name, if `holds` is true
 abbrev pub fault_if : Bool → CheckError → Name → List CheckFault
 fault_if holds error name = if holds then record { error = error; place = name.place } ∷ [] else []
 
--- a variable that the step has not
+-- a variable that the step does not have
 abbrev pub variable_faults : List Text → Name → List CheckFault
 variable_faults names name = fault_if (is_none (slot_of names name)) UnknownName name
 
@@ -43,7 +43,7 @@ is_number (Some other) number = other == number
 abbrev pub components_of : List Collection → ℕ → Option ℕ
 components_of collections number = option_map (λ collection. collection.components) (slice_get collections number)
 
--- of a collection with this number: that the step may not name it so, and that its keys have another number of components
+-- the faults of a use of the collection with this number: the step may not use it so, or its keys have another number of components
 abbrev pub known_faults : List Collection → List Bool → CheckError → NamedKey → Option ℕ → List CheckFault
 known_faults collections allowed error key None = fault_if true UnknownName key.collection
 known_faults collections allowed error key (Some number) =
@@ -68,6 +68,6 @@ block_faults names sheet (PutItem' item value _ rest) =
 block_faults names sheet (PutTag' tag _ rest) =
     key_faults names sheet.tags sheet.tag_puts UndeclaredPut tag ++ block_faults names sheet rest
 
--- all of them, the read block in front of the write block
+-- all faults: those of the read block, then those of the write block
 abbrev pub faults_of : Nameable → Step → List CheckFault
 faults_of sheet step = block_faults (names_of step) sheet step.read ++ block_faults (names_of step) sheet step.write

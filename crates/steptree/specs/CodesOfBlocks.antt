@@ -1,4 +1,4 @@
--- How a block is told by a list: its statements one after another, each behind the blocks that it holds, and read back with a stack.
+-- How a block is written as a list: its statements one after another, each after the blocks inside it, and read back with a stack.
 use Rattle.std.specs.Prelude.{◌≡◌, ◌⊎◌, ℕ, List, [], ◌∷◌, refl}
 use Rattle.std.specs.Coded.{Coded, code_by, coded_ℕ, coded_list, coded×, coded⊎}
 use Rattle.std.proofs.Common.{inl, inr, ◌∙◌}
@@ -7,7 +7,7 @@ use Rattle.terms.specs.declared.name.TagCollection.{TagCollection}
 use Rattle.steptree.specs.CodesOfExpressions.{expression_code}
 use Rattle.steptree.specs.Tree.{ExpressionTree, BlockTree, End, Assign, If, For, Get, PutItem, PutTag}
 
--- what a statement has beside blocks
+-- the parts of a statement that are not blocks
 pub data Part : Type 0 where
   Ends : Part
   Assigns : ℕ → ExpressionTree → Part

@@ -1,4 +1,4 @@
--- How an expression is told by a list: its parts one after another, each behind its operands, and read back with a stack.
+-- How an expression is written as a list: its parts one after another, each after its operands, and read back with a stack.
 use Rattle.std.specs.Prelude.{◌≡◌, ◌⊎◌, ℕ, ℤ, pos, List, [], ◌∷◌, refl}
 use Rattle.std.specs.Coded.{Coded, code_by, coded_ℕ, coded_ℤ, coded_list, coded⊎}
 use Rattle.std.proofs.Common.{inl, inr, ◌∙◌}

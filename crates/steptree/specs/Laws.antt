@@ -11,11 +11,11 @@ use Rattle.steptree.specs.declared.body.TheConstants.{BUDGET}
 use Rattle.steptree.specs.Run.{Read}
 use Rattle.steptree.specs.Bodies.{Ending, Gives, Faults, Asks, Along, Means}
 
--- along one list of reads a body ends in one way at most
+-- along one list of reads a body ends in at most one way
 abbrev pub OneEnding : Type 0
 OneEnding = (body : Body) (key : List ℤ) (reads : List Read) (one two : Ending) → Along body key reads one → Along body key reads two → one ≡ two
 
--- a body asks for its reads one after another: along those before any of them it asks for that one
+-- a body asks for its reads one after another: along the reads before any one of them, it asks for that one
 abbrev pub AsksInOrder : Type 0
 AsksInOrder = (body : Body) (key : List ℤ) (before behind : List Read) (read : Read) (ending : Ending) → Along body key (before ++ read ∷ behind) ending → Along body key before (Asks read.0)
 
@@ -23,24 +23,24 @@ AsksInOrder = (body : Body) (key : List ℤ) (before behind : List Read) (read :
 abbrev pub FewPuts : Type 0
 FewPuts = (body : Body) (key : List ℤ) (reads : List Read) (puts : List Put) → Along body key reads (Gives puts) → length puts ≤ MOST_PUTS
 
--- a body's fault is no double put: that one is for the store to find, behind the body
+-- a body's fault is never a double put: the store finds that one, after the body has ended
 abbrev pub NoDoublePut : Type 0
 NoDoublePut = (body : Body) (key : List ℤ) (reads : List Read) (kind : FaultKind) → Along body key reads (Faults kind) → kind ≢ DoublePut
 
--- a body reads no more than its budget along any list, so answering its reads comes to an end
+-- along any list a body makes no more reads than its budget, so answering its reads comes to an end
 abbrev pub ReadsWithinBudget : Type 0
 ReadsWithinBudget = (body : Body) (key : List ℤ) (reads : List Read) (ending : Ending) → Along body key reads ending → length reads ≤ BUDGET
 
--- what a body gives over some pairs, it gives over more of them; and so with its faults
+-- what a body gives over some pairs, it also gives over those pairs and more; the same holds for its faults
 abbrev pub GrowthKeeps : Type 0
 GrowthKeeps = (body : Body) (key : List ℤ) (some more : Addr → ℤ → Bool) (ending : Ending) → ((address : Addr) (value : ℤ) → some address value ≡ true → more address value ≡ true)
     → ((address : Addr) → ending ≢ Asks address) → Means body key (λ a v. some a v ≡ true) ending → Means body key (λ a v. more a v ≡ true) ending
 
--- the pairs of a look-up, which has one value at most for an address
+-- the pairs of a look-up, which has at most one value for an address
 abbrev pub Found : (Addr → Option ℤ) → Addr → ℤ → Type 0
 Found look address value = look address ≡ Some value
 
--- what a body gives over a look-up, it gives over one that has found all of that and more; and so with its faults
+-- what a body gives over a look-up, it also gives over a look-up that finds the same values and more; the same holds for its faults
 abbrev pub LookUpGrowthKeeps : Type 0
 LookUpGrowthKeeps = (body : Body) (key : List ℤ) (some more : Addr → Option ℤ) (ending : Ending) → ((address : Addr) (value : ℤ) → Found some address value → Found more address value)
     → ((address : Addr) → ending ≢ Asks address) → Means body key (Found some) ending → Means body key (Found more) ending
@@ -53,12 +53,12 @@ LookUpEnds = (body : Body) (key : List ℤ) (look : Addr → Option ℤ) → (en
 abbrev pub LookUpEndsOnce : Type 0
 LookUpEndsOnce = (body : Body) (key : List ℤ) (look : Addr → Option ℤ) (one two : Ending) → Means body key (Found look) one → Means body key (Found look) two → one ≡ two
 
--- over pairs with one value at most for an address a body ends in one way at most
+-- over pairs with at most one value for an address a body ends in at most one way
 abbrev pub PairsEndOnce : Type 0
 PairsEndOnce = (body : Body) (key : List ℤ) (pairs : Addr → ℤ → Bool) → ((address : Addr) (v w : ℤ) → pairs address v ≡ true → pairs address w ≡ true → v ≡ w)
     → (one two : Ending) → Means body key (λ a v. pairs a v ≡ true) one → Means body key (λ a v. pairs a v ≡ true) two → one ≡ two
 
--- over any pairs, however they are told: what a body gives over some, and its faults, stay over more
+-- over pairs given as any relation: what a body gives over some pairs, and its faults, stay the same over more
 pub means_grows : (body : Body) (key : List ℤ) (some more : Addr → ℤ → Type 0) (ending : Ending) → ((address : Addr) (value : ℤ) → some address value → more address value)
     → ((address : Addr) → ending ≢ Asks address) → Means body key some ending → Means body key more ending
 means_grows body key some more ending grows final means = record {

@@ -1,4 +1,4 @@
--- The limits within which a sheet and a step lie.
+-- The limits that a sheet and a step keep to.
 use Rattle.std.specs.Prelude.{◌≤◌, List, length, All}
 use Rattle.terms.specs.declared.key.TheConstants.{MAX_COMPONENTS}
 use Rattle.steptree.specs.declared.slot.TheConstants.{MOST_NAMES}
@@ -7,7 +7,7 @@ use Rattle.steptree.specs.Nameable.{Collection, Nameable}
 use Rattle.steptree.specs.declared.step.Step.{Step}
 use Rattle.steptree.specs.Names.{names_of}
 
--- not too many collections, and none whose keys have too many components
+-- not too many collections, and no collection whose keys have too many components
 pub record AreFew (collections : List Collection) : Type 0 where
   pub few : length collections ≤ MOST_COLLECTIONS
   pub short : All (λ collection. collection.components ≤ MAX_COMPONENTS) collections

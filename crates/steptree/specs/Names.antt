@@ -8,7 +8,7 @@ use Rattle.steptree.specs.declared.step.Step.{Step}
 abbrev pub Text : Type 0
 Text = List ℕ
 
--- whether two texts are one
+-- whether two texts are equal
 abbrev pub is_text : Text → Text → Bool
 is_text [] [] = true
 is_text [] (y ∷ ys) = false
@@ -20,7 +20,7 @@ abbrev pub place_of : List Text → Text → Option ℕ
 place_of [] text = None
 place_of (first ∷ rest) text = if is_text first text then Some zero else option_map suc (place_of rest text)
 
--- the names of a step by their slots: the parameters, and behind them the variables
+-- the names of a step by slot: the parameters, and after them the variables
 abbrev pub names_of : Step → List Text
 names_of step = map (λ name. name.text.now) (step.parameters.items ++ step.variables.items)
 

@@ -1,4 +1,4 @@
--- A body with numbers is a body with names, each name by what it stands for.
+-- When a body with numbers resolves a body with names: each name is replaced by what it stands for.
 use Rattle.std.specs.Prelude.{◌≡◌, ⊤, ℕ, List, [], ◌∷◌, map, length, Some}
 use Rattle.steptree.specs.declared.expression.Expression.{Expression}
 use Rattle.steptree.specs.Tree as tree
@@ -25,7 +25,7 @@ AreExpressions names [] [] = ⊤
 AreExpressions names (e ∷ es) (f ∷ fs) = IsExpression names e f × AreExpressions names es fs
 AreExpressions names es fs = ⊥
 
--- a key with names is one of the collection with this number, with these components
+-- a key with names is a key of the collection with this number, and has these components
 abbrev pub IsKey : List Text → List Collection → NamedKey → ℕ → List Expression → Type 0
 IsKey names collections key number components = (number_of collections key.collection ≡ Some number) × AreExpressions names key.components.items components
 
@@ -44,7 +44,7 @@ IsBlock names sheet (named_block.PutTag' key _ block) (tree.PutTag collection co
     IsKey names sheet.tags key collection.0 components × IsBlock names sheet block rest
 IsBlock names sheet block other = ⊥
 
--- a checked step is the step, each name by what it stands for
+-- a checked step is the step with each name replaced by what it stands for
 pub record Resolves (sheet : Nameable) (step : Step) (checked : Checked) : Type 0 where
   pub names : map (λ name. name.bytes.items) checked.names.items ≡ names_of step
   pub parameters : checked.parameters ≡ length step.parameters.items

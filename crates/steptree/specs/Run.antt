@@ -18,23 +18,23 @@ use Rattle.steptree.specs.Values.{value_of, values_of}
 abbrev pub Read : Type 0
 Read = Addr × ℤ
 
--- an instance while its body runs: the values of its variables, how many statements and turns were counted, the reads that
--- are still to come, and the puts so far
+-- an instance while its body runs: the values of its variables, the number of statements and turns counted so far, the reads
+-- that are still to come, and the puts so far
 pub record State : Type 0 where
   pub variables : List ℤ
   pub counted : ℕ
   pub reads : List Read
   pub puts : List Put
 
--- a block came to its end; it is at fault, with these reads left; it asks for an item where no read is left; or the next
--- read is of another item than the one it asks for
+-- a block came to its end; it is at fault, with these reads left; it asks for an item and no read is left; or the next
+-- read is of another item than the one that it asks for
 pub data Outcome : Type 0 where
   ends : State → Outcome
   faults : FaultKind → List Read → Outcome
   asks : Addr → Outcome
   strays : Outcome
 
--- one block behind another: from where the first ended, if it did
+-- one block after another: the second runs from the state in which the first ended, if it did
 abbrev pub followed : Outcome → (State → Outcome) → Outcome
 followed (ends state) next = next state
 followed (faults kind reads) next = faults kind reads
@@ -45,7 +45,7 @@ followed strays next = strays
 abbrev pub counting : State → (State → Outcome) → Outcome
 counting state next = if nat_lt state.counted BUDGET then next (record state { counted = suc state.counted }) else faults Budget state.reads
 
--- with what an expression gave, or at fault
+-- goes on with the value of an expression, or is at fault
 abbrev pub given : {X : Type 0} → Result X FaultKind → State → (X → Outcome) → Outcome
 given (Ok value) state next = next value
 given (Err kind) state next = faults kind state.reads
@@ -53,7 +53,7 @@ given (Err kind) state next = faults kind state.reads
 abbrev pub assigned : ℕ → ℤ → State → State
 assigned slot value state = record state { variables = slice_set state.variables slot value }
 
--- the next read is of this item
+-- goes on with the next read, if it is of this item
 abbrev pub answered : Addr → List Read → (ℤ → List Read → Outcome) → Outcome
 answered address [] next = asks address
 answered address (read ∷ reads) next = if is_same read.0 address then next read.1 reads else strays
@@ -62,7 +62,7 @@ answered address (read ∷ reads) next = if is_same read.0 address then next rea
 abbrev pub putting : Put → State → (State → Outcome) → Outcome
 putting one state next = if nat_lt (length state.puts) MOST_PUTS then next (record state { puts = state.puts ++ one ∷ [] }) else faults TooManyPuts state.reads
 
--- a block, turn after turn: so many turns are left, and the variable begins this one with this value
+-- a block, turn after turn: `left` turns are left, and the variable has this value when the next turn begins
 abbrev pub turns : (State → Outcome) → ℕ → ℤ → ℕ → State → Outcome
 turns block slot value zero state = ends state
 turns block slot value (suc left) state =

@@ -3,7 +3,7 @@ use Rattle.steptree.specs.declared.block.Statement.{Statement}
 use Rattle.steptree.specs.declared.block.Statement.TheVariants as statement
 use Rattle.steptree.specs.Tree.{BlockTree, End, Assign, If, For, Get, PutItem, PutTag}
 
--- the boxes inside it hold trees already
+-- the boxes inside it already hold trees
 abbrev pub block_seen : Statement → BlockTree
 block_seen statement.End = End
 block_seen (statement.Assign variable value rest) = Assign variable value rest.value

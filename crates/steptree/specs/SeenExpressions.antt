@@ -3,7 +3,7 @@ use Rattle.steptree.specs.declared.expression.Node.{Node}
 use Rattle.steptree.specs.declared.expression.Node.TheVariants as node
 use Rattle.steptree.specs.Tree.{ExpressionTree, Number, Variable, Negation, Operation}
 
--- the boxes inside it hold trees already
+-- the boxes inside it already hold trees
 abbrev pub expression_seen : Node → ExpressionTree
 expression_seen (node.Number number) = Number number
 expression_seen (node.Variable slot) = Variable slot

@@ -1,4 +1,4 @@
--- What a body may name, and that it names nothing else, at any reads.
+-- What a body may name; and the promise that it names nothing else, along any reads.
 use Rattle.std.specs.Prelude.{◌≡◌, ⊤, ℕ, ℤ, Bool, true, false, List, length, get_or, slice_get, Some}
 use Rattle.std.specs.List.{AllByRecursion}
 use Rattle.terms.specs.declared.name.Addr.{Addr}
@@ -11,7 +11,7 @@ use Rattle.steptree.specs.declared.body.Body.{Body}
 use Rattle.steptree.specs.Run.{Read}
 use Rattle.steptree.specs.Bodies.{Ending, Gives, Faults, Asks, Along}
 
--- a collection is declared with keys of so many components, and is allowed
+-- the collection with this number is declared, with keys of this number of components, and is allowed
 pub record IsAllowed (collections : List Collection) (allowed : List Bool) (number components : ℕ) : Type 0 where
   pub declared : (collection : Collection) × (slice_get collections number ≡ Some collection) × (collection.components ≡ components)
   pub is_allowed : get_or allowed number false ≡ true
@@ -51,7 +51,7 @@ EndingIsAllowed sheet (Gives puts) = AllByRecursion (PutIsAllowed sheet) puts
 EndingIsAllowed sheet (Faults kind) = ⊤
 EndingIsAllowed sheet (Asks address) = ReadIsAllowed sheet address
 
--- a body that keeps to its sheet reads and puts nothing else, at any reads
+-- a body that keeps to its sheet reads and puts nothing else, along any reads
 abbrev pub KeepsAtAnyReads : Type 0
 KeepsAtAnyReads = (sheet : Nameable) (body : Body) (key : List ℤ) (reads : List Read) (ending : Ending) → BodyKeepsTo sheet body → Along body key reads ending
     → AllByRecursion (λ read. ReadIsAllowed sheet read.0) reads × EndingIsAllowed sheet ending

@@ -1,4 +1,4 @@
--- The statements of a block one by one: each as a block that ends behind it.
+-- The statements of a block one by one: each as a block that ends after it.
 use Rattle.std.specs.Prelude.{◌≡◌, ◌⊎◌, List, [], ◌∷◌, map, Some, Result, MatchResult, slice_get}
 use Rattle.steptree.specs.declared.block.Block.{Block}
 use Rattle.steptree.specs.Tree.{End, Assign, If, For, Get, PutItem, PutTag}
@@ -15,15 +15,15 @@ use Rattle.steptree.specs.Sheet.{KeepsTo}
 abbrev pub texts : List Name → List Text
 texts names = map (λ name. name.text.now) names
 
--- memory was refused, or it is the first of these faults
+-- memory was refused, or `fault` is the first of these faults
 abbrev pub IsFirst : List CheckFault → CheckFault → Type 0
 IsFirst faults fault = (fault ≡ no_memory) ⊎ (slice_get faults 0 ≡ Some fault)
 
--- where there is a value there is none of these faults, else the first of them is answered
+-- if there is a value, then there are no faults; otherwise the error is the first fault, or memory was refused
 abbrev pub Reports : {X : Type 0} → List CheckFault → Result X CheckFault → Type 0
 Reports faults result = MatchResult result (λ value. faults ≡ []) (IsFirst faults)
 
--- the statements behind the first
+-- the statements after the first
 abbrev pub behind : NamedBlock → NamedBlock
 behind named.End = named.End
 behind (named.Assign' name value p rest) = rest
@@ -33,7 +33,7 @@ behind (named.Get' name item p rest) = rest
 behind (named.PutItem' item value p rest) = rest
 behind (named.PutTag' tag p rest) = rest
 
--- the first statement, with these behind it
+-- the first statement, with these after it
 abbrev pub with_rest : Block → Block → Block
 with_rest End rest = rest
 with_rest (Assign variable value other) rest = Assign variable value rest
@@ -43,17 +43,17 @@ with_rest (Get variable collection components other) rest = Get variable collect
 with_rest (PutItem collection components value other) rest = PutItem collection components value rest
 with_rest (PutTag collection components other) rest = PutTag collection components rest
 
--- the first statements of these, one behind another, with a block behind them
+-- the first statements of these blocks, one after another, with a block after them
 abbrev pub joined : List Block → Block → Block
 joined [] block = block
 joined (first ∷ others) block = with_rest first (joined others block)
 
--- the first statement of a block is the statement with names, whatever stands behind the two, and is allowed by the sheet
+-- the first statement of a block is the statement with names, whatever follows the two, and the sheet allows it
 pub record IsStatement (names : List Text) (sheet : Nameable) (statement : NamedBlock → NamedBlock) (first : Block) : Type 0 where
   pub resolves : (block : NamedBlock) (rest : Block) → IsBlock names sheet block rest → IsBlock names sheet (statement block) (with_rest first rest)
   pub keeps : (rest : Block) → KeepsTo sheet rest → KeepsTo sheet (with_rest first rest)
 
--- the first statement of a block is that of a block with names, and has no fault
+-- the first statement of a block is the first statement of a block with names, and has no fault
 pub record IsFirstOf (names : List Text) (sheet : Nameable) (block : NamedBlock) (first : Block) : Type 0 where
   pub resolves : (rest : Block) → IsBlock names sheet (behind block) rest → IsBlock names sheet block (with_rest first rest)
   pub keeps : (rest : Block) → KeepsTo sheet rest → KeepsTo sheet (with_rest first rest)

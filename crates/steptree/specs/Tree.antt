@@ -1,4 +1,4 @@
--- What expressions and blocks are: trees, whatever the places of the boxes that hold their parts.
+-- Expressions and blocks as trees, wherever the boxes that hold their parts lie in memory.
 use Rattle.std.specs.Prelude.{◌+◌, ℕ, suc, ℤ, List}
 use Rattle.terms.specs.declared.name.ItemCollection.{ItemCollection}
 use Rattle.terms.specs.declared.name.TagCollection.{TagCollection}
@@ -11,14 +11,14 @@ pub data ExpressionTree : Type 0 where
   Negation : ExpressionTree → ExpressionTree
   Operation : Operator → ExpressionTree → ExpressionTree → ExpressionTree
 
--- The statements of a block: the first, and as its last part those behind it. Variables are slots.
+-- The statements of a block: the first, and as its last part the statements after it. Variables are slots.
 pub data BlockTree : Type 0 where
   End : BlockTree
   -- a variable gets the value
   Assign : ℕ → ExpressionTree → BlockTree → BlockTree
-  -- the first block where the condition is not 0, else the second
+  -- the first block if the condition is not 0, else the second
   If : ExpressionTree → BlockTree → BlockTree → BlockTree → BlockTree
-  -- the block once for each value of a variable, from one number to below the other
+  -- the block once for each value of a variable, from the first number up to but not including the second
   For : ℕ → ExpressionTree → ExpressionTree → BlockTree → BlockTree → BlockTree
   -- a variable gets the value of an item
   Get : ℕ → ItemCollection → List ExpressionTree → BlockTree → BlockTree

@@ -1,4 +1,4 @@
--- What an expression gives: a value of 64 bits, or the fault that stands in its place.
+-- What an expression gives: a value of 64 bits, or a fault in its place.
 use Rattle.std.specs.Prelude.{◌^◌, ◌&&◌, ℤ, pos, ◌+ℤ◌, ◌-ℤ◌, ◌*ℤ◌, neg_ℤ, int_lt, int_le, int_div, int_rem, Bool, not, List, [], ◌∷◌, Result, Ok, Err, if◌then◌else◌, get_or}
 use Rattle.std.specs.Ordering.{int_eq}
 use Rattle.terms.specs.declared.fault.FaultKind.{FaultKind}
@@ -8,18 +8,18 @@ use Rattle.steptree.specs.declared.expression.Operator.TheVariants as operator
 use Rattle.steptree.specs.declared.expression.Expression.{Expression}
 use Rattle.steptree.specs.Tree.{Number, Variable, Negation, Operation}
 
--- whether 64 bits hold the number, with its sign
+-- whether the number fits in 64 bits, with its sign
 abbrev pub is_held : ℤ → Bool
 is_held number = int_le (neg_ℤ (pos (2 ^ 63))) number && int_lt number (pos (2 ^ 63))
 
 abbrev pub held : ℤ → Result ℤ FaultKind
 held number = if is_held number then Ok number else Err Overflow
 
--- 1 where it holds, else 0
+-- 1 if it holds, else 0
 abbrev pub truth : Bool → ℤ
 truth holds = if holds then pos 1 else pos 0
 
--- an operator on two values: division rounds toward zero, and a remainder has the sign of what is divided
+-- an operator on two values: division rounds toward zero, and a remainder has the sign of the dividend
 abbrev pub operated : Operator → ℤ → ℤ → Result ℤ FaultKind
 operated operator.Add left right = held (left +ℤ right)
 operated operator.Subtract left right = held (left -ℤ right)
@@ -38,7 +38,7 @@ abbrev pub with_value : {X Y : Type 0} → Result X FaultKind → (X → Result 
 with_value (Ok value) next = next value
 with_value (Err kind) next = Err kind
 
--- the value of an expression where the variables have these values, its operands from the left
+-- the value of an expression when the variables have these values; operands are evaluated from the left
 abbrev pub value_of : Expression → List ℤ → Result ℤ FaultKind
 value_of (Number number) variables = Ok number
 value_of (Variable slot) variables = Ok (get_or variables slot (pos 0))

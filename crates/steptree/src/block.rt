@@ -5,13 +5,13 @@ use crate::{Components, Expression, Slot};
 use std::marker::Model;
 use terms::{ItemCollection, TagCollection};
 
-/// The statements of a block: the first, and in its `rest` those behind it. Clauses see it as its tree.
+/// The statements of a block: the first, and in its `rest` the statements after it. Clauses see it as its tree.
 #[cycle(block)]
 pub struct Block {
     pub first: Statement,
 }
 
-/// A statement, with the blocks inside of it and the one behind it.
+/// A statement, with the blocks inside it and the block after it.
 #[cycle(block)]
 pub enum Statement {
     /// No statement.
@@ -22,14 +22,14 @@ pub enum Statement {
         value: Expression,
         rest: Box<Block>,
     },
-    /// Takes the first block where the condition is not 0, else the second.
+    /// Runs the first block if the condition is not 0, else the second.
     If {
         condition: Expression,
         first: Box<Block>,
         second: Box<Block>,
         rest: Box<Block>,
     },
-    /// Takes the block once for each value from one number to below the other.
+    /// Runs the block once for each value of the variable, from `from` up to but not including `to`.
     For {
         variable: Slot,
         from: Expression,
@@ -90,7 +90,7 @@ impl Block {
 }
 
 impl Drop for Block {
-    // A long block is let go statement by statement.
+    // Frees a long block statement by statement, in a loop.
     fn drop(mut self) {
         loop {
             let Block { first } = self;

@@ -1,8 +1,8 @@
 use crate::Body;
 
-/// A step whose names are resolved: its variables are slots, and its collections numbers.
+/// A step whose names are resolved: its variables are slots, and its collections are numbers.
 pub struct Checked {
-    /// The names of its parameters and, behind them, of its variables, by slot.
+    /// The names of its parameters and, after them, of its variables, by slot.
     pub names: Vec<String>,
     /// The number of its parameters.
     pub parameters: usize,
@@ -11,7 +11,7 @@ pub struct Checked {
 }
 
 impl Drop for Checked {
-    // By hand, so that it is one call wherever a step goes.
+    // Written by hand, so that dropping a step is one call everywhere.
     fn drop(self) {
         let Checked {
             names: _,

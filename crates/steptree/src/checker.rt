@@ -20,7 +20,7 @@ pub enum CheckError {
     /// The step has no such variable, or no such collection is declared.
     #[error("unknown name")]
     UnknownName,
-    /// The collection has keys of another number of components.
+    /// The keys of the collection have another number of components.
     #[error("another number of components")]
     Arity,
     /// The step may not read the collection.
@@ -29,7 +29,7 @@ pub enum CheckError {
     /// The step may not put into the collection.
     #[error("undeclared put")]
     UndeclaredPut,
-    /// A growth was refused.
+    /// Memory was refused.
     #[error("no memory")]
     NoMemory,
 }
@@ -63,11 +63,11 @@ impl<T: Drop> From<AllocFailed<T>> for CheckFault {
     }
 }
 
-/// Resolves the names of a step by what its sheet allows, or answers the first fault in the order of its text. Of two equal
-/// names the first counts.
+/// Resolves the names of a step by what its sheet allows, or returns the first fault in the order of its text. If two
+/// names are equal, the first counts.
 ///
-/// Of several faults at one name an unknown name comes first, then what the step may not read or put, then the number of
-/// components.
+/// If one name has several faults, an unknown name comes first, then a read or put that is not declared, then the number
+/// of components.
 pub fn check(alloc: Global, step: &Step<'_>, sheet: &Sheet<'_>) -> Result<Checked, CheckFault>
     requires { IsWithinLimits sheet.now step.now }
     ensures resolves { IfOk result (λ checked. Resolves sheet.now step.now checked) }

@@ -1,7 +1,7 @@
 use crate::Slot;
 use std::marker::Model;
 
-/// What stands between two operands.
+/// The operator between two operands.
 #[derive(Clone, Copy, Debug, PartialEq, Eq)]
 pub enum Operator {
     Add,
@@ -24,7 +24,7 @@ pub struct Expression {
     pub node: Node,
 }
 
-/// What an expression is, with its operands.
+/// The kind of an expression, with its operands.
 #[cycle(expression)]
 #[derive(Drop)]
 pub enum Node {

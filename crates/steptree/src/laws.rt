@@ -17,31 +17,31 @@ pub fn limits()
     ensures collections { MOST_COLLECTIONS ≡ 64 }
 {}
 
-/// Along one list of reads a body ends in one way at most, and it asks for them one after another.
+/// Along one list of reads a body ends in at most one way, and it asks for the reads one after another.
 pub fn along_one_list()
     ensures one { OneEnding }
     ensures in_order { AsksInOrder }
 {}
 
-/// A body reads 1,000,000 items at most, it gives 4,096 puts at most, and its fault is never a double put.
+/// A body reads at most 1,000,000 items, it gives at most 4,096 puts, and its fault is never a double put.
 pub fn ends_within_limits()
     ensures reads { ReadsWithinBudget }
     ensures puts { FewPuts }
     ensures fault { NoDoublePut }
 {}
 
-/// A body that gets and puts only what a sheet allows reads and puts nothing else, at any reads.
+/// If a body's statements get and put only what a sheet allows, it reads and puts nothing else, along any reads.
 pub fn keeps_to_its_sheet()
     ensures { KeepsAtAnyReads }
 {}
 
-/// What a body gives, and its faults, stay where the items grow.
+/// What a body gives, and its faults, stay the same when items are added.
 pub fn growth_keeps()
     ensures pairs { GrowthKeeps }
     ensures look_up { LookUpGrowthKeeps }
 {}
 
-/// Over items of which each address has one value at most, a body ends in exactly one way.
+/// If each address has at most one value, a body ends in exactly one way.
 pub fn ends_once()
     ensures some { LookUpEnds }
     ensures one { LookUpEndsOnce }

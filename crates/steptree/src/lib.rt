@@ -1,7 +1,7 @@
 //! The bodies of steps: their tree, and what it means.
 //!
-//! A `Body` has its variables as slots and its collections as numbers. What it means is `Along`: along which reads it ends
-//! as what. The layers above stand on that definition and on the laws of `laws`.
+//! A `Body` has its variables as slots and its collections as numbers. What it means is `Along`: how it ends along a list
+//! of reads. The crates above rely on that definition and on the laws of `laws`.
 #![tactic(auto)]
 
 mod block;

@@ -3,7 +3,7 @@ use std::marker::Model;
 /// The greatest number of collections of each kind.
 pub const MOST_COLLECTIONS: usize = 64;
 
-/// A collection as it was declared: its name, and the number of components of its keys. Clauses see it as a `Collection`.
+/// A declared collection: its name, and the number of components of its keys. Clauses see it as a `Collection`.
 #[derive(Debug, Drop)]
 pub struct Declared<'a> {
     pub name: &'a str,
@@ -18,8 +18,8 @@ impl<'a> Model for Declared<'a> {
     ghost view = { λ d. record { name = d.name.now; components = d.components } };
 }
 
-/// What a step may name: the collections of its graph by their numbers, and by the same numbers which of them it may read
-/// and which it may put. Clauses see it as a `Nameable`, whose parts are lists.
+/// What a step may name: the collections of its graph by number, and by the same numbers whether the step may read them
+/// and whether it may put into them. Clauses see it as a `Nameable`, whose parts are lists.
 #[derive(Debug, Drop)]
 pub struct Sheet<'a> {
     pub items: &'a [Declared<'a>],

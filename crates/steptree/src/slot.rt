@@ -26,7 +26,7 @@ impl Model for Slot {
 }
 
 impl Slot {
-    /// The slot at this place, which lies below `MOST_NAMES`.
+    /// The slot at this place, which is below `MOST_NAMES`.
     pub fn new(place: usize) -> Self
         requires { place < MOST_NAMES }
         ensures { result ≡ place }

@@ -16,7 +16,7 @@ pub enum NamedExpression<'a> {
 }
 
 impl<'a> Drop for NamedExpression<'a> {
-    // By hand, so that it is one call wherever an expression goes.
+    // Written by hand, so that dropping an expression is one call everywhere.
     fn drop(self) {
         match self {
             NamedExpression::Number(_) => {}
@@ -34,7 +34,7 @@ pub struct NamedKey<'a> {
 }
 
 impl<'a> Drop for NamedKey<'a> {
-    // By hand, so that it is one call wherever a key goes.
+    // Written by hand, so that dropping a key is one call everywhere.
     fn drop(self) {
         let NamedKey {
             collection: _,
@@ -43,7 +43,7 @@ impl<'a> Drop for NamedKey<'a> {
     }
 }
 
-/// The statements of a block with names: the first, and in its `rest` those behind it.
+/// The statements of a block with names: the first, and in its `rest` the statements after it.
 pub enum NamedBlock<'a> {
     End,
     Assign {
@@ -81,7 +81,7 @@ pub enum NamedBlock<'a> {
 }
 
 impl<'a> Drop for NamedBlock<'a> {
-    // A long block is let go statement by statement.
+    // Frees a long block statement by statement, in a loop.
     fn drop(mut self) {
         loop {
             match self {
@@ -120,7 +120,7 @@ impl<'a> Drop for NamedBlock<'a> {
     }
 }
 
-/// A step as its text has it.
+/// A step as it is written in its text.
 pub struct Step<'a> {
     pub name: Name<'a>,
     pub parameters: Vec<Name<'a>>,
@@ -130,7 +130,7 @@ pub struct Step<'a> {
 }
 
 impl<'a> Drop for Step<'a> {
-    // By hand, so that it is one call wherever a step goes.
+    // Written by hand, so that dropping a step is one call everywhere.
     fn drop(self) {
         let Step {
             name: _,

@@ -13,7 +13,7 @@ use crate::{
 };
 use std::alloc::Global;
 
-/// An expression, each variable by its slot.
+/// Resolves an expression: each variable becomes its slot.
 pub(crate) fn resolve_expression(
     alloc: Global,
     names: &[Name<'_>],
@@ -48,7 +48,7 @@ pub(crate) fn resolve_expression(
     }
 }
 
-/// The expressions of a key's components.
+/// Resolves the expressions of a key's components.
 fn resolve_components(
     alloc: Global,
     names: &[Name<'_>],
@@ -69,7 +69,7 @@ fn resolve_components(
     Ok(Components::new(resolved))
 }
 
-/// The number of a key's collection and the expressions of its components.
+/// Resolves a key: the number of its collection, and the expressions of its components.
 pub(crate) fn resolve_key(
     alloc: Global,
     names: &[Name<'_>],

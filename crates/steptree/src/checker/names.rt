@@ -10,7 +10,7 @@ ghost use Rattle.steptree.specs.Statements.{texts, Reports};
 use crate::{CheckError, CheckFault, Declared, Name, NamedKey, Slot, Step};
 use std::alloc::{AllocError, Global};
 
-/// What is named by a text.
+/// A thing that has a text as its name.
 pub(crate) trait Named {
     ghost use Rattle.std.specs.Prelude.{ℕ, List};
 
@@ -49,7 +49,7 @@ fn place<N: Named>(names: &[N], text: &str) -> Option<usize>
     None
 }
 
-/// The names of a step by their slots.
+/// The names of a step, by slot.
 pub(crate) fn all_names<'a>(alloc: Global, step: &Step<'a>) -> Result<Vec<Name<'a>>, AllocError>
     ensures { IfOk result (λ names. names.items ≡ step.now.parameters.items ++ step.now.variables.items) }
 {
@@ -58,7 +58,7 @@ pub(crate) fn all_names<'a>(alloc: Global, step: &Step<'a>) -> Result<Vec<Name<'
     Ok(names)
 }
 
-/// Names that are kept by themselves.
+/// Copies of the names, as owned strings.
 pub(crate) fn owned_texts(alloc: Global, names: &[Name<'_>]) -> Result<Vec<String>, AllocError>
     ensures { IfOk result (λ owned. map (λ name. name.bytes.items) owned.items ≡ texts names.now) }
 {
@@ -83,7 +83,7 @@ pub(crate) fn slot(names: &[Name<'_>], name: &Name<'_>) -> Result<Slot, CheckFau
     }
 }
 
-/// The number of a key's collection, which the step may name so, and whose keys have as many components.
+/// The number of a key's collection, if the step may use it so and its keys have this number of components.
 pub(crate) fn number(
     collections: &[Declared<'_>],
     allowed: &[bool],

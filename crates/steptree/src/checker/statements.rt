@@ -18,7 +18,7 @@ use crate::{
 use std::alloc::Global;
 use terms::{ItemCollection, TagCollection};
 
-/// An assignment.
+/// Resolves an assignment.
 fn assign(
     alloc: Global,
     names: &[Name<'_>],
@@ -38,7 +38,7 @@ fn assign(
     })
 }
 
-/// A choice between two blocks.
+/// Resolves a choice between two blocks.
 #[cycle(blocks)]
 fn choose(
     alloc: Global,
@@ -67,7 +67,7 @@ fn choose(
     })
 }
 
-/// A loop.
+/// Resolves a loop.
 #[cycle(blocks)]
 fn repeat(
     alloc: Global,
@@ -99,7 +99,7 @@ fn repeat(
     })
 }
 
-/// A read of an item.
+/// Resolves a read of an item.
 fn get(
     alloc: Global,
     names: &[Name<'_>],
@@ -125,7 +125,7 @@ fn get(
     })
 }
 
-/// A put of an item.
+/// Resolves a put of an item.
 fn put_item(
     alloc: Global,
     names: &[Name<'_>],
@@ -158,7 +158,7 @@ fn put_item(
     })
 }
 
-/// A put of a tag.
+/// Resolves a put of a tag.
 fn put_tag(
     alloc: Global,
     names: &[Name<'_>],
@@ -182,7 +182,7 @@ fn put_tag(
     })
 }
 
-/// The first statement of a block, as a block that ends behind it; or the end.
+/// Resolves the first statement of a block. The result is a block that ends after it, or the end.
 #[cycle(blocks)]
 fn resolve_first(
     alloc: Global,
@@ -221,9 +221,9 @@ fn resolve_first(
     }
 }
 
-/// A block, each name by what it stands for.
+/// Resolves a block: each name becomes what it stands for.
 ///
-/// It goes along the statements in a loop, and calls itself for the blocks inside of them.
+/// It goes through the statements in a loop, and calls itself for the blocks inside them.
 #[cycle(blocks)]
 pub(crate) fn resolve_block(
     alloc: Global,
@@ -256,7 +256,7 @@ pub(crate) fn resolve_block(
     }
 }
 
-/// The first statements of these blocks, one behind another.
+/// The first statements of these blocks, one after another.
 #[tactic(auto, using(crate::proofs::Joining::joined_last))]
 fn join(mut statements: Vec<Block>) -> Block
     ensures { result ≡ joined statements.items End }
@@ -269,7 +269,7 @@ fn join(mut statements: Vec<Block>) -> Block
     block
 }
 
-/// Puts a block behind the first statement of another, in place of what stood there.
+/// Puts a block after the first statement of another, in place of what stood there.
 fn put_behind(statement: &mut Block, block: Block)
     ensures { statement.new ≡ with_rest statement.old block }
 {

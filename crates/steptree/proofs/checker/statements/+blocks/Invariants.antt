@@ -4,7 +4,7 @@ use Rattle.steptree.specs.Statements.{texts}
 use Rattle.steptree.proofs.Statements.{Resolved}
 use Rattle.steptree.proofs.checker.statements.+blocks.Given as goal
 
--- the statements so far are resolved, and none of them is at fault; what is left is no deeper than the block was
+-- the statements so far are resolved, and none of them has a fault; what is left is no larger than the block was
 abbrev pub invariant-resolve_block-loop-statements : goal.invariant-resolve_block-loop-statements
 invariant-resolve_block-loop-statements l = Resolved (texts l.names) l.sheet l.block l.left l.statements.items × (size-NamedBlock l.left ≤ size-NamedBlock l.block)
 

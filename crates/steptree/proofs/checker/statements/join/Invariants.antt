@@ -3,7 +3,7 @@ use Rattle.steptree.specs.Tree.{End}
 use Rattle.steptree.specs.Statements.{joined}
 use Rattle.steptree.proofs.checker.statements.join.Given as goal
 
--- those that are left, with the block behind them
+-- the statements that are left, with the block after them
 abbrev pub invariant-loop-statement : goal.invariant-loop-statement
 invariant-loop-statement l = joined l.fn.statements.items End ≡ joined l.statements.items l.block
 
