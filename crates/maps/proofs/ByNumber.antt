@@ -56,7 +56,7 @@ apart Greater s differs = refl
 by_number_apart : (a b : Place) → a.0 ≢ b.0 → eq_by_cmp place_cmp a b ≡ false
 by_number_apart a b differs = apart (nat_cmp a.0 b.0) (key_cmp a.1 b.1) (λ tie. differs (nat_cmp-IsAntisymmetric _ _ tie))
 
--- one collection among those of its number
+-- in the collection with its number, a place is found by its key
 find_same : {X : Type 0} → (number : ℕ) (a : Place) → a.0 ≡ number → (es : List (Entry X)) → find place_cmp a (map (placed number) es) ≡ find key_cmp a.1 es
 find_same number a same [] = refl
 find_same number a same (e ∷ es) =
@@ -83,11 +83,11 @@ find_at start (suc n) (m ∷ maps) a is =
     in_second place_cmp a (map (placed start) (entries m.items)) (all_from (suc start) maps) (find_other start a (λ same. omega (arith, same, is)) (entries m.items))
     ∙ find_at (suc start) n maps a (omega (arith, is))
 
--- an address has the item that its collection has under its key
+-- the item at an address is the item that its collection has for its key
 pub item_held : {X : Type 0} → (maps : List (Keyed X)) (a : Place) → get (held maps) a ≡ item_of (slice_get maps a.0) a.1
 item_held maps a = get-from_entries places_total (all_from 0 maps) a ∙ find_at 0 a.0 maps a (omega arith)
 
--- what stands at a place, and what stands there after a write
+-- what is at a place, and what is there after a write
 pub read_at : {X : Type 0} → (maps : List (Keyed X)) (n : ℕ) (m : Keyed X) → n < length maps → m ≡ get_or maps n m → slice_get maps n ≡ Some m
 read_at [] n m within is = absurd (omega (arith, within))
 read_at (first ∷ maps) zero m within is = ap Some (sym is)
@@ -106,7 +106,7 @@ written_elsewhere (first ∷ maps) (suc n) zero m differs = refl
 written_elsewhere (first ∷ maps) (suc n) (suc other) m differs = written_elsewhere maps n other m (λ same. differs (ap suc same))
 
 module _ {X : Type 0} (maps : List (Keyed X)) (number : ℕ) (old new : Keyed X) (within : number < length maps) (is : old ≡ get_or maps number old) where
-  -- a collection whose items are as they were leaves all as it was
+  -- if the items of a collection are as they were, so are all items
   pub kept_at : new.items ≡ old.items → held (set maps number new) ≡ held maps
   kept_at same = same_map places_total same_places _ _ (λ q. item_held (set maps number new) q ∙ at q (cases_eq q.0 number) ∙ sym (item_held maps q))
     where
@@ -116,7 +116,7 @@ module _ {X : Type 0} (maps : List (Keyed X)) (number : ℕ) (old new : Keyed X)
           ∙ ap (λ items. get items q.1) same ∙ sym (ap (λ m. item_of (slice_get maps m) q.1) here ∙ ap (λ o. item_of o q.1) (read_at maps number old within is))
       at q (inr other) = ap (λ o. item_of o q.1) (written_elsewhere maps number q.0 new other)
 
-  -- an item more in a collection is one more at its address
+  -- one more item in a collection is one more item at its address
   pub added_at : (key : List ℤ) (item : X) → new.items ≡ insert old.items key item → held (set maps number new) ≡ insert (held maps) (number, key) item
   added_at key item same =
       same_map places_total same_places _ _ (λ q.
@@ -136,11 +136,11 @@ module _ {X : Type 0} (maps : List (Keyed X)) (number : ℕ) (old new : Keyed X)
           ap (λ o. item_of o q.1) (written_elsewhere maps number q.0 new other)
           ∙ sym (ap (λ b. cond b (Some item) (item_of (slice_get maps q.0) q.1)) (by_number_apart q address other))
 
--- no items in each of several empty collections
+-- several empty collections have no items
 pub none_held : {X : Type 0} → (maps : List (Keyed X)) → ((n : ℕ) (key : List ℤ) → item_of (slice_get maps n) key ≡ None) → (q : Place) → get (held maps) q ≡ None
 none_held maps empty q = item_held maps q ∙ empty q.0 q.1
 
--- Their entries are in the order of their addresses.
+-- The entries are in the order of their addresses.
 
 both : (a b : Bool) → T a → T b → T (a && b)
 both true b p q = q

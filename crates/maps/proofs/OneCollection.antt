@@ -1,4 +1,4 @@
--- The entries of one collection among those of all, and how many there are of all.
+-- The entries of one collection among the entries of all, and the number of all entries.
 use Rattle.std.proofs.Common.{◌≡◌, ◌≢◌, ◌∙◌, ap, sym, refl, ℕ, zero, suc, ◌+◌, ◌<◌, ◌==◌, Bool, cond, List, [], ◌∷◌, ◌++◌, map, length, sum_by, slice_get, Option, Some, None, arith, eq-eqb, ne_eqb, append-nil, length-append}
 use Rattle.std.specs.FinMap.{entries}
 use Rattle.std.proofs.lemmas.List.Elements.{filter-append}
@@ -47,11 +47,11 @@ module _ {X : Type 0} (number : ℕ) where
       ∙ ap (λ es. es ++ of_number number (all_from (suc start) maps)) (none_its start (λ same. omega (arith, same, is)) (entries m.items))
       ∙ at (suc start) n maps (omega (arith, is))
 
-  -- of all entries, those of one collection are the ones that it has
+  -- among all entries, those with the number of a collection are the entries that it has
   pub of_one : (maps : List (Keyed X)) (now : Numbered X) → seen_numbered maps ≡ now → of_number number (entries now.items) ≡ listed_in number (slice_get maps number)
   of_one maps now is = ap (of_number number) (sym (walked maps now is)) ∙ at 0 number maps (omega arith)
 
--- there are as many as the collections have
+-- the number of all entries is the sum over the collections
 abbrev pub its_length : {X : Type 0} → Keyed X → ℕ
 its_length m = length (entries m.items)
 

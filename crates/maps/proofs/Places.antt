@@ -1,4 +1,4 @@
--- Where a key stands in a list in order, or where it would go.
+-- Where a key is in an ordered list, or where it would go.
 use Rattle.std.proofs.Common.{◌≡◌, ℕ, zero, suc, ◌+◌, ◌-◌, ◌<◌, ◌≤◌, Bool, true, false, T, cond, ◌&&◌, List, [], ◌∷◌, length, get_or, slice_get, set, Some, None, refl, sym, ap, subst, ◌∙◌, arith}
 use Rattle.std.specs.declared.cmp.Ordering.{Ordering}
 use Rattle.std.specs.declared.cmp.Ordering.TheVariants.{Less, Equal, Greater}
@@ -36,7 +36,7 @@ lesser Less is = refl
 lesser Equal is = absurd (false≢true is)
 lesser Greater is = absurd (false≢true is)
 
--- the last of a list is the last behind its first
+-- the last of a list is the last of its tail
 last_behind : {X : Type 0} (x y : X) (xs : List X) (last : X) → slice_get (x ∷ y ∷ xs) (length (x ∷ y ∷ xs) - 1) ≡ Some last → slice_get (y ∷ xs) (length (y ∷ xs) - 1) ≡ Some last
 last_behind x y xs last is =
     let all : length (x ∷ y ∷ xs) - 1 ≡ suc (length xs) = omega arith in
@@ -59,7 +59,7 @@ module _ {K X : Type 0} {R : K → K → Ordering} (o : IsTotalOrder R) where
       subst (λ n. is_lt (R (get_or (e ∷ f ∷ es) n d).0 (get_or (f ∷ es) k d).0) ≡ false) {x = suc (k + 1)} {y = suc k + 1} (omega arith)
       (adjacent (f ∷ es) (second (below_all R e.0 (f ∷ es)) _ sorted) k d (omega arith) (omega (arith, within)))
 
-  -- a key that stands at a place is found, with what stands there
+  -- a key that is at a place is found, with the value there
   pub found : (es : List (K × X)) (q : K) (at : ℕ) (d : K × X) → T (is_sorted R es) → at < length es → HoldsAt (λ e. R e.0 q ≡ Equal) es at → find R q es ≡ Some (get_or es at d).1
   found [] q at d sorted within here = absurd (omega (arith, within))
   found (e ∷ es) q zero d sorted within here = ap (λ r. cond (is_eq r) (Some e.1) (find R q es)) (tied_back o e.0 q (here d))
@@ -67,7 +67,7 @@ module _ {K X : Type 0} {R : K → K → Ordering} (o : IsTotalOrder R) where
       let later : R e.0 q ≡ Less = sym (alike_right o (get_or es at d).0 q e.0 (here d)) ∙ below_each e.0 es at d (first _ _ sorted) (omega (arith, within)) in
       ap (λ r. cond (is_eq r) (Some e.1) (find R q es)) (turned o e.0 q later) ∙ found es q at d (second (below_all R e.0 es) _ sorted) (omega (arith, within)) here
 
-  -- between the lesser keys and the greater ones a key is not found, and goes there
+  -- a key between the lesser keys and the greater ones is not found, and goes to that place
   pub gap : (es : List (K × X)) (q : K) (i : ℕ) → i ≤ length es → AllWithin (λ e. R e.0 q ≡ Less) es 0 i → AllWithin (λ e. R e.0 q ≡ Greater) es i (length es) → (find R q es ≡ None) × ((v : X) → put R q v es ≡ insert es i (q, v))
   gap [] q zero within lesser greater = (refl, λ v. refl)
   gap [] q (suc i) within lesser greater = absurd (omega (arith, within))
@@ -80,7 +80,7 @@ module _ {K X : Type 0} {R : K → K → Ordering} (o : IsTotalOrder R) where
       let rest = gap es q i (omega (arith, within)) (λ k d low high. lesser (suc k) d (omega arith) (omega (arith, high))) (λ k d low high. greater (suc k) d (omega (arith, low)) (omega (arith, high))) in
       (ap (λ r. cond (is_eq r) (Some e.1) (find R q es)) here ∙ rest.0, λ v. ap (λ r. by_order r ((q, v) ∷ e ∷ es) ((e.0, v) ∷ es) (e ∷ put R q v es)) here ∙ ap (λ more. e ∷ more) (rest.1 v))
 
-  -- where the last key is less, all are
+  -- if the last key is less, all keys are
   pub all_less : (es : List (K × X)) (q : K) (last : K × X) → T (is_sorted R es) → slice_get es (length es - 1) ≡ Some last → R last.0 q ≡ Less → AllWithin (λ e. R e.0 q ≡ Less) es 0 (length es)
   all_less [] q last sorted is below k d low high = absurd (omega (arith, high))
   all_less (e ∷ []) q last sorted is below zero d low high = subst (λ (x : K × X). R x.0 q ≡ Less) (sym (ap (λ o. unwrap_or o e) is)) below
@@ -90,12 +90,12 @@ module _ {K X : Type 0} {R : K → K → Ordering} (o : IsTotalOrder R) where
   all_less (e ∷ f ∷ es) q last sorted is below (suc k) d low high =
       all_less (f ∷ es) q last (second (below_all R e.0 (f ∷ es)) _ sorted) (last_behind e f es last is) below k d (omega arith) (omega (arith, high))
 
-  -- the map of a list in order has the list as its entries
+  -- the map of an ordered list has that list as its entries
   pub listed : IsAntisymmetric R → (es : List (K × X)) → T (is_sorted R es) → entries (from_entries {R = R} es) ≡ es
   listed same es sorted =
       same_entries R o same (entries (from_entries es)) es (entries_sorted (from_entries es)) sorted (λ q. sym (get-entries (from_entries es) q) ∙ get-from_entries o es q)
 
-  -- writing over a key that stands at a place gives it the value
+  -- to write a value for a key that is at a place writes it there
   pub written : IsAntisymmetric R → (es : List (K × X)) (q : K) (at : ℕ) (v : X) → T (is_sorted R es) → at < length es → HoldsAt (λ e. R e.0 q ≡ Equal) es at → put R q v es ≡ set es at (q, v)
   written same [] q at v sorted within here = absurd (omega (arith, within))
   written same (e ∷ es) q zero v sorted within here =

@@ -1,4 +1,4 @@
--- A refused growth is told as want of memory.
+-- A refused growth is reported as `NoMemory`.
 use Rattle.std.proofs.Common.{◌≡◌, sym, subst, Result, Ok, Err, IfErr}
 use Rattle.std.specs.Result.{IsErrAnd}
 use Rattle.maps.specs.declared.error.InsertError.{InsertError}

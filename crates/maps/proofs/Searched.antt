@@ -1,4 +1,4 @@
--- What a binary search by key tells of a map's entries.
+-- What a binary search by key returns over a map's entries.
 use Rattle.std.specs.Prelude.{Vec}
 use Rattle.std.specs.Vec.{vec_len, vec_capacity}
 use Rattle.std.specs.declared.alloc.Global.{Global}
@@ -22,7 +22,7 @@ Entry X = List ℤ × X
 pub entries_listed : {X : Type 0} (es : List (Entry X)) → T (is_sorted key_cmp es) → entries (from_entries {R = key_cmp} es) ≡ es
 entries_listed es sorted = listed keys_total same_key es sorted
 
--- what the search answers is the key's place, or the place where it would go
+-- the search returns the key's place, or the place where it would go
 pub searched :
     {X : Type 0} (es : List (Entry X)) (key : List ℤ) (r : Result ℕ ℕ) → T (is_sorted key_cmp es) → IsSearchInRange r (length es) → IsBinarySearchResult (λ e. key_cmp e.0 key) es r →
     IfOk r (IsAt es key) × IfErr r (IsGapFor es key)
@@ -33,7 +33,7 @@ searched es key (Err at) sorted within parted =
     let goes = gap keys_total es key at within parts.0 parts.1 in
     (tt, record { within = within; absent = goes.0; goes_there = goes.1 })
 
--- where the last key is less, or there is none, a key goes behind all
+-- if the last key is less, or there is none, a key goes after all others
 pub goes_last : {X : Type 0} (es : List (Entry X)) (key : List ℤ) (last : Entry X) → T (is_sorted key_cmp es) → slice_get es (length es - 1) ≡ Some last → key_cmp last.0 key ≡ Less → IsGapFor es key (length es)
 goes_last es key last sorted is lesser =
     let goes = gap keys_total es key (length es) (omega arith) (all_less keys_total es key last sorted is lesser) (λ k d low high. absurd (omega (arith, low, high))) in
@@ -47,23 +47,23 @@ goes_first (e ∷ es) key none = absurd (false≢true (sym (ap is_some none) ∙
 abbrev pub seen_as : {X : Type 0} → Vec (Entry X) Global → Keyed X
 seen_as items = record { items = from_entries items.items; room = vec_capacity items - vec_len items }
 
--- what stands in the vector is what is seen
+-- the entries of the vector are the entries that are seen
 pub seen_entries : {X : Type 0} (items : Vec (Entry X) Global) (seen : Keyed X) → T (is_sorted key_cmp items.items) → seen_as items ≡ seen → entries seen.items ≡ items.items
 seen_entries items seen sorted is = sym (ap (λ s. entries s.items) is) ∙ entries_listed items.items sorted
 
 module _ {X : Type 0} (items : Vec (Entry X) Global) (seen : Keyed X) (key : List ℤ) (place : ℕ) where
-  -- the place of a key is one of the vector
+  -- the place of a key is a place of the vector
   pub at_place : T (is_sorted key_cmp items.items) → seen_as items ≡ seen → IsAt (entries seen.items) key place → place < vec_len items
   at_place sorted is here = omega (arith, here.within, ap length (seen_entries items seen sorted is), items.ok.0)
 
-  -- and what stands there is the item
+  -- and the item is there
   pub its_item :
       (entry : Entry X) → T (is_sorted key_cmp items.items) → seen_as items ≡ seen → IsAt (entries seen.items) key place →
       entry ≡ get_or items.items place entry → Some entry.1 ≡ get seen.items key
   its_item entry sorted is here reads =
       ap (λ (e : Entry X). Some e.1) (reads ∙ sym (ap (λ es. get_or es place entry) (seen_entries items seen sorted is))) ∙ sym (get-entries seen.items key ∙ here.found entry)
 
--- an item that goes to its place in the vector is one of the map, which stays in order
+-- an item that is added at its place in the vector is added to the map, and the vector stays in order
 pub added :
     {X : Type 0} (items new : Vec (Entry X) Global) (seen before : Keyed X) (key : List ℤ) (item : X) (place : ℕ) →
     T (is_sorted key_cmp items.items) → seen_as items ≡ seen → seen.items ≡ before.items → IsGapFor (entries before.items) key place →
@@ -74,7 +74,7 @@ added items new seen before key item place sorted is same gap news =
     let new_sorted : T (is_sorted key_cmp new.items) = subst (λ es. T (is_sorted key_cmp es)) (sym new_entries) (is_sorted-put key_cmp keys_total key item (entries before.items) (entries_sorted before.items)) in
     (new_sorted, same_entries_map _ _ (entries_listed new.items new_sorted ∙ new_entries ∙ sym (entries-insert keys_total before.items key item)))
 
--- a value that is written over is the one of its key, and the keys stay in order
+-- a value that is written at its key's place is that key's value, and the keys stay in order
 pub rewritten :
     {X : Type 0} (items new : Vec (Entry X) Global) (before : Keyed X) (key : List ℤ) (value : X) (place : ℕ) →
     T (is_sorted key_cmp items.items) → seen_as items ≡ before → IsAt (entries before.items) key place →

@@ -1,4 +1,4 @@
--- What a map of several collections is seen as, before and after a call.
+-- How a map of several collections is seen, before and after a call.
 use Rattle.std.proofs.Common.{◌≡◌, ◌∙◌, ap, sym, refl, ℕ, zero, suc, ◌<◌, ◌≤◌, ℤ, List, [], ◌∷◌, map, set, length, replicate, get_or, slice_get, None, arith}
 use Rattle.std.specs.FinMap.{empty, entries, get, get-empty, same_map}
 use Rattle.std.proofs.lemmas.List.{map-set, get_or-set_same, get_or-set_other, length-set, length-map}
@@ -60,7 +60,7 @@ module _ {X : Type 0} (maps : List (Keyed X)) (number : ℕ) (old new : Keyed X)
   is_refused key (Taken value) refused = item_before key ∙ refused
   is_refused key NoMemory refused = (item_before key ∙ refused.0, room_before ∙ refused.1)
 
--- the value at a place is the one of its collection
+-- the value at a place is the value that its collection has
 pub item_seen : {X : Type 0} → (maps : List (Keyed X)) (now : Numbered X) (number : ℕ) (key : List ℤ) → seen_numbered maps ≡ now → get now.items (number, key) ≡ item_of (slice_get maps number) key
 item_seen maps now number key is = sym (ap (λ seen. get seen.items (number, key)) is) ∙ item_held maps (number, key)
 
@@ -88,7 +88,7 @@ none_seen {X} count = λ i. record { items = no_items i; room = no_room count i 
     no_room zero = refl
     no_room (suc count) = ap (λ rest. 0 ∷ rest) (no_room count)
 
--- the entries are those of the collections, one behind the other
+-- the entries are those of the collections, one after the other
 pub walked : {X : Type 0} → (maps : List (Keyed X)) (now : Numbered X) → seen_numbered maps ≡ now → all_from 0 maps ≡ entries now.items
 walked maps now is = sym (in_place_order maps) ∙ ap (λ seen. entries seen.items) is
 

@@ -1,4 +1,4 @@
--- Keys, and places, are in a total order in which none but equals tie.
+-- The orders of keys and of places are total, and only equal ones tie.
 use Rattle.std.specs.Prelude.{◌≡◌, refl}
 use Rattle.std.specs.declared.cmp.Ordering.{Ordering}
 use Rattle.std.specs.declared.cmp.Ordering.TheVariants.{Less, Equal, Greater}

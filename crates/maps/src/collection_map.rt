@@ -33,7 +33,7 @@ impl<V: Copy> CollectionMap<V> {
     ghost use Rattle.maps.specs.Insertion.{IsRefused};
     ghost use Rattle.maps.specs.Numbered.{of_number, room_at, AddsAt, OnlyMakesRoom};
 
-    /// No entries, of so many collections.
+    /// A map without entries, for this number of collections.
     pub fn new(alloc: Global, collections: usize) -> Result<Self, AllocError>
         requires { collections ≤ 2 ^ 16 }
         ensures { IfOk result (λ m. m ≡ record { items = empty; room = replicate collections 0 }) }
@@ -68,7 +68,7 @@ impl<V: Copy> CollectionMap<V> {
         }
     }
 
-    /// The entries of one collection, in the order of their keys; none where there is no such collection.
+    /// The entries of one collection, in the order of their keys; none if there is no such collection.
     pub fn walk_of(&self, number: u16) -> Walk<'_, V>
         ensures { result ≡ of_number number (entries self.now.items) }
     {
@@ -86,7 +86,7 @@ impl<V: Copy> CollectionMap<V> {
         }
     }
 
-    /// How many entries there are, or the greatest `usize` where they are more.
+    /// The number of entries, or the greatest `usize` if there are more.
     pub fn count(&self) -> usize
         ensures { result ≡ min (length (entries self.now.items)) (2 ^ 64 - 1) }
     {
@@ -97,7 +97,7 @@ impl<V: Copy> CollectionMap<V> {
         count
     }
 
-    /// How many more entries of the collection there is room for.
+    /// The number of further entries of the collection that there is room for.
     pub fn room(&self, number: u16) -> usize
         ensures { result ≡ room_at self.now number }
     {
@@ -107,7 +107,8 @@ impl<V: Copy> CollectionMap<V> {
         }
     }
 
-    /// Makes room for so many more entries of the collection. A refusal comes only where there was less, and changes nothing.
+    /// Makes room for `count` more entries of the collection. It fails only if there was less room, and then changes
+    /// nothing.
     pub fn make_room(&mut self, number: u16, count: usize) -> Result<(), AllocError>
         requires { number < length self.old.room }
         ensures ok { OnOk result (count ≤ room_at self.new number) }
@@ -117,7 +118,7 @@ impl<V: Copy> CollectionMap<V> {
         self.collections[number as usize].make_room(count)
     }
 
-    /// Adds an entry at a place that has none. A refusal changes nothing, and comes for want of memory only where there was no
+    /// Adds an entry at a place that has none. An error changes nothing, and `NoMemory` comes only if there was no
     /// room.
     pub fn insert(&mut self, number: u16, key: Key, value: V) -> Result<(), InsertError<V>>
         requires { number < length self.old.room }
@@ -129,7 +130,7 @@ impl<V: Copy> CollectionMap<V> {
     }
 }
 
-/// So many empty maps.
+/// A vector of `count` empty maps.
 fn empty_maps<V: Copy>(alloc: Global, count: usize) -> Result<Vec<KeyMap<V>>, AllocError>
     ensures { IfOk result (λ maps. maps.items ≡ replicate count none) }
 {

@@ -6,9 +6,9 @@ use std::alloc::{AllocError, AllocFailed};
 /// Why an entry was not added. Nothing has changed.
 #[derive(Clone, Copy, Debug, PartialEq, Eq)]
 pub enum InsertError<V> {
-    /// There is an entry with the key already, with this value.
+    /// There is already an entry with the key, with this value.
     Taken(V),
-    /// A growth was refused.
+    /// Memory was refused.
     NoMemory,
 }
 

@@ -3,8 +3,8 @@ use std::alloc::{AllocError, Global};
 use std::marker::Model;
 use terms::Key;
 
-/// A map from keys to values, in the order of its keys, with room for more. A look-up is a binary search, but for a key greater than all
-/// others, and an entry with such a key moves none.
+/// A map from keys to values, in the order of its keys, with room for more. A look-up is a binary search, except for a
+/// key greater than all others; to insert such a key moves no entry.
 #[derive(Drop)]
 pub struct KeyMap<V> {
     items: Vec<(Key, V)>,
@@ -33,7 +33,7 @@ impl<V: Copy> KeyMap<V> {
     ghost use Rattle.maps.specs.Insertion.{IsRefused};
     ghost use Rattle.maps.specs.Keyed.{none, Adds, IsAt, IsGapFor};
 
-    /// No entries, and no room.
+    /// A map without entries and without room.
     pub fn new(alloc: Global) -> Self
         ensures { result ≡ none }
     {
@@ -59,14 +59,14 @@ impl<V: Copy> KeyMap<V> {
         &self.items
     }
 
-    /// How many more entries there is room for.
+    /// The number of further entries that there is room for.
     pub fn room(&self) -> usize
         ensures { result ≡ self.now.room }
     {
         self.items.capacity() - self.items.len()
     }
 
-    /// Makes room for so many more entries. A refusal comes only where there was less, and changes nothing.
+    /// Makes room for `count` more entries. It fails only if there was less room, and then changes nothing.
     pub fn make_room(&mut self, count: usize) -> Result<(), AllocError>
         ensures items { self.new.items ≡ self.old.items }
         ensures ok { OnOk result (count ≤ self.new.room) }
@@ -80,7 +80,7 @@ impl<V: Copy> KeyMap<V> {
         self.items.reserve(count)
     }
 
-    /// Adds an entry with a key that has none. A refusal changes nothing, and comes for want of memory only where there was no
+    /// Adds an entry with a key that has none. An error changes nothing, and `NoMemory` comes only if there was no
     /// room.
     pub fn insert(&mut self, key: Key, value: V) -> Result<(), InsertError<V>>
         ensures ok { OnOk result (Adds self.old self.new key value) }
@@ -97,7 +97,7 @@ impl<V: Copy> KeyMap<V> {
         }
     }
 
-    /// Gives a key that has a value another one.
+    /// Gives a new value to a key that has one.
     pub fn set(&mut self, key: Key, value: V)
         requires { IsSome (get self.old.items key) }
         ensures { self.new ≡ record { items = insert self.old.items key value; room = self.old.room } }
@@ -118,7 +118,7 @@ impl<V: Copy> KeyMap<V> {
         self.items.binary_search_by_key(&key, |&(other, _)| other)
     }
 
-    // Whether the key is greater than all that are there. Names often come in order, and then no search is needed.
+    // Whether the key is greater than all keys in the map. Keys often come in order, and then no search is needed.
     fn is_last(&self, key: Key) -> bool
         ensures { IsTrue result → IsGapFor (entries self.now.items) key (length (entries self.now.items)) }
     {

@@ -1,9 +1,9 @@
-//! Maps whose keys stand in order, and that have room made for them before they grow.
+//! Maps that keep their keys in order, and for which room can be made before they grow.
 //!
-//! A `KeyMap` maps the keys of one collection, and a `CollectionMap` those of several, each by the collection's number. They are
-//! seen as finite maps, beside how many more entries there is room for.
+//! A `KeyMap` maps the keys of one collection. A `CollectionMap` maps the keys of several, each by the collection's
+//! number. Clauses see them as finite maps, together with the number of further entries that there is room for.
 //!
-//! The layers above stand on `insert`: with room it is not refused for want of memory, and a refusal changes nothing.
+//! The crates above rely on `insert`: if there is room it never returns `NoMemory`, and an error changes nothing.
 #![tactic(auto)]
 
 mod collection_map;

@@ -2,10 +2,10 @@ use crate::KeyMap;
 use std::marker::Model;
 use terms::Key;
 
-/// The entries that are left of a walk, in the order of their places. It takes no memory.
+/// The entries that are left of a walk, in the order of their places. It does not allocate.
 #[derive(Drop)]
 pub struct Walk<'a, V> {
-    // What is left of the collection with this number, and the collections behind it.
+    // What is left of the collection with this number, and the collections after it.
     pub(crate) number: u16,
     pub(crate) entries: &'a [(Key, V)],
     pub(crate) collections: &'a [KeyMap<V>],

@@ -2,7 +2,7 @@ use Rattle.std.proofs.Common.{◌≡◌, ◌+◌, ◌<◌, ◌^◌, length}
 use Rattle.maps.specs.Numbered.{left_of}
 use Rattle.maps.proofs.walk.WalkIterator.next.Given as goal
 
--- as much is left as before
+-- the entries that are left are the same as before
 abbrev pub invariant-loop-first : goal.invariant-loop-first
 invariant-loop-first g l =
     (left_of l.self-inside.number l.self-inside.entries.now l.self-inside.collections.now ≡ left_of l.initial.self-inside.number l.initial.self-inside.entries.now l.initial.self-inside.collections.now)
