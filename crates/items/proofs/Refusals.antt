@@ -1,4 +1,4 @@
--- What holds is what holds where an error is answered.
+-- What holds in any case also holds when an error is returned.
 use Rattle.std.proofs.Common.{Result, Ok, Err, OnErr}
 
 pub on_err : {T E P : Type 0} (r : Result T E) → P → OnErr r P

@@ -1,4 +1,4 @@
--- Those that wait, by address, as the map of the vectors that hold them.
+-- The waiting instances by address, as the map of the vectors that hold them.
 use Rattle.std.proofs.Common.{ℤ, ◌++◌, ◌≡◌, ◌∙◌, ap, sym, refl, Bool, true, false, cond, List, [], ◌∷◌, map, Option, Some, None, Vec, option_map}
 use Rattle.std.specs.declared.alloc.Global.{Global}
 use Rattle.std.specs.Ordering.{eq_by_cmp}
@@ -36,11 +36,11 @@ found_queue (queue ∷ queues) q =
       | false ↦ found_queue queues q
     ]
 
--- those that wait at an address are those in its vector
+-- the instances that wait at an address are those in its vector
 pub waiting_at : (queues : Queues) (q : Place) → get (waiting_in queues) q ≡ option_map (λ (v : Vec Inst Global). v.items) (queue_at queues (address_at q))
 waiting_at queues q = get-from_entries places_total _ q ∙ found_queue queues q
 
--- a vector that is written at an address
+-- to write a vector at an address
 pub queue_written :
     (old new : Queues) (address : Addr) (queue : Vec Inst Global) → ((q : Addr) → queue_at new q ≡ cond (eq_by_cmp addr_cmp address q) (Some queue) (queue_at old q)) →
     waiting_in new ≡ insert (waiting_in old) (place address) queue.items
@@ -54,7 +54,7 @@ queue_written old new address queue updates =
     at q true = refl
     at q false = refl
 
--- and one that is taken away
+-- and to take a vector away
 pub queue_taken :
     (old new : Queues) (address : Addr) → ((q : Addr) → queue_at new q ≡ cond (eq_by_cmp addr_cmp address q) None (queue_at old q)) → waiting_in new ≡ remove (waiting_in old) (place address)
 queue_taken old new address updates =
@@ -67,7 +67,7 @@ queue_taken old new address updates =
     at q true = refl
     at q false = refl
 
--- a vector with the same instances in it changes nothing
+-- to write a vector with the same instances changes nothing
 pub queue_kept :
     (old new : Queues) (address : Addr) (was queue : Vec Inst Global) → queue_at old address ≡ Some was → queue.items ≡ was.items →
     ((q : Addr) → queue_at new q ≡ cond (eq_by_cmp addr_cmp address q) (Some queue) (queue_at old q)) → waiting_in new ≡ waiting_in old
@@ -85,7 +85,7 @@ pub waiters_seen :
 waiters_seen items queues now address is = sym (ap (λ seen. waiters_at seen address) is) ∙ ap (λ o. unwrap_or o []) (waiting_at queues (place address))
 
 module _ (items : Numbered (ℤ × Producer)) (old new : Queues) (now : Held) (address : Addr) (is : seen_held items old ≡ now) where
-  -- an instance more in the vector of an address waits there
+  -- one more instance in the vector of an address waits there
   pub waits :
       (instance : Inst) (queue : Vec Inst Global) → ((q : Addr) → queue_at new q ≡ cond (eq_by_cmp addr_cmp address q) (Some queue) (queue_at old q)) →
       queue.items ≡ unwrap_or (option_map (λ (v : Vec Inst Global). v.items) (queue_at old address)) [] ++ instance ∷ [] → seen_held items new ≡ with_waiter now address instance
@@ -94,12 +94,12 @@ module _ (items : Numbered (ℤ × Producer)) (old new : Queues) (now : Held) (a
       ap (λ waiting. record { items = items; waiting = waiting }) (queue_written old new address queue updates ∙ ap (insert (waiting_in old) (place address)) here)
       ∙ ap (λ seen. with_waiter seen address instance) is
 
-  -- a vector with the same instances leaves all as it was
+  -- to write a vector with the same instances leaves everything as it was
   pub waits_as_before :
       (was queue : Vec Inst Global) → queue_at old address ≡ Some was → queue.items ≡ was.items →
       ((q : Addr) → queue_at new q ≡ cond (eq_by_cmp addr_cmp address q) (Some queue) (queue_at old q)) → seen_held items new ≡ now
   waits_as_before was queue there same updates = ap (λ waiting. record { items = items; waiting = waiting }) (queue_kept old new address was queue there same updates) ∙ is
 
-  -- without its vector nobody waits at an address
+  -- no instance waits at an address without a vector
   pub waits_no_more : ((q : Addr) → queue_at new q ≡ cond (eq_by_cmp addr_cmp address q) None (queue_at old q)) → seen_held items new ≡ without_waiters now address
   waits_no_more updates = ap (λ waiting. record { items = items; waiting = waiting }) (queue_taken old new address updates) ∙ ap (λ seen. without_waiters seen address) is

@@ -5,8 +5,8 @@ use std::collections::BTreeMap;
 use std::marker::Model;
 use terms::{Addr, Inst, ItemCollection, Producer};
 
-/// The items of a store, and the instances that wait for some. A `get` is a binary search, and a put of a greater key than those
-/// of its collection searches nothing and moves no item.
+/// The items of a store, and the instances that wait for items. A `get` is a binary search. A put with a key greater
+/// than all others of its collection needs no search and moves no item.
 #[derive(Drop)]
 pub struct Items {
     items: CollectionMap<(i64, Producer)>,
@@ -43,7 +43,7 @@ impl Items {
       without_waiters,
     };
 
-    /// No items, of so many collections.
+    /// Holds no items yet, for this number of collections.
     pub fn new(alloc: Global, collections: usize) -> Result<Self, AllocError>
         requires { collections ≤ 2 ^ 16 }
         ensures { IfOk result (λ held. held ≡ record { items = record { items = empty; room = replicate collections 0 }; waiting = empty }) }
@@ -55,7 +55,7 @@ impl Items {
         })
     }
 
-    /// The item at the address, with who put it, if there is one.
+    /// The item at the address and who put it, if there is one.
     pub fn get(&self, addr: Addr) -> Option<(i64, Producer)>
         ensures { result ≡ item_at self.now addr }
     {
@@ -71,7 +71,7 @@ impl Items {
         }
     }
 
-    /// The items of one collection, in the order of their addresses; none where there is no such collection.
+    /// The items of one collection, in the order of their addresses; none if there is no such collection.
     pub fn walk_of(&self, collection: ItemCollection) -> Walk<'_>
         ensures { result ≡ map (λ entry. (address_at entry.0, entry.1)) (of_number collection.0 (entries self.now.items.items)) }
     {
@@ -80,21 +80,22 @@ impl Items {
         }
     }
 
-    /// How many items there are, or the greatest `usize` where they are more.
+    /// The number of items, or the greatest `usize` if there are more.
     pub fn count(&self) -> usize
         ensures { result ≡ min (length (entries self.now.items.items)) (2 ^ 64 - 1) }
     {
         self.items.count()
     }
 
-    /// How many more items of the collection there is room for.
+    /// The number of further items of the collection that there is room for.
     pub fn spare(&self, collection: ItemCollection) -> usize
         ensures { result ≡ room_for self.now collection }
     {
         self.items.room(collection.0)
     }
 
-    /// Makes room for so many more items of the collection. A refusal comes only where there was less, and changes nothing.
+    /// Makes room for `count` more items of the collection. It fails only if there was less room, and then changes
+    /// nothing.
     pub fn make_room(&mut self, collection: ItemCollection, count: usize) -> Result<(), AllocError>
         requires { IsOfCollection self.old collection }
         ensures ok { OnOk result (count ≤ room_for self.new collection) }
@@ -107,7 +108,8 @@ impl Items {
 
     /// Puts an item at an address that has none.
     ///
-    /// `AlreadyPut` tells the value that is there. `NoMemory` comes only where there is no item and no room. Both change nothing.
+    /// `AlreadyPut` carries the value that is there. `NoMemory` comes only if there is no item and no room. Neither
+    /// changes anything.
     pub fn put(&mut self, addr: Addr, value: i64, producer: Producer) -> Result<(), PutError>
         requires { IsOfCollection self.old addr.collection }
         ensures ok { OnOk result (AddsAt self.old.items self.new.items (place addr) (value, producer)) }
@@ -125,7 +127,7 @@ impl Items {
         }
     }
 
-    /// Lets an instance wait at an address, behind those that wait there. A refusal changes nothing.
+    /// Lets an instance wait at an address, after those that already wait there. An error changes nothing.
     pub fn wait_on(&mut self, addr: Addr, inst: Inst) -> Result<(), AllocError>
         ensures ok { OnOk result (self.new ≡ with_waiter self.old addr inst) }
         ensures refused { OnErr result (self.new ≡ self.old) }
@@ -144,7 +146,7 @@ impl Items {
         }
     }
 
-    /// Those that wait at the address, the first that came first. Nobody waits there any more.
+    /// Takes the instances that wait at the address, in the order in which they came. After that none waits there.
     pub fn take_waiters(&mut self, addr: Addr) -> Vec<Inst>
         ensures waiters { result.items ≡ waiters_at self.old addr }
         ensures taken { self.new ≡ without_waiters self.old addr }

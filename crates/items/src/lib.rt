@@ -1,10 +1,10 @@
-//! The items of a store: a finite map from addresses to values, each with who put it, that only grows.
+//! The items of a store: a finite map from addresses to values, each with who put it. The map only grows.
 //!
-//! `Items` is seen as `Held`: the items by address, the instances that wait at each address, and for each collection how
-//! many items there is room for.
+//! Clauses see `Items` as `Held`: the items by address, the instances that wait at each address, and for each
+//! collection how many more items there is room for.
 //!
-//! The layer above stands on `put`: an item that is put is there from then on with that value, a second put of an address is
-//! refused with the value that is there, and a refusal changes nothing.
+//! The crate above relies on `put`: an item that was put stays there with its value, a second put at its address is
+//! refused with that value, and an error changes nothing.
 #![tactic(auto)]
 
 mod error;

@@ -1,7 +1,7 @@
 use std::marker::Model;
 use terms::{Addr, ItemCollection, Producer};
 
-/// The items that are left of a walk, in the order of their addresses. It takes no memory.
+/// The items that are left of a walk, in the order of their addresses. It does not allocate.
 #[derive(Drop)]
 pub struct Walk<'a> {
     pub(crate) entries: maps::Walk<'a, (i64, Producer)>,
