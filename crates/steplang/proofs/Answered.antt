@@ -1,4 +1,4 @@
--- A read of the item that is asked for answers.
+-- A read of the item that is asked for gives its value.
 use Rattle.std.proofs.Common.{◌≡◌, ℤ, Bool, List, ◌∷◌, if◌then◌else◌, ap}
 use Rattle.terms.specs.declared.name.Addr.{Addr}
 use Rattle.terms.specs.Same.{same_itself}

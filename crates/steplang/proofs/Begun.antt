@@ -1,4 +1,4 @@
--- A run that waits for nothing stands before a statement.
+-- A run that waits for nothing is ready.
 use Rattle.std.proofs.Common.{◌≡◌, refl, rules}
 use Rattle.steplang.specs.declared.run.Stage.{Stage}
 use Rattle.steplang.specs.declared.run.Stage.TheVariants.{Ready, Waits, Over, Refused}

@@ -16,7 +16,7 @@ counted_on : (old : Machine) (next : State → Outcome) (reads : List Read) → 
     → unwound old.frames.items (counting (state_of old reads) next) ≡ unwound old.frames.items (next (state_of (one_more old true) reads))
 counted_on old next reads is = ap (λ (below : Bool). unwound old.frames.items (if below then next (state_of (one_more old true) reads) else faults Budget reads)) is
 
--- what is to come of it is what the statement is to do behind its count
+-- the outcome is what the statement leads to after it was counted
 pub made : (old new : Machine) (below : Bool) → below ≡ nat_lt old.counted BUDGET → below ≡ true → new ≡ record old { counted = if below then suc old.counted else old.counted }
     → (block : Block) → old.block.now ≡ block → (next : State → Outcome) → ((state : State) → run block state ≡ counting state next)
     → (reads : List Read) → outcome_from old reads ≡ unwound new.frames.items (next (state_of new reads))
@@ -39,7 +39,7 @@ spent (Get variable collection components rest) some state over = refused state 
 spent (PutItem collection components value rest) some state over = refused state _ over
 spent (PutTag collection components rest) some state over = refused state _ over
 
--- with no budget left every statement is a fault
+-- with no budget left every statement ends in a fault
 pub overspent : (old : Machine) (below : Bool) → below ≡ nat_lt old.counted BUDGET → below ≡ false → old.block.now ≢ End → (reads : List Read) → outcome_from old reads ≡ faults Budget reads
 overspent old below counted is_over some reads =
     ap (unwound old.frames.items) (spent old.block.now some (state_of old reads) (sym counted ∙ is_over)) ∙ unwound_faults old.frames.items Budget reads

@@ -1,4 +1,4 @@
--- How a body ends, where no read is still to come.
+-- How a body ends, if no read is still to come.
 use Rattle.std.proofs.Common.{◌≡◌, ℤ, List, [], ◌++◌, sym, ap, ◌∙◌, append-nil}
 use Rattle.std.specs.Prelude.{Some}
 use Rattle.steptree.specs.declared.body.Body.{Body}

@@ -1,4 +1,4 @@
--- What a statement leads to, said of another outcome that is the same.
+-- What a statement leads to, carried over to an equal outcome.
 use Rattle.std.proofs.Common.{◌≡◌, List, [], ◌∷◌, ◌∙◌}
 use Rattle.std.specs.Prelude.{Result, Ok, Err, IfOk}
 use Rattle.steptree.specs.Run.{Read, Outcome}

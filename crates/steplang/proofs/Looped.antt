@@ -1,4 +1,4 @@
--- The loop that was opened last, where its block came to its end.
+-- The loop that was opened last, when its block came to its end.
 use Rattle.std.proofs.Common.{◌≡◌, ◌-◌, ◌+◌, ◌<◌, ℕ, suc, ℤ, pos, ◌+ℤ◌, ◌<ℤ◌, List, [], ◌∷◌, ◌++◌, length, take, get_or, slice_set, Bool, true, false, nat_lt, if◌then◌else◌, sym, ap, ◌∙◌, arith, rules}
 use Rattle.std.specs.Borrow.{Bor}
 use Rattle.std.specs.Prelude.{Option, Some, slice_get, unwrap_or}
@@ -18,7 +18,7 @@ use Rattle.steplang.proofs.Unwound.{unwound_last, unwound_faults}
 whole : (frames : List Frame) (at : ℕ) → at < length frames → at ≡ length frames - 1 → at + 1 ≡ length frames
 whole frames at within is = omega (arith, within, is)
 
--- the frame at the last place stands behind the others
+-- the frame at the last place comes after the others
 split_last : (frames : List Frame) (frame : Frame) (at : ℕ) → at ≡ length frames - 1 → slice_get frames at ≡ Some frame → frames ≡ take at frames ++ frame ∷ []
 split_last frames frame at is there =
     let within = slice_get_within frames at frame there in
@@ -26,7 +26,7 @@ split_last frames frame at is there =
     sym (take-length frames) ∙ ap (λ (n : ℕ). take n frames) (sym (whole frames at within is))
     ∙ take_more frames at frame within ∙ ap (λ (f : Frame). take at frames ++ f ∷ []) this
 
--- and another that is written there too
+-- and so does another frame that is written there
 set_last : (frames : List Frame) (frame other : Frame) (at : ℕ) → at ≡ length frames - 1 → slice_get frames at ≡ Some frame → slice_set frames at other ≡ take at frames ++ other ∷ []
 set_last frames frame other at is there =
     let within = slice_get_within frames at frame there in
@@ -44,12 +44,12 @@ pub written_behind : (frames : List Frame) (frame other : Frame) (at : ℕ) → 
 written_behind frames frame other at is there outcome =
     ap (λ (l : List Frame). unwound l outcome) (set_last frames frame other at is there) ∙ unwound_last (take at frames) other outcome
 
--- one turn more is left of it
+-- one more turn is left
 one_left : (next to : ℤ) → next <ℤ to → int_gap next to ≡ suc (int_gap (next +ℤ pos 1) to)
 one_left next to below = search rules
 
 module _ (frames : List Frame) (variable : ℕ) (next to : ℤ) (block : Bor Block) (at : ℕ) (last : at ≡ length frames - 1) (there : slice_get frames at ≡ Some (Turns variable next to block)) (below : next <ℤ to) where
-  -- the state behind the count of a turn
+  -- the state after a turn was counted
   abbrev pub counted : State → State
   counted state = record state { counted = suc state.counted }
 
@@ -61,13 +61,13 @@ module _ (frames : List Frame) (variable : ℕ) (next to : ℤ) (block : Bor Blo
       left_behind frames (Turns variable next to block) at last there (ends state)
       ∙ ap (λ (n : ℕ). unwound (take at frames) (turns (run block.now) variable next n state)) (one_left next to below)
 
-  -- with no budget left it is a fault
+  -- with no budget left it ends in a fault
   pub spent : (state : State) → nat_lt state.counted BUDGET ≡ false → unwound frames (ends state) ≡ faults Budget state.reads
   spent state over =
       opened state ∙ ap (λ (b : Bool). unwound (take at frames) (if b then one_turn state else faults Budget state.reads)) over
       ∙ unwound_faults (take at frames) Budget state.reads
 
-  -- else its block comes next, and behind it the turns from the next value on
+  -- else its block comes next, and after it the turns from the next value on
   pub made : (state : State) → nat_lt state.counted BUDGET ≡ true
       → unwound frames (ends state) ≡ unwound (slice_set frames at (Turns variable (next +ℤ pos 1) to block)) (run block.now (assigned variable next (counted state)))
   made state on =

@@ -1,4 +1,4 @@
--- Where an expression gave a value, the value goes on.
+-- If an expression gave a value, the block goes on with it.
 use Rattle.std.proofs.Common.{◌≡◌, ap}
 use Rattle.std.specs.Prelude.{Result, Ok}
 use Rattle.terms.specs.declared.fault.FaultKind.{FaultKind}

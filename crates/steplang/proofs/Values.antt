@@ -11,7 +11,7 @@ use Rattle.steptree.specs.Values.{with_value, value_of, values_of}
 abbrev pub prepended : List ℤ → Result (List ℤ) FaultKind → Result (List ℤ) FaultKind
 prepended front values = with_value values (λ rest. Ok (front ++ rest))
 
--- one value more stands in front
+-- one more value in front
 prepended_more : (front : List ℤ) (value : ℤ) (values : Result (List ℤ) FaultKind) → prepended front (with_value values (λ rest. Ok (value ∷ rest))) ≡ prepended (front ++ value ∷ []) values
 prepended_more front value (Ok rest) = ap (λ (l : List ℤ). Ok l) (sym (append_assoc front (value ∷ []) rest))
 prepended_more front value (Err kind) = refl

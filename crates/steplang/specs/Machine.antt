@@ -1,4 +1,4 @@
--- An instance while its body runs, as what is still to come of it.
+-- An instance while its body runs, seen as the outcome that is still to come.
 use Rattle.std.specs.Prelude.{◌≡◌, ℕ, ◌+◌, ◌-◌, ◌*◌, ◌<◌, ◌≤◌, ℤ, List, [], ◌∷◌, length}
 use Rattle.std.specs.Int.{int_gap}
 use Rattle.steptree.specs.declared.body.TheConstants.{BUDGET}
@@ -9,25 +9,25 @@ use Rattle.steplang.specs.declared.machine.Step.{Step}
 use Rattle.steplang.specs.declared.machine.Step.TheVariants.{On, Asked, Failed, Ended}
 use Rattle.steplang.specs.declared.machine.Machine.{Machine}
 
--- what stands behind a block that came to this
+-- what follows a block with this outcome, by the frame around it
 abbrev pub behind : Frame → Outcome → Outcome
 behind (Rest block) outcome = followed outcome (run block.now)
 behind (Turns variable next to block) outcome = followed outcome (turns (run block.now) variable next (int_gap next to))
 
--- what stands behind all of the blocks that are open, the innermost the last
+-- what follows all blocks that are open; the innermost is the last of the list
 abbrev pub unwound : List Frame → Outcome → Outcome
 unwound [] outcome = outcome
 unwound (frame ∷ frames) outcome = behind frame (unwound frames outcome)
 
--- the instance, where these reads are still to come
+-- the state of the instance, if these reads are still to come
 abbrev pub state_of : Machine → List Read → State
 state_of machine reads = record { variables = machine.variables; counted = machine.counted; reads = reads; puts = machine.puts.items }
 
--- what comes of it
+-- its outcome along these reads
 abbrev pub outcome_from : Machine → List Read → Outcome
 outcome_from machine reads = unwound machine.frames.items (run machine.block.now (state_of machine reads))
 
--- what was to come of it, whatever the reads, comes of it now that a statement was made
+-- for any reads, the outcome `from` that was to come before a step is the outcome that comes after it
 abbrev pub LeadsFrom : (List Read → Outcome) → Step → Machine → Type 0
 LeadsFrom from On new = (reads : List Read) → from reads ≡ outcome_from new reads
 LeadsFrom from (Asked variable) new = (from [] ≡ asks new.asked)
@@ -35,14 +35,14 @@ LeadsFrom from (Asked variable) new = (from [] ≡ asks new.asked)
 LeadsFrom from (Failed kind) new = (reads : List Read) → from reads ≡ faults kind reads
 LeadsFrom from Ended new = (reads : List Read) → from reads ≡ ends (state_of new reads)
 
--- how many statements and ends of blocks are left to it at most: each statement counts one, and opens one block at most
+-- an upper bound on the statements and ends of blocks that are left: each statement counts one, and opens at most one block
 abbrev pub left_of : Machine → ℕ
 left_of machine = 2 * (BUDGET - machine.counted) + length machine.frames.items
 
--- where the next statement is at hand, fewer are left than before
+-- if there is a next statement, the bound is lower than before
 abbrev pub Falls : Machine → Step → Machine → Type 0
 Falls old step new = step ≡ On → left_of new < left_of old
 
--- where the next statement is at hand, one block more is open at most
+-- if there is a next statement, the bound is at most one higher than before: at most one more block is open
 abbrev pub OpensOne : Machine → Step → Machine → Type 0
 OpensOne old step new = step ≡ On → left_of new ≤ left_of old + 1

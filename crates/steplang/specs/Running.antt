@@ -17,7 +17,7 @@ pub data Awaits : Type 0 where
   -- nothing any more: memory was refused
   Refused : Awaits
 
--- a run: of which step and which instance it is, what it has read, and what it waits for
+-- a run: its step, its instance, what it has read, and what it waits for
 pub record Running : Type 0 where
   pub checked : Bor Checked
   pub instance : Inst
@@ -31,15 +31,15 @@ pending_of Nothing = None
 pending_of Over = None
 pending_of Refused = None
 
--- a run may go on with this: with a value where an item is asked for, and with none where nothing is; with anything behind a refusal; and not
--- behind an end
+-- a run may go on with this answer: a value if it asks for an item, and none if it does not; anything after a refusal of memory;
+-- never after its end
 abbrev pub IsDue : Awaits → Option ℤ → Type 0
 IsDue Nothing None = ⊤
 IsDue (ValueOf address) (Some value) = ⊤
 IsDue Refused answer = ⊤
 IsDue awaits answer = ⊥
 
--- the reads, with the one that is answered now
+-- the reads, with the read that is answered now
 abbrev pub reads_with : List Read → Awaits → Option ℤ → List Read
 reads_with reads (ValueOf address) (Some value) = reads ++ (address, value) ∷ []
 reads_with reads awaits answer = reads

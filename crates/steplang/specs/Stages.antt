@@ -1,4 +1,4 @@
--- How far a run is, and what is still to come of it.
+-- How far a run is, and the outcome that is still to come.
 use Rattle.std.specs.Prelude.{◌≡◌, ℕ, ℤ, List, ◌∷◌, ◌++◌}
 use Rattle.terms.specs.declared.name.Addr.{Addr}
 use Rattle.steptree.specs.declared.body.Body.{Body}
@@ -11,11 +11,11 @@ use Rattle.steplang.specs.Machine.{state_of, unwound, outcome_from}
 use Rattle.steplang.specs.Running as running
 use Rattle.steplang.specs.Running.{Awaits}
 
--- before its first statement: along any reads the same comes of the body and of the machine
+-- if it is ready: along any further reads the body and the machine have the same outcome
 abbrev pub IsReady : Stage → Body → List ℤ → List Read → Machine → Type 0
 IsReady stage body key reads machine = stage ≡ Ready → (more : List Read) → outcome_of body key (reads ++ more) ≡ outcome_from machine more
 
--- while it waits for an item: along its reads the body asks for that, and with its value the same comes of the body and of the machine
+-- while it waits for an item: along its reads the body asks for that item, and with its value body and machine have the same outcome
 abbrev pub IsWaiting : Stage → Body → List ℤ → List Read → Machine → Type 0
 IsWaiting stage body key reads machine = (address : Addr) (variable : ℕ) → stage ≡ Waits address variable → (outcome_of body key reads ≡ asks address)
     × ((value : ℤ) (more : List Read) → outcome_of body key (reads ++ (address, value) ∷ more) ≡ unwound machine.frames.items (run machine.block.now (assigned variable value (state_of machine more))))

@@ -1,5 +1,5 @@
-//! The evaluator of steps' bodies: it stops at each item that a step gets, and goes on with its value. The trees of the bodies
-//! and their check stand in `steptree`, and are passed on here.
+//! The evaluator of the bodies of steps: it stops at each item that a step gets, and goes on with the item's value. The
+//! trees of the bodies and their check are in `steptree`, and are re-exported here.
 #![tactic(auto)]
 
 mod machine;

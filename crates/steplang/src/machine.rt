@@ -15,12 +15,12 @@ use std::alloc::{AllocError, Global};
 use steptree::{BUDGET, Block, Body, Components, Expression, Slot, Statement};
 use terms::{Addr, FaultKind, ItemCollection, Key, MOST_PUTS, Put, Tag, TagCollection};
 
-/// What is still to be done behind a block.
+/// What is still to be done after a block.
 #[derive(Clone, Copy)]
 pub(crate) enum Frame<'a> {
-    /// The statements behind it.
+    /// The statements after it.
     Rest(&'a Block),
-    /// The turns of a loop that are left, from the next value to below the last.
+    /// The turns of a loop that are left, from `next` up to but not including `to`.
     Turns {
         variable: Slot,
         next: i64,
@@ -29,16 +29,16 @@ pub(crate) enum Frame<'a> {
     },
 }
 
-/// What a statement came to. It is small, since each statement hands one on.
+/// The result of a statement. It is small, since each statement returns one.
 #[derive(Clone, Copy)]
 pub(crate) enum Step {
-    /// The next statement is at hand.
+    /// There is a next statement.
     On,
-    /// The machine's item is asked for, and its value is for this variable.
+    /// The machine asks for its item `asked`, whose value is for this variable.
     Asked(Slot),
     /// The instance is at fault.
     Failed(FaultKind),
-    /// Nothing is left to be done.
+    /// Nothing is left to do.
     Ended,
 }
 
@@ -50,7 +50,7 @@ pub(crate) struct Machine<'a> {
     pub(crate) puts: Vec<Put>,
     pub(crate) frames: Vec<Frame<'a>>,
     pub(crate) block: &'a Block,
-    /// The item that was asked for last. Before the first it tells nothing.
+    /// The item that was asked for last. It means nothing before the first.
     pub(crate) asked: Addr,
 }
 
@@ -83,7 +83,7 @@ impl<'a> Machine<'a> {
         self.variables[variable.place()] = value;
     }
 
-    /// Goes on until an item is asked for, or to the end.
+    /// Runs until it asks for an item, or to the end.
     pub(crate) fn go(&mut self) -> Result<Step, AllocError>
         ensures leads { IfOk result (λ step. LeadsFrom (outcome_from self.old) step self.new) }
         ensures stops { IfOk result (λ step. step ≢ On) }
@@ -96,7 +96,7 @@ impl<'a> Machine<'a> {
         }
     }
 
-    // Counts one statement or turn more, or answers no where the budget is used up.
+    // Counts one more statement or turn, or returns `false` if the budget is used up.
     fn count(&mut self) -> bool
         ensures counted { result ≡ nat_lt self.old.counted BUDGET }
         ensures one { self.new ≡ record self.old { counted = if result then suc self.old.counted else self.old.counted } }
@@ -108,7 +108,7 @@ impl<'a> Machine<'a> {
         true
     }
 
-    // A variable gets the value of an expression.
+    // Gives a variable the value of an expression.
     #[tactic(auto, using(crate::proofs::Unwound::unwound_faults))]
     fn assign(&mut self, variable: Slot, value: &Expression, rest: &'a Block) -> Step
         ensures leads { LeadsFrom (λ reads. unwound self.old.frames.items (given (value_of value.now self.old.variables) (state_of self.old reads) (λ v. run rest.now (assigned variable v (state_of self.old reads))))) result self.new }
@@ -124,7 +124,7 @@ impl<'a> Machine<'a> {
         }
     }
 
-    // Takes one of two blocks, by a condition.
+    // Runs one of two blocks, by a condition.
     #[tactic(auto, using(crate::proofs::Unwound::unwound_faults, crate::proofs::Unwound::unwound_last))]
     fn choose(
         &mut self,
@@ -148,7 +148,7 @@ impl<'a> Machine<'a> {
         }
     }
 
-    // Makes a turn of a loop with this value, which lies below the last.
+    // Makes a turn of a loop with this value, which is below the end of the loop.
     #[tactic(auto, using(crate::proofs::Unwound::unwound_faults, crate::proofs::Unwound::unwound_last))]
     fn turn(
         &mut self,
@@ -177,7 +177,7 @@ impl<'a> Machine<'a> {
         Ok(Step::On)
     }
 
-    // Begins a loop: both ends are evaluated once.
+    // Begins a loop: both bounds are evaluated once.
     #[tactic(auto, using(crate::proofs::Unwound::unwound_faults, crate::proofs::Unwound::unwound_last))]
     fn repeat(
         &mut self,
@@ -224,8 +224,7 @@ impl<'a> Machine<'a> {
         self.turn(variable, from, to, block)
     }
 
-    // Makes one turn more of the loop that was opened last. Its place among the open blocks is written anew, which takes no
-    // memory.
+    // Makes one more turn of the loop that was opened last. It overwrites the loop's frame, which needs no memory.
     fn again(&mut self, variable: Slot, next: i64, to: i64, block: &'a Block) -> Step
         requires left { next <ℤ to }
         requires last { slice_get self.old.frames.items (length self.old.frames.items - 1) ≡ Some (Turns variable next to block) }
@@ -247,7 +246,7 @@ impl<'a> Machine<'a> {
         Step::On
     }
 
-    // Leaves a block that came to its end, and goes on with what stands behind it.
+    // Leaves a block that came to its end, and goes on with what follows it.
     #[tactic(auto, using(crate::proofs::Unwound::unwound_last))]
     fn leave(&mut self) -> Step
         ensures leads { LeadsFrom (λ reads. unwound self.old.frames.items (ends (state_of self.old reads))) result self.new }
@@ -272,7 +271,7 @@ impl<'a> Machine<'a> {
         Step::Ended
     }
 
-    // Asks for an item, whose value a variable is to get.
+    // Asks for an item, whose value is for a variable.
     #[tactic(auto, using(crate::proofs::Unwound::unwound_faults, crate::proofs::Unwound::unwound_asks, crate::proofs::Answered::answers))]
     fn get(
         &mut self,
@@ -337,7 +336,7 @@ impl<'a> Machine<'a> {
         }
     }
 
-    // One put more, if there may be one.
+    // Makes one more put, if the limit allows it.
     #[tactic(auto, using(crate::proofs::Unwound::unwound_faults))]
     fn put(&mut self, put: Put, rest: &'a Block) -> Result<Step, AllocError>
         ensures leads { IfOk result (λ step. LeadsFrom (λ reads. unwound self.old.frames.items (putting put (state_of self.old reads) (run rest.now))) step self.new) }
@@ -351,7 +350,7 @@ impl<'a> Machine<'a> {
         Ok(Step::On)
     }
 
-    /// Makes the next statement, or goes on behind a block that came to its end.
+    /// Runs the next statement, or goes on after a block that came to its end.
     pub(crate) fn step(&mut self) -> Result<Step, AllocError>
         ensures leads { IfOk result (λ step. LeadsFrom (outcome_from self.old) step self.new) }
         ensures falls { IfOk result (λ step. Falls self.old step self.new) }

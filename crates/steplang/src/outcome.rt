@@ -23,7 +23,7 @@ impl Model for Reads {
 }
 
 impl Reads {
-    /// These reads. It takes no memory.
+    /// These reads. It does not allocate.
     pub(crate) fn new(reads: Vec<(Addr, i64)>) -> Self
         ensures { result ≡ reads.items }
     {
@@ -38,7 +38,7 @@ impl Reads {
     }
 }
 
-/// An instance whose body gave puts. Along its reads, in order, that is what its body means.
+/// An instance whose body gave puts. `along` is the proof that it ends so along its reads, in order.
 #[derive(Drop)]
 pub struct Given<'a> {
     pub checked: &'a Checked,
@@ -49,7 +49,7 @@ pub struct Given<'a> {
 }
 
 impl<'a> Given<'a> {
-    /// What it put, in order.
+    /// Its puts, in order.
     pub fn puts(&self) -> &Puts
         ensures puts { result.now ≡ self.now.puts }
         ensures few { length result.now ≤ MOST_PUTS }
@@ -58,7 +58,7 @@ impl<'a> Given<'a> {
         &self.puts
     }
 
-    /// Takes out what it put.
+    /// Takes out its puts.
     pub fn into_puts(self) -> Puts
         ensures puts { result ≡ self.entry.puts }
         ensures few { length result ≤ MOST_PUTS }
@@ -68,7 +68,7 @@ impl<'a> Given<'a> {
     }
 }
 
-/// An instance whose body is at fault. Along its reads, in order, that is what its body means.
+/// An instance whose body is at fault. `along` is the proof that it ends so along its reads, in order.
 #[derive(Drop)]
 pub struct Bad<'a> {
     pub checked: &'a Checked,
@@ -89,7 +89,7 @@ impl<'a> Bad<'a> {
     }
 }
 
-/// An instance whose body asks for an item. Along its reads, in order, that is what its body means.
+/// An instance whose body asks for an item. `along` is the proof that it ends so along its reads, in order.
 #[derive(Drop)]
 pub struct Parked<'a> {
     pub checked: &'a Checked,
@@ -99,7 +99,7 @@ pub struct Parked<'a> {
     pub ghost along: { Along checked.now.body instance.key reads (Asks address) },
 }
 
-/// What a run came to.
+/// The result of one call of `advance`.
 #[derive(Drop)]
 pub enum Turn<'a> {
     /// It asks for an item.

@@ -11,11 +11,11 @@ use terms::{Addr, Inst, Puts};
 /// How far a run is.
 #[derive(Clone, Copy)]
 pub(crate) enum Stage {
-    /// Nothing was done yet, or the value that was asked for is just taken.
+    /// Nothing was done yet, or the run has just taken the value that it asked for.
     Ready,
-    /// An item is asked for, whose value is for this variable.
+    /// It asks for an item, whose value is for this variable.
     Waits(Addr, Slot),
-    /// It came to its end.
+    /// It has ended.
     Over,
     /// Memory was refused.
     Refused,
@@ -69,9 +69,9 @@ impl<'a> Run<'a> {
         })
     }
 
-    /// Goes on: at first with `None`, and while an item is asked for with its value. It may not be called behind an end.
+    /// Goes on: first with `None`, then with the value of the item that it asks for. Do not call it after the end.
     ///
-    /// After a refusal of memory each further call is refused too.
+    /// After a refusal of memory each further call fails too.
     pub fn advance(&mut self, answer: Option<i64>) -> Result<Turn<'a>, AllocError>
         requires { IsDue self.old.awaits answer }
         ensures turn { IfOk result (λ turn. Tells turn (answered self.old answer) self.new) }
@@ -106,7 +106,7 @@ impl<'a> Run<'a> {
         Ok(())
     }
 
-    // Goes on to the next item that is asked for, or to the end.
+    // Runs to the next item that it asks for, or to the end.
     fn proceed(&mut self) -> Result<Turn<'a>, AllocError>
         requires { self.old.awaits ≡ Nothing }
         ensures turn { IfOk result (λ turn. Tells turn self.old self.new) }
@@ -156,7 +156,7 @@ impl<'a> Run<'a> {
         }
     }
 
-    /// What the run came to while an item is asked for.
+    /// Turns a run that asks for an item into a `Parked` instance.
     pub fn park(self) -> Parked<'a>
         requires { IsSome (pending_of self.awaits) }
         ensures parked { self.entry ≡ record { checked = result.checked; instance = result.instance; reads = result.reads; awaits = ValueOf result.address } }

@@ -7,10 +7,10 @@ ghost use Rattle.steptree.specs.declared.slot.TheConstants.{MOST_NAMES};
 use steptree::{Components, Expression, MOST_NAMES, Node, Operator};
 use terms::{FaultKind, Key, MAX_COMPONENTS};
 
-/// The values of an instance's variables, by their slots.
+/// The values of an instance's variables, by slot.
 pub(crate) type Variables = [i64; MOST_NAMES];
 
-/// The values before the first statement: the components of the key, and 0 behind them.
+/// The values before the first statement: the components of the key, and zeros after them.
 pub(crate) fn variables_of(key: Key) -> Variables
     ensures { result ≡ key ++ replicate (MOST_NAMES - length key) (pos 0) }
 {
@@ -20,7 +20,7 @@ pub(crate) fn variables_of(key: Key) -> Variables
     variables
 }
 
-// The value of a number or a variable. Most operands are one, and this takes no call.
+// The value of a number or a variable. Most operands are one of these, and then no call is needed.
 #[inline(always)]
 fn leaf(expression: &Expression, variables: &Variables) -> Option<i64>
     ensures value { IfSome result (λ value. value_of expression.now variables.now ≡ Ok value) }
@@ -33,12 +33,12 @@ fn leaf(expression: &Expression, variables: &Variables) -> Option<i64>
     }
 }
 
-/// What an expression gives, its operands from the left.
+/// Evaluates an expression, its operands from the left.
 #[inline(always)]
 pub(crate) fn evaluate(expression: &Expression, variables: &Variables) -> Result<i64, FaultKind>
     ensures { result ≡ value_of expression.now variables.now }
 {
-    // An operation on two leaves takes no call.
+    // An operation on two leaves needs no call.
     if let Node::Operation(operator, operands) = &expression.node
         && let Some(left) = leaf(&operands.0, variables)
         && let Some(right) = leaf(&operands.1, variables)
@@ -48,7 +48,7 @@ pub(crate) fn evaluate(expression: &Expression, variables: &Variables) -> Result
     evaluate_any(expression, variables)
 }
 
-// What any expression gives.
+// Evaluates any expression.
 fn evaluate_any(expression: &Expression, variables: &Variables) -> Result<i64, FaultKind>
     ensures { result ≡ value_of expression.now variables.now }
 {
@@ -74,7 +74,7 @@ fn evaluate_any(expression: &Expression, variables: &Variables) -> Result<i64, F
     }
 }
 
-/// The key whose components these expressions give, from the left.
+/// The key whose components are the values of these expressions, evaluated from the left.
 pub(crate) fn evaluate_key(components: &Components, variables: &Variables) -> Result<Key, FaultKind>
     ensures { result ≡ values_of components.now variables.now }
 {
@@ -86,7 +86,7 @@ pub(crate) fn evaluate_key(components: &Components, variables: &Variables) -> Re
     Ok(Key::new(&values[..expressions.len()]))
 }
 
-// What an operator gives of two values.
+// Applies an operator to two values.
 #[inline(always)]
 fn operate(operator: Operator, left: i64, right: i64) -> Result<i64, FaultKind>
     ensures { result ≡ operated operator left right }
@@ -116,7 +116,7 @@ fn divide(left: i64, right: i64) -> Result<i64, FaultKind>
     left.checked_div(right).ok_or(FaultKind::Overflow)
 }
 
-// The remainder, with the sign of what is divided.
+// The remainder, with the sign of the dividend.
 fn remainder(left: i64, right: i64) -> Result<i64, FaultKind>
     ensures { result ≡ operated Remainder left right }
 {

@@ -3,7 +3,7 @@ use Rattle.std.proofs.lemmas.List.{drop-replicate}
 use Rattle.steptree.specs.declared.slot.TheConstants.{MOST_NAMES}
 use Rattle.steplang.proofs.value.variables_of.Goals as goal
 
--- the components in front, and behind them what is left of so many equal values
+-- the components in front, and after them what is left of `places` equal values
 filled : (front components key : List ℤ) (places : ℕ) (value : ℤ) → front ≡ components → components ≡ key
     → front ++ drop (length components) (replicate places value) ≡ key ++ replicate (places - length key) value
 filled front components key places value copied is =
