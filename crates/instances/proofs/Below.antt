@@ -1,4 +1,4 @@
--- Lists in the order of their keys, each of them below those behind it.
+-- Lists in the order of their keys: each key is below those after it.
 use Rattle.std.proofs.Common.{◌≡◌, ◌∙◌, ap, refl, T, Bool, true, false, cond, ◌&&◌, List, [], ◌∷◌, Some, None}
 use Rattle.std.specs.declared.cmp.Ordering.{Ordering}
 use Rattle.std.specs.declared.cmp.Ordering.TheVariants.{Less, Equal, Greater}

@@ -1,4 +1,4 @@
--- The ways in which an instance comes from one state into another.
+-- The ways in which an instance moves from one state to another.
 use Rattle.std.proofs.Common.{◌≡◌, ◌∙◌, ap, sym, refl, subst, ℕ, ◌+◌, ◌-◌, ◌<◌, ◌≤◌, min, ℤ, Bool, true, false, cond, List, [], ◌∷◌, ◌++◌, length, Option, Some, None, is_some, Result, Ok, Err, OnOk, is_ok, arith}
 use Rattle.std.specs.Ordering.{eq_by_cmp}
 use Rattle.std.specs.FinMap.{FinMap, entries, get, insert}
@@ -13,7 +13,7 @@ use Rattle.instances.specs.OfStep.{OfStep, is_ready, is_running, one_if, times, 
 use Rattle.instances.proofs.Counted.{one_counts, one_fewer}
 use Rattle.instances.proofs.Kept.{Keys, at_key, kept, as_many, one_more, times_pushed, times_put_first, times_taken, stood}
 
--- an instance is ready where it stands among the ready ones
+-- an instance that is counted as ready is ready
 only_ready : (o : Option State) → 1 ≤ one_if is_ready o → o ≡ Some Ready
 only_ready None one = absurd (omega (arith, one))
 only_ready (Some Ready) one = refl
@@ -46,18 +46,18 @@ waits_at_some (Some Done) is = absurd is
 waits_at_some (Some (Waiting address)) is = (Waiting address, refl, refl)
 
 module _ (states : FinMap key_cmp State) (key : List ℤ) (ready : Keys) (running capacity : ℕ) (is : IsKept states ready running capacity) where
-  -- where one runs, the count is not 0
+  -- if an instance runs, the count is not 0
   pub one_runs : get states key ≡ Some Running → 1 ≤ running
   one_runs there = omega (arith, is.counted, one_counts is_running states key Running there refl)
 
-  -- where one is not ready, there is room for it among the ready
+  -- if an instance is not ready, there is room for it among the ready ones
   pub has_room : (s : State) → get states key ≡ Some s → is_ready s ≡ false → length ready < capacity
   has_room s there other = omega (arith, is.all_listed, one_fewer is_ready states key s there other, is.enough)
 
   pub waiting_has_room : IsWaiting (get states key) → length ready < capacity
   waiting_has_room waits = let some = waits_at_some (get states key) waits in has_room some.0 some.1 some.2
 
-  -- it ends, or waits
+  -- an instance that runs ends, or waits
   pub stops : (to : State) → get states key ≡ Some Running → is_ready to ≡ false → is_running to ≡ false → IsKept (insert states key to) ready (running - 1) capacity
   stops to there not_ready not_running =
       let was = ap (one_if is_ready) there in
@@ -70,7 +70,7 @@ module _ (states : FinMap key_cmp State) (key : List ℤ) (ready : Keys) (runnin
       (omega (arith, runs, rests, one_runs there))
       (omega (arith, as_many states key to ready running capacity is (ap is_some there), is.enough))
 
-  -- one that is not ready becomes ready
+  -- an instance that is not ready becomes ready
   back : (new_running : ℕ) → one_if is_ready (get states key) ≡ 0 → new_running + one_if is_running (get states key) ≡ running → is_some (get states key) ≡ true → IsKept (insert states key Ready) (key ∷ ready) new_running capacity
   back new_running was runs there =
       kept states key Ready ready running capacity is (key ∷ ready) new_running
@@ -85,7 +85,7 @@ module _ (states : FinMap key_cmp State) (key : List ℤ) (ready : Keys) (runnin
   pub wakes : IsWaiting (get states key) → IsKept (insert states key Ready) (key ∷ ready) running capacity
   wakes waits = let none = waits_not_ready (get states key) waits in back running none.0 (omega (arith, none.1)) none.2
 
-  -- one that is taken out of the ready ones runs
+  -- an instance that is taken out of the ready ones was ready
   pub is_one : (left : Keys) → IsPermutation ready (key ∷ left) → get states key ≡ Some Ready
   is_one left taken = only_ready (get states key) (omega (arith, stood ready left key taken, is.listed key))
 
@@ -99,7 +99,7 @@ module _ (states : FinMap key_cmp State) (key : List ℤ) (ready : Keys) (runnin
       (omega (arith, ap (one_if is_running) state))
       (omega (arith, as_many states key Running ready running capacity is (ap is_some state), is.enough))
 
-  -- one that was not there is ready
+  -- a new instance is ready
   pub comes : get states key ≡ None → length (entries states) + 1 ≤ capacity → IsKept (insert states key Ready) (ready ++ key ∷ []) running capacity
   comes gone enough =
       kept states key Ready ready running capacity is (ready ++ key ∷ []) running
@@ -108,7 +108,7 @@ module _ (states : FinMap key_cmp State) (key : List ℤ) (ready : Keys) (runnin
       (omega (arith, ap (one_if is_running) gone))
       (omega (arith, one_more states key Ready ready running capacity is gone, enough))
 
-  -- one that was not there is done
+  -- a new instance is done
   pub comes_done : get states key ≡ None → length (entries states) + 1 ≤ capacity → IsKept (insert states key Done) ready running capacity
   comes_done gone enough =
       kept states key Done ready running capacity is ready running
@@ -130,7 +130,7 @@ module _ (old new : Keyed State) (capacity : ℕ) (now : OfStep) (key : List ℤ
         room = ap (λ s. min s.room (capacity - length (entries s.items))) news ∙ ap (λ n. min old.room (capacity - n)) (as_many old.items key to ready running capacity kept there);
       })
 
-  -- one more is seen, and room for one less
+  -- one more instance is seen, and room for one less
   pub adds :
       (state : State) (ready : Keys) (running : ℕ) → IsKept old.items ready running capacity → Adds old new key state → get now.states key ≡ None → 0 < now.room →
       AddsInstance now (seen_of new capacity) key state × (get old.items key ≡ None) × (length (entries old.items) + 1 ≤ capacity)

@@ -1,4 +1,4 @@
--- How many entries of a map pass a test, before and after a write.
+-- The number of entries of a map that pass a test, before and after a write.
 use Rattle.std.proofs.Common.{◌≡◌, ◌∙◌, ap, sym, refl, subst, ℕ, suc, ◌+◌, ◌≤◌, ℤ, T, Bool, true, false, cond, List, [], ◌∷◌, length, sum_by, Some, None, arith}
 use Rattle.std.specs.Option.{unwrap_or}
 use Rattle.std.specs.declared.cmp.Ordering.{Ordering}
@@ -29,7 +29,7 @@ weight test e = cond (test e.1) 1 0
 abbrev pub number : Bool → ℕ
 number b = cond b 1 0
 
--- the first of a list is counted by itself
+-- a sum is the first element's part and the sum over the rest
 pub front : {X : Type 0} (f : X → ℕ) (x : X) (xs : List X) → sum_by f (x ∷ xs) ≡ f x + sum_by f xs
 front f x xs = omega (arith, sum_by-append f (x ∷ []) xs)
 
@@ -76,7 +76,7 @@ module _ (test : State → Bool) where
           subst (λ r. sum_by (weight test) (by_order r ((k, v) ∷ e ∷ es) ((e.0, v) ∷ es) (e ∷ put key_cmp k v es)) + one_if test (cond (is_eq r) (Some e.1) (find key_cmp k es)) ≡ sum_by (weight test) (e ∷ es) + cond (test v) 1 0) (sym is)
           (behind _ (sum_by (weight test) (e ∷ es)) (weight test e) (sum_by (weight test) (put key_cmp k v es)) (one_if test (find key_cmp k es)) (sum_by (weight test) es) (cond (test v) 1 0) (front (weight test) e (put key_cmp k v es)) (front (weight test) e es) rest)
 
-  -- an entry that is written counts in place of the one that was there
+  -- an entry that is written is counted in place of the one that was there
   pub counted : (m : FinMap key_cmp State) (k : List ℤ) (v : State) → how_many test (insert m k v) + one_if test (get m k) ≡ how_many test m + one_if test (Some v)
   counted m k v =
       omega (arith, counted_put (entries m) k v (entries_sorted m), ap (sum_by (weight test)) (entries-insert keys_total m k v), ap (one_if test) (get-entries m k))
@@ -97,7 +97,7 @@ module _ (test : State → Bool) where
           let rest = others is in
           (λ counts. omega (arith, rest.0 counts), λ passes. omega (arith, rest.1 passes, bit (test e.1)))
 
-  -- one of those that are there is counted, or one is not
+  -- if an entry that is there passes the test, the count is at least 1
   pub one_counts : (m : FinMap key_cmp State) (k : List ℤ) (v : State) → get m k ≡ Some v → test v ≡ true → 1 ≤ how_many test m
   one_counts m k v is = (found_count (entries m) k v (sym (get-entries m k) ∙ is)).0
 

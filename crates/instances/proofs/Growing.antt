@@ -1,4 +1,4 @@
--- Room that is made, step after step.
+-- Room that is made in one step after another.
 use Rattle.std.proofs.Common.{◌≡◌, ◌≢◌, ◌∙◌, ap, sym, refl, subst, ℕ, zero, suc, ◌<◌, ◌≤◌, ◌^◌, ◌==◌, min, ℤ, Bool, true, false, cond, List, [], ◌∷◌, map, take, set, length, get_or, replicate, slice_get, Option, Some, None, option_map, is_some, Result, Ok, Err, OnErr, arith}
 use mathlib.Core.Bool.{false≢true}
 use Rattle.std.specs.Option.{unwrap_or}
@@ -145,7 +145,7 @@ pub on_err : {T E P : Type 0} (r : Result T E) → P → OnErr r P
 on_err (Ok done) holds = tt
 on_err (Err error) holds = holds
 
--- where a step has less room, so has the collection that prescribes it
+-- if a step has less room, so has the collection that prescribes it
 pub least_below :
     (collection count room : ℕ) (olds news : List Step) (n : ℕ) (step : Step) → n < length news → AllGrown collection olds news → step ≡ get_or news n step → step.prescriber.0 ≡ collection →
     step.instances.room < count → least collection room olds < count

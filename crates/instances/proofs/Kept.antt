@@ -1,4 +1,4 @@
--- What is kept beside the states stays right while an instance comes from one state into another.
+-- What is kept beside the states stays right when an instance moves from one state to another.
 use Rattle.std.proofs.Common.{◌≡◌, ◌∙◌, ap, sym, refl, subst, ℕ, ◌+◌, ◌≤◌, ℤ, Bool, true, false, cond, List, [], ◌∷◌, ◌++◌, length, Some, None, is_some, arith}
 use Rattle.std.specs.Ordering.{eq_by_cmp}
 use Rattle.std.specs.Cmp.{Equal-is, eq_by_cmp_equiv}
@@ -15,7 +15,7 @@ use Rattle.instances.proofs.Counted.{counted}
 abbrev pub Keys : Type 0
 Keys = List (List ℤ)
 
--- what a write adds to the times at a key
+-- what one element adds to the number of times that a key is in a list
 abbrev pub at_key : List ℤ → List ℤ → ℕ → ℕ
 at_key q key count = cond (eq_by_cmp key_cmp q key) count 0
 
@@ -45,14 +45,14 @@ module _ (states : FinMap key_cmp State) (key : List ℤ) (to : State) (ready : 
           let here = subst (λ b. times q new_ready + cond b (one_if is_ready (get states key)) 0 ≡ times q ready + cond b (one_if is_ready (Some to)) 0) other lists in
           omega (arith, here, is.listed q) ∙ sym (ap (λ b. one_if is_ready (cond b (Some to) (get states q))) other)
 
-  -- an instance that was there takes no more room
+  -- an instance that was already there takes no more room
   pub as_many : is_some (get states key) ≡ true → length (entries (insert states key to)) ≡ length (entries states)
   as_many there = sym (len-entries (insert states key to)) ∙ len-insert keys_total states key to ∙ ap (λ b. cond b (len states) (len states + 1)) there ∙ len-entries states
 
   pub one_more : get states key ≡ None → length (entries (insert states key to)) ≡ length (entries states) + 1
   one_more gone = sym (len-entries (insert states key to)) ∙ len-insert keys_total states key to ∙ ap (λ o. cond (is_some o) (len states) (len states + 1)) gone ∙ ap (λ n. n + 1) (len-entries states)
 
--- a key more, at the end or in front, and one that is taken out
+-- one more key, at the end or in front, and a key that is taken out
 pub times_pushed : (q key : List ℤ) (keys : Keys) → times q (keys ++ key ∷ []) ≡ times q keys + at_key q key 1
 times_pushed q key keys = omega (arith, sum_by-append (λ k. cond (eq_by_cmp key_cmp q k) 1 0) keys (key ∷ []))
 
@@ -64,7 +64,7 @@ times_taken q key keys left taken =
     let one : List ℤ → ℕ = λ k. cond (eq_by_cmp key_cmp q k) 1 0 in
     omega (arith, sum_by-append one (key ∷ []) left, sum_by-IsPermutation one keys (key ∷ left) taken)
 
--- a key that was taken out is one of a ready instance
+-- a key that was taken out of the list was in it
 pub stood : (keys left : Keys) (key : List ℤ) → IsPermutation keys (key ∷ left) → 1 ≤ times key keys
 stood keys left key taken = omega (arith, times_taken key key keys left taken, here)
   where

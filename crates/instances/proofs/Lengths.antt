@@ -1,4 +1,4 @@
--- How many instances there are, and how many are done, as the lengths of the lists of them.
+-- The number of instances, and the number of those that are done, as the lengths of their lists.
 use Rattle.std.proofs.Common.{◌≡◌, ◌∙◌, ap, sym, refl, ℕ, suc, ◌+◌, ◌-◌, ◌^◌, min, cond, List, [], ◌∷◌, map, length, sum_by, arith, length-append}
 use Rattle.std.specs.List.{cons_option}
 use Rattle.std.specs.FinMap.{entries}

@@ -1,4 +1,4 @@
--- One instance of one step comes into another state: what is seen of it over all steps.
+-- One instance of one step moves to another state: how this is seen over all steps.
 use Rattle.std.proofs.Common.{◌≡◌, ◌≢◌, ◌⊎◌, ◌∙◌, ap, sym, refl, subst, inl, inr, ℕ, zero, suc, ◌+◌, ◌<◌, ◌≤◌, ◌^◌, ◌==◌, min, ℤ, Bool, true, false, cond, List, [], ◌∷◌, set, length, get_or, slice_get, sum_by, Some, is_some, arith}
 use mathlib.Core.Bool.{false≢true}
 use Rattle.std.specs.Option.{unwrap_or}
@@ -17,7 +17,7 @@ use Rattle.instances.specs.OfStep.{OfStep, Moves, how_many, one_if}
 use Rattle.instances.proofs.Counted.{front, counted}
 use Rattle.instances.specs.Known.{Known, state_in, state_at, prescriber_in, least, ArePrescribed, MovesOne}
 
--- what stands at a place, and what stands there after a write
+-- what is at a place, and what is there after a write
 pub read_at : {X : Type 0} (xs : List X) (n : ℕ) (x : X) → n < length xs → x ≡ get_or xs n x → slice_get xs n ≡ Some x
 read_at [] n x within is = absurd (omega (arith, within))
 read_at (first ∷ xs) zero x within is = ap Some (sym is)
@@ -35,7 +35,7 @@ written_elsewhere (first ∷ xs) zero (suc other) x differs = refl
 written_elsewhere (first ∷ xs) (suc n) zero x differs = refl
 written_elsewhere (first ∷ xs) (suc n) (suc other) x differs = written_elsewhere xs n other x (λ same. differs (ap suc same))
 
--- the least room over steps stays where a step keeps its prescriber and its room
+-- the least room over steps stays the same if a step keeps its prescriber and its room
 least_kept : (collection room : ℕ) (steps : List Step) (n : ℕ) (old new : Step) → old ≡ get_or steps n old → new.prescriber.0 ≡ old.prescriber.0 → new.instances.room ≡ old.instances.room → least collection room (set steps n new) ≡ least collection room steps
 least_kept collection room [] n old new is prescriber same = refl
 least_kept collection room (step ∷ steps) zero old new is prescriber same =
@@ -43,7 +43,7 @@ least_kept collection room (step ∷ steps) zero old new is prescriber same =
     ∙ ap (λ (r : ℕ). least collection (cond (step.prescriber.0 == collection) (min room r) room) steps) (same ∙ ap (λ (s : Step). s.instances.room) is)
 least_kept collection room (step ∷ steps) (suc n) old new is prescriber same = least_kept collection (cond (step.prescriber.0 == collection) (min room step.instances.room) room) steps n old new is prescriber same
 
--- where one of a list is written over, the sum has the new one's number in place of the old one's
+-- if an element of a list is overwritten, the sum has the new element's number in place of the old one's
 summed : (f : Step → ℕ) (steps : List Step) (n : ℕ) (old new : Step) → n < length steps → old ≡ get_or steps n old → sum_by f (set steps n new) + f old ≡ sum_by f steps + f new
 summed f [] n old new within is = absurd (omega (arith, within))
 summed f (step ∷ steps) zero old new within is = omega (arith, front f new steps, front f step steps, ap f is)
@@ -98,7 +98,7 @@ module _ (tags : Numbered Bool) (steps : List Step) (instance : Inst) (old : Ste
           ∙ sym (ap (λ n. prescriber_in (slice_get steps n)) same ∙ ap prescriber_in before)
       by_number other (inr another) = ap prescriber_in (written_elsewhere steps number other step another)
 
-  -- the instances are those that were there, so they are prescribed as before
+  -- the instances are the same as before, so they are prescribed as before
   pub still_prescribed : is_some (get old.instances.states instance.key) ≡ true → (length steps ≤ 2 ^ 16) × ArePrescribed tags steps → (length (set steps number step) ≤ 2 ^ 16) × ArePrescribed tags (set steps number step)
   still_prescribed there whole = (omega (arith, whole.0, length-set steps number step), λ n other key stands. by_number n other key stands (cases_eq n number))
     where
@@ -114,17 +114,17 @@ module _ (tags : Numbered Bool) (steps : List Step) (instance : Inst) (old : Ste
           (same_there key (eq_by_cmp key_cmp key instance.key) refl ∙ whole.1 number old key (read_at steps number old within is))
       by_number n other key stands (inr another) = whole.1 n other key (sym (written_elsewhere steps number n step another) ∙ stands)
 
--- an instance that has a state is one of a step that there is
+-- an instance that has a state belongs to a step of the list
 pub of_step : (steps : List Step) (n : ℕ) (key : List ℤ) → is_some (state_in (slice_get steps n) key) ≡ true → n < length steps
 of_step [] n key there = absurd (false≢true there)
 of_step (step ∷ steps) zero key there = omega arith
 of_step (step ∷ steps) (suc n) key there = omega (arith, of_step steps n key there)
 
--- and has that state there
+-- and has that state in the step
 pub state_here : (steps : List Step) (n : ℕ) (key : List ℤ) (old : Step) → n < length steps → old ≡ get_or steps n old → state_in (slice_get steps n) key ≡ get old.instances.states key
 state_here steps n key old within is = ap (λ o. state_in o key) (read_at steps n old within is)
 
--- the same of what was seen before, for an instance that has a state
+-- the same in terms of what was seen before, for an instance that has a state
 module _ (tags : Numbered Bool) (steps : List Step) (instance : Inst) (old : Step) (new : OfStep) (to : State) (now : Known) (task : Inst)
     (seen : ◌≡◌ {A = Known} (record { tags = tags; steps = steps }) now) (same : instance ≡ task) (there : is_some (state_at now task) ≡ true)
     (is : old ≡ get_or steps instance.collection.0 old) (moves : Moves old.instances new instance.key to) where
@@ -145,7 +145,7 @@ module _ (tags : Numbered Bool) (steps : List Step) (instance : Inst) (old : Ste
       still_prescribed tags steps instance old new to within is moves
       (ap is_some (sym (state_here steps instance.collection.0 instance.key old within is)) ∙ there_before) whole
 
--- the state of an instance is the one that it has in its step
+-- the state of an instance is the state that it has in its step
 pub state_known :
     (tags : Numbered Bool) (steps : List Step) (instance : Inst) (old : Step) (now : Known) → ◌≡◌ {A = Known} (record { tags = tags; steps = steps }) now →
     instance.collection.0 < length steps → old ≡ get_or steps instance.collection.0 old → state_at now instance ≡ get old.instances.states instance.key

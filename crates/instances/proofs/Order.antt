@@ -34,7 +34,7 @@ apart Greater s differs = refl
 other_step : (a b : Inst) → a.collection.0 ≢ b.collection.0 → eq_by_cmp inst_cmp a b ≡ false
 other_step a b differs = apart (nat_cmp a.collection.0 b.collection.0) (key_cmp a.key b.key) (λ tie. differs (nat_cmp-IsAntisymmetric _ _ tie))
 
--- only one and the same instance ties
+-- an instance ties only with itself
 both_tie : (r s : Ordering) → ordering_then r s ≡ Equal → (r ≡ Equal) × (s ≡ Equal)
 both_tie Less s tie = absurd (cc)
 both_tie Equal s tie = (refl, tie)

@@ -1,4 +1,4 @@
--- A list in order, of which some are kept: these are in order, and are found where they were.
+-- An ordered list of which some entries are kept: these are in order, and are found with what was kept of them.
 use Rattle.std.proofs.Common.{◌≡◌, ◌∙◌, ap, sym, refl, subst, T, Bool, true, false, cond, List, [], ◌∷◌, map, Option, Some, None, option_map, is_some, Result, Ok, Err, IfOk}
 use mathlib.Core.Bool.{false≢true}
 use Rattle.std.specs.Option.{option_and_then, unwrap_or}
@@ -52,7 +52,7 @@ module _ {V : Type 0} (keep : State → Option V) where
   sorted_kept (e ∷ es) sorted =
       sorted_first e.0 (keep e.1) (kept es) (below_kept e.0 es (first (below_all inst_cmp e.0 es) (is_sorted inst_cmp es) sorted)) (sorted_kept es (second (below_all inst_cmp e.0 es) (is_sorted inst_cmp es) sorted))
 
-  -- the first is the one, or another
+  -- the first entry is the one that is looked for, or another
   is_first : (a b : Inst) (o : Option V) (rest : Placed V) → eq_by_cmp inst_cmp a b ≡ true → find inst_cmp a rest ≡ None → find inst_cmp a (with_first b o rest) ≡ o
   is_first a b None rest same none = none
   is_first a b (Some v) rest same none = ap (λ t. cond t (Some v) (find inst_cmp a rest)) same
@@ -74,11 +74,11 @@ module _ {V : Type 0} (keep : State → Option V) where
       by_test false apart rest =
           is_other a e.0 (keep e.1) (kept es) apart ∙ rest ∙ ap (λ t. option_and_then keep (cond t (Some e.1) (find inst_cmp a es))) (sym apart)
 
-  -- the same of all instances that are known
+  -- the same for all instances that are known
   pub kept_of : (known : Known) (a : Inst) → find inst_cmp a (kept (all_instances known)) ≡ option_and_then keep (state_at known a)
   kept_of known a = found_kept a (all_instances known) (rises known) ∙ ap (option_and_then keep) (found known a)
 
--- keys that rise are in strict order
+-- rising keys are in strict order
 each_below : {V : Type 0} (a : Inst) (es : Placed V) → T (below_all inst_cmp a es) → AllByRecursion (λ b. inst_cmp a b ≡ Less) (map (λ e. e.0) es)
 each_below a [] below = tt
 each_below a (e ∷ es) below =
@@ -181,7 +181,7 @@ are_the_done known =
           );
     }
 
--- what a list that was made holds, is so of the list in the vector
+-- what holds for the list that was made also holds for the list in the vector
 pub listed_of : {L X E : Type 0} (items : L → List X) (Is : List X → Type 0) (made list : List X) (r : Result L E) → IfOk r (λ l. items l ≡ made) → made ≡ list → Is list → IfOk r (λ l. Is (items l))
 listed_of items Is made list (Ok l) same known is = subst Is (sym (same ∙ known)) is
 listed_of items Is made list (Err error) same known is = tt

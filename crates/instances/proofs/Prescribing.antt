@@ -1,4 +1,4 @@
--- A tag comes, and with it the instances that it prescribes: what is seen of it over all steps.
+-- A tag is added, and with it the instances that it prescribes: how this is seen over all steps.
 use Rattle.std.proofs.Common.{◌≡◌, ◌≢◌, ◌∙◌, ap, sym, refl, subst, ℕ, zero, suc, ◌+◌, ◌-◌, ◌<◌, ◌≤◌, ◌^◌, ◌==◌, ◌&&◌, min, ℤ, Bool, true, false, cond, List, [], ◌∷◌, length, get_or, slice_get, Option, Some, None, option_map, is_some, Result, Ok, Err, IfErr, is_ok, arith}
 use mathlib.Core.Bool.{false≢true}
 use Rattle.std.specs.Option.{unwrap_or}
@@ -22,7 +22,7 @@ use Rattle.instances.specs.declared.step.Step.{Step}
 use Rattle.instances.specs.Known.{tag_place, state_in, prescriber_in, prescribed_in, least, ArePrescribed, Prescribes, AllCanTake, changed_from, instance_at, with_instance}
 use Rattle.instances.proofs.Stepwise.{as_long, changed_get}
 
--- a test of two numbers
+-- two numbers are equal if the test says so
 pub same_number : (a b : ℕ) → (a == b) ≡ true → a ≡ b
 same_number a b is = (unsigned_Decides a b).0 is
 
@@ -108,7 +108,7 @@ module _ (name : Tag) (first : Inst → State) where
 
   -- ---- states
 
-  -- the new instance is the one of the tag's key
+  -- the new instance is the one with the tag's key
   its_state : (n : ℕ) (states : FinMap key_cmp State) (key : List ℤ) (t : Bool) → eq_by_cmp key_cmp key name.key ≡ t →
       cond t (Some (first (instance_at n name.key))) (get states key) ≡ cond t (Some (first (instance_at n key))) (get states key)
   its_state n states key true tied = ap (λ k. Some (first (instance_at n k))) (sym (same_key key name.key ((Equal-is (key_cmp key name.key)).0 tied)))
@@ -184,13 +184,13 @@ module _ (name : Tag) (first : Inst → State) where
       other_room = λ other differs. ap (λ r. least other.0 r (changed_from with_one 0 steps)) (adds.other_room.others other.0 differs) ∙ least_other other.0 (room_at tags other.0) 0 steps differs;
     }
 
--- where there is room there is such a collection
+-- if there is room for a collection, then there is such a collection
 pub room_within : (rooms : List ℕ) (n : ℕ) → 0 < get_or rooms n 0 → n < length rooms
 room_within [] n some = absurd (omega (arith, some))
 room_within (room ∷ rooms) zero some = omega arith
 room_within (room ∷ rooms) (suc n) some = omega (arith, room_within rooms n some)
 
--- what there is room for, and what is not there, is not refused
+-- an insertion is not refused if there is room and the entry is not there
 pub not_refused : {X : Type 0} (there : Option X) (room : ℕ) (r : Result (Unit {0}) (InsertError X)) → there ≡ None → 0 < room → IfErr r (IsRefused there room) → is_ok r ≡ true
 not_refused there room (Ok done) gone some refused = refl
 not_refused there room (Err (Taken value)) gone some refused = absurd (none_is_some value (sym gone ∙ refused))

@@ -1,4 +1,4 @@
--- Where no instance passes a test, none is counted, and the other way round.
+-- If no instance passes a test, the count is 0, and the other way round.
 use Rattle.std.proofs.Common.{◌≡◌, ◌∙◌, ◌↔◌, ap, sym, refl, ℕ, zero, suc, ℤ, T, Bool, true, false, cond, List, [], ◌∷◌, sum_by, slice_get, Some, is_some, IsTrue, arith}
 use mathlib.Core.Bool.{false≢true}
 use Rattle.std.specs.Option.{unwrap_or}
@@ -22,7 +22,7 @@ no_weight true none = absurd (omega (arith, none))
 no_weight false none = refl
 
 module _ (test : State → Bool) where
-  -- what is found among entries of which none is counted fails the test
+  -- if the count over some entries is 0, an entry that is found among them fails the test
   fails : (es : List Entry) (key : List ℤ) (state : State) → sum_by (weight test) es ≡ 0 → find key_cmp key es ≡ Some state → test state ≡ false
   fails [] key state none there = absurd (cc)
   fails (e ∷ es) key state none there =
@@ -36,7 +36,7 @@ module _ (test : State → Bool) where
   none_counted : (states : FinMap key_cmp State) (key : List ℤ) (state : State) → how_many test states ≡ 0 → get states key ≡ Some state → test state ≡ false
   none_counted states key state none there = fails (entries states) key state none (sym (get-entries states key) ∙ there)
 
-  -- what is found behind the first entry is found in all
+  -- an entry that is found after the first is found in the whole list
   later : (e : Entry) (es : List Entry) (key : List ℤ) (state : State) → T (below_all key_cmp e.0 es) → find key_cmp key es ≡ Some state → find key_cmp key (e ∷ es) ≡ Some state
   later e es key state below there = by_test (eq_by_cmp key_cmp key e.0) refl
     where
@@ -46,7 +46,7 @@ module _ (test : State → Bool) where
           absurd (false≢true (ap is_some (sym (ap (λ k. find key_cmp k es) same ∙ none_below key_cmp e.0 es below) ∙ there)))
       by_test false apart = there
 
-  -- of entries that all fail the test none is counted
+  -- if all entries fail the test, the count is 0
   all_fail : (es : List Entry) → T (is_sorted key_cmp es) → ((key : List ℤ) (state : State) → find key_cmp key es ≡ Some state → test state ≡ false) → sum_by (weight test) es ≡ 0
   all_fail [] sorted each = refl
   all_fail (e ∷ es) sorted each =
@@ -71,14 +71,14 @@ module _ (test : State → Bool) where
       let others = all_of_none steps (λ n key state there. each (suc n) key state there) in
       omega (arith, front here step steps, first_none, others)
 
-  -- none is counted exactly where each fails the test
+  -- the count is 0 exactly when each instance fails the test
   pub counted_none : (known : Known) → (total test known ≡ 0) ↔ ((instance : Inst) (state : State) → state_at known instance ≡ Some state → test state ≡ false)
   counted_none known = (
     λ none instance state there. none_of_all known.steps instance.collection.0 instance.key state none there,
     λ each. all_of_none known.steps (λ n key state there. each (instance_at n key) state there),
   )
 
--- a test of both counts tells whether no instance is ready or runs
+-- a test of both counts says whether no instance is ready or runs
 pub quiet : (known : Known) (b : Bool) → (b ≡ true → (total is_ready known ≡ 0) × (total is_running known ≡ 0)) → (total is_ready known ≡ 0 → total is_running known ≡ 0 → b ≡ true) → IsTrue b ↔ NoneIsActive known
 quiet known b tells told = (
   λ is instance state there.

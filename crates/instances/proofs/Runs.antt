@@ -1,4 +1,4 @@
--- How many instances run, told by which ones do.
+-- The number of instances that run, by which of them run.
 use Rattle.std.proofs.Common.{◌≡◌, ◌∙◌, ap, sym, refl, ℕ, zero, suc, ◌+◌, ◌≤◌, ℤ, T, Bool, true, false, cond, List, [], ◌∷◌, get_or, sum_by, slice_get, Some, is_some, arith}
 use mathlib.Core.Bool.{false≢true}
 use Rattle.std.specs.Ordering.{is_eq, eq_by_cmp}
@@ -23,7 +23,7 @@ use Rattle.instances.proofs.Quiet.{all_of_none, counted_none}
 abbrev Keys : Type 0
 Keys = List ℤ
 
--- a key that is found behind an entry is not the entry's
+-- a key that is found after an entry is not that entry's key
 apart : (e : Entry) (es : List Entry) (key : Keys) (state : State) → T (below_all key_cmp e.0 es) → find key_cmp key es ≡ Some state → eq_by_cmp key_cmp key e.0 ≡ false
 apart e es key state below there = by_test (eq_by_cmp key_cmp key e.0) refl
   where
@@ -37,15 +37,15 @@ apart e es key state below there = by_test (eq_by_cmp key_cmp key e.0) refl
 at_front : (e : Entry) (es : List Entry) → find key_cmp e.0 (e ∷ es) ≡ Some e.1
 at_front e es = ap (λ r. cond (is_eq r) (Some e.1) (find key_cmp e.0 es)) (tied_itself keys_total e.0)
 
--- each entry that runs runs in the map
+-- each of the entries that runs also runs in the map
 abbrev AllRun : List Entry → FinMap key_cmp State → Type 0
 AllRun es m = (key : Keys) → find key_cmp key es ≡ Some Running → get m key ≡ Some Running
 
--- without the first of the entries they still do
+-- this still holds without the first of the entries
 others_run : (e : Entry) (es : List Entry) (m : FinMap key_cmp State) → T (below_all key_cmp e.0 es) → AllRun (e ∷ es) m → AllRun es m
 others_run e es m below each key there = each key (ap (λ t. cond t (Some e.1) (find key_cmp key es)) (apart e es key Running below there) ∙ there)
 
--- also in the map in which the first one is done
+-- and also for the map in which the first entry is done
 others_run_on : (e : Entry) (es : List Entry) (m : FinMap key_cmp State) → T (below_all key_cmp e.0 es) → AllRun (e ∷ es) m → AllRun es (insert m e.0 Done)
 others_run_on e es m below each key there =
     get-insert keys_total m e.0 Done key ∙ ap (λ t. cond t (Some Done) (get m key)) (apart e es key Running below there)
@@ -57,11 +57,11 @@ one_runs_less all one rest after before found is first_is fewer moves runs = ome
 none_runs_less : (all one rest before : ℕ) → all ≡ one + rest → one ≡ 0 → rest ≤ before → all ≤ before
 none_runs_less all one rest before is first_is fewer = omega (arith, is, first_is, fewer)
 
--- no more of the entries run than of the map
+-- no more run among the entries than in the map
 abbrev HasAsMany : List Entry → FinMap key_cmp State → Type 0
 HasAsMany es m = sum_by (weight is_running) es ≤ how_many is_running m
 
--- where each entry that runs runs in the map, the map has as many of them
+-- if each of the entries that runs also runs in the map, then no more run among the entries than in the map
 as_many_run : (es : List Entry) → T (is_sorted key_cmp es) → (m : FinMap key_cmp State) → AllRun es m → HasAsMany es m
 as_many_run [] sorted m each = omega arith
 as_many_run (e ∷ es) sorted m each =
@@ -84,7 +84,7 @@ as_many_run (e ∷ es) sorted m each =
         one_runs_less _ (weight is_running e) _ _ _ (one_if is_running (get m e.0)) (front (weight is_running) e es) (weighs Running is) left
         (counted is_running m e.0 Done) (ap (one_if is_running) (each e.0 (at_front e es ∙ ap Some is)))
 
--- of one step: where each instance that runs ran before, no more run
+-- in one step: if each instance that runs ran before, then no more run than before
 no_more_of_step : (old new : FinMap key_cmp State) → ((key : Keys) → get new key ≡ Some Running → get old key ≡ Some Running) → how_many is_running new ≤ how_many is_running old
 no_more_of_step old new each = as_many_run (entries new) (entries_sorted new) old (λ key there. each key (get-entries new key ∙ there))
 
@@ -94,7 +94,7 @@ running step = how_many is_running step.instances.states
 abbrev RunsAt : List Step → ℕ → Keys → Type 0
 RunsAt steps n key = state_in (slice_get steps n) key ≡ Some Running
 
--- nothing else than what runs passes the test
+-- only `Running` passes the test
 others_fail : (state : State) → (state ≡ Running → ⊥) → is_running state ≡ false
 others_fail Ready other = refl
 others_fail Running other = absurd (other refl)
@@ -104,7 +104,7 @@ others_fail Done other = refl
 both_less : (all one rest all_old one_old rest_old : ℕ) → all ≡ one + rest → all_old ≡ one_old + rest_old → one ≤ one_old → rest ≤ rest_old → all ≤ all_old
 both_less all one rest all_old one_old rest_old is was here behind = omega (arith, is, was, here, behind)
 
--- of all steps
+-- in all steps
 no_more_of_all : (olds news : List Step) → ((n : ℕ) (key : Keys) → RunsAt news n key → RunsAt olds n key) → sum_by running news ≤ sum_by running olds
 no_more_of_all olds [] each = omega arith
 no_more_of_all [] (new ∷ news) each =
@@ -116,7 +116,7 @@ no_more_of_all (old ∷ olds) (new ∷ news) each =
     (no_more_of_step old.instances.states new.instances.states (λ key there. each 0 key there))
     (no_more_of_all olds news (λ n key there. each (suc n) key there))
 
--- where each that runs now ran before, no more run than before
+-- if each instance that runs now ran before, then no more run than before
 pub no_more : NoMoreRun
 no_more old new each = no_more_of_all old.steps new.steps (λ n key there. each (instance_at n key) there)
 
@@ -124,11 +124,11 @@ not_none : (n : ℕ) → (n ≡ 0 → ⊥) → 1 ≤ n
 not_none zero some = absurd (some refl)
 not_none (suc n) some = omega arith
 
--- where an instance runs, at least one does
+-- if a given instance runs, then the number of those that run is at least 1
 pub one : OneRuns
 one known instance there = not_none (total is_running known) (λ none. false≢true (sym ((counted_none is_running known).0 none instance Running there)))
 
--- a step in which an instance runs stands in the list
+-- a step of the list in which the instance with this key runs
 abbrev StepOf : List Step → ℕ → Keys → Type 0
 StepOf steps n key = (step : Step) × (step ≡ get_or steps n step) × (get step.instances.states key ≡ Some Running)
 
@@ -151,7 +151,7 @@ with_ended old ended runs =
 less_by_one : (new now old was : ℕ) → new ≤ now → now + was ≡ old + 0 → was ≡ 1 → new + 1 ≤ old
 less_by_one new now old was fewer moves is = omega (arith, fewer, moves, is)
 
--- where besides one that ran does not any more, at least one less runs
+-- if, in addition, one that ran before does not run now, then at least one fewer runs
 pub one_less : OneLessRuns
 one_less old new ended runs each =
     let it = with_ended old ended runs in

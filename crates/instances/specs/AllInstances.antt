@@ -10,15 +10,15 @@ use Rattle.instances.specs.Known.{Known, instance_at}
 abbrev pub placed : ℕ → List ℤ × State → Inst × State
 placed number entry = (instance_at number entry.0, entry.1)
 
--- the instances of steps with their states, by step and then by key, the first step having this number
+-- the instances of several steps with their states, by step and then by key; the first step has this number
 abbrev pub instances_from : ℕ → List Step → List (Inst × State)
 instances_from number [] = []
 instances_from number (step ∷ steps) = map (placed number) (entries step.instances.states) ++ instances_from (suc number) steps
 
--- what is left of a walk: of the step with this number these entries, and all of the steps behind it
+-- what is left of a walk: these entries of the step with this number, and all entries of the steps after it
 abbrev pub left_of : ℕ → List (List ℤ × State) → List Step → List (Inst × State)
 left_of number entries steps = map (placed number) entries ++ instances_from (suc number) steps
 
--- all of them
+-- all instances
 abbrev pub all_instances : Known → List (Inst × State)
 all_instances known = instances_from 0 known.steps

@@ -14,8 +14,8 @@ use Rattle.instances.specs.declared.state.State.TheVariants.{Ready, Done}
 use Rattle.instances.specs.declared.step.Step.{Step}
 use Rattle.instances.specs.OfStep.{how_many, is_ready, is_running, one_if}
 
--- each tag that is there, with whether the environment put it; and for each step, by its number, the tag collection that
--- prescribes it, with its instances
+-- each tag that is there, and whether the environment put it; and for each step, by number, the tag collection that
+-- prescribes it, and its instances
 pub record Known : Type 0 where
   pub tags : Numbered Bool
   pub steps : List Step
@@ -26,7 +26,7 @@ tag_place name = (name.collection.0, name.key)
 abbrev pub tag_at : Place → Tag
 tag_at at = record { collection = record { 0 = at.0 }; key = at.1 }
 
--- the mark of a tag, if it is there
+-- the mark of a tag, if the tag is there: whether the environment put it
 abbrev pub mark_of : Known → Tag → Option Bool
 mark_of known name = get known.tags.items (tag_place name)
 
@@ -50,11 +50,11 @@ abbrev pub prescribed_in : Option ℕ → Tag → List ℤ → Bool
 prescribed_in None name key = false
 prescribed_in (Some number) name key = (number == name.collection.0) && eq_by_cmp key_cmp key name.key
 
--- whether the tag prescribes the instance: its collection prescribes the step, and the keys are one
+-- whether the tag prescribes the instance: the tag's collection prescribes the step, and the keys are equal
 abbrev pub is_prescribed_by : Known → Tag → Inst → Bool
 is_prescribed_by known name instance = prescribed_in (prescriber_at known instance.collection.0) name instance.key
 
--- how many instances are in a state that passes the test
+-- the number of instances in a state that passes the test
 abbrev pub total : (State → Bool) → Known → ℕ
 total test known = sum_by (λ step. how_many test step.instances.states) known.steps
 
@@ -62,20 +62,20 @@ total test known = sum_by (λ step. how_many test step.instances.states) known.s
 abbrev pub NoneIsActive : Known → Type 0
 NoneIsActive known = (instance : Inst) (state : State) → state_at known instance ≡ Some state → (is_ready state ≡ false) × (is_running state ≡ false)
 
--- the least of a number and the room of each step that a tag collection prescribes
+-- the least of a number and the rooms of the steps that a tag collection prescribes
 abbrev pub least : ℕ → ℕ → List Step → ℕ
 least collection room [] = room
 least collection room (step ∷ steps) = least collection (cond (step.prescriber.0 == collection) (min room step.instances.room) room) steps
 
--- how many more tags of a collection there is room for, with all that they prescribe
+-- the number of further tags of a collection that there is room for, with all instances that they prescribe
 abbrev pub room_for : Known → TagCollection → ℕ
 room_for known collection = least collection.0 (room_at known.tags collection.0) known.steps
 
--- an instance is prescribed exactly where its tag is there
+-- an instance is there exactly when its tag is there
 abbrev pub ArePrescribed : Numbered Bool → List Step → Type 0
 ArePrescribed tags steps = (number : ℕ) (step : Step) (key : List ℤ) → slice_get steps number ≡ Some step → is_some (get step.instances.states key) ≡ is_some (get tags.items (step.prescriber.0, key))
 
--- one instance comes into a state, and so it is counted there and no more in the one that it had; nothing else changes
+-- one instance moves to a state, and is counted in that state instead of the one that it had; nothing else changes
 pub record MovesOne (old new : Known) (instance : Inst) (to : State) : Type 0 where
   pub tags : new.tags ≡ old.tags
   pub here : state_at new instance ≡ Some to
@@ -84,8 +84,8 @@ pub record MovesOne (old new : Known) (instance : Inst) (to : State) : Type 0 wh
   pub prescribers : (number : ℕ) → prescriber_at new number ≡ prescriber_at old number
   pub room : (collection : TagCollection) → room_for new collection ≡ room_for old collection
 
--- a tag comes, and with it the instances that it prescribes, each in its first state; nothing else changes, but for room of its
--- collection, which is one less
+-- a tag is added, and with it the instances that it prescribes, each in its first state; nothing else changes, except the room of
+-- its collection, which is one less
 pub record Prescribes (old new : Known) (name : Tag) (mark : Bool) (first : Inst → State) : Type 0 where
   pub tags : AddsAt old.tags new.tags (tag_place name) mark
   pub states : (instance : Inst) → state_at new instance ≡ cond (is_prescribed_by old name instance) (Some (first instance)) (state_at old instance)
@@ -93,7 +93,7 @@ pub record Prescribes (old new : Known) (name : Tag) (mark : Bool) (first : Inst
   pub room : room_for new name.collection + 1 ≡ room_for old name.collection
   pub other_room : (collection : TagCollection) → collection.0 ≢ name.collection.0 → room_for new collection ≡ room_for old collection
 
--- an instance begins as done, if it is among those that ended, else as ready
+-- an instance begins as done if it is among those that ended, else as ready
 abbrev pub first_state : List Inst → Inst → State
 first_state ended instance = cond (list_any (eq_by_cmp inst_cmp instance) ended) Done Ready
 
@@ -101,7 +101,7 @@ first_state ended instance = cond (list_any (eq_by_cmp inst_cmp instance) ended)
 abbrev pub fresh_step : TagCollection → Step
 fresh_step prescriber = record { prescriber = prescriber; instances = record { states = empty; room = 0 } }
 
--- no tags, of so many collections, and no instances, of steps that these collections prescribe
+-- `tags` tag collections without tags, and a step without instances for each of the prescribing collections
 abbrev pub fresh : ℕ → List TagCollection → Known
 fresh tags prescribers = record { tags = record { items = empty; room = replicate tags 0 }; steps = map fresh_step prescribers }
 
@@ -123,13 +123,13 @@ pub record GrownStep (collection : ℕ) (old new : Step) : Type 0 where
   pub not_less : old.instances.room ≤ new.instances.room
   pub other : old.prescriber.0 ≢ collection → new ≡ old
 
--- so it is of each step
+-- this holds for each step
 abbrev pub AllGrown : ℕ → List Step → List Step → Type 0
 AllGrown collection [] [] = ⊤
 AllGrown collection (old ∷ olds) (new ∷ news) = GrownStep collection old new × AllGrown collection olds news
 AllGrown collection olds news = ⊥
 
--- each step that the collection prescribes has so much room
+-- each step that the collection prescribes has room for `count` more instances
 abbrev pub AllHaveRoom : ℕ → ℕ → List Step → Type 0
 AllHaveRoom collection count [] = ⊤
 AllHaveRoom collection count (step ∷ steps) = (step.prescriber.0 ≡ collection → count ≤ step.instances.room) × AllHaveRoom collection count steps
@@ -138,22 +138,22 @@ AllHaveRoom collection count (step ∷ steps) = (step.prescriber.0 ≡ collectio
 abbrev pub CanTake : Tag → Step → Type 0
 CanTake name step = step.prescriber.0 ≡ name.collection.0 → (get step.instances.states name.key ≡ None) × (0 < step.instances.room)
 
--- the instance of the step with this number, by its key
+-- the instance of the step with this number, and with this key
 abbrev pub instance_at : ℕ → List ℤ → Inst
 instance_at number key = record { collection = record { 0 = number }; key = key }
 
--- the step that has this number, with the instance that the tag prescribes in its first state
+-- the step with this number, to which the instance that the tag prescribes was added in its first state
 abbrev pub with_instance : Tag → (Inst → State) → ℕ → Step → Step
 with_instance name first number step =
     cond (step.prescriber.0 == name.collection.0)
     (record { prescriber = step.prescriber; instances = record { states = insert step.instances.states name.key (first (instance_at number name.key)); room = step.instances.room - 1 } })
     step
 
--- a list with each element changed by its number, the first of which is this one
+-- a list with each element changed by its number; the first has this number
 abbrev pub changed_from : {X : Type 0} → (ℕ → X → X) → ℕ → List X → List X
 changed_from change number [] = []
 changed_from change number (x ∷ xs) = change number x ∷ changed_from change (suc number) xs
 
--- each step can take it
+-- each step can take the instance that the tag prescribes
 abbrev pub AllCanTake : Tag → List Step → Type 0
 AllCanTake name steps = (number : ℕ) (step : Step) → slice_get steps number ≡ Some step → CanTake name step

@@ -1,4 +1,4 @@
--- The lists that are made of all instances: of those that wait, and of those that are done.
+-- The lists that are made from all instances: of those that wait, and of those that are done.
 use Rattle.std.specs.Prelude.{◌≡◌, ◌↔◌, ◌-◌, ◌^◌, ℕ, T, true, List, length, min, Option, Some, None, is_some}
 use Rattle.std.specs.List.{list_any}
 use Rattle.std.specs.List.Sorted.{IsStrictlySortedBy}
@@ -26,14 +26,14 @@ pub record AreAll (known : Known) (list : List Inst) : Type 0 where
   pub rises : IsStrictlySortedBy inst_cmp list
   pub each : (instance : Inst) → (list_any (eq_by_cmp inst_cmp instance) list ≡ true) ↔ (is_some (state_at known instance) ≡ true)
 
--- how many instances there are, and how many are done, told up to the greatest number of 64 bits
+-- the number of instances, and the number of those that are done, each at most the greatest number of 64 bits
 abbrev pub CountsAll : Known → ℕ → Type 0
 CountsAll known count = (list : List Inst) × AreAll known list × (count ≡ min (length list) (2 ^ 64 - 1))
 
 abbrev pub CountsDone : Known → ℕ → Type 0
 CountsDone known count = (list : List Inst) × AreTheDone known list × (count ≡ min (length list) (2 ^ 64 - 1))
 
--- ---- what a walk's entry gives to such a list
+-- ---- what an entry of a walk adds to such a list
 
 -- an instance that waits, with its address
 abbrev pub if_waiting : Inst → State → Option (Inst × Addr)

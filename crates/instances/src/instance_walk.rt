@@ -3,10 +3,10 @@ use crate::step::Step;
 use std::marker::Model;
 use terms::{Inst, Key, StepCollection};
 
-/// The instances that are left of a walk, by step and then by key, each with its state. It takes no memory.
+/// The instances that are left of a walk, by step and then by key, each with its state. It does not allocate.
 #[derive(Drop)]
 pub struct InstanceWalk<'a> {
-    // What is left of the step with this number, and the steps behind it.
+    // What is left of the step with this number, and the steps after it.
     pub(crate) number: u16,
     pub(crate) entries: &'a [(Key, State)],
     pub(crate) steps: &'a [Step],

@@ -10,7 +10,7 @@ use std::alloc::{AllocError, Global};
 use std::marker::Model;
 use terms::{Addr, Inst, StepCollection, Tag, TagCollection};
 
-/// The tags that are there, each with whether the environment put it, and the instances that they prescribe.
+/// The tags that are there, with a mark whether the environment put them, and the instances that they prescribe.
 #[derive(Drop)]
 pub struct Instances {
     pub(crate) tags: CollectionMap<bool>,
@@ -43,7 +43,7 @@ impl Instances {
     ghost use Rattle.instances.specs.Listed.{AreTheWaiting, AreTheDone, CountsAll, CountsDone};
     ghost use Rattle.instances.specs.Known.{first_state, fresh, mark_of, tag_at, room_for, state_at, total, MovesOne, NoneIsActive, OnlyMakesRoom, Prescribes};
 
-    /// No tags, of so many collections, and no instances of the steps that these collections prescribe, a step each.
+    /// No tags and no instances, for this number of tag collections, with one step for each of the `prescribers`.
     pub fn new(
         alloc: Global,
         tags: usize,
@@ -58,7 +58,7 @@ impl Instances {
         Ok(Instances { tags, steps })
     }
 
-    /// The tags that are there, each with whether the environment put it, in order.
+    /// The tags that are there, in order, each with a mark whether the environment put it.
     pub fn tags(&self) -> TagWalk<'_>
         ensures { result ≡ map (λ entry. (tag_at entry.0, entry.1)) (entries self.now.tags.items) }
     {
@@ -101,7 +101,7 @@ impl Instances {
         listing::done(self.walk(), alloc)
     }
 
-    /// How many more tags of the collection there is room for, with all that they prescribe.
+    /// The number of further tags of the collection that there is room for, with all instances that they prescribe.
     pub fn spare(&self, collection: TagCollection) -> usize
         ensures { result ≡ room_for self.now collection }
     {
@@ -112,7 +112,8 @@ impl Instances {
         room
     }
 
-    /// Makes room for so many more tags of the collection, with all that they prescribe. A refusal comes only where there was less.
+    /// Makes room for `count` more tags of the collection, with all instances that they prescribe. It fails only if
+    /// there was less room.
     pub fn make_room(&mut self, collection: TagCollection, count: usize) -> Result<(), AllocError>
         requires { collection.0 < length self.old.tags.room }
         ensures ok { OnOk result (count ≤ room_for self.new collection) }
@@ -123,7 +124,7 @@ impl Instances {
         make_all_room(&mut self.steps, collection, count)
     }
 
-    /// How many are ready, or the greatest `usize` where they are more.
+    /// The number of ready instances, or the greatest `usize` if there are more.
     pub fn ready(&self) -> usize
         ensures { result ≡ min (total is_ready self.now) (2 ^ 64 - 1) }
     {
@@ -134,7 +135,7 @@ impl Instances {
         ready
     }
 
-    /// How many run, or the greatest `usize` where they are more.
+    /// The number of instances that run, or the greatest `usize` if there are more.
     pub fn running(&self) -> usize
         ensures { result ≡ min (total is_running self.now) (2 ^ 64 - 1) }
     {
@@ -145,7 +146,7 @@ impl Instances {
         running
     }
 
-    /// How many wait, or the greatest `usize` where they are more. It goes through all.
+    /// The number of instances that wait, or the greatest `usize` if there are more. It goes through all instances.
     pub fn waiting(&self) -> usize
         ensures { result ≡ min (total is_waiting self.now) (2 ^ 64 - 1) }
     {
@@ -156,7 +157,7 @@ impl Instances {
         waiting
     }
 
-    /// How many instances there are, or the greatest `usize` where they are more.
+    /// The number of instances, or the greatest `usize` if there are more.
     pub fn count(&self) -> usize
         ensures { CountsAll self.now result }
     {
@@ -167,7 +168,7 @@ impl Instances {
         count
     }
 
-    /// How many are done, or the greatest `usize` where they are more. It goes through all.
+    /// The number of instances that are done, or the greatest `usize` if there are more. It goes through all instances.
     pub fn done_count(&self) -> usize
         ensures { CountsDone self.now result }
     {
@@ -178,14 +179,14 @@ impl Instances {
         done
     }
 
-    /// How many tags there are, or the greatest `usize` where they are more.
+    /// The number of tags, or the greatest `usize` if there are more.
     pub fn tag_count(&self) -> usize
         ensures { result ≡ min (length (entries self.now.tags.items)) (2 ^ 64 - 1) }
     {
         self.tags.count()
     }
 
-    /// Whether none is ready and none runs.
+    /// Whether no instance is ready and none runs.
     pub fn is_quiet(&self) -> bool
         ensures counts { result ≡ ((total is_ready self.now == 0) && (total is_running self.now == 0)) }
         ensures none { IsTrue result ↔ NoneIsActive self.now }
@@ -210,7 +211,8 @@ impl Instances {
             .state(inst.key)
     }
 
-    /// Puts a tag that is not there, and with it the instances that it prescribes, ready. There is room for them.
+    /// Puts a tag that is not there, and with it the instances that it prescribes, as ready. There must be room for
+    /// them.
     pub fn prescribe(&mut self, tag: Tag, by_environment: bool)
         requires absent { mark_of self.old tag ≡ None }
         requires room { 0 < room_for self.old tag.collection }
@@ -219,8 +221,9 @@ impl Instances {
         self.restore(tag, by_environment, &[]);
     }
 
-    /// Puts a tag that is not there, and with it the instances that it prescribes: done, if they are among `ended`, else ready.
-    /// There is room for them. So the tags and the instances of a store are put that was closed before.
+    /// Puts a tag that is not there, and with it the instances that it prescribes: as done if they are among `ended`,
+    /// else as ready. There must be room for them. This restores the tags and instances of a store that was closed
+    /// before.
     pub fn restore(&mut self, tag: Tag, by_environment: bool, ended: &[Inst])
         requires absent { mark_of self.old tag ≡ None }
         requires room { 0 < room_for self.old tag.collection }
@@ -236,7 +239,7 @@ impl Instances {
         }
     }
 
-    /// Lets one of the ready ones run, by its number among them.
+    /// Lets one of the ready instances run, by its number among them.
     pub fn claim(&mut self, at: usize) -> Option<Task>
         ensures some { at < total is_ready self.old → IsSome result }
         ensures none { total is_ready self.old ≤ at → (result ≡ None) × (self.new ≡ self.old) }
@@ -290,7 +293,7 @@ impl Instances {
             .release(inst.key);
     }
 
-    /// Makes an instance ready that waits.
+    /// Makes a waiting instance ready.
     pub fn wake(&mut self, inst: Inst)
         requires { IsWaiting (state_at self.old inst) }
         ensures { MovesOne self.old self.new inst Ready }
@@ -301,7 +304,7 @@ impl Instances {
     }
 }
 
-// Adds to each step the instance that a tag prescribes, done if it is among those that ended.
+// Adds to each step the instance that a tag prescribes, as done if it is among those that ended.
 fn prescribe_all(steps: &mut Vec<Step>, tag: Tag, ended: &[Inst])
     requires few { length steps.old.items ≤ 2 ^ 16 }
     requires take { AllCanTake tag steps.old.items }
@@ -314,7 +317,7 @@ fn prescribe_all(steps: &mut Vec<Step>, tag: Tag, ended: &[Inst])
     }
 }
 
-// A step without instances for each collection.
+// One step without instances for each collection.
 fn fresh_steps(alloc: Global, prescribers: &[TagCollection]) -> Result<Vec<Step>, AllocError>
     ensures { IfOk result (λ steps. steps.items ≡ map fresh_step prescribers.now) }
 {
@@ -330,7 +333,7 @@ fn fresh_steps(alloc: Global, prescribers: &[TagCollection]) -> Result<Vec<Step>
     Ok(steps)
 }
 
-// Makes room for so many more instances in each step that a collection prescribes.
+// Makes room for `count` more instances in each step that a collection prescribes.
 fn make_all_room(
     steps: &mut Vec<Step>,
     collection: TagCollection,

@@ -1,12 +1,12 @@
-//! The tags that are there and the instances that they prescribe: each of these is in exactly one state, ready, running, waiting
-//! at an address or done.
+//! The tags that are there and the instances that they prescribe. Each instance is in exactly one state: ready,
+//! running, waiting at an address, or done.
 //!
-//! `Instances` is seen as `Known`: the tags with their marks, and for each step who prescribes it and the states of its instances.
-//! A `Task` is seen as its instance.
+//! Clauses see `Instances` as `Known`: the tags with their marks, and for each step the tag collection that prescribes
+//! it and the states of its instances. They see a `Task` as its instance.
 //!
-//! The layer above stands on `prescribe`, which brings exactly the instances of a new tag, on `claim`, and on `finish`, `park`,
-//! `release` and `wake`, each of which moves one instance and changes nothing else. `restore` brings those of a store that was
-//! closed before, and `walk` gives all with their states.
+//! The crate above relies on `prescribe`, which adds exactly the instances of a new tag; on `claim`; and on `finish`,
+//! `park`, `release` and `wake`, each of which moves one instance and changes nothing else. `restore` adds the
+//! instances of a store that was closed before, and `walk` gives all instances with their states.
 #![tactic(auto)]
 
 mod ended;

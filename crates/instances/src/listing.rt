@@ -6,7 +6,7 @@ use crate::{InstanceWalk, State};
 use std::alloc::{AllocError, Global};
 use terms::{Addr, Inst};
 
-/// Those of a walk that wait, each with its address.
+/// The instances of a walk that wait, each with its address.
 pub(crate) fn waiting(
     walk: InstanceWalk<'_>,
     alloc: Global,
@@ -17,7 +17,7 @@ pub(crate) fn waiting(
         .collect(alloc)
 }
 
-/// Those of a walk that are done.
+/// The instances of a walk that are done.
 pub(crate) fn done(walk: InstanceWalk<'_>, alloc: Global) -> Result<Vec<Inst>, AllocError>
     ensures { IfOk result (λ list. list.items ≡ filter_map (λ entry. if_done entry.0 entry.1) walk.entry) }
 {

@@ -10,7 +10,7 @@ impl Instances {
         let _ = &self.tags;
     }
 
-    /// A law, with nothing to run: where none is counted, none is in such a state.
+    /// A law, with nothing to run: a count is 0 exactly when no instance is in a state that is counted.
     pub fn are_counted(&self)
         ensures { AreCounted self.now }
     {

@@ -1,6 +1,6 @@
 ghost use Rattle.instances.specs.Running.{NoMoreRun, OneLessRuns, OneRuns};
 
-/// How many instances run follows from which ones do.
+/// A law, with nothing to run: the number of instances that run is determined by which of them run.
 pub fn runs_are_counted()
     ensures no_more { NoMoreRun }
     ensures one_less { OneLessRuns }

@@ -5,7 +5,7 @@ use terms::Addr;
 pub enum State {
     /// It can be claimed.
     Ready,
-    /// It was claimed, and was neither ended, parked nor given back since.
+    /// It was claimed, and since then was not ended, parked or given back.
     Running,
     /// It waits for the item at the address.
     Waiting(Addr),

@@ -16,8 +16,8 @@ impl Step {
     ghost use Rattle.terms.specs.Name.{inst_cmp};
     ghost use Rattle.instances.specs.Known.{CanTake, GrownStep, first_state, with_instance};
 
-    /// Adds the instance that a tag prescribes, if it prescribes one of this step, which has this number. The instance is done, if
-    /// it is among those that ended.
+    /// Adds the instance that a tag prescribes, if it prescribes one of this step; `number` is the step's number. The
+    /// instance is done if it is among those that ended.
     pub(crate) fn prescribe(&mut self, tag: Tag, number: u16, ended: &[Inst])
         requires takes { CanTake tag self.old }
         requires rising { IsSorted inst_cmp ended.now }
@@ -31,7 +31,7 @@ impl Step {
         }
     }
 
-    /// The lesser of a number and the room of this step, if the collection prescribes it.
+    /// The smaller of `room` and the room of this step if the collection prescribes the step, else `room`.
     pub(crate) fn least(&self, collection: TagCollection, room: usize) -> usize
         ensures { result ≡ cond (self.now.prescriber.0 == collection.0) (min room self.now.instances.room) room }
     {
@@ -42,7 +42,7 @@ impl Step {
         }
     }
 
-    /// Makes room for so many more instances, if the collection prescribes this step.
+    /// Makes room for `count` more instances, if the collection prescribes this step.
     pub(crate) fn make_room(
         &mut self,
         collection: TagCollection,

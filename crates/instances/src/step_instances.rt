@@ -8,14 +8,15 @@ use std::collections::VecDeque;
 use std::marker::Model;
 use terms::{Addr, Key};
 
-/// The instances of one step, each with its state. What an instance may go through later takes no memory: there is room for it
-/// from the moment when it was added.
+/// The instances of one step, each with its state. No later change of an instance needs memory: its room is there from
+/// the moment when it was added.
 #[derive(Drop)]
 pub struct StepInstances {
     states: KeyMap<State>,
-    // The keys of those that are ready, with room for all. A new one goes to the end of the queue, and one that ran already to its front, so that
-    // they run in about the order in which they came, whether they had to wait or not: items are then put in about the order of their keys, which
-    // spares moves. No promise speaks of that order.
+    // The keys of the ready instances, with room for all instances. A new one goes to the end of the queue, and one
+    // that already ran goes to its front. So they run in about the order in which they came, whether they had to wait
+    // or not; items are then put in about the order of their keys, which saves moves. No promise is made about that
+    // order.
     ready: VecDeque<Key>,
     running: usize,
 }
@@ -67,21 +68,21 @@ impl StepInstances {
         self.states.entries()
     }
 
-    /// How many are ready.
+    /// The number of ready instances.
     pub fn ready(&self) -> usize
         ensures { result ≡ how_many is_ready self.now.states }
     {
         self.ready.len()
     }
 
-    /// How many run.
+    /// The number of instances that run.
     pub fn running(&self) -> usize
         ensures { result ≡ how_many is_running self.now.states }
     {
         self.running
     }
 
-    /// How many wait. It goes through all.
+    /// The number of instances that wait. It goes through all instances.
     pub fn waiting(&self) -> usize
         ensures { result ≡ how_many is_waiting self.now.states }
     {
@@ -92,7 +93,7 @@ impl StepInstances {
             .count()
     }
 
-    /// How many are done. It goes through all.
+    /// The number of instances that are done. It goes through all instances.
     pub fn done(&self) -> usize
         ensures { result ≡ how_many is_done self.now.states }
     {
@@ -103,7 +104,7 @@ impl StepInstances {
             .count()
     }
 
-    /// How many more instances there is room for.
+    /// The number of further instances that there is room for.
     pub fn room(&self) -> usize
         ensures { result ≡ self.now.room }
     {
@@ -112,7 +113,7 @@ impl StepInstances {
             .min(self.ready.capacity() - self.states.entries().len())
     }
 
-    /// Makes room for so many more instances. A refusal comes only where there was less.
+    /// Makes room for `count` more instances. It fails only if there was less room.
     pub fn make_room(&mut self, count: usize) -> Result<(), AllocError>
         ensures states { self.new.states ≡ self.old.states }
         ensures ok { OnOk result (count ≤ self.new.room) }
@@ -129,7 +130,7 @@ impl StepInstances {
             .reserve(others.checked_add(count).ok_or(AllocError)?)
     }
 
-    /// Adds an instance that can be claimed, or one that is done.
+    /// Adds an instance that is done, or one that can be claimed.
     pub fn add(&mut self, key: Key, is_done: bool)
         requires absent { get self.old.states key ≡ None }
         requires room { 0 < self.old.room }
@@ -153,7 +154,7 @@ impl StepInstances {
         }
     }
 
-    // Adds an instance that is done. The room for it among the ready ones is kept, as for all others.
+    // Adds an instance that is done. Room for it among the ready ones is kept, as for all others.
     fn add_done(&mut self, key: Key)
         requires absent { get self.old.states key ≡ None }
         requires room { 0 < self.old.room }
@@ -162,7 +163,7 @@ impl StepInstances {
         let _added = self.states.insert(key, State::Done);
     }
 
-    /// Lets one of the ready ones run, by its number among them, and tells its key.
+    /// Lets one of the ready instances run, by its number among them, and returns its key.
     pub fn claim(&mut self, at: usize) -> Option<Key>
         ensures some { at < how_many is_ready self.old.states → IsSome result }
         ensures none { how_many is_ready self.old.states ≤ at → (result ≡ None) × (self.new ≡ self.old) }
@@ -192,7 +193,7 @@ impl StepInstances {
         self.running -= 1;
     }
 
-    /// Gives an instance that runs back.
+    /// Gives back an instance that runs.
     pub fn release(&mut self, key: Key)
         requires { get self.old.states key ≡ Some Running }
         ensures { Moves self.old self.new key Ready }
@@ -202,7 +203,7 @@ impl StepInstances {
         self.running -= 1;
     }
 
-    /// Makes an instance ready that waits.
+    /// Makes a waiting instance ready.
     pub fn wake(&mut self, key: Key)
         requires { IsWaiting (get self.old.states key) }
         ensures { Moves self.old self.new key Ready }

@@ -1,7 +1,7 @@
 use std::marker::Model;
 use terms::{Tag, TagCollection};
 
-/// The tags that are left of a walk, in order, each with whether the environment put it.
+/// The tags that are left of a walk, in order, each with a mark whether the environment put it.
 #[derive(Drop)]
 pub struct TagWalk<'a> {
     pub(crate) entries: maps::Walk<'a, bool>,

@@ -1,7 +1,7 @@
 use std::marker::Model;
 use terms::Inst;
 
-/// An instance that was claimed. It is spent by ending it, by parking it or by giving it back.
+/// A claimed instance. To end it, to park it or to give it back consumes the task.
 pub struct Task {
     pub(crate) inst: Inst,
 }
@@ -24,7 +24,7 @@ impl Task {
         self.inst
     }
 
-    /// Spends it.
+    /// Consumes the task.
     pub(crate) fn into_inst(self) -> Inst
         ensures { result ≡ self }
     {

@@ -2,7 +2,7 @@ use Rattle.std.proofs.Common.{◌≡◌, ◌+◌, ◌<◌, ◌^◌, length}
 use Rattle.instances.specs.AllInstances.{left_of}
 use Rattle.instances.proofs.instance_walk.InstanceWalkIterator.next.Given as goal
 
--- as much is left as before
+-- the instances that are left are the same as before
 abbrev pub invariant-loop-first : goal.invariant-loop-first
 invariant-loop-first l =
     (left_of l.self-inside.number l.self-inside.entries.now l.self-inside.steps.now ≡ left_of l.initial.self-inside.number l.initial.self-inside.entries.now l.initial.self-inside.steps.now)
