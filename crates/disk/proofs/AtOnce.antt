@@ -1,4 +1,4 @@
--- What is there only once a write and the sync behind it are both done, and what is left where one of them failed.
+-- A write and the sync after it take effect at once; and what a crash may leave if one of them failed.
 use Rattle.std.proofs.Common.{◌≡◌, inl, inr, ℕ, Bool, List, sym, ap, subst, ◌∙◌, arith}
 use Rattle.std.specs.Prelude.{◌↔◌, Result, Ok, Err, OnErr}
 use Rattle.std.proofs.lemmas.Bool.{cases_lt}
@@ -11,7 +11,7 @@ use Rattle.disk.specs.Time.{Contents, MayLeaveNow, OtherStays, Elapses, KeepsAll
 use Rattle.disk.specs.Moments.{call_keeps}
 use Rattle.disk.proofs.Left.{touching_left}
 
--- a call of one file that takes nothing back of what might be left of that file takes back nothing at all
+-- if a call on one file takes back nothing that a crash might leave of that file, it takes back nothing of both files
 nothing_back : (side : Side) (old new : Side → File) → ((bytes : List ℕ) → MayLeave (old side).durable bytes → MayLeave (new side).durable bytes) → OtherStays side old new
     → (contents : Contents) → MayLeaveNow old contents → MayLeaveNow new contents
 nothing_back side old new here others contents left each = elim (which side each) [
@@ -25,7 +25,7 @@ changes_keep T done touches (Ok _) old new is changes bytes left = subst (λ (d 
 changes_keep T done touches (Err Device) old new is changes bytes left = subst (λ (d : Durable). MayLeave d bytes) (sym changes.durable) (touching_left old.durable bytes left touches)
 changes_keep T done touches (Err NoMemory) old new is changes bytes left = subst (λ (d : Durable). MayLeave d bytes) (sym changes.fails.durable) (touching_left old.durable bytes left changes.touched)
 
--- a write or a cut, whatever it answered, takes nothing back
+-- a write or a cut, whatever it returned, takes nothing back
 pub write_keeps : (T : Type 0) (side : Side) (done : File → File) (touches : ℕ → Bool) (result : Result T DiskError) (old new : Side → File) → (done (old side)).durable ≡ touching touches (old side).durable
     → Changes done touches result (old side) (new side) → OtherStays side old new → (contents : Contents) → MayLeaveNow old contents → MayLeaveNow new contents
 write_keeps T side done touches result old new is changes others = nothing_back side old new (changes_keep T done touches result (old side) (new side) is changes) others
@@ -44,7 +44,7 @@ module _ {D : Type 0} (files : D → Side → File) (moment : D → ℕ) (left_a
       → ((contents : Contents) → MayLeaveNow (files old) contents → MayLeaveNow (files new) contents) → KeepsAll files moment left_at old new
   call_keeps_all old new time keeps k contents from to left = call_keeps moment left_at files at_now old new time contents left (keeps contents left) k from to
 
-  -- and another behind it
+  -- and another call after it
   both_keep_all : (old mid new : D) → Elapses (moment old) (moment mid) (left_at old) (left_at mid) → ((contents : Contents) → MayLeaveNow (files old) contents → MayLeaveNow (files mid) contents)
       → Elapses (moment mid) (moment new) (left_at mid) (left_at new) → ((contents : Contents) → MayLeaveNow (files mid) contents → MayLeaveNow (files new) contents) → KeepsAll files moment left_at old new
   both_keep_all old mid new first first_keeps second second_keeps k contents from to left = elim (cases_lt (moment mid) k) [
@@ -52,7 +52,7 @@ module _ {D : Type 0} (files : D → Side → File) (moment : D → ℕ) (left_a
     | inr before ↦ (second.stays k contents before).1 (call_keeps_all old mid first first_keeps k contents from before left)
   ]
 
-  -- where that is a sync that failed
+  -- the same, if the second call is a sync that failed
   pub failed_sync_keeps_all : (T : Type 0) (side : Side) (result : Result T DiskError) (old mid new : D) → Elapses (moment old) (moment mid) (left_at old) (left_at mid)
       → ((contents : Contents) → MayLeaveNow (files old) contents → MayLeaveNow (files mid) contents) → Elapses (moment mid) (moment new) (left_at mid) (left_at new)
       → Syncs result (files mid side) (files new side) → OtherStays side (files mid) (files new) → OnErr result (KeepsAll files moment left_at old new)
@@ -65,7 +65,7 @@ module _ {D : Type 0} (files : D → Side → File) (moment : D → ℕ) (left_a
   kept_at_once old new time keeps t from to =
       inl (λ k begins ends contents left. call_keeps moment left_at files at_now old new time contents left (keeps contents left) k begins (omega (arith, ends, to)))
 
-  -- and one behind it: a moment is one of theirs, or there is but what a crash may leave in the end
+  -- a call that takes nothing back, and any call after it: a moment is within the first, or a crash leaves only what it may in the end
   pub call_at_once : (old mid new : D) → Elapses (moment old) (moment mid) (left_at old) (left_at mid)
       → ((contents : Contents) → MayLeaveNow (files old) contents → MayLeaveNow (files mid) contents)
       → Elapses (moment mid) (moment new) (left_at mid) (left_at new) → AtOnce files moment left_at old new

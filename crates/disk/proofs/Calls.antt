@@ -54,7 +54,7 @@ either_false : (b : Bool) → b ≡ (b || false)
 either_false true = refl
 either_false false = refl
 
--- a change that only touches
+-- a change that only touches positions
 abbrev pub Touches : Change → Type 0
 Touches change = (d : Durable) → (touches : ℕ → Bool) × (changed change d ≡ touching touches d)
 
@@ -116,7 +116,7 @@ module _ (call : Call) (calls after : List Call) where
       by false = left each
   kept_left content touches left NoMemory is each = subst (λ (l : List Call). MayLeave (durable_of l each) (content each)) (sym is) (left each)
 
-  -- one that changes nothing
+  -- a call that changes nothing
   pub quiet_file : (a b : List ℕ) → call.change ≡ Nothing → (error : DiskError) → Kept error call calls after → (each : Side) → files_after a b after each ≡ files_after a b calls each
   quiet_file a b quiet Device is each = λ i. record { content = pick a b each; durable = same i }
     where
@@ -128,7 +128,7 @@ module _ (call : Call) (calls after : List Call) where
       same = ap (λ (l : List Call). durable_of l each) is ∙ durable_of-push calls call each ∙ by (is_side call.side each)
   quiet_file a b quiet NoMemory is each = ap (λ (l : List Call). files_after a b l each) is
 
-  -- one that did what it was to do
+  -- a call that did what it was to do
   pub done_file : (a b a' b' : List ℕ) (done : File → File) → after ≡ calls ++ call ∷ []
       → (pick a' b' call.side ≡ (done (files_after a b calls call.side)).content) → (changed call.change (durable_of calls call.side) ≡ (done (files_after a b calls call.side)).durable)
       → files_after a' b' after call.side ≡ done (files_after a b calls call.side)
@@ -153,14 +153,14 @@ chosen_same a b B x = refl
 pub chosen_other : (side other : Side) (x y : List ℕ) → other ≢ side → (if is_side side other then x else y) ≡ y
 chosen_other side other x y differs = ap (λ (b : Bool). if b then x else y) (is_other side other differs)
 
--- a call that was begun and ended stands behind those before it
+-- a call that was begun and ended is recorded after those before it
 pub ended : (old mid new : List Call) (side : Side) (kept change : Change) → new ≡ mid ++ record { side = side; change = kept; failed = false } ∷ [] → mid ≡ old → kept ≡ change
     → new ≡ old ++ record { side = side; change = change; failed = false } ∷ []
 ended old mid new side kept change end same is =
     end ∙ ap (λ (calls : List Call). calls ++ record { side = side; change = kept; failed = false } ∷ []) same
     ∙ ap (λ (c : Change). old ++ record { side = side; change = c; failed = false } ∷ []) is
 
--- a write that found no room for its bytes
+-- a write for whose bytes memory was refused
 pub refused_file : (T : Type 0) (a b a' b' : List ℕ) (calls after : List Call) (side : Side) (done : File → File) (touches : ℕ → Bool) → after ≡ calls → pick a' b' side ≡ pick a b side
     → Changes {T = T} done touches (Err NoMemory) (files_after a b calls side) (files_after a' b' after side)
 refused_file T a b a' b' calls after side done touches same content = record {

@@ -1,4 +1,4 @@
--- What a write and the sync behind it may leave.
+-- What a write and the sync after it may leave.
 use Rattle.std.proofs.Common.{◌≡◌, ℕ, ◌+◌, ◌≤◌, ◌<◌, Bool, true, false, ◌||◌, List, length, take, refl, ap, subst, ◌∙◌, arith, length-take}
 use Rattle.std.specs.Prelude.{Result, Ok, Err}
 use Rattle.std.proofs.lemmas.Bool.Decides.{nat_tests}
@@ -13,7 +13,7 @@ use Rattle.disk.proofs.Fronts.{front_from_places, back_from_places}
 either_false : (a b : Bool) → a ≡ false → b ≡ false → (a || b) ≡ false
 either_false a b left right = ap (λ (x : Bool). x || b) left ∙ right
 
--- with more touched a crash may leave as much
+-- if more is touched, a crash may leave at least as much
 more_touched : (d : Durable) (some all : ℕ → Bool) → ((at : ℕ) → some at ≡ true → all at ≡ true) → (bytes : List ℕ) → MayLeave (touching some d) bytes → MayLeave (touching all d) bytes
 more_touched d some all within bytes left = record {
   are_bytes = left.are_bytes;
@@ -31,7 +31,7 @@ more_touched d some all within bytes left = record {
     fewer true at h = h
     fewer false at h = not_all at (some at) refl h
 
--- what a write or a cut leaves behind, by its answer, is at most what it leaves where it succeeds
+-- whatever a write or a cut returned, it may leave at most what it may leave when it succeeds
 pub changes_leave : (T : Type 0) (done : File → File) (touches : ℕ → Bool) (result : Result T DiskError) (old new : File) → (done old).durable ≡ touching touches old.durable → Changes done touches result old new
     → (bytes : List ℕ) → MayLeave new.durable bytes → MayLeave (touching touches old.durable) bytes
 changes_leave T done touches (Ok _) old new is changes bytes left = subst (λ (d : Durable). MayLeave d bytes) (ap (λ (f : File). f.durable) changes ∙ is) left
@@ -60,14 +60,14 @@ write_leaves synced from count bytes le left = record {
     behind : from + count ≤ length synced → (at : ℕ) → length synced ≤ at → write_touches (settled synced) from count at ≡ false
     behind within at ge = past within at (omega arith)
 
--- ---- a write and the sync behind it
+-- ---- a write and the sync after it
 
 module _ (side : Side) (from count : ℕ) where
   -- what the write may leave of its file
   abbrev pub with_write : Durable → Durable
   with_write durable = touching (write_touches durable from count) durable
 
-  -- what a crash leaves of both files
+  -- what a crash may leave of both files
   abbrev pub Touches : (Side → File) → Contents → Type 0
   Touches files contents = MayLeave (with_write (files side).durable) (contents side) × OtherMayBe side files contents
 
@@ -75,7 +75,7 @@ module _ (side : Side) (from count : ℕ) where
   pub touches_before : (old : Side → File) → (contents : Contents) → MayLeaveNow old contents → Touches old contents
   touches_before old contents left = (touching_left (old side).durable (contents side) (left side) (write_touches (old side).durable from count), λ other differs. left other)
 
-  -- after it, whatever it answered
+  -- after the write, whatever it returned
   pub touches_after : (T : Type 0) (done : File → File) (result : Result T DiskError) (old mid : Side → File) → (done (old side)).durable ≡ with_write (old side).durable
       → Changes done (write_touches (old side).durable from count) result (old side) (mid side) → OtherStays side old mid → (contents : Contents) → MayLeaveNow mid contents → Touches old contents
   touches_after T done result old mid touches changes others contents left = (
@@ -83,7 +83,7 @@ module _ (side : Side) (from count : ℕ) where
     λ other differs. subst (λ (f : File). MayLeave f.durable (contents other)) (others other differs) (left other),
   )
 
-  -- of a synced file
+  -- for a file of which everything was on the disk
   pub leaves_of : (old : Side → File) (synced : List ℕ) → old side ≡ at_rest synced → from ≤ length synced → (contents : Contents) → Touches old contents → WriteLeaves synced from count (contents side) × OtherMayBe side old contents
   leaves_of old synced is reach contents touches = (
     write_leaves synced from count (contents side) reach (subst (λ (f : File). MayLeave (with_write f.durable) (contents side)) is touches.0),

@@ -1,4 +1,4 @@
--- Lists that have the same at each place in front of a position, or at each from there on.
+-- Lists that have the same at each place before a position, or at each place from it on.
 use Rattle.std.proofs.Common.{◌≡◌, ◌⊎◌, inl, inr, ℕ, ◌+◌, ◌-◌, ◌≤◌, ◌<◌, List, length, take, drop, sym, ap, ◌∙◌, arith, length-take}
 use Rattle.std.specs.Prelude.{slice_get}
 use Rattle.std.proofs.lemmas.Bool.{cases_lt}
@@ -25,6 +25,6 @@ module _ (xs ys : List ℕ) (n : ℕ) where
   pub places_from_back : drop n xs ≡ drop n ys → (i : ℕ) → n ≤ i → slice_get xs i ≡ slice_get ys i
   places_from_back same i le = sym (slice_get-drop xs n i le) ∙ ap (λ (l : List ℕ). slice_get l (i - n)) same ∙ slice_get-drop ys n i le
 
-  -- a list with the front of one that reaches so far reaches as far
+  -- a list with the same front as a list that reaches a position reaches it too
   pub reaches_from_front : take n xs ≡ take n ys → n ≤ length ys → n ≤ length xs
   reaches_from_front same le = omega (arith, ap length same, length-take n xs, length-take n ys)

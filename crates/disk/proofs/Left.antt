@@ -1,4 +1,4 @@
--- What reads give after a call is among what a crash may leave then.
+-- After a call, a crash may leave what reads give.
 use Rattle.std.proofs.Common.{◌≡◌, ◌⊎◌, inl, inr, ℕ, ◌+◌, ◌≤◌, ◌<◌, Bool, true, false, ◌||◌, ◌&&◌, List, ◌++◌, length, take, max, refl, ◌∙◌, arith, get_or, Fits, w8}
 use Rattle.std.specs.Prelude.{nat_lt, nat_le, slice_get}
 use Rattle.std.proofs.lemmas.Bool.{cases_lt}
@@ -34,7 +34,7 @@ short d from count h = elim (cases_lt (length d.synced) (from + count)) [
 ]
 
 module _ (d : Durable) (content : List ℕ) (left : MayLeave d content) where
-  -- with more touched a crash may leave as much
+  -- if more is touched, a crash may leave at least as much
   pub touching_left : (touches : ℕ → Bool) → MayLeave (touching touches d) content
   touching_left touches = record {
     are_bytes = left.are_bytes;
@@ -78,6 +78,6 @@ module _ (d : Durable) (content : List ℕ) (left : MayLeave d content) where
   pub settled_left : MayLeave (settled content) content
   settled_left = record { are_bytes = left.are_bytes; agrees = record { elsewhere = λ at h. refl; length_stays = λ h. refl } }
 
--- what a slice of bytes keeps
+-- the elements of a slice of bytes are bytes
 pub bytes_from_fits : (bytes : List ℕ) → ((i : ℕ) → Fits w8 (get_or bytes i 0)) → AreBytes bytes
 bytes_from_fits bytes fits k d lt = let fit = (fits k).fits in let same = get_or_default bytes k d 0 lt in omega (arith, same, fit)

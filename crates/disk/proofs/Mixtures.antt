@@ -21,7 +21,7 @@ slice_get-set_other (x ∷ xs) (suc i) zero v differs = refl
 slice_get-set_other (x ∷ xs) (suc i) (suc j) v differs = slice_get-set_other xs i j v (λ same. differs (ap suc same))
 
 module _ (d : Durable) (first second : ℕ → Bool) (bytes : List ℕ) (long : length bytes ≡ length d.synced) where
-  -- one of the two leaves what these bytes have at a position
+  -- one of the two may leave what these bytes have at a position
   abbrev Has : ℕ → Type 0
   Has at = HasFrom (touching first d) bytes at ⊎ HasFrom (touching second d) bytes at
 
@@ -52,7 +52,7 @@ module _ (d : Durable) (first second : ℕ → Bool) (bytes : List ℕ) (long : 
       by at (inl lt) none = agrees_at at (has at lt) none
       by at (inr le) none = slice_get_past bytes at le ∙ sym (slice_get_past d.synced at (omega arith))
 
-  -- the synced bytes, with what these have at a position that is touched
+  -- the synced bytes, changed at one touched position to what these bytes have there
   one_changed : (touches : ℕ → Bool) (at : ℕ) → AreBytes d.synced → AreBytes bytes → at < length bytes → (d.touched at || touches at) ≡ true → HasFrom (touching touches d) bytes at
   one_changed touches at were are lt touched =
       let byte = get_or bytes at 0 in (

@@ -102,7 +102,7 @@ pub may_each : (file : File) (left : List (List ℕ)) → All (MayLeave file.dur
 may_each file [] all = tt
 may_each file (bytes ∷ later) all = (All-head (MayLeave file.durable) bytes later all, may_each (crashed bytes file) later (All-tail (MayLeave file.durable) bytes later all))
 
--- where nothing is touched there is one content
+-- if nothing is touched, a crash can leave only one content
 pub untouched_only : (d : Durable) → ((at : ℕ) → d.touched at ≡ false) → (one other : List ℕ) → MayLeave d one → MayLeave d other → other ≡ one
 untouched_only d none one other left also = same_places other one (λ at. also.agrees.elsewhere at (none at) ∙ sym (left.agrees.elsewhere at (none at)))
 

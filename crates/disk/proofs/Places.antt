@@ -1,4 +1,4 @@
--- What stands at a place of lists that are made of others.
+-- What is at a place of a list that is made of other lists.
 use Rattle.std.proofs.Common.{◌≡◌, ℕ, zero, suc, ◌+◌, ◌-◌, ◌≤◌, ◌<◌, max, List, [], ◌∷◌, ◌++◌, length, take, drop, refl, ap, ◌∙◌, arith, length-append, length-take, length-drop}
 use Rattle.std.specs.Prelude.{None, slice_get}
 use Rattle.disk.specs.File.{overwritten}

@@ -1,4 +1,4 @@
--- What is durable of a file, told by the calls since its last sync.
+-- The durable state of a file, computed from the calls since its last sync.
 use Rattle.std.proofs.Common.{◌≡◌, ℕ, ◌+◌, ◌≤◌, ◌<◌, Bool, true, false, ◌||◌, ◌&&◌, List, [], ◌∷◌, ◌++◌, length, take, drop, if◌then◌else◌, refl, sym, ap, subst, ◌∙◌, arith, get_or, length-take, Some, None}
 use Rattle.std.proofs.lemmas.List.{take_more, drop_all, drop-append-le}
 use Rattle.std.proofs.lemmas.List.Folds.{list_any-append}
@@ -20,7 +20,7 @@ calls_touch-push : (synced : List ℕ) (side : Side) (calls : List Call) (call :
 calls_touch-push synced side calls call at =
     list_any-append (λ (c : Call). call_touches synced side c at) calls (call ∷ []) ∙ ap (λ b. calls_touch synced side calls at || b) (or_false (call_touches synced side call at))
 
--- what is durable of this side's file after one more call
+-- the durable state of this side's file after one more call
 abbrev step : Side → Call → Durable → Durable
 step side call durable = if is_side call.side side then changed call.change durable else durable
 

@@ -12,19 +12,19 @@ use Rattle.disk.specs.Side.{is_side, pick}
 use Rattle.disk.specs.File.{Durable, File, MayLeave, settled, touching, write_touches, cut_touches}
 use Rattle.disk.specs.Time.{Contents}
 
--- what a change does to what is durable of its file
+-- what a change does to the durable state of its file
 abbrev pub changed : Change → Durable → Durable
 changed Nothing durable = durable
 changed (Write at count) durable = touching (write_touches durable at count) durable
 changed (Cut count) durable = touching (cut_touches count) durable
 changed (Sync content) durable = settled content.items
 
--- what is durable of a file after these calls, of which only those on this side count
+-- the durable state of a file after these calls; only the calls on this side count
 abbrev pub durable_after : Side → List Call → Durable → Durable
 durable_after side [] durable = durable
 durable_after side (call ∷ calls) durable = durable_after side calls (if is_side call.side side then changed call.change durable else durable)
 
--- on a new disk, whose files are empty
+-- the same for a new disk, whose files are empty
 abbrev pub durable_of : List Call → Side → Durable
 durable_of calls side = durable_after side calls (settled [])
 
@@ -32,20 +32,20 @@ durable_of calls side = durable_after side calls (settled [])
 abbrev pub files_after : List ℕ → List ℕ → List Call → Side → File
 files_after a b calls side = record { content = pick a b side; durable = durable_of calls side }
 
--- a call that was begun and ended with an error: it failed on the device and is kept, or the record could not grow
+-- a call that was begun and ended with an error: the device failed and the call is recorded, or the record could not grow
 abbrev pub Kept : DiskError → Call → List Call → List Call → Type 0
 Kept Device call old new = new ≡ old ++ call ∷ []
 Kept NoMemory call old new = new ≡ old
 
--- a crash after so many of the calls may have left these bytes
+-- a crash after the first `t` calls may have left these bytes
 abbrev pub LeftAt : List Call → ℕ → Contents → Type 0
 LeftAt calls t contents = (side : Side) → MayLeave (durable_of (take t calls) side) (contents side)
 
--- how many of the calls failed
+-- the number of calls that failed
 abbrev pub failures_of : List Call → ℕ
 failures_of calls = count_by (λ call. call.failed) calls
 
--- at this moment that is what a crash now may leave
+-- at the present moment, this is what a crash now may leave
 pub at_now : (calls : List Call) (contents : Contents) → LeftAt calls (length calls) contents ↔ ((side : Side) → MayLeave (durable_of calls side) (contents side))
 at_now calls contents = (
   λ left side. subst (λ (l : List Call). MayLeave (durable_of l side) (contents side)) whole (left side),

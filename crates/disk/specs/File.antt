@@ -3,7 +3,7 @@ use Rattle.std.specs.Prelude.{◌≡◌, ◌≤◌, ◌<◌, ◌+◌, ◌^◌, �
 use Rattle.disk.specs.declared.error.DiskError.{DiskError}
 use Rattle.disk.specs.declared.error.DiskError.TheVariants.{Device, NoMemory}
 
--- what the last successful sync wrote down, and the positions that were written or cut since
+-- the bytes that the last successful sync made durable, and the positions that were written or cut since
 pub record Durable : Type 0 where
   pub synced : List ℕ
   pub touched : ℕ → Bool
@@ -13,7 +13,7 @@ pub record File : Type 0 where
   pub content : List ℕ
   pub durable : Durable
 
--- new has at each position that is not touched what old has there; and it is as long, where nothing from old's end on is touched
+-- `new` has at each untouched position what `old` has there; and it is as long, if nothing from the end of `old` on is touched
 pub record Agrees (touched : ℕ → Bool) (old new : List ℕ) : Type 0 where
   pub elsewhere : (at : ℕ) → touched at ≡ false → slice_get new at ≡ slice_get old at
   pub length_stays : ((at : ℕ) → length old ≤ at → touched at ≡ false) → length new ≡ length old
@@ -29,19 +29,19 @@ pub record MayLeave (durable : Durable) (bytes : List ℕ) : Type 0 where
   pub are_bytes : AreBytes bytes
   pub agrees : Agrees durable.touched durable.synced bytes
 
--- all of it is on the disk
+-- all of these bytes are on the disk, and nothing is touched
 abbrev pub settled : List ℕ → Durable
 settled bytes = record { synced = bytes; touched = λ _. false }
 
--- what reads give is these bytes, and all of it is on the disk
+-- reads give these bytes, and all of them are on the disk
 abbrev pub at_rest : List ℕ → File
 at_rest bytes = record { content = bytes; durable = settled bytes }
 
--- with these positions touched too
+-- the durable state with these positions touched too
 abbrev pub touching : (ℕ → Bool) → Durable → Durable
 touching touches durable = record { synced = durable.synced; touched = λ at. durable.touched at || touches at }
 
--- a write of so many bytes touches its range, and if it reaches past the synced end, everything from there on
+-- a write of `count` bytes touches its range, and if it reaches past the synced end, everything from that end on
 abbrev pub write_touches : Durable → ℕ → ℕ → ℕ → Bool
 write_touches durable from count at =
     (nat_le from at && nat_lt at (from + count)) || (nat_lt (length durable.synced) (from + count) && nat_le (length durable.synced) at)
@@ -50,7 +50,7 @@ write_touches durable from count at =
 abbrev pub cut_touches : ℕ → ℕ → Bool
 cut_touches end at = nat_le end at
 
--- the bytes stand at this offset, over what was there
+-- the bytes are written at this offset, over what was there
 abbrev pub overwritten : List ℕ → ℕ → List ℕ → List ℕ
 overwritten old from bytes = take from old ++ bytes ++ drop (from + length bytes) old
 
@@ -62,7 +62,7 @@ written from bytes file = record { content = overwritten file.content from bytes
 abbrev pub cut : ℕ → File → File
 cut end file = record { content = take end file.content; durable = touching (cut_touches end) file.durable }
 
--- after a write or a cut that failed: it touched these positions, and what reads give there is open
+-- after a write or a cut that failed: it touched these positions, and it is unspecified what reads give there
 pub record Fails (touches : ℕ → Bool) (old new : File) : Type 0 where
   pub durable : new.durable ≡ touching touches old.durable
   pub content : Agrees touches old.content new.content
@@ -73,19 +73,19 @@ pub record FailsWithin (touches : ℕ → Bool) (old new : File) : Type 0 where
   pub within : (at : ℕ) → touched at ≡ true → touches at ≡ true
   pub fails : Fails touched old new
 
--- what a write or a cut does to its file, by its answer: a device that failed touched all that it would have,
--- want of memory at most that
+-- what a write or a cut does to its file, by its result: if the device failed, it touched all positions that it would have touched;
+-- if memory was refused, at most those
 abbrev pub Changes : {T : Type 0} → (File → File) → (ℕ → Bool) → Result T DiskError → File → File → Type 0
 Changes done touches (Ok _) old new = new ≡ done old
 Changes done touches (Err Device) old new = Fails touches old new
 Changes done touches (Err NoMemory) old new = FailsWithin touches old new
 
--- what a sync does to its file, by its answer: one that fails clears nothing
+-- what a sync does to its file, by its result: a sync that fails clears nothing
 abbrev pub Syncs : {T : Type 0} → Result T DiskError → File → File → Type 0
 Syncs (Ok _) old new = new ≡ at_rest old.content
 Syncs (Err _) old new = new ≡ old
 
--- what a write of so many bytes may leave of synced ones: the same in front of it, and behind it too where it ends within them
+-- what a write of `count` bytes may leave of synced bytes: the same in front of its range, and if the range ends within them, the same behind it
 pub record WriteLeaves (synced : List ℕ) (from count : ℕ) (bytes : List ℕ) : Type 0 where
   pub front : take from bytes ≡ take from synced
   pub reaches : from ≤ length bytes

@@ -1,5 +1,5 @@
--- Laws of the disk's definition, in words of their own: what a crash may leave after another crash, after a write,
--- after a cut, after several of both and after a failure, and that it may leave what reads give.
+-- Laws of the disk's definition, stated in terms of their own: what a crash may leave after another crash, after a write,
+-- after a cut, after several of both and after a failure; and the law that it may leave what reads give.
 use Rattle.std.specs.Prelude.{◌≡◌, ◌⊎◌, ◌↔◌, ◌≤◌, ◌<◌, ◌+◌, ℕ, Bool, false, List, [], ◌∷◌, length, take, drop, All, slice_get, Result}
 use Rattle.disk.specs.declared.error.DiskError.{DiskError}
 use Rattle.disk.specs.File.{Durable, File, MayLeave, AreBytes, Fails, Syncs, WriteLeaves, settled, touching, write_touches, cut_touches, written, cut}
@@ -12,33 +12,33 @@ abbrev pub Crashes : File → List (List ℕ) → Type 0
 Crashes file [] = Unit {0}
 Crashes file (bytes ∷ later) = MayLeave file.durable bytes × Crashes (crashed bytes file) later
 
--- a crash settles nothing: each of them may leave exactly what the first may leave
+-- a crash makes nothing durable: each crash may leave exactly what the first may leave
 abbrev pub CrashesAlike : Type 0
 CrashesAlike = (file : File) (left : List (List ℕ)) → Crashes file left ↔ All (MayLeave file.durable) left
 
--- where nothing is touched each of them leaves what reads give
+-- if nothing is touched, each crash leaves what reads give
 abbrev pub UntouchedStays : Type 0
 UntouchedStays = (file : File) → ((at : ℕ) → file.durable.touched at ≡ false) → MayLeave file.durable file.content
     → (left : List (List ℕ)) → Crashes file left ↔ All (λ bytes. bytes ≡ file.content) left
 
--- ---- one write or one cut, where all was on the disk
+-- ---- one write or one cut, when everything was on the disk before
 
--- what is durable after a write of so many bytes
+-- the durable state after a write of `count` bytes
 abbrev pub after_write : List ℕ → ℕ → ℕ → Durable
 after_write synced from count = touching (write_touches (settled synced) from count) (settled synced)
 
--- what is durable after a cut
+-- the durable state after a cut
 abbrev pub after_cut : List ℕ → ℕ → Durable
 after_cut synced end = touching (cut_touches end) (settled synced)
 
--- as many bytes as the old ones, any of them from one position up to another, and the old ones everywhere else
+-- as many bytes as before: any bytes from one position up to another, and the old bytes everywhere else
 pub record DiffersWithin (from end : ℕ) (old new : List ℕ) : Type 0 where
   pub are_bytes : AreBytes new
   pub same_length : length new ≡ length old
   pub front : take from new ≡ take from old
   pub behind : drop end new ≡ drop end old
 
--- so many of the old bytes, and behind them any bytes, in any number
+-- the first `count` old bytes, and after them any bytes, in any number
 pub record BeginsAs (count : ℕ) (old new : List ℕ) : Type 0 where
   pub are_bytes : AreBytes new
   pub reaches : count ≤ length new
@@ -54,7 +54,7 @@ abbrev pub WritePast : Type 0
 WritePast = (synced : List ℕ) (from count : ℕ) → from ≤ length synced → length synced < from + count
     → (bytes : List ℕ) → MayLeave (after_write synced from count) bytes ↔ BeginsAs from synced bytes
 
--- either way it may leave exactly the bytes that `WriteLeaves` speaks of
+-- in both cases a write may leave exactly the bytes that satisfy `WriteLeaves`
 abbrev pub WriteLeavesExactly : Type 0
 WriteLeavesExactly = (synced : List ℕ) (from count : ℕ) → from ≤ length synced
     → (bytes : List ℕ) → MayLeave (after_write synced from count) bytes ↔ (AreBytes bytes × WriteLeaves synced from count bytes)
@@ -69,7 +69,7 @@ abbrev pub WriteExample : Type 0
 WriteExample = let durable = after_write (7 ∷ 8 ∷ 9 ∷ []) 1 1 in
     MayLeave durable (7 ∷ 0 ∷ 9 ∷ []) × (MayLeave durable (0 ∷ 8 ∷ 9 ∷ []) → ⊥) × (MayLeave durable (7 ∷ 8 ∷ []) → ⊥)
 
--- the same are cut to the first: a crash leaves a 7 and any bytes
+-- the same three bytes are cut to the first: a crash leaves a 7 and any bytes
 abbrev pub CutExample : Type 0
 CutExample = let durable = after_cut (7 ∷ 8 ∷ 9 ∷ []) 1 in
     MayLeave durable (7 ∷ []) × MayLeave durable (7 ∷ 8 ∷ 9 ∷ []) × MayLeave durable (7 ∷ 1 ∷ []) × (MayLeave durable [] → ⊥)
@@ -81,11 +81,11 @@ abbrev pub TouchesAddUp : Type 0
 TouchesAddUp = (durable : Durable) (first second : ℕ → Bool) (bytes : List ℕ)
     → MayLeave (touching first durable) bytes ⊎ MayLeave (touching second durable) bytes → MayLeave (touching second (touching first durable)) bytes
 
--- at this position these bytes have what other bytes have there, as many of them, which a crash may leave
+-- at this position these bytes have what some other bytes have there, which are as many and which a crash may leave
 abbrev pub HasFrom : Durable → List ℕ → ℕ → Type 0
 HasFrom durable bytes at = (left : List ℕ) × MayLeave durable left × (length left ≡ length bytes) × (slice_get bytes at ≡ slice_get left at)
 
--- of as many bytes as are synced, both may leave exactly the mixtures: at each position what the one or what the other may leave
+-- among contents as long as the synced bytes, both together may leave exactly the mixtures: at each position what either may leave
 abbrev pub MixturesLeft : Type 0
 MixturesLeft = (durable : Durable) (first second : ℕ → Bool) (bytes : List ℕ) → AreBytes durable.synced → length bytes ≡ length durable.synced
     → MayLeave (touching second (touching first durable)) bytes
@@ -93,16 +93,16 @@ MixturesLeft = (durable : Durable) (first second : ℕ → Bool) (bytes : List �
 
 -- ---- a write or a cut that failed
 
--- a write or a cut that failed takes nothing back: what might be left before it may be left after it
+-- a write or a cut that failed takes nothing back: what a crash might leave before it, a crash may leave after it
 abbrev pub FailureTakesNothingBack : Type 0
 FailureTakesNothingBack = (touches : ℕ → Bool) (old new : File) → Fails touches old new → (bytes : List ℕ) → MayLeave old.durable bytes → MayLeave new.durable bytes
 
--- a write that failed may leave exactly what it may leave where it succeeds
+-- a write that failed may leave exactly what a write that succeeds may leave
 abbrev pub FailedWriteLeaves : Type 0
 FailedWriteLeaves = (old new : File) (from : ℕ) (bytes : List ℕ) → Fails (write_touches old.durable from (length bytes)) old new
     → (left : List ℕ) → MayLeave new.durable left ↔ MayLeave (written from bytes old).durable left
 
--- and so may a cut that failed
+-- and the same holds for a cut that failed
 abbrev pub FailedCutLeaves : Type 0
 FailedCutLeaves = (old new : File) (end : ℕ) → Fails (cut_touches end) old new
     → (left : List ℕ) → MayLeave new.durable left ↔ MayLeave (cut end old).durable left
@@ -125,6 +125,6 @@ CutKeepsReads = (file : File) (end : ℕ) → ReadsLeft file → ReadsLeft (cut 
 abbrev pub FailureKeepsReads : Type 0
 FailureKeepsReads = (touches : ℕ → Bool) (old new : File) → Fails touches old new → AreBytes new.content → ReadsLeft old → ReadsLeft new
 
--- and it stays so after a sync, whatever it answered
+-- and it stays so after a sync, whatever it returned
 abbrev pub SyncKeepsReads : Type 0
 SyncKeepsReads = (result : Result (Unit {0}) DiskError) (old new : File) → Syncs result old new → ReadsLeft old → ReadsLeft new

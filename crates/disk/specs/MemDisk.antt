@@ -10,7 +10,7 @@ use Rattle.disk.specs.Calls.{files_after}
 abbrev pub files_of : MemDisk → Side → File
 files_of disk = files_after disk.a.items disk.b.items disk.history.calls.items
 
--- what a crash is to leave
+-- the contents that a crash is to leave
 abbrev pub fill_of : Fill → Contents
 fill_of fill = pick fill.a.items fill.b.items
 

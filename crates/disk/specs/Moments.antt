@@ -15,7 +15,7 @@ module _ {D : Type 0} (moment : D → ℕ) (left_at : D → ℕ → Contents →
     stays = λ t c le. (λ left. left, λ left. left);
   }
 
-  -- after one call more, where a crash leaves what has P
+  -- after one more call, if what a crash may then leave has P
   pub goes_on : (old mid new : D) (P : Contents → Type 0) → LeavesOnly moment left_at old mid P → Elapses (moment mid) (moment new) (left_at mid) (left_at new)
       → ((c : Contents) → left_at new (moment new) c → P c) → LeavesOnly moment left_at old new P
   goes_on old mid new P so_far time now = record {
@@ -30,11 +30,11 @@ module _ {D : Type 0} (moment : D → ℕ) (left_at : D → ℕ → Contents →
         (λ left. first.0 (last.0 left), λ left. last.1 (first.1 left));
   }
 
-  -- what has P has Q
+  -- the same for a weaker property Q
   pub weakened : (old new : D) (P Q : Contents → Type 0) → LeavesOnly moment left_at old new P → ((c : Contents) → P c → Q c) → LeavesOnly moment left_at old new Q
   weakened old new P Q only so = record { later = only.later; each = λ t c from to left. so c (only.each t c from to left); stays = only.stays }
 
-  -- two lists of calls, one after the other, the first of them told from when it began and what a crash might leave before
+  -- two lists of calls, one after the other; the first is given by the moment when it began and what a crash might have left until then
   pub joined_since : (from : ℕ) (left : ℕ → Contents → Type 0) (mid new : D) (P Q R : Contents → Type 0) → LeavesSince moment left_at from left mid P → LeavesOnly moment left_at mid new Q
       → ((c : Contents) → P c → R c) → ((c : Contents) → Q c → R c) → LeavesSince moment left_at from left new R
   joined_since from left mid new P Q R first second from_first from_second = record {
@@ -53,7 +53,7 @@ module _ {D : Type 0} (moment : D → ℕ) (left_at : D → ℕ → Contents →
       → ((c : Contents) → P c → R c) → ((c : Contents) → Q c → R c) → LeavesOnly moment left_at old new R
   joined old = joined_since (moment old) (left_at old)
 
-  -- at each moment of one call a crash may leave what it may leave before the call and behind it
+  -- at each moment of one call a crash may leave what it may leave both before the call and after it
   pub call_keeps : (files : D → Side → File) (at_now : (disk : D) (c : Contents) → left_at disk (moment disk) c ↔ MayLeaveNow (files disk) c) (old new : D)
       → Elapses (moment old) (moment new) (left_at old) (left_at new) → (c : Contents) → MayLeaveNow (files old) c → MayLeaveNow (files new) c
       → (k : ℕ) → moment old ≤ k → k ≤ moment new → left_at new k c
@@ -62,6 +62,6 @@ module _ {D : Type 0} (moment : D → ℕ) (left_at : D → ℕ → Contents →
     | inr early ↦ (time.stays k c early).1 (subst (λ (n : ℕ). left_at old n c) (omega (arith, early, from)) ((at_now old c).1 before))
   ]
 
--- of the other file a crash leaves now what it might have left before calls on this one
+-- of the other file a crash now leaves only what it might have left before calls on this one
 pub other_before : (side : Side) (old new : Side → File) → OtherStays side old new → (c : Contents) → OtherMayBe side new c → OtherMayBe side old c
 other_before side old new stays c left other differs = subst (λ (f : File). MayLeave f.durable (c other)) (stays other differs) (left other differs)

@@ -4,14 +4,14 @@ use Rattle.std.proofs.Common.{inl, inr}
 use Rattle.disk.specs.declared.side.Side.{Side}
 use Rattle.disk.specs.declared.side.Side.TheVariants.{A, B}
 
--- whether these are one side
+-- whether these are the same side
 abbrev pub is_side : Side → Side → Bool
 is_side A A = true
 is_side A B = false
 is_side B A = false
 is_side B B = true
 
--- what stands at a side, of what A has and what B has
+-- the value of a side, from the value of A and the value of B
 abbrev pub pick : {X : Type 0} → X → X → Side → X
 pick a b A = a
 pick a b B = b

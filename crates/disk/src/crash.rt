@@ -25,7 +25,7 @@ pub(crate) fn may_leave(calls: &[Call], side: Side, bytes: &[u8]) -> bool
     true
 }
 
-// What the last sync of a file wrote down, and the calls since.
+// The bytes that the last sync of a file made durable, and the calls since.
 fn last_sync(calls: &[Call], side: Side) -> (&[u8], &[Call])
     ensures { TouchedSince (durable_of calls.now side) side result.0.now result.1.now }
 {
@@ -40,7 +40,7 @@ fn last_sync(calls: &[Call], side: Side) -> (&[u8], &[Call])
     (synced, &calls[behind..])
 }
 
-// What a call wrote down of a file, where it is a sync of it.
+// The bytes that a call made durable, if it is a sync of the file.
 fn syncs(side: Side, call: &Call) -> Option<&[u8]>
     ensures { option_copied result ≡ call_syncs side call.now }
 {
@@ -87,8 +87,8 @@ fn touches(synced: &[u8], side: Side, call: &Call, position: u64) -> bool
         }
 }
 
-// Whether a call touches anything from the synced end on: a cut does, wherever it cuts, and a write that reaches
-// past that end.
+// Whether a call touches anything from the synced end on: every cut does, and so does a write that reaches past that
+// end.
 fn touches_the_end(synced: &[u8], side: Side, call: &Call) -> bool
     ensures { IsTrue result ↔ ((at : ℕ) × (length synced.now ≤ at) × IsTrue (call_touches synced.now side call.now at)) }
 {
@@ -100,7 +100,7 @@ fn touches_the_end(synced: &[u8], side: Side, call: &Call) -> bool
         }
 }
 
-// Whether so many bytes from a position on reach past another.
+// Whether `count` bytes from `at` on reach past `position`.
 fn reaches_past(at: u64, count: u64, position: u64) -> bool
     ensures { result ≡ nat_lt position (at + count) }
 {

@@ -10,7 +10,7 @@ pub enum DiskError {
     /// The device failed.
     #[error("the device failed")]
     Device,
-    /// A growth was refused.
+    /// Memory was refused.
     #[error("no memory")]
     NoMemory,
 }

@@ -17,21 +17,21 @@ const GREATEST_POSITION: u64 = i64::MAX as u64;
 
 /// A disk of two real files, `A` and `B` of one directory.
 ///
-/// Nothing is claimed of bytes: that real files behave as those of an honest disk is the user's premise.
-/// A call answers `Device` where the system refuses what it asks, where a read meets the end of its file, and where a
-/// range ends past `2 ^ 63 - 1`, the greatest position that the system can count.
+/// Nothing is claimed about bytes: it is the user's premise that real files behave as those of an honest disk.
+/// A call returns `Device` if the system refuses what it asks, if a read meets the end of its file, or if a range ends
+/// past `2 ^ 63 - 1`, the greatest position that the system can count.
 /// While the disk lives, it holds an exclusive advisory lock on `A`.
 pub struct FileDisk {
     a: File,
     b: File,
     // One unit for each failure of the device.
     failures: Vec<()>,
-    // Changes with each call that is refused for want of memory.
+    // Changes with each call that returns `NoMemory`.
     refusals: u64,
 }
 
 impl Drop for FileDisk {
-    // By hand, so that it is one call wherever a disk goes.
+    // Written by hand, so that dropping a disk is one call everywhere.
     fn drop(self) {
         let FileDisk {
             a: _,
@@ -43,12 +43,12 @@ impl Drop for FileDisk {
 }
 
 impl FileDisk {
-    /// Opens the files `A` and `B` of a directory for reading and writing, and makes those that are missing, empty.
-    /// Where one is empty, it syncs the directory. The bytes of a file that is there stay as they are.
+    /// Opens the files `A` and `B` of a directory for reading and writing, and creates missing files, empty.
+    /// If one is empty, it syncs the directory. The bytes of an existing file stay as they are.
     ///
-    /// `NoMemory` is answered where an allocation is refused, and then nothing was opened or made.
-    /// `Device` is answered where the directory is missing, where a call of the system fails, and where a `FileDisk`
-    /// of this or another process has the directory open. A file that was made before the failure stays.
+    /// It returns `NoMemory` if an allocation is refused, and then nothing was opened or created.
+    /// It returns `Device` if the directory is missing, if a call of the system fails, or if a `FileDisk` of this or
+    /// another process has the directory open. A file that was created before the failure stays.
     pub fn open<R: Files<File = File>>(
         alloc: Global,
         rt: &R,
@@ -56,7 +56,7 @@ impl FileDisk {
     ) -> Result<FileDisk, DiskError>
         ensures { IfOk result (λ disk. ⟦<FileDisk as Disk>⟧.failures disk ≡ 0) }
     {
-        // Units have no size, so there is room for all that a `Vec` can hold: to count a failure allocates nothing.
+        // Units have no size, so there is room for as many as a `Vec` can hold: counting a failure allocates nothing.
         let failures = Vec::with_capacity(alloc, isize::MAX as usize)?;
         let a = Path::new(directory).join(alloc, "A")?;
         let b = Path::new(directory).join(alloc, "B")?;
@@ -78,7 +78,7 @@ impl FileDisk {
         }
     }
 
-    /// Counts a failure of the device and answers `Device`. Where that count cannot grow, it counts a refusal and answers
+    /// Counts a failure of the device and returns `Device`. If that count cannot grow, it counts a refusal and returns
     /// `NoMemory`.
     fn fail<T>(&mut self) -> Result<T, DiskError>
         ensures cause { HasCause (vec_len self.old.failures) (vec_len self.new.failures) result }
@@ -94,7 +94,7 @@ impl FileDisk {
         }
     }
 
-    /// Answers as the system did, and counts where it failed.
+    /// Returns what the system returned, and counts a failure if there was one.
     fn outcome<T: Drop>(&mut self, answer: io::Result<T>) -> Result<T, DiskError>
         ensures cause { HasCause (vec_len self.old.failures) (vec_len self.new.failures) result }
         ensures refused { CountsRefusal self.old.refusals self.new.refusals result }
@@ -108,7 +108,7 @@ impl FileDisk {
     }
 }
 
-/// Opens `A` and `B`, and touches `B` only once `A` is locked.
+/// Opens `A` and `B`, and touches `B` only after `A` is locked.
 fn open_both<R: Files<File = File>>(
     rt: &R,
     directory: Path<'_>,
@@ -122,10 +122,10 @@ fn open_both<R: Files<File = File>>(
     Ok((a, b))
 }
 
-/// Opens a file of the directory, or makes it where it is missing.
+/// Opens a file of the directory, or creates it if it is missing.
 ///
-/// The directory is synced where the file is empty, since it may be new there: an earlier opening may have made it
-/// and failed before its sync. A file with bytes was written through a disk that was open, so after that sync.
+/// The directory is synced if the file is empty, since the file may be new there: an earlier opening may have created
+/// it and failed before its sync. A file with bytes was written through an open disk, and so after that sync.
 fn open_or_make<R: Files<File = File>>(
     rt: &R,
     directory: &File,
@@ -188,13 +188,14 @@ impl Disk for FileDisk {
         self.outcome(answer)
     }
 
-    // The system refuses a count past `GREATEST_POSITION` by an error.
+    // The system refuses a count past `GREATEST_POSITION` with an error.
     fn cut(&mut self, side: Side, count: u64) -> Result<(), DiskError> {
         let answer = self.file(side).set_len(count);
         self.outcome(answer)
     }
 
-    // Bytes and length count, a file's times do not: `sync_data` leaves out the second write, the one that times alone need.
+    // Bytes and length matter, a file's times do not: `sync_data` leaves out the second write, which only the times
+    // need.
     fn sync(&mut self, side: Side) -> Result<(), DiskError> {
         let answer = self.file(side).sync_data();
         self.outcome(answer)

@@ -1,13 +1,13 @@
-//! The laws that show the definition of the disk to be the right one. Each is a contract, with nothing to run.
+//! The laws that show that the definition of the disk is the right one. Each is a contract, with nothing to run.
 ghost use Rattle.disk.specs.Laws.{CrashesAlike, UntouchedStays, WriteWithin, WritePast, WriteLeavesExactly, WriteExample, CutLeaves, CutExample, TouchesAddUp, MixturesLeft, FailureTakesNothingBack, FailedWriteLeaves, FailedCutLeaves, WriteKeepsReads, CutKeepsReads, FailureKeepsReads, SyncKeepsReads};
 
-/// Crashes one after another: none of them settles anything, and where nothing is touched all leave what reads give.
+/// Crashes one after another: none of them makes anything durable, and if nothing is touched all leave what reads give.
 pub fn crashes_again()
     ensures alike { CrashesAlike }
     ensures untouched { UntouchedStays }
 {}
 
-/// A write: within the synced bytes it may leave any bytes in its range and changes nothing else; one that reaches
+/// A write within the synced bytes may leave any bytes in its range, and changes nothing else. A write that reaches
 /// past their end may leave any bytes from where it begins, in any number.
 pub fn write_leaves()
     ensures within { WriteWithin }
@@ -29,7 +29,7 @@ pub fn touches_add_up()
     ensures mixtures { MixturesLeft }
 {}
 
-/// A write or a cut that failed takes nothing back, and may leave exactly what one that succeeds may.
+/// A write or a cut that failed takes nothing back, and may leave exactly what one that succeeds may leave.
 pub fn failure_leaves()
     ensures before { FailureTakesNothingBack }
     ensures write { FailedWriteLeaves }

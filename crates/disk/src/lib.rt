@@ -1,8 +1,8 @@
 //! A disk of two files, as everything above sees it: the trait `Disk`, a disk in memory and one of real files.
 //!
 //! A file is what a read gives, the bytes of the last successful sync, and the positions touched since.
-//! A crash leaves any bytes that agree with the synced ones at every position that is not touched.
-//! The layer above stands on the clauses of the trait, and on its two laws.
+//! A crash may leave any bytes that agree with the synced ones at every position that is not touched.
+//! The crates above rely on the clauses of the trait, and on its two laws.
 #![tactic(auto)]
 
 mod crash;

@@ -10,17 +10,17 @@ use crate::record::{Change, Record};
 use crate::{Disk, DiskError, Side};
 use std::alloc::{AllocError, Global};
 
-/// What a crash is to leave of both files.
+/// The bytes that a crash is to leave of both files.
 #[derive(Debug, Drop)]
 pub struct Fill {
     pub a: Vec<u8>,
     pub b: Vec<u8>,
 }
 
-/// An honest disk in memory, whose crashes are chosen by the caller.
+/// An honest disk in memory. The caller chooses its crashes.
 ///
-/// It keeps a record of all its calls, from which it tells what a crash may leave: a call answers `NoMemory`
-/// where its memory cannot grow, and then its files and its record of calls are as they were.
+/// It keeps a record of all its calls, and from it decides what a crash may leave. A call returns `NoMemory` if memory
+/// is refused, and then the files and the record of calls are as they were.
 pub struct MemDisk {
     alloc: Global,
     a: Vec<u8>,
@@ -30,7 +30,7 @@ pub struct MemDisk {
 }
 
 impl Drop for MemDisk {
-    // By hand, so that it is one call wherever a disk goes.
+    // Written by hand, so that dropping a disk is one call everywhere.
     fn drop(self) {
         let MemDisk {
             alloc: _,
@@ -59,8 +59,8 @@ impl MemDisk {
         }
     }
 
-    /// The call of the five with this number from now on, from 1, answers `Device`. A write or a cut that fails so
-    /// leaves what reads give.
+    /// Makes the call with this number return `Device`; calls of all five kinds are counted, from 1, from now on. A
+    /// write or a cut that fails so does not change what reads give.
     pub fn fail_call(&mut self, number: u64)
         ensures files { (side : Side) → files_of self.new side ≡ files_of self.old side }
         ensures calls { self.new.history.calls.items ≡ self.old.history.calls.items }
@@ -69,10 +69,10 @@ impl MemDisk {
         self.history.fail(number);
     }
 
-    /// A crash that leaves these bytes, where one may leave them; else the fill comes back, and nothing has changed.
+    /// Crashes and leaves these bytes, if a crash may leave them; else it returns the fill, and nothing has changed.
     ///
-    /// It undoes and settles nothing of what was done since the last sync of a file: the next crash may leave
-    /// other bytes.
+    /// It neither undoes nor makes durable what was done since the last sync of a file: the next crash may leave other
+    /// bytes.
     pub fn crash(&mut self, fill: Fill) -> Result<(), Fill>
         ensures allowed { IsOk result ↔ MayLeaveNow (files_of self.old) (fill_of fill) }
         ensures ok { OnOk result ((side : Side) → files_of self.new side ≡ crashed (fill_of fill side) (files_of self.old side)) }
@@ -90,7 +90,7 @@ impl MemDisk {
         Ok(())
     }
 
-    // What reads of a file give.
+    // The bytes that reads of a file give.
     fn content(&self, side: Side) -> &[u8]
         ensures { result.now ≡ (files_of self.now side).content }
     {
@@ -163,7 +163,7 @@ impl Disk for MemDisk {
     }
 }
 
-// Puts bytes over what one of the files has from a place on.
+// Writes bytes over what one of the files has from a place on.
 fn write_side(
     a: &mut Vec<u8>,
     b: &mut Vec<u8>,
@@ -191,7 +191,7 @@ fn cut_side(a: &mut Vec<u8>, b: &mut Vec<u8>, side: Side, count: usize)
     }
 }
 
-// Puts bytes over what is there from a place on, and past the end.
+// Writes bytes over what is there from a place on, and past the end.
 fn overwrite(content: &mut Vec<u8>, at: usize, bytes: &[u8]) -> Result<(), AllocError>
     requires { at ≤ vec_len content.old }
     ensures ok { OnOk result (content.new.items ≡ overwritten content.old.items at bytes.now) }

@@ -6,7 +6,7 @@ use crate::refusals::one_more;
 use crate::{DiskError, Side};
 use std::alloc::Global;
 
-/// What a call did to what is durable of its file.
+/// What a call did to the durable state of its file.
 #[derive(Drop)]
 pub(crate) enum Change {
     Nothing,
@@ -23,20 +23,20 @@ pub(crate) struct Call {
     pub(crate) failed: bool,
 }
 
-/// The calls of a disk so far, and which of those to come is to fail.
+/// The calls of a disk so far, and which of the coming calls is to fail.
 #[derive(Drop)]
 pub(crate) struct Record {
     pub(crate) calls: Vec<Call>,
-    // Counts down to 1, the call that is to fail; 0 where none is.
+    // Counts down to 1, which is the call that is to fail; 0 if none is.
     pub(crate) until_failure: u64,
-    // Changes with each call that is refused for want of memory.
+    // Changes with each call that returns `NoMemory`.
     pub(crate) refusals: u64,
 }
 
 impl Record {
     ghost use Rattle.disk.specs.Calls.{Kept};
 
-    /// No calls, and none that is to fail.
+    /// No calls so far, and no call that is to fail.
     pub(crate) fn new(alloc: Global) -> Self
         ensures { result.calls.items ≡ [] }
     {
@@ -47,7 +47,7 @@ impl Record {
         }
     }
 
-    /// The call with this number from now on, from 1, is to fail.
+    /// Makes the call with this number fail, counted from now on, from 1.
     pub(crate) fn fail(&mut self, number: u64)
         ensures calls { self.new.calls.items ≡ self.old.calls.items }
         ensures number { self.new.until_failure ≡ number }
@@ -55,7 +55,7 @@ impl Record {
         self.until_failure = number;
     }
 
-    /// Counts a call that is refused for want of memory, and answers so.
+    /// Counts a call for which memory was refused, and returns `NoMemory`.
     pub(crate) fn refuse<T>(&mut self) -> Result<T, DiskError>
         ensures refused { result ≡ Err NoMemory }
         ensures counted { self.new.refusals ≢ self.old.refusals }
@@ -65,7 +65,7 @@ impl Record {
         Err(DiskError::NoMemory)
     }
 
-    /// Begins a call: makes room for it, and keeps it as one that failed if it is the one that is to fail.
+    /// Begins a call: makes room for it, and records it as failed if it is the one that is to fail.
     pub(crate) fn begin(&mut self, side: Side, change: Change) -> Result<Change, DiskError>
         ensures fails { self.old.until_failure ≡ 1 → IfOk result (λ _. ⊥) }
         ensures device { IsErrOf result Device → self.old.until_failure ≡ 1 }

@@ -7,24 +7,24 @@ use crate::{DiskError, Side};
 
 /// Two files that can be read, written, cut and synced, and that a crash may catch at any moment.
 ///
-/// Clauses on bytes hold where the disk is honest; those on causes always.
+/// The clauses about bytes hold if the disk is honest. The clauses about causes always hold.
 pub trait Disk {
-    /// Whether the disk keeps the clauses on bytes.
+    /// Whether the disk keeps the clauses about bytes.
     ghost is_honest: { Bool };
 
     /// Each file now.
     ghost files: { Self → Side → File };
 
-    /// The moment, as a number that does not fall.
+    /// The present moment, as a number that does not fall.
     ghost moment: { Self → ℕ };
 
-    /// What a crash at that moment may have left, during a call or between two.
+    /// What a crash at a moment may have left, during a call or between two calls.
     ghost left_at: { Self → ℕ → Contents → Type 0 };
 
     /// How often the device has failed.
     ghost failures: { Self → ℕ };
 
-    /// A number that changes with each call that is refused for want of memory, and with no other.
+    /// A number that changes with each call that returns `NoMemory`, and with no other call.
     ghost refusals: { Self → ℕ };
 
     /// The number of bytes that reads give of a file.
@@ -53,7 +53,7 @@ pub trait Disk {
         ensures cause { HasCause (failures self.old) (failures self.new) result }
         ensures refused { CountsRefusal (refusals self.old) (refusals self.new) result };
 
-    /// Cuts a file to its first bytes.
+    /// Cuts a file to its first `count` bytes.
     fn cut(&mut self, side: Side, count: u64) -> Result<(), DiskError>
         requires { IsTrue is_honest → count ≤ length (files self.old side).content }
         ensures file { IsTrue is_honest → Changes (cut count) (cut_touches count) result (files self.old side) (files self.new side) }
@@ -62,7 +62,7 @@ pub trait Disk {
         ensures cause { HasCause (failures self.old) (failures self.new) result }
         ensures refused { CountsRefusal (refusals self.old) (refusals self.new) result };
 
-    /// From `Ok` on, a crash leaves of this file what a read gives, until it is written or cut.
+    /// After `Ok`, a crash leaves of this file what reads give, until the file is written or cut again.
     fn sync(&mut self, side: Side) -> Result<(), DiskError>
         ensures file { IsTrue is_honest → Syncs result (files self.old side) (files self.new side) }
         ensures other { IsTrue is_honest → OtherStays side (files self.old) (files self.new) }
@@ -70,7 +70,7 @@ pub trait Disk {
         ensures cause { HasCause (failures self.old) (failures self.new) result }
         ensures refused { CountsRefusal (refusals self.old) (refusals self.new) result };
 
-    /// At this moment that is what a crash now may leave.
+    /// At the present moment, `left_at` is what a crash now may leave.
     ghost at_now: { IsTrue is_honest → (disk : Self) (contents : Contents) → left_at disk (moment disk) contents ↔ MayLeaveNow (files disk) contents };
 
     /// A crash may leave what reads give.

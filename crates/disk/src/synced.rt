@@ -4,7 +4,7 @@ ghost use Rattle.disk.specs.Time.{Contents, MayLeaveNow, OtherStays, OtherMayBe,
 
 use crate::{Disk, DiskError, Side};
 
-/// Writes bytes from a position on, and syncs the file. After an error what reads give there is open.
+/// Writes bytes from a position on, and syncs the file. After an error it is unspecified what reads give there.
 pub fn write_synced<D: Disk>(
     disk: &mut D,
     side: Side,
@@ -15,17 +15,19 @@ pub fn write_synced<D: Disk>(
     ensures ok { IsTrue D.is_honest → OnOk result (D.files disk.new side ≡ at_rest (overwritten (D.files disk.old side).content at bytes.now)) }
     ensures other { IsTrue D.is_honest → OtherStays side (D.files disk.old) (D.files disk.new) }
 
-    // A crash at any moment of the call leaves of the file at most what the write may leave, and of the other what it might before.
+    // A crash at any moment of the call leaves of this file at most what the write may leave, and of the other file
+    // what it might have left before.
     ensures touches { IsTrue D.is_honest → LeavesOnly D.moment D.left_at disk.old disk.new
         (λ contents. MayLeave (touching (write_touches (D.files disk.old side).durable at (length bytes.now)) (D.files disk.old side).durable) (contents side) × OtherMayBe side (D.files disk.old) contents) }
 
-    // Of a synced file that is:
+    // If everything of the file was on the disk, that is:
     ensures any_moment { IsTrue D.is_honest → (synced : List ℕ) → D.files disk.old side ≡ at_rest synced → LeavesOnly D.moment D.left_at disk.old disk.new
         (λ contents. WriteLeaves synced at (length bytes.now) (contents side) × OtherMayBe side (D.files disk.old) contents) }
-    // Nothing of the call is settled until all of it is.
+    // The call takes effect at once: no part of it is sure to be on the disk before all of it is.
     ensures at_once { IsTrue D.is_honest → AtOnce D.files D.moment D.left_at disk.old disk.new }
 
-    // After an error a crash may leave all that one might have left before, and so at each moment of the call.
+    // After an error a crash may leave everything that it might have left before, and so it may at each moment of the
+    // call.
     ensures err { IsTrue D.is_honest → OnErr result ((contents : Contents) → MayLeaveNow (D.files disk.old) contents → MayLeaveNow (D.files disk.new) contents) }
     ensures err_moments { IsTrue D.is_honest → OnErr result (KeepsAll D.files D.moment D.left_at disk.old disk.new) }
     ensures cause { HasCause (D.failures disk.old) (D.failures disk.new) result }

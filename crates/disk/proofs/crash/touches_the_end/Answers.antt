@@ -7,7 +7,7 @@ use Rattle.disk.specs.Side.{is_side}
 use Rattle.disk.specs.Crash.{change_touches}
 use Rattle.disk.proofs.crash.touches_the_end.Goals as goal
 
--- a cut touches the position where it cuts, and all behind it
+-- a cut touches the position where it cuts, and all positions after it
 pub returns-in-Cut : goal.returns-in-Cut
 returns-in-Cut c =
     let far = max c.in-Cut.count (length c.args.synced.now) in
