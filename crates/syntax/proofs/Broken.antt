@@ -15,7 +15,7 @@ pub breaks : (first : Expected) (behind : List Expected) (spots : List Spot) (pa
 breaks first behind spots None e = refused first behind spots e
 breaks first behind spots (Some place) e = limited first behind spots place e
 
--- ---- behind an operand
+-- ---- after an operand
 
 pub open_breaks : (state : Expression) (outer : List (Level × Position)) (prod : Prod) → outer ≢ [] → look_end state outer prod ≡ broken_off state.passed
 open_breaks state [] prod some = absurd (some refl)

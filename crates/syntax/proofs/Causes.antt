@@ -1,4 +1,4 @@
--- The causes of faults: no verdict changes with the tokens behind the one at which it is told.
+-- The causes of faults: the tokens after the one at which a verdict is reported do not change the verdict.
 use Rattle.std.proofs.Common.{◌≡◌, ◌≤◌, ◌⊎◌, inl, inr, ℕ, suc, List, [], ◌∷◌, length, take, drop, slice_get, Some, refl, sym, ap, subst, ◌∙◌, arith}
 use Rattle.syntax.specs.Tokens.{Spot, AreTokens, unknown}
 use Rattle.syntax.specs.Grammar.{Position, GraphText}
@@ -14,7 +14,7 @@ use Rattle.syntax.proofs.InFront.{BegunInFront, front_stays, LostAmong, LostFirs
 use Rattle.syntax.proofs.Filled.{AllBegins, AllSound, all_sound}
 use Rattle.syntax.proofs.Completed.{Before, before_none, before_all, before_one, begins_graph}
 
--- these begin with the tokens before the fault and with the one at fault
+-- these tokens begin with the `count` tokens before the fault and with the one at fault
 abbrev pub Alike : ℕ → List Spot → List Spot → Type 0
 Alike count others spots = take (suc count) others ≡ take (suc count) spots
 
@@ -22,7 +22,7 @@ none_alike : (others : List Spot) → Alike 0 others [] → others ≡ []
 none_alike [] same = refl
 none_alike (spot ∷ others) same = absurd (cc)
 
--- so many tokens more are the same, and the first of them
+-- the first token is the same, and so are the next `count` ones
 next_alike : (count : ℕ) (spot : Spot) (spots others : List Spot) → take (suc count) others ≡ take (suc count) (spot ∷ spots) → (more : List Spot) × (others ≡ spot ∷ more) × (take count more ≡ take count spots)
 next_alike count spot spots [] same = absurd (cc)
 next_alike count spot spots (first ∷ more) same =
@@ -38,7 +38,7 @@ one_alike spot spots others same = let first = next_alike 0 spot spots others sa
 
 -- ---- syntax
 
--- so many tokens stand before the one at fault and were taken, and what goes on so has the fault too
+-- the `count` tokens before the one at fault were taken, and all tokens that begin like these have the fault too
 pub record Broken (stack : List Expected) (spots rest : List Spot) : Type 0 where
   pub count : ℕ
   pub counted : count ≤ length spots
@@ -130,11 +130,11 @@ syntax_cause text spots rest tokens is =
 
 -- ---- limits
 
--- whatever the machine is to tell of these tokens, where each time it tells one of some limits, this place is one of those
+-- for any limits: if the machine, under each `telling`, accepts these tokens with no limit or reports one of them, this place is one of them
 abbrev pub Passes : List Expected → Position → List Spot → Type 0
 Passes stack place spots = (limits : List Position) → ((telling : Telling) → Judged limits (run_so telling stack spots) accepted) → In place limits
 
--- so many tokens begin what may come, and all that begins with them passes the limit
+-- the first `count` tokens begin what may come, and all tokens that begin with them pass the limit
 pub record Limited (stack : List Expected) (spots : List Spot) (place : Position) : Type 0 where
   pub count : ℕ
   pub counted : count ≤ length spots
@@ -147,7 +147,7 @@ told_only place limits verdict only (breaks other there same) =
     let is : other ≡ place = subst (TellsOnly place) same only in
     subst (λ (it : Position). In it limits) is there
 
--- no token, behind those of an expression that is lost
+-- no more tokens are needed, after those of an expression that is lost
 limited_here : (stack : List Expected) (spots : List Spot) (place : Position) → LostFirst place stack → Limited stack spots place
 limited_here stack spots place lost = record {
   count = 0;
@@ -159,7 +159,7 @@ limited_here stack spots place lost = record {
       (judged (of_whole lost.lost.0));
 }
 
--- the token begins what may come
+-- the first token begins what may come
 limited_at : (stack : List Expected) (spot : Spot) (spots : List Spot) (place : Position) → ((others : List Spot) → Alike 0 others (spot ∷ spots) → run stack others ≡ too_large place) → AllBegins stack spot
     → Limited stack (spot ∷ spots) place
 limited_at stack spot spots place too it = record {

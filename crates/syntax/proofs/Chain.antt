@@ -8,7 +8,7 @@ use Rattle.syntax.specs.Tokens.{AreBlank, AreTokens, BeginsWithout, Lexeme, Spot
 use Rattle.syntax.specs.declared.token.Placed.{Placed}
 use Rattle.syntax.proofs.Runs.{passes, stops}
 
--- whatever is read from this place on goes on with what was read before it
+-- the tokens read from this place on, put after those read before, are the tokens of the whole text
 abbrev pub SoFar : List ℕ → ℕ → List Spot → Type 0
 SoFar text place done = (later : List Spot) → AreTokens place (drop place text) later → AreTokens 0 text (done ++ later)
 
@@ -45,7 +45,7 @@ pub finished : (text : List ℕ) (place blanks : ℕ) (done : List Spot) → bla
 finished text place blanks done e all so_far =
     subst (AreTokens 0 text) (append-nil done) (so_far [] (all_blank (drop place text) blanks e (omega (arith, length-drop place text))))
 
--- ---- behind the blanks
+-- ---- after the blanks
 
 pub blanks_within : (text : List ℕ) (place blanks : ℕ) → blanks ≡ prefix_len is_blank (drop place text) → place ≤ length text → place + blanks ≤ length text
 blanks_within text place blanks e within = omega (arith, prefix_len-le-length is_blank (drop place text), length-drop place text)
@@ -61,7 +61,7 @@ not_blank text here place blanks e is some =
     let without : BeginsWithout is_blank (drop blanks (drop place text)) = subst (λ k. BeginsWithout is_blank (drop k (drop place text))) (sym e) ends in
     first_is_none here some (subst (BeginsWithout is_blank) (sym from) without)
 
--- ---- one token more
+-- ---- one more token
 
 pub SoFar-pushed : (text : List ℕ) (place : ℕ) (old new : List Placed) (placed : Placed) → new ≡ old ++ (placed ∷ []) → SoFar text place (spots_of old ++ ((lexeme_of placed.token, placed.place) ∷ []))
     → SoFar text place (spots_of new)

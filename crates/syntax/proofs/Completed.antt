@@ -1,4 +1,4 @@
--- What the machine takes begins some graph text.
+-- The tokens that the machine takes begin some graph text.
 use Rattle.std.proofs.Common.{◌≡◌, ℕ, suc, codes, List, [], ◌∷◌, ◌++◌, take, None, refl, sym, ap, subst}
 use Rattle.std.proofs.lemmas.List.{append-nil}
 use Rattle.syntax.specs.declared.token.Symbol.TheVariants as sign
@@ -16,7 +16,7 @@ use Rattle.syntax.proofs.FilledRelations.{sound_related}
 use Rattle.syntax.proofs.FilledGraphs.{sound_front, closes_front, declared_without}
 use Rattle.syntax.proofs.Filled.{AllBegun, AllSound, all_sound}
 
--- ---- something stands for each thing
+-- ---- each thing has a filling
 
 a_named : Named
 a_named = (codes "x", 0)
@@ -32,7 +32,7 @@ some_whole never = zero_alone
 some_whole possible = sum_alone zero_alone
 some_whole (behind_left left how) = record { rest = at 0 (number 0) ∷ []; makes = record { expr = compared left how zero_alone; fits = tt; spelled = refl } }
 
--- all brackets that are open are closed
+-- all open brackets are closed
 some_closing : (outer : List (Level × Position)) (state : Expression) (prod : Prod) → state.outer ≡ outer → Filling (behind_operand state prod)
 some_closing [] state prod same = record { rest = []; makes = ends_here state prod same }
 some_closing (around ∷ outer) state prod same =
@@ -116,7 +116,7 @@ some_spots [] = record { spots = []; are = tt }
 some_spots (plain lexeme ∷ pieces) = let more = some_spots pieces in record { spots = (lexeme, 0) ∷ more.spots; are = (refl, more.are) }
 some_spots (at position lexeme ∷ pieces) = let more = some_spots pieces in record { spots = (lexeme, position) ∷ more.spots; are = ((refl, refl), more.are) }
 
--- some tokens that stand for all that may come begin with so many of these
+-- some tokens that fill all that may come begin with the first `count` of these
 pub record Before (stack : List Expected) (count : ℕ) (spots : List Spot) : Type 0 where
   pub fillings : Fillings stack
   pub others : List Spot
@@ -129,7 +129,7 @@ before_none stack spots =
     let them = some_spots (fillings_pieces stack fillings) in
     record { fillings = fillings; others = them.spots; are = them.are; same = refl }
 
--- behind one token that begins all
+-- after one token that begins all
 pub before_all : (stack after : List Expected) (spot : Spot) (spots : List Spot) (count : ℕ) → ((later : Fillings after) → AllBegun stack spot (fillings_pieces after later))
     → Before after count spots → Before stack (suc count) (spot ∷ spots)
 before_all stack after spot spots count all later =
@@ -141,7 +141,7 @@ before_all stack after spot spots count all later =
       same = ap (λ (list : List Spot). spot ∷ list) later.same;
     }
 
--- behind one that is taken
+-- after one that is taken
 pub before_one : (stack after : List Expected) (spot : Spot) (spots : List Spot) (count : ℕ) → next stack spot ≡ on after → Before after count spots → Before stack (suc count) (spot ∷ spots)
 before_one stack after spot spots count is later = before_all stack after spot spots count (subst (λ (it : Next). AllSound stack spot it) is (all_sound stack spot)) later
 

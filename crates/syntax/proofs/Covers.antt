@@ -20,7 +20,7 @@ in_either place (first ∷ a) b (inr there) = by (in_either place a b there)
     by (inl front) = inl (inr front)
     by (inr back) = inr back
 
--- none of the second where there is none of the first, and all of the first are of the second
+-- if `a` is empty then `b` is empty, and all places of `a` are in `b`
 pub record Covers (a b : List Position) : Type 0 where
   pub none : a ≡ [] → b ≡ []
   pub some : (place : Position) → In place a → In place b

@@ -19,7 +19,7 @@ use Rattle.syntax.specs.Relations.{IsRelationRest}
 use Rattle.syntax.specs.Declarations.{IsDeclarationRest, IsFront}
 use Rattle.syntax.proofs.Moves.{spelled_on}
 
--- behind the name, where no colon is in front: the closing bracket
+-- after the name, if no colon comes next: the closing bracket
 named_met : (kind : Kind) (items tags : ℕ) (at place : Position) (lexeme : Lexeme) (behind : List Expected) (without other : Next) → lexeme ≢ symbol sign.Colon
     → met (look (front_named kind items tags at) lexeme place) behind without ≡ met (look (exactly (closing kind)) lexeme place) (front_closed kind items tags at ∷ behind) other
 named_met item items tags at place (symbol sign.Colon) behind without other no_colon = absurd (no_colon refl)
@@ -71,9 +71,9 @@ pub front_stops : (kind : Kind) (items tags : ℕ) (before after : List Spot) (c
 front_stops kind items tags before after cause stops behind =
     subst (Tells cause after) (sym (name_due kind items tags behind before)) (stops (front_named kind items tags (front_of before).1 ∷ behind))
 
--- ---- parts behind one another
+-- ---- parts one after another
 
--- what is left where others may come behind it
+-- what is left, where `others` may come after it
 pub behind_it : {expected : List Expected} {pieces : List Piece} {before after : List Spot} (others : List Expected) → Reads expected [] pieces before after → Reads (expected ++ others) others pieces before after
 behind_it {expected} {pieces} {before} {after} others read = record { spells = read.spells; goes = λ behind. ap (λ stack. run stack before) (append_assoc expected others behind) ∙ read.goes (others ++ behind) }
 
@@ -110,7 +110,7 @@ relation_begun {first} {expected} {more} {piece} {limits} {tree} {before} {middl
   within = read.within;
 }
 
--- a declaration or a relation behind its first token, which is a piece of either
+-- a declaration or a relation after its first token, which is a piece of either
 pub front_begun : (it : Front) {first : Expected} {expected : List Expected} {one two : Piece} (items tags : ℕ) {before middle : List Spot} (after : List Spot)
     → Reads (first ∷ []) expected (one ∷ []) before middle → Reads (first ∷ []) expected (two ∷ []) before middle → IsFront expected (one ∷ []) (two ∷ []) items tags it middle after
     → IsFront (first ∷ []) [] [] items tags it before after

@@ -12,7 +12,7 @@ heads c d r s e = cc
 tails : (c d : ℕ) (r s : List ℕ) → c ∷ r ≡ d ∷ s → r ≡ s
 tails c d r s e = cc
 
--- no sign that a `[` begins is longer
+-- no sign that begins with `[` is longer
 open_longest : (rest : List ℕ) (other : Symbol) → Begins (symbol_text other) (91 ∷ rest) → length (symbol_text other) ≤ 1
 open_longest rest DoubleColon h = absurd (omega (arith, heads 91 58 _ _ h.1))
 open_longest rest Arrow h = absurd (omega (arith, heads 91 45 _ _ h.1))
@@ -23,7 +23,7 @@ open_longest rest LessOrEqual h = absurd (omega (arith, heads 91 60 _ _ h.1))
 open_longest rest GreaterOrEqual h = absurd (omega (arith, heads 91 62 _ _ h.1))
 open_longest rest _ h = lit≤ tt
 
--- and none that a `:` before a digit begins
+-- no sign that begins with `:` before a digit is longer
 colon_longest : (rest : List ℕ) (other : Symbol) → Begins (symbol_text other) (58 ∷ 49 ∷ rest) → length (symbol_text other) ≤ 1
 colon_longest rest DoubleColon h = absurd (omega (arith, heads 49 58 _ _ (tails 58 58 _ _ h.1)))
 colon_longest rest Arrow h = absurd (omega (arith, heads 58 45 _ _ h.1))

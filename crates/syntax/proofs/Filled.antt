@@ -1,4 +1,4 @@
--- A token that is taken begins what stands for all that may come.
+-- A token that is taken begins a filling of all that may come.
 use Rattle.std.proofs.Common.{◌≡◌, ◌≢◌, ◌⊎◌, inl, inr, List, [], ◌∷◌, ◌++◌, refl, sym, ap, ◌∙◌, append_assoc}
 use Rattle.std.specs.Prelude.{⊤}
 use Rattle.syntax.specs.Tokens.{Lexeme, unknown, Spot}
@@ -47,9 +47,9 @@ sound (variables before) lexeme place = sound_variables before lexeme place
 sound (step_variable before) lexeme place = sound_step_variable before lexeme place
 sound (behind_variable before) lexeme place = sound_behind_variable before lexeme place
 
--- ---- one thing behind another
+-- ---- one thing after another
 
--- what stands for two lists of things, taken apart
+-- a filling of two lists of things, split in two
 pub record Apart (more rest : List Expected) (pieces : List Piece) : Type 0 where
   pub front : Fillings more
   pub back : Fillings rest
@@ -65,14 +65,14 @@ apart (first ∷ more) rest later =
       spelled = ap (λ (list : List Piece). filling_pieces first later.first ++ list) inner.spelled ∙ sym (append_assoc (filling_pieces first later.first) (fillings_pieces more inner.front) (fillings_pieces rest inner.back));
     }
 
--- what stands for all begins with this token, and goes on so
+-- a filling of all that may come begins with this token, and goes on with `rest`
 pub record AllBegun (stack : List Expected) (spot : Spot) (rest : List Piece) : Type 0 where
   pub piece : Piece
   pub is : IsPiece piece spot
   pub fillings : Fillings stack
   pub spelled : fillings_pieces stack fillings ≡ piece ∷ rest
 
--- the same, whatever comes behind it, of a token that is known
+-- the same, whatever comes after the token, which is a known one
 pub record AllBegins (stack : List Expected) (spot : Spot) : Type 0 where
   pub known : spot.0 ≢ unknown
   pub after : List Expected

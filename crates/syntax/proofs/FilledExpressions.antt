@@ -1,4 +1,4 @@
--- What stands for an expression and its parts, from one token to the next.
+-- Fillings of an expression and its parts, from one token to the next.
 use Rattle.std.proofs.Common.{◌≡◌, ◌≢◌, ◌<◌, inl, inr, true, false, Bool, nat_lt, if◌then◌else◌, rules, List, [], ◌∷◌, ◌++◌, Option, Some, None, refl, sym, ap, subst, ◌∙◌, append_assoc}
 use Rattle.std.specs.Prelude.{⊤}
 use Rattle.std.proofs.lemmas.List.{append-nil}
@@ -27,16 +27,16 @@ sound_broken state prod spot (Some place) same = inr (within_it, same)
 one_behind : (pieces : List Piece) (piece : Piece) (rest : List Piece) → (pieces ++ piece ∷ []) ++ rest ≡ pieces ++ (piece ∷ (rest ++ []))
 one_behind pieces piece rest = append_assoc pieces (piece ∷ []) rest ∙ ap (λ (list : List Piece). pieces ++ (piece ∷ list)) (sym (append-nil rest))
 
--- the same expression, in front of which other pieces are told apart
+-- the same expression, whose pieces are written in another way
 ends_as : {one two : Comparing} {pieces others : List Piece} → ((expr : Expr) → Fits one expr → Fits two expr) → pieces ≡ others → Ends one pieces → Ends two others
 ends_as {one} {two} {pieces} {others} fits same ends = record { expr = ends.expr; fits = fits ends.expr ends.fits; spelled = ends.spelled ∙ same }
 
 fits_same : (one two : Comparing) → one ≡ two → (expr : Expr) → Fits one expr → Fits two expr
 fits_same one two same expr fits = subst (λ (comparing : Comparing). Fits comparing expr) same fits
 
--- ---- in front of an operand
+-- ---- before an operand
 
--- this token goes on with what is spelled so far
+-- this token continues what is spelled so far
 abbrev Goes : Expression → Spot → Move → Type 0
 Goes state spot (taken more) = (later : Fillings more) → (piece : Piece) × IsPiece piece spot × EndsOperand state (piece ∷ fillings_pieces more later)
 Goes state spot left_out = ⊥
@@ -102,12 +102,12 @@ whole_goes comparing place spot (passed other) on = absurd (cc)
 pub sound_whole : (comparing : Comparing) (lexeme : Lexeme) (place : Position) → Sound (whole comparing) (lexeme, place) (look (whole comparing) lexeme place)
 sound_whole comparing lexeme place = whole_goes comparing place (lexeme, place) (look_operand (begun comparing place) place (head lexeme)) (goes (begun comparing place) lexeme place)
 
--- ---- behind an operand
+-- ---- after an operand
 
 behind_begun : (state : Expression) (prod : Prod) (it : Lexeme) (place : Position) (rest : List Piece) → EndsBehind state prod (plain it ∷ rest) → Begun (behind_operand state prod) (it, place) rest
 behind_begun state prod it place rest ends = record { piece = plain it; is = refl; made = record { filling = record { rest = plain it ∷ rest; makes = ends }; spelled = refl } }
 
--- the expression ends here, within no bracket
+-- the expression ends here, outside all brackets
 pub ends_here : (state : Expression) (prod : Prod) → state.outer ≡ [] → EndsBehind state prod []
 ends_here state prod none behind = record {
   expr = level_expr state.level prod;

@@ -1,4 +1,4 @@
--- What stands for declarations and whole graph texts, from one token to the next.
+-- Fillings of declarations and whole graph texts, from one token to the next.
 use Rattle.std.proofs.Common.{◌≡◌, inl, inr, ℕ, List, [], ◌∷◌, ◌++◌, Option, Some, None, refl, sym, ap, ◌∙◌, append_assoc}
 use Rattle.std.specs.List.{flat_map}
 use Rattle.std.proofs.lemmas.List.{append-nil}
@@ -40,7 +40,7 @@ sound_declarations items tags (name text) place = ends_declarations items tags (
 sound_declarations items tags (number value) place = ends_declarations items tags (number value, place) (look_relation (number value)) (sound_relation (number value) place)
 sound_declarations items tags unknown place = ends_declarations items tags (unknown, place) (look_relation unknown) (sound_relation unknown place)
 
--- ---- the fronts that declarations and relations share
+-- ---- the beginnings that declarations and relations share
 
 opened_as : {kind : Kind} {place : Position} {one two : List Piece} → one ≡ two → Opened kind place one → Opened kind place two
 opened_as {kind} {place} {one} {two} same it = record { piece = it.piece; is = it.is; graph = it.graph; spelled = it.spelled ∙ ap (λ (list : List Piece). it.piece ∷ list) same }
@@ -51,7 +51,7 @@ in_graph a b c d close semicolon = simp (append_assoc, append-nil)
 abbrev with_declaration : Declaration → GraphText → GraphText
 with_declaration first graph = record { declarations = first ∷ graph.declarations; relations = graph.relations; steps = graph.steps }
 
--- one declaration more
+-- one more declaration
 declared_first : (kind : Kind) (place : Position) (it : Named) (components : Option Names) (graph : GraphText)
     → Opened kind place (named it ∷ (after_colon components ++ (plain (symbol (closing kind)) ∷ plain (symbol sign.Semicolon) ∷ (graph_pieces graph ++ []))))
 declared_first item place it components graph = record {
@@ -80,7 +80,7 @@ sound_front kind items tags lexeme place =
       spelled = refl;
     })
 
--- behind the colon of a declaration
+-- after the colon of a declaration
 abbrev colon_rest : Kind → ℕ → ℕ → List Expected
 colon_rest kind items tags = component_name 0 ∷ exactly (closing kind) ∷ exactly sign.Semicolon ∷ declared kind items tags ∷ []
 

@@ -1,4 +1,4 @@
--- What stands for signs, words, names and components, from one token to the next.
+-- Fillings of signs, words, names and components, from one token to the next.
 use Rattle.std.proofs.Common.{◌≡◌, ◌==◌, ℕ, Bool, true, false, if◌then◌else◌, List, [], ◌∷◌, ◌++◌, Some, refl, sym, ap, ◌∙◌, append_assoc, slice_get, rules}
 use Rattle.std.proofs.lemmas.List.{append-nil}
 use Rattle.syntax.specs.declared.token.Word.{Word}

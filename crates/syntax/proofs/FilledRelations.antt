@@ -1,4 +1,4 @@
--- What stands for relations and their parts, from one token to the next.
+-- Fillings of relations and their parts, from one token to the next.
 use Rattle.std.proofs.Common.{◌≡◌, List, [], ◌∷◌, ◌++◌, refl, sym, ap, ◌∙◌, append_assoc}
 use Rattle.std.specs.List.{flat_map}
 use Rattle.std.proofs.lemmas.List.{append-nil}
@@ -47,7 +47,7 @@ sound_related (symbol sign.Less) place = λ later.
     })
 sound_related _ place = tt
 
--- one relation more
+-- one more relation
 behind_relation : (relation : Relation) (them : RelationsAndSteps) (pieces : List Piece) → relation_pieces relation ≡ pieces
     → relations_and_steps (record { relations = relation ∷ them.relations; steps = them.steps }) ≡ pieces ++ (relations_and_steps them ++ [])
 behind_relation relation them pieces same =
@@ -61,7 +61,7 @@ one_relation relation them piece rest same = record { filling = record { relatio
 made_as : {first : Expected} {one two : List Piece} → one ≡ two → Made first one → Made first two
 made_as {first} {one} {two} same made = record { filling = made.filling; spelled = made.spelled ∙ same }
 
--- behind an arrow
+-- after an arrow
 behind_arrow : (a b c : List Piece) (piece : Piece) → (a ++ b ++ piece ∷ []) ++ c ≡ a ++ (b ++ (piece ∷ c))
 behind_arrow a b c piece = simp append_assoc
 

@@ -1,4 +1,4 @@
--- What stands for statements and their parts, from one token to the next.
+-- Fillings of statements and their parts, from one token to the next.
 use Rattle.std.proofs.Common.{◌≡◌, ℕ, suc, List, [], ◌∷◌, ◌++◌, Option, Some, None, refl, ap, ◌∙◌, append_assoc}
 use Rattle.std.proofs.lemmas.List.{append-nil}
 use Rattle.syntax.specs.declared.limits.TheConstants.{MOST_BRACES}
@@ -26,7 +26,7 @@ for_rest part around = a_name ∷ keyword kept.In ∷ whole possible ∷ exactly
 no_statement : (part : Part) (around : ℕ) → Made (statements part around) []
 no_statement part around = record { filling = no_more; spelled = refl }
 
--- a condition or two bounds, a block and what is behind it
+-- a condition or two bounds, a block and what follows it
 in_block : (a b more : List Piece) (close open_brace close_brace : Piece)
     → ((a ++ close ∷ []) ++ (open_brace ∷ (b ++ close_brace ∷ []))) ++ more ≡ a ++ (close ∷ open_brace ∷ (b ++ (close_brace ∷ (more ++ []))))
 in_block a b more close open_brace close_brace = simp (append_assoc, append-nil)
@@ -117,7 +117,7 @@ sound_else part around lexeme place =
     sound_if_word (or_else part around) kept.Else (nested part around) lexeme place (record { filling = None; spelled = refl })
     (λ later. record { filling = Some (record { brace = later.first; block = later.rest.first }); spelled = simp (append_assoc, append-nil) })
 
--- what is put, behind the word
+-- what is put, after the word
 pub sound_target : (lexeme : Lexeme) (place : Position) → Sound put_target (lexeme, place) (look put_target lexeme place)
 sound_target (symbol sign.OpenBracket) place = λ later.
     let value = later.rest.rest.rest.rest.first in

@@ -1,4 +1,4 @@
--- What stands for steps and their names, from one token to the next.
+-- Fillings of steps and their names, from one token to the next.
 use Rattle.std.proofs.Common.{◌≡◌, ℕ, suc, List, [], ◌∷◌, ◌++◌, Some, None, refl, sym, ap, append_assoc}
 use Rattle.std.specs.List.{flat_map}
 use Rattle.std.proofs.lemmas.List.{append-nil}
@@ -71,7 +71,7 @@ sound_behind_variable before _ place = tt
 
 -- ---- steps
 
--- a step behind its first word, and the steps behind it
+-- a step after its first word, and the steps after it
 pub record StepsMade (pieces : List Piece) : Type 0 where
   pub first : StepText
   pub more : List StepText

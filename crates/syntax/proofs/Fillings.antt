@@ -1,4 +1,4 @@
--- What stands for each thing that may come, and the pieces that this spells.
+-- The fillings of each thing that may come: what can stand there, and the pieces that it spells.
 use Rattle.std.specs.Prelude.{◌≡◌, ◌≢◌, ◌⊎◌, ⊤, List, [], ◌∷◌, ◌++◌, Option, Some, None}
 use Rattle.std.specs.List.{flat_map}
 use Rattle.syntax.specs.declared.token.Word.TheVariants as kept
@@ -27,7 +27,7 @@ pub record Ends (comparing : Comparing) (pieces : List Piece) : Type 0 where
   pub fits : Fits comparing expr
   pub spelled : expr_pieces expr ≡ pieces
 
--- pieces that are still to come, with which something is made
+-- pieces still to come, and what is made with them
 pub record ToCome (Makes : List Piece → Type 0) : Type 0 where
   pub rest : List Piece
   pub makes : Makes rest
@@ -88,18 +88,18 @@ comma_name it = a_sign sign.Comma ++ named it ∷ []
 abbrev pub more_names : List Named → List Piece
 more_names names = flat_map comma_name names
 
--- the names of a step behind those of its parameters that are read
+-- the names of a step after those of its parameters that were read
 pub record StepNames (Parameters : Type 0) : Type 0 where
   pub parameters : Parameters
   pub variables : Option Names
 
--- behind the parameters
+-- after the parameters
 abbrev pub behind_parameters : Option Names → List Piece
 behind_parameters names = a_sign sign.CloseRound ++ a_sign sign.OpenBrace ++ variables_pieces names
 
 -- ---- graphs
 
--- a graph text that begins with this bracket, and goes on so
+-- a graph text that begins with this bracket, and goes on with `rest`
 pub record Opened (kind : Kind) (place : Position) (rest : List Piece) : Type 0 where
   pub piece : Piece
   pub is : IsPiece piece (symbol (opening kind), place)
@@ -190,7 +190,7 @@ filling_pieces (variables before) filling = variables_pieces filling
 filling_pieces (step_variable before) filling = names_pieces filling ++ a_sign sign.Semicolon
 filling_pieces (behind_variable before) filling = more_names filling ++ a_sign sign.Semicolon
 
--- ---- one behind another
+-- ---- one after another
 
 pub record Both (First Rest : Type 0) : Type 0 where
   pub first : First
@@ -206,25 +206,25 @@ fillings_pieces (first ∷ rest) fillings = filling_pieces first fillings.first 
 
 -- ---- a move
 
--- what stands here spells these pieces
+-- a filling that spells these pieces
 pub record Made (first : Expected) (pieces : List Piece) : Type 0 where
   pub filling : Filling first
   pub spelled : filling_pieces first filling ≡ pieces
 
--- what stands here begins with this token, and goes on so
+-- a filling that begins with this token, and goes on with `rest`
 pub record Begun (first : Expected) (spot : Spot) (rest : List Piece) : Type 0 where
   pub piece : Piece
   pub is : IsPiece piece spot
   pub made : Made first (piece ∷ rest)
 
--- what stands here begins with this token, which is known
+-- a filling begins with this token, which is a known one
 pub record Begins (first : Expected) (spot : Spot) : Type 0 where
   pub known : spot.0 ≢ unknown
   pub more : List Expected
   pub begun : (later : Fillings more) → Begun first spot (fillings_pieces more later)
 
--- A token that is taken begins what stands here, and where none is taken that may be nothing. Where a limit is told the token
--- begins what stands here all the same, or nothing else is told of the expression here.
+-- A token that is taken begins a filling. If no token is taken, the filling may be empty. If a limit is reported, the token
+-- begins a filling all the same, or nothing else is reported of the expression here.
 abbrev pub Sound : Expected → Spot → Move → Type 0
 Sound first spot (taken more) = (later : Fillings more) → Begun first spot (fillings_pieces more later)
 Sound first spot left_out = Made first []

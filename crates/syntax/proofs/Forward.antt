@@ -46,7 +46,7 @@ module _ (before after : List Spot) (place : Position) (there : (front_of before
       (λ clear. clear_operand (passing state (name_limits (text, place))) (variable (text, place)) (λ e. (not_earlier state.passed (name_limits (text, place)) e).1)
       (λ e. clear (not_earlier state.passed (name_limits (text, place)) e).0)) (λ alone. same_outermost _ state.level state.outer refl ∙ alone)
 
-  -- ---- behind an operand
+  -- ---- after an operand
 
   pub onward_product : (state : Expression) (prod : Prod) (it : Symbol) (how : Multiplication) → state.level.product ≡ None → state.level.negations ≡ [] → (front_of before).0 ≡ symbol it
       → joint (symbol it) ≡ by_product how → it ≡ multiplication_sign how → Onward (behind_operand state prod) (operand (awaiting_product state prod how)) before after

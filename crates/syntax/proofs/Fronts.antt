@@ -1,4 +1,4 @@
--- What stands in front of a text that begins with a letter or a digit.
+-- What comes first in a text that begins with a letter or a digit.
 use Rattle.std.proofs.Common.{◌≡◌, ◌≢◌, ℕ, ℤ, pos, ◌+◌, ◌^◌, ◌<◌, ◌≤◌, Bool, true, ◌||◌, List, [], ◌∷◌, length, get_or, take, drop, Option, Result, Ok, Err, MatchOption, refl, sym, ap, subst, arith, one-add, take-append-drop}
 use Rattle.std.specs.Int.{cast_signed, cast_unsigned, w64}
 use Rattle.std.proofs.lemmas.Int.{to_z-of_z}
@@ -78,6 +78,6 @@ pub number_of : {E : Type 0} (digits : List ℕ) (r : Result ℤ E) (o : Option 
 number_of digits r o parses are some is =
     rw is (number_by (length digits) (digits_value 10 digits) r (some_length digits some) (parse_signed_digits own w64 digits r parses are))
 
--- a number of 64 bits that is passed on
+-- a number of 64 bits keeps its value when it is passed on
 pub passed_on : (value : ℕ) (found : ℤ) → value ≤ GREATEST → found ≡ pos value → cast_signed w64 (cast_unsigned w64 found) ≡ pos value
 passed_on value found fits is = rw is (to_z-of_z w64 (pos value) (omega arith))

@@ -1,4 +1,4 @@
--- Which token is met in front of an operand, and behind one.
+-- Which token is met at the beginning of an operand, and after one.
 use Rattle.std.proofs.Common.{◌≡◌, ℕ, ℤ, List, refl, ap}
 use Rattle.std.specs.Borrow.{Bor}
 use Rattle.std.specs.Int.{cast_unsigned, w64}
@@ -52,7 +52,7 @@ is_no_head open_bracket met = absurd met
 is_no_head (a_number found) met = absurd met
 is_no_head (a_variable text) met = absurd met
 
--- ---- behind an operand
+-- ---- after an operand
 
 pub record Joins {How : Type 0} (joint_by : How → Joint) (sign_of : How → Symbol) (operator_of : How → Operator) (lexeme : Lexeme) (operator : Operator) : Type 0 where
   pub how : How

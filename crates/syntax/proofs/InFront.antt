@@ -1,4 +1,4 @@
--- Of the things that may come, only the first one is an expression that is begun.
+-- Of the things that may come, only the first one can be an expression that has begun.
 use Rattle.std.proofs.Common.{◌≡◌, ◌⊎◌, inl, inr, ℕ, suc, Bool, true, false, if◌then◌else◌, ◌==◌, List, [], ◌∷◌, ◌++◌, Option, Some, None, refl, subst}
 use Rattle.terms.specs.declared.key.TheConstants.{MAX_COMPONENTS}
 use Rattle.steptree.specs.declared.sheet.TheConstants.{MOST_COLLECTIONS}
@@ -28,7 +28,7 @@ abbrev none_begun : List Expected → Bool
 none_begun [] = true
 none_begun (first ∷ rest) = if is_begun first then false else none_begun rest
 
--- none behind the first one
+-- none after the first one
 abbrev none_behind : List Expected → Bool
 none_behind [] = true
 none_behind (first ∷ rest) = none_begun rest
@@ -39,7 +39,7 @@ BegunInFront stack = none_behind stack ≡ true
 
 -- ---- what comes of one thing at a token
 
--- of what it puts in the place of that thing only the first one is begun
+-- of the things put in its place, only the first one may be begun
 abbrev is_so : Move → Bool
 is_so (taken more) = none_behind more
 is_so left_out = true
@@ -237,7 +237,7 @@ so_look (behind_variable before) lexeme place = so_behind_variable before lexeme
 
 -- ---- from one token to the next
 
--- the parts of `none_begun` of several
+-- the two parts of `none_begun` of several things
 not_first : (one others : Bool) → (if one then false else others) ≡ true → one ≡ false
 not_first true others none = absurd (cc)
 not_first false others none = refl
@@ -277,7 +277,7 @@ front_stays (first ∷ rest) after spot only is =
 
 -- ---- what is lost
 
--- one of these is
+-- one of these is lost
 abbrev pub LostAmong : Position → List Expected → Type 0
 LostAmong place [] = ⊥
 LostAmong place (first ∷ rest) = IsLost place first ⊎ LostAmong place rest
@@ -292,7 +292,7 @@ none_lost place [] none lost = lost
 none_lost place (first ∷ rest) none (inl lost) = not_lost place first (not_first (is_begun first) (none_begun rest) none) lost
 none_lost place (first ∷ rest) none (inr lost) = none_lost place rest (none_of_rest (is_begun first) (none_begun rest) none) lost
 
--- the first of them is
+-- the first of these is lost
 pub record LostFirst (place : Position) (stack : List Expected) : Type 0 where
   pub first : Expected
   pub rest : List Expected

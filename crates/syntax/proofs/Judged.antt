@@ -23,7 +23,7 @@ pub in_back : (place : Position) (a b : List Position) → In place b → In pla
 in_back place [] b there = there
 in_back place (first ∷ a) b there = inr (in_back place a b there)
 
--- the verdict is this other one where no limit is passed, and else that one of them is
+-- the verdict is `other` if no limit is passed; otherwise it reports one of the limits
 pub data Judged (limits : List Position) (verdict other : Verdict) : Type 0 where
   goes : limits ≡ [] → verdict ≡ other → Judged limits verdict other
   breaks : (place : Position) → In place limits → verdict ≡ too_large place → Judged limits verdict other
@@ -50,9 +50,9 @@ pub judged_none : {limits : List Position} {first second : Verdict} → limits �
 judged_none {limits} {first} {second} none (goes nothing same) = same
 judged_none {limits} {first} {second} none (breaks place there is) = absurd (subst (In place) none there)
 
--- ---- one part behind another
+-- ---- one part after another
 
--- where these may come and the tokens are these pieces, those may come behind them, in front of such a token, whatever is told
+-- where `expected` may come and the tokens are these pieces, `more` may come after them, before a `Follow` token, under each `telling`
 pub record Comes (Follow : Lexeme → Type 0) (expected more : List Expected) (pieces : List Piece) (limits : List Position) : Type 0 where
   pub comes : (telling : Telling) (tokens later : List Spot) (behind : List Expected) → Follow (front_of later).0 → ArePieces pieces tokens
       → Judged limits (run_so telling (expected ++ behind) (tokens ++ later)) (run_so telling (more ++ behind) later)
@@ -76,7 +76,7 @@ split (piece ∷ a) b (spot ∷ tokens) are =
     let it = split a b tokens are.1 in
     record { front = spot ∷ it.front; back = it.back; whole = ap (λ (list : List Spot). spot ∷ list) it.whole; first = (are.0, it.first); second = it.second }
 
--- the front of these pieces, and of what is behind them, is such a token
+-- the first token of these pieces, or of what follows them, satisfies `Before`
 pub record Fronts (Before : Lexeme → Type 0) (pieces : List Piece) (Follow : Lexeme → Type 0) : Type 0 where
   pub front : (tokens later : List Spot) → Follow (front_of later).0 → ArePieces pieces tokens → Before (front_of (tokens ++ later)).0
 
@@ -105,12 +105,12 @@ comes_on {One} {Two} {expected} {more} {last} {a} {b} {c} {d} first fronts secon
       (second.comes telling parts.back later behind follow parts.second);
 }
 
--- a part without limits behind one
+-- a part without limits, after another part
 pub comes_plain : {One Two : Lexeme → Type 0} {expected more last : List Expected} {a b : List Piece} {c : List Position} → Comes One expected more a c → Fronts One b Two → Comes Two more last b []
     → Comes Two expected last (a ++ b) c
 comes_plain {One} {Two} {expected} {more} {last} {a} {b} {c} first fronts second = subst (λ (limits : List Position). Comes Two expected last (a ++ b) limits) (append-nil c) (comes_on first fronts second)
 
--- in front of fewer tokens
+-- the same, if fewer tokens may follow
 pub comes_before : {One Two : Lexeme → Type 0} {expected more : List Expected} {pieces : List Piece} {limits : List Position} → ((lexeme : Lexeme) → Two lexeme → One lexeme) → Comes One expected more pieces limits
     → Comes Two expected more pieces limits
 comes_before {One} {Two} {expected} {more} {pieces} {limits} fewer first = record { comes = λ telling tokens later behind follow are. first.comes telling tokens later behind (fewer (front_of later).0 follow) are }
@@ -118,7 +118,7 @@ comes_before {One} {Two} {expected} {more} {pieces} {limits} fewer first = recor
 pub comes_limits : {Follow : Lexeme → Type 0} {expected more : List Expected} {pieces : List Piece} {limits others : List Position} → limits ≡ others → Comes Follow expected more pieces limits → Comes Follow expected more pieces others
 comes_limits {Follow} {expected} {more} {pieces} {limits} {others} same first = subst (λ (list : List Position). Comes Follow expected more pieces list) same first
 
--- a part without tokens behind one
+-- a part without tokens, after another part
 pub comes_nothing : {One Two : Lexeme → Type 0} {expected more last : List Expected} {pieces : List Piece} {limits : List Position} → ((lexeme : Lexeme) → Two lexeme → One lexeme) → Comes One expected more pieces limits
     → Comes Two more last [] [] → Comes Two expected last pieces limits
 comes_nothing {One} {Two} {expected} {more} {last} {pieces} {limits} fewer first second = record {
@@ -130,7 +130,7 @@ comes_nothing {One} {Two} {expected} {more} {last} {pieces} {limits} fewer first
 pub comes_pieces : {Follow : Lexeme → Type 0} {expected more : List Expected} {pieces others : List Piece} {limits : List Position} → pieces ≡ others → Comes Follow expected more pieces limits → Comes Follow expected more others limits
 comes_pieces {Follow} {expected} {more} {pieces} {others} {limits} same first = subst (λ (list : List Piece). Comes Follow expected more list limits) same first
 
--- what may come behind both
+-- the same, with `others` expected after both
 pub comes_with : {Follow : Lexeme → Type 0} {expected more : List Expected} {pieces : List Piece} {limits : List Position} (others : List Expected) → Comes Follow expected more pieces limits
     → Comes Follow (expected ++ others) (more ++ others) pieces limits
 comes_with {Follow} {expected} {more} {pieces} {limits} others first = record {
@@ -176,7 +176,7 @@ token {first} {more} {lexeme} looks = record { comes = λ telling tokens later b
         (judged_same (ap (λ (move : Move). followed (met move behind (next_so telling behind spot)) (spot ∷ later) (λ after. run_so telling after later)) (plain_so telling first lexeme spot.1 (taken more) (within_right [] more) (looks spot.1))))
     by telling (spot ∷ other ∷ tokens) later behind are = absurd are.1
 
--- with these limits
+-- the same, with these limits
 pub token_limited : {first : Expected} {more : List Expected} {lexeme : Lexeme} {limits : List Position} → ((position : Position) → plainly first lexeme position ≡ within limits (taken more))
     → Comes Any (first ∷ []) more (plain lexeme ∷ []) limits
 token_limited {first} {more} {lexeme} {limits} looks = record { comes = λ telling tokens later behind follow are. by telling tokens later behind are }

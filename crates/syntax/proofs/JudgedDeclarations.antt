@@ -16,11 +16,11 @@ use Rattle.syntax.proofs.Covers.{covers_same, covers_then, covers_on, covers_swa
 use Rattle.syntax.proofs.JudgedKeys.{sign_comes}
 use Rattle.syntax.proofs.JudgedNames.{names_come}
 
--- a name behind the first bracket
+-- a name after the first bracket
 pub front_comes : (kind : Kind) (items tags : ℕ) (it : Named) → Comes Any (front kind items tags ∷ []) (front_named kind items tags it.1 ∷ []) (named it ∷ []) (name_limits it)
 front_comes kind items tags it = comes_limits (append-nil (name_limits it)) (token_at refl)
 
--- a declaration without components, and one with some, behind its first bracket
+-- a declaration without components, and one with some, after its first bracket
 item_alone : (items tags : ℕ) (it : Named) → Comes Any (front item items tags ∷ []) (declarations (suc items) tags ∷ []) (named it ∷ a_sign sign.CloseBracket ++ a_sign sign.Semicolon) (name_limits it ++ one_more MOST_COLLECTIONS items it.1)
 item_alone items tags it =
     comes_on
@@ -64,7 +64,7 @@ abbrev limits_of : (ℕ × ℕ) → Declaration → List Position
 limits_of before (item_declared it components) = one_more MOST_COLLECTIONS before.0 it.1 ++ declared_limits it components
 limits_of before (tag_declared it components) = one_more MOST_COLLECTIONS before.1 it.1 ++ declared_limits it components
 
--- so many items and tags behind a declaration
+-- the numbers of items and tags after a declaration
 abbrev pub behind_declaration : (ℕ × ℕ) → Declaration → ℕ × ℕ
 behind_declaration before (item_declared it components) = (suc before.0, before.1)
 behind_declaration before (tag_declared it components) = (before.0, suc before.1)

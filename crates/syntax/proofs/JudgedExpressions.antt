@@ -1,4 +1,4 @@
--- Expressions that the grammar derives: the limits within one are kept on the way, and told where it is whole.
+-- Expressions that the grammar derives: the limits within one are kept on the way, and reported once it is whole.
 use Rattle.std.proofs.Common.{◌≡◌, inl, suc, List, [], ◌∷◌, ◌++◌, length, Option, Some, None, refl, ap, ◌∙◌}
 use Rattle.std.specs.Prelude.{⊤}
 use Rattle.std.proofs.lemmas.List.{append_assoc}
@@ -245,7 +245,7 @@ expr_begins (sum_alone sum) = sum_begins sum
 expr_begins (compared left how right) =
     begins_more (sum_first left) (sum_pieces left ++ a_sign (comparison_sign how)) (sum_pieces right) (begins_more (sum_first left) (sum_pieces left) (a_sign (comparison_sign how)) (sum_begins left))
 
--- where one is expected it begins at its first token
+-- where an expression is expected, it begins at its first token
 begins : (telling : Telling) (comparing : Comparing) (position : Position) (pieces : List Piece) (tokens behind : List Spot) (stack : List Expected) → BeginsAt position pieces → ArePieces pieces tokens
     → run_so telling (whole comparing ∷ stack) (tokens ++ behind) ≡ run_so telling (operand (so_far None position (opened comparing) []) ∷ stack) (tokens ++ behind)
 begins telling comparing position [] tokens behind stack there are = absurd there
@@ -254,7 +254,7 @@ begins telling comparing position (at first lexeme ∷ pieces) [] behind stack t
 begins telling comparing position (at first lexeme ∷ pieces) (spot ∷ tokens) behind stack there are =
     ap (λ (it : Position). run_so telling (operand (so_far None it (opened comparing) []) ∷ stack) (spot ∷ tokens ++ behind)) (are.0.1 ∙ there)
 
--- a whole expression, whose depth and whose limits are told
+-- a whole expression, whose depth and whose limits are reported
 told : (telling : Telling) (deep limits : List Position) (stack : List Expected) (spot : Spot) (rest : List Spot)
     → Judged (deep ++ limits) (followed (met (changed (whole_or_broken telling [] (earlier None limits)) (within deep (elim (earlier None limits) [ None ↦ left_out | Some place ↦ passed place ]))) stack (next_so telling stack spot)) (spot ∷ rest) (λ after. run_so telling after rest))
     (run_so telling stack (spot ∷ rest))
@@ -267,7 +267,7 @@ told (of_whole its_depth) (place ∷ deep) limits stack spot rest = breaks place
 told (of_whole within_it) (place ∷ deep) [] stack spot rest = breaks place (inl refl) refl
 told (of_whole within_it) (place ∷ deep) (other ∷ limits) stack spot rest = breaks other (in_back other (place ∷ deep) (other ∷ limits) (inl refl)) refl
 
--- a token that may stand behind the expression of a statement, and behind a component
+-- a token that may follow the expression of a statement, and one that may follow a component
 abbrev pub AfterExpression : Lexeme → Type 0
 AfterExpression (symbol it) = EndsExpression it
 AfterExpression _ = ⊥
@@ -302,7 +302,7 @@ pub at_component_end : (lexeme : Lexeme) → EndsComponent lexeme → (before : 
     ≡ met (finished (so_far before first (at_product never sum) []) (sum_alone (sum_of sum prod))) stack (next stack (lexeme, position))
 at_component_end lexeme ends before first position sum prod stack = ap (λ (move : Move). met move stack (next stack (lexeme, position))) (component_end_looks lexeme ends before first position sum prod)
 
--- what comes of a whole expression in front of this token
+-- the verdict on a whole expression before this token
 abbrev ended_so : Telling → List Expected → Spot → List Spot → Option Position → Move → Verdict
 ended_so telling stack spot rest before move = followed (met (changed (whole_or_broken telling [] before) move) stack (next_so telling stack spot)) (spot ∷ rest) (λ after. run_so telling after rest)
 

@@ -15,7 +15,7 @@ use Rattle.syntax.proofs.JudgedDeclarations.{declaration_comes}
 use Rattle.syntax.proofs.JudgedRelations.{relation_comes, first_relation_comes}
 use Rattle.syntax.proofs.JudgedSteps.{step_comes}
 
--- no token
+-- no token is left
 abbrev pub IsEnd : Lexeme → Type 0
 IsEnd unknown = ⊤
 IsEnd _ = ⊥
@@ -36,7 +36,7 @@ steps_come : (before : ℕ) (them : List StepText) → Comes IsEnd (steps before
 steps_come before [] = nothing (no_step before)
 steps_come before (step ∷ more) = comes_on (step_comes (steps before) before step (λ position. refl)) any_fronts (steps_come (suc before) more)
 
--- where no step was before
+-- steps, with none before them
 first_steps : (first : Expected) (them : List StepText) → ((lexeme : Lexeme) (position : Position) → IsEnd lexeme → plainly first lexeme position ≡ left_out)
     → ((position : Position) → plainly first (word kept.Step) position ≡ taken (step_rest 0)) → Comes IsEnd (first ∷ []) [] (flat_map step_pieces them) (steps_limits 0 them)
 first_steps first [] none looks = nothing none
@@ -50,7 +50,7 @@ relations_come (relation ∷ more) texts =
     (comes_limits (sym (append_assoc (relation_limits relation) (flat_map relation_limits more) (steps_limits 0 texts)))
     (comes_on (relation_comes relation) any_fronts (relations_come more texts)))
 
--- behind declarations
+-- after declarations
 heads_come : (items tags : ℕ) (them : List Relation) (texts : List StepText)
     → Comes IsEnd (declarations items tags ∷ []) [] (flat_map relation_pieces them ++ flat_map step_pieces texts) (flat_map relation_limits them ++ steps_limits 0 texts)
 heads_come items tags [] texts = first_steps (declarations items tags) texts (no_declaration items tags) (λ position. refl)
@@ -83,6 +83,6 @@ graph_judged graph spots derives telling =
     subst (λ (limits : List Position). Judged limits (run_so telling graph_expected spots) accepted) (sym (append_assoc (declarations_limits 0 0 graph.declarations) (flat_map relation_limits graph.relations) (steps_limits 0 graph.steps)))
     (subst (λ (tokens : List Spot). Judged (declarations_limits 0 0 graph.declarations ++ (flat_map relation_limits graph.relations ++ steps_limits 0 graph.steps)) (run_so telling graph_expected tokens) accepted) (append-nil spots) judged)
 
--- as the machine tells it
+-- as the machine reports it
 pub graph_told : (graph : GraphText) (spots : List Spot) → Derives graph spots → Judged (graph_limits graph) (run graph_expected spots) accepted
 graph_told graph spots derives = judged_behind (sym (same_run spots graph_expected)) (graph_judged graph spots derives as_told)

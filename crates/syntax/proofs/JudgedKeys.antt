@@ -83,7 +83,7 @@ closing_ends : (kind : Kind) → EndsKey (symbol (closing kind))
 closing_ends item = tt
 closing_ends tag = tt
 
--- a key behind its opening bracket
+-- a key after its opening bracket
 pub key_comes : (kind : Kind) (key : Key) → Comes Any (key_rest kind) [] (named key.collection ∷ sums_pieces key.components ++ a_sign (closing kind)) (key_limits key)
 key_comes kind key =
     comes_plain (comes_on (comes_with (components ∷ exactly (closing kind) ∷ []) (name_comes key.collection)) any_fronts (comes_with (exactly (closing kind) ∷ []) (sums_come key.components)))

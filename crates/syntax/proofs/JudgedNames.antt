@@ -1,4 +1,4 @@
--- Lists of names that the grammar derives, each with a limit on how many they are.
+-- Lists of names that the grammar derives, each with a limit on the number of names.
 use Rattle.std.proofs.Common.{◌≡◌, ◌<◌, ◌≤◌, ℕ, zero, suc, Bool, true, false, ◌-◌, arith, rules, List, [], ◌∷◌, ◌++◌, Some, refl, sym, ap, ◌∙◌}
 use Rattle.std.specs.Prelude.{⊤}
 use Rattle.std.specs.List.{flat_map}
@@ -16,7 +16,7 @@ use Rattle.syntax.proofs.Judged.{Comes, Any, any_fronts, comes_on, token, token_
 use Rattle.syntax.proofs.Partials.{few_more, too_many_more}
 use Rattle.syntax.proofs.Covers.{Covers, covers_same, covers_then, covers_on, covers_swap, covers_middle, comes_covered}
 
--- the limits at each of these names, with so many before
+-- the limits at each of these names, with `before` names before them
 abbrev pub each_limits : (ℕ → Position → List Position) → ℕ → List Named → List Position
 each_limits limits before [] = []
 each_limits limits before (it ∷ names) = (name_limits it ++ limits before it.1) ++ each_limits limits (suc before) names
@@ -31,7 +31,7 @@ each_append limits before (it ∷ one) two =
     ap (λ (list : List Position). (name_limits it ++ limits before it.1) ++ list) (each_append limits (suc before) one two)
     ∙ sym (append_assoc (name_limits it ++ limits before it.1) (each_limits limits (suc before) one) (each_limits limits (counted (suc before) one) two))
 
--- one name more than so many
+-- one more name, with `before` names before it
 behind_step : (most before : ℕ) (it : Named) (names : List Named) → names_behind (most - before) (it ∷ names) ≡ one_more most before it.1 ++ names_behind (most - suc before) names
 behind_step most before it names = by (ltb before most) refl
   where
@@ -52,7 +52,7 @@ no_names_behind : (most : ℕ) → names_behind most [] ≡ []
 no_names_behind zero = refl
 no_names_behind (suc most) = refl
 
--- the limits of names, and behind them that on how many they are
+-- the limits of the names, and then the limit on their number
 pub each_covers : (most before : ℕ) (names : List Named) → Covers (each_limits (one_more most) before names) (flat_map name_limits names ++ names_behind (most - before) names)
 each_covers most before [] = covers_same (sym (no_names_behind (most - before)))
 each_covers most before (it ∷ names) =
@@ -60,7 +60,7 @@ each_covers most before (it ∷ names) =
     (covers_then (covers_middle (name_limits it) (one_more most before it.1) (flat_map name_limits names) (names_behind (most - suc before) names))
     (covers_same (ap (λ (list : List Position). (name_limits it ++ flat_map name_limits names) ++ list) (sym (behind_step most before it names)))))
 
--- two limits on how many they are
+-- two limits on their number
 pub both_covers : (one two before : ℕ) (names : List Named)
     → Covers (each_limits (λ count place. one_more one count place ++ one_more two count place) before names) (each_limits (one_more two) before names ++ names_behind (one - before) names)
 both_covers one two before [] = covers_same (sym (no_names_behind (one - before)))

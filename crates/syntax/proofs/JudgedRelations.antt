@@ -1,4 +1,4 @@
--- Relations that the grammar derives: behind another one, and the first of a text.
+-- Relations that the grammar derives: after another one, and the first of a text.
 use Rattle.std.proofs.Common.{◌≡◌, ℕ, [], ◌∷◌, ◌++◌, refl}
 use Rattle.syntax.specs.declared.token.Word.TheVariants as kept
 use Rattle.syntax.specs.declared.token.Symbol.TheVariants as sign
@@ -67,7 +67,7 @@ module _ (first : Expected) (sides : Sides first) where
   any_relation (environment_puts_tag position it) = comes_plain (comes_on (environment_side position) any_fronts (comes_with semicolon_relations (related_tag it))) any_fronts semicolon_comes
   any_relation (environment_gets position it) = comes_plain (comes_plain (sides.item_side position it) any_fronts (comes_with semicolon_relations reader_environment)) any_fronts semicolon_comes
 
--- ---- behind another relation
+-- ---- after another relation
 
 later_item : (position : Position) (it : Named) → Comes Any (relations ∷ []) (reader ∷ semicolon_relations) (item_at position it ++ a_sign sign.Arrow) (name_limits it)
 later_item position it =

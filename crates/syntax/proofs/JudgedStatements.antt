@@ -20,19 +20,19 @@ abbrev pub NotElse : Lexeme → Type 0
 NotElse (word kept.Else) = ⊥
 NotElse _ = ⊤
 
--- the token behind a block
+-- the token after a block
 abbrev pub EndsBlock : Lexeme → Type 0
 EndsBlock (symbol sign.CloseBrace) = ⊤
 EndsBlock _ = ⊥
 
--- the pieces begin with none that is `else`
+-- the first of the pieces is not `else`
 pub record Begins (pieces : List Piece) : Type 0 where
   pub first : Piece
   pub more : List Piece
   pub whole : pieces ≡ first ∷ more
   pub not_else : NotElse (lexeme_in first)
 
--- ---- statements of their own
+-- ---- statements that only one part has
 
 item_comes : (key : Key) → Comes Any (exactly sign.OpenBracket ∷ key_rest item) [] (item_pieces key) (key_limits key)
 item_comes key = comes_on (comes_with (key_rest item) (sign_comes sign.OpenBracket)) any_fronts (key_comes item key)
@@ -90,7 +90,7 @@ pub block_not_else : (lexeme : Lexeme) → EndsBlock lexeme → NotElse lexeme
 block_not_else (symbol sign.CloseBrace) ends = tt
 block_not_else _ ends = absurd ends
 
--- behind the words of an `if` and a `for`
+-- after the words of an `if` and a `for`
 abbrev if_rest : Part → ℕ → List Expected
 if_rest part around = exactly sign.OpenRound ∷ whole possible ∷ exactly sign.CloseRound ∷ nested part around ++ or_else part around ∷ statements part around ∷ []
 
@@ -114,7 +114,7 @@ condition_comes part around condition =
     (comes_with (exactly sign.CloseRound ∷ last) (expression_comes condition)))
     (piece_fronts tt) (comes_with last (sign_comes sign.CloseRound))
 
--- a `for` in front of its block
+-- a `for` before its block
 abbrev statement_head : Named → Expr → Expr → List Piece
 statement_head it from to = a_word kept.For ++ named it ∷ a_word kept.In ++ expr_pieces from ++ a_sign sign.DoubleDot ++ expr_pieces to
 
@@ -152,7 +152,7 @@ module _ {B : Type 0} (part : Part) (own_pieces : B → List Piece) (own_limits 
       let pieces = subst (λ (it : List Piece). ArePieces (it ++ statements_pieces own_pieces rest) tokens) begins.whole are in
       subst NotElse (sym (piece_is begins.first (begins.more ++ statements_pieces own_pieces rest) tokens later pieces)) begins.not_else
 
-  -- a block, whose statements come
+  -- a block, if its statements come
   block_comes : (around : ℕ) (brace : Position) (block : Statements B)
       → Comes EndsBlock (statements part (suc around) ∷ []) [] (statements_pieces own_pieces block) (statements_limits own_limits (suc around) block)
       → Comes Any (nested part around) [] (in_braces_at brace (statements_pieces own_pieces block)) (one_more MOST_BRACES around brace ++ statements_limits own_limits (suc around) block)

@@ -20,7 +20,7 @@ use Rattle.syntax.proofs.JudgedKeys.{sign_comes, word_comes}
 use Rattle.syntax.proofs.JudgedNames.{each_limits, counted, each_append, each_covers, both_covers, comma_named}
 use Rattle.syntax.proofs.JudgedStatements.{statements_come, get_comes, get_begins, put_comes, put_begins}
 
--- the limits at a parameter and at a variable, with so many names before
+-- the limits at a parameter, with `before` names of the step before it
 abbrev parameter_limits : ℕ → Position → List Position
 parameter_limits before place = one_more MAX_COMPONENTS before place ++ one_more MOST_NAMES before place
 
@@ -54,7 +54,7 @@ variables_come before (it ∷ more) =
     (token_at {first = step_variable before} {more = behind_variable (suc before) ∷ []} {position = it.1} {lexeme = name it.0} {limits = name_limits it ++ one_more MOST_NAMES before it.1} refl))
     any_fronts (variables_come (suc before) more))
 
--- the token behind the variables
+-- the token after the variables
 abbrev IsRead : Lexeme → Type 0
 IsRead (word kept.Read) = ⊤
 IsRead _ = ⊥
@@ -92,7 +92,7 @@ write_block step =
     any_fronts (comes_with (exactly sign.CloseBrace ∷ []) (statements_come writing put_pieces put_limits put_comes put_begins 0 step.write)))
     (piece_fronts tt) (sign_comes sign.CloseBrace)
 
--- behind the bracket of the parameters
+-- after the bracket of the parameters
 body_comes : (before : ℕ) (step : StepText)
     → Comes Any (exactly sign.OpenBrace ∷ variables before ∷ step_body) []
     (in_braces (variables_pieces step.variables ++ a_word kept.Read ++ in_braces (statements_pieces get_pieces step.read) ++ a_word kept.Write ++ in_braces (statements_pieces put_pieces step.write)))

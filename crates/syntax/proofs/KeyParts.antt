@@ -44,7 +44,7 @@ first_component before after taken =
       within = refl;
     }
 
--- ---- one component more
+-- ---- one more component
 
 pieces_more : (first : Sum) (more : List Sum) (next : Sum) → sums_pieces (sums first (more ++ next ∷ [])) ≡ sums_pieces (sums first more) ++ (a_sign sign.Comma ++ sum_pieces next)
 pieces_more first more next = simp (flat_more, append_assoc)
@@ -63,7 +63,7 @@ limits_of : (read : List Sum) → sums_limits (sums_of read) ≡ flat_map sum_li
 limits_of [] = refl
 limits_of (first ∷ read) = refl
 
--- what an expression without a comparison is
+-- an expression without a comparison is a sum
 pub record IsComponent (tree : NamedExpression) (before after : List Spot) : Type 0 where
   pub sum : Sum
   pub reads : Reads (whole never ∷ []) [] (sum_pieces sum) before after
@@ -115,6 +115,6 @@ next_component before now behind after expressions tree so_far read taken =
 four_behind : (key close assign value end : List Piece) → (key ++ close) ++ (assign ++ (value ++ end)) ≡ (((key ++ close) ++ assign) ++ value) ++ end
 four_behind key close assign value end = sym (append_assoc ((key ++ close) ++ assign) value end ∙ append_assoc (key ++ close) assign (value ++ end))
 
--- an item, a sign and a value, and a sign behind them
+-- an item, a sign and a value, and a sign after them
 pub value_put : (name : Piece) (key close assign value end : List Piece) → name ∷ ((key ++ close) ++ (assign ++ (value ++ end))) ≡ name ∷ ((((key ++ close) ++ assign) ++ value) ++ end)
 value_put name key close assign value end = ap (λ (pieces : List Piece). name ∷ pieces) (four_behind key close assign value end)

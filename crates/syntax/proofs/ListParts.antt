@@ -1,4 +1,4 @@
--- The names of a step, one behind another.
+-- The names of a step, one after another.
 use Rattle.std.proofs.Common.{◌≡◌, ◌<◌, ◌≤◌, ◌+◌, ◌-◌, ℕ, suc, List, [], ◌∷◌, ◌++◌, length, Bool, true, false, refl, sym, ap, subst, ◌∙◌, arith, length-append, Some, None}
 use Rattle.std.specs.List.{flat_map}
 use Rattle.terms.specs.declared.key.TheConstants.{MAX_COMPONENTS}

@@ -1,4 +1,4 @@
--- An expression in which a limit is passed, or that is too deep: of it nothing else is told where it is whole, whatever tokens come.
+-- An expression in which a limit is passed, or that is too deep: once it is whole nothing else is reported, whatever tokens come.
 use Rattle.std.proofs.Common.{◌≡◌, ◌≤◌, ◌<◌, true, false, Bool, nat_lt, if◌then◌else◌, List, [], ◌∷◌, length, Option, Some, None, refl, sym, ap, subst, arith, rules}
 use Rattle.std.specs.Prelude.{⊤}
 use Rattle.syntax.specs.declared.limits.TheConstants.{MOST_BRACKETS, MOST_DEPTH}
@@ -18,7 +18,7 @@ abbrev pub WaitsDeep : Level → List (Level × Position) → Type 0
 WaitsDeep level [] = (unary : Unary) → MOST_DEPTH < expr_depth (level_expr level (product_of level.product unary))
 WaitsDeep level (around ∷ outer) = WaitsDeep around.0 outer
 
--- too deep, where this product ends the innermost level
+-- too deep, if this product ends the innermost level
 abbrev pub EndsDeep : Level → List (Level × Position) → Prod → Type 0
 EndsDeep level [] prod = MOST_DEPTH < expr_depth (level_expr level prod)
 EndsDeep level (around ∷ outer) prod = WaitsDeep around.0 outer
@@ -65,7 +65,7 @@ deep_comparison level (around ∷ outer) prod how may deep = deep
 
 -- ---- what is lost
 
--- of it a limit at this place is told where it is whole, sooner than another: in front of an operand, and behind one
+-- a limit at this place is reported once the expression is whole, sooner than another: before an operand, and after one
 abbrev pub LostOperand : Sooner → Position → Expression → Type 0
 LostOperand its_depth place state = WaitsDeep state.level state.outer × (state.first ≡ place)
 LostOperand within_it place state = state.passed ≡ Some place
@@ -82,7 +82,7 @@ Lost sooner place _ = ⊥
 abbrev pub IsLost : Position → Expected → Type 0
 IsLost place first = (sooner : Sooner) × Lost sooner place first
 
--- what comes of it at a token is lost too, or that limit is told
+-- what comes of it at a token is lost too, or that limit is reported
 abbrev LostStack : Sooner → Position → List Expected → Type 0
 LostStack sooner place [] = ⊥
 LostStack sooner place (first ∷ []) = Lost sooner place first
@@ -123,7 +123,7 @@ lost_operand sooner place state at (a_variable text) lost =
     lost_read sooner place (passing state (name_limits (text, at))) (variable (text, at)) (lost_passing sooner place state (name_limits (text, at)) lost)
 lost_operand sooner place state at no_head lost = lost_broken sooner place state.passed
 
--- a whole expression, whether it is too deep, with the first limit within it
+-- what is reported of a whole expression: `deep` if it is too deep, `before` is the first limit within it
 abbrev told : Sooner → Position → Bool → Option Position → Position → Type 0
 told sooner place deep before first =
     LostMove sooner place (changed (chosen sooner before) (within (if deep then first ∷ [] else []) (elim before [ None ↦ left_out | Some other ↦ passed other ])))
@@ -195,9 +195,9 @@ lost_look sooner place (operand state) lexeme at lost = lost_operand sooner plac
 lost_look sooner place (behind_operand state prod) lexeme at lost = lost_behind sooner place state prod (joint lexeme) lost
 lost_look sooner place _ lexeme at lost = absurd lost
 
--- ---- nothing else is told
+-- ---- nothing else is reported
 
--- the tokens are not accepted, and no limit is told but at this place
+-- the tokens are not accepted, and no limit is reported except at this place
 abbrev pub TellsOnly : Position → Verdict → Type 0
 TellsOnly place accepted = ⊥
 TellsOnly place (syntax rest) = ⊤

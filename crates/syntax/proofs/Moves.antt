@@ -1,4 +1,4 @@
--- One step of the machine, and one part of the parser behind another.
+-- One step of the machine, and one part of the parser after another.
 use Rattle.std.proofs.Common.{◌≡◌, ◌≢◌, ℕ, zero, suc, List, [], ◌∷◌, ◌++◌, refl, sym, ap, subst, ◌∙◌, append_assoc, drop, slice_get, Some, None}
 use Rattle.syntax.specs.declared.stop.Stop.{Stop}
 use Rattle.syntax.specs.declared.token.Placed.{Placed}
@@ -9,7 +9,7 @@ use Rattle.syntax.specs.Expected.{Expected, taken, left_out, wrong, passed, look
 use Rattle.syntax.specs.Parsed.{Spells, Goes, Reads, Tells, Stops}
 use Rattle.syntax.specs.Front.{front_of, behind_front}
 
--- what may come first takes the token in front
+-- the first expected thing takes the next token
 pub took : (first : Expected) (more behind : List Expected) (spots : List Spot) → (front_of spots).0 ≢ unknown → look first (front_of spots).0 (front_of spots).1 ≡ taken more
     → run (first ∷ behind) spots ≡ run (more ++ behind) (behind_front spots)
 took first more behind [] there e = absurd (there refl)
@@ -44,7 +44,7 @@ spelled_on [] two before middle after first second = subst (λ spots. Spells two
 spelled_on (piece ∷ one) two [] middle after first second = absurd first
 spelled_on (piece ∷ one) two (spot ∷ before) middle after first second = (first.0, spelled_on one two before middle after first.1 second)
 
--- ---- one part behind another
+-- ---- one part after another
 
 pub goes_on : (expected more others last : List Expected) (before middle after : List Spot) → Goes expected more before middle → Goes (more ++ others) last middle after
     → Goes (expected ++ others) last before after

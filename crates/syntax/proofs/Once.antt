@@ -1,4 +1,4 @@
--- A text is one list of tokens at most.
+-- A text has at most one list of tokens.
 use Rattle.std.proofs.Common.{◌≡◌, ◌≢◌, ℕ, ◌+◌, ◌-◌, ◌<◌, Bool, true, false, ◌⊎◌, if◌then◌else◌, List, [], ◌∷◌, ◌++◌, length, inl, inr, refl, sym, ap, subst, ◌∙◌, arith}
 use Rattle.std.specs.Str.Parse.{digits_value}
 use Rattle.std.proofs.lemmas.Bool.Decides.{nat_tests}
@@ -49,7 +49,7 @@ large_leads bytes h = digit_leads h.0 h.1 bytes h.3 h.4.0 h.4.1
 unknown_leads : (bytes : List ℕ) → IsTooLarge bytes ⊎ BeginsNone bytes → 0 < lead bytes
 unknown_leads bytes h = elim h [ inl large ↦ omega (arith, large_leads bytes large) | inr none ↦ omega (arith, none_leads bytes none) ]
 
--- ---- some character, and no blank
+-- ---- at least one character, and the first is no blank
 
 abbrev Starts : List ℕ → Type 0
 Starts bytes = BeginsWithout is_blank bytes × (bytes ≢ [])
@@ -78,7 +78,7 @@ starts (symbol sign) bytes rest h = subst Starts (sym h.0) (sign_starts sign res
 starts unknown bytes rest h =
     elim h.1 [ inl large ↦ digits_start large.0 large.1 bytes large.3 large.4.0 large.4.1 | inr none ↦ none_starts bytes none ]
 
--- ---- one token in front
+-- ---- the first token
 
 word_passes : (text : List ℕ) → IsWordText text → Passes is_word_part text
 word_passes [] h = absurd h

@@ -1,4 +1,4 @@
--- What tokens are pieces of, in front of such tokens: one thing at most.
+-- Tokens are the pieces of at most one thing, before tokens that satisfy a condition.
 use Rattle.std.proofs.Common.{◌≡◌, ℕ, zero, suc, List, [], ◌∷◌, ◌++◌, Option, Some, None, refl, sym, ap, subst, ◌∙◌}
 use Rattle.std.specs.Prelude.{⊤}
 use Rattle.std.specs.List.{flat_map}
@@ -9,15 +9,15 @@ use Rattle.syntax.specs.Front.{front_of, behind_front}
 use Rattle.syntax.specs.Parsed.{Spells}
 use Rattle.syntax.proofs.Judged.{lexeme_in}
 
--- tokens that are the pieces of x, and then such tokens, are those of no other, and the others behind them are the same
+-- tokens that are the pieces of x, and then tokens that satisfy `Follow`, are the pieces of nothing else, and leave the same tokens
 pub record Only {X : Type 0} (Follow : List Spot → Type 0) (pieces : X → List Piece) (x : X) : Type 0 where
   pub only : (y : X) (all later rest : List Spot) → Follow later → Follow rest → Spells (pieces x) all later → Spells (pieces y) all rest → (x ≡ y) × (later ≡ rest)
 
--- tokens that are these pieces, and then such tokens, are such
+-- tokens that are these pieces, and then tokens that satisfy `Follow`, satisfy `Start`
 pub record Starts (Start : List Spot → Type 0) (pieces : List Piece) (Follow : List Spot → Type 0) : Type 0 where
   pub starts : (all later : List Spot) → Follow later → Spells pieces all later → Start all
 
--- any tokens, and those with such a first one
+-- any tokens, and tokens whose first one satisfies `Is`
 abbrev pub AnyTokens : List Spot → Type 0
 AnyTokens tokens = ⊤
 
@@ -38,7 +38,7 @@ halves (piece ∷ a) b (spot ∷ all) later spells =
     let it = halves a b all later spells.1 in
     record { middle = it.middle; first = (spells.0, it.first); second = it.second }
 
--- the tokens behind some pieces
+-- the tokens after some pieces
 pub same_later : (pieces : List Piece) (all later rest : List Spot) → Spells pieces all later → Spells pieces all rest → later ≡ rest
 same_later [] all later rest one two = sym one ∙ two
 same_later (piece ∷ pieces) [] later rest one two = absurd one
@@ -55,7 +55,7 @@ both {A} {B} {One} {Two} {f} {g} {a} {b} first starts second = record {
       (λ i. (here.0 i, there.0 i), there.1);
 }
 
--- behind these pieces
+-- after these pieces
 pub behind : {B : Type 0} {Follow : List Spot → Type 0} {g : B → List Piece} {b : B} (pieces : List Piece) → Only Follow g b → Only Follow (λ (it : B). pieces ++ g it) b
 behind {B} {Follow} {g} {b} pieces second = record {
   only = λ y all later rest follow follows one two.
@@ -64,7 +64,7 @@ behind {B} {Follow} {g} {b} pieces second = record {
       second.only y mine.middle later rest follow follows mine.second (subst (λ (spots : List Spot). Spells (g y) spots rest) (sym (same_later pieces all mine.middle other.middle mine.first other.first)) other.second);
 }
 
--- in front of these pieces
+-- before these pieces
 pub before : {A : Type 0} {One Two : List Spot → Type 0} {f : A → List Piece} {a : A} (pieces : List Piece) → Starts One pieces Two → Only One f a → Only Two (λ (it : A). f it ++ pieces) a
 before {A} {One} {Two} {f} {a} pieces starts first = record {
   only = λ y all later rest follow follows one two.
@@ -74,7 +74,7 @@ before {A} {One} {Two} {f} {a} pieces starts first = record {
       (here.0, same_later pieces mine.middle later rest mine.second (subst (λ (spots : List Spot). Spells pieces spots rest) (sym here.1) other.second));
 }
 
--- in front of fewer tokens
+-- before fewer tokens
 pub fewer : {A : Type 0} {One Two : List Spot → Type 0} {f : A → List Piece} {a : A} → ((tokens : List Spot) → Two tokens → One tokens) → Only One f a → Only Two f a
 fewer {A} {One} {Two} {f} {a} are first = record { only = λ y all later rest follow follows one two. first.only y all later rest (are later follow) (are rest follows) one two }
 
@@ -110,7 +110,7 @@ lexemes_of zero pieces = []
 lexemes_of (suc many) [] = []
 lexemes_of (suc many) (piece ∷ pieces) = lexeme_in piece ∷ lexemes_of many pieces
 
--- at least so many pieces
+-- at least this number of pieces
 abbrev pub AreMany : ℕ → List Piece → Type 0
 AreMany zero pieces = ⊤
 AreMany (suc many) [] = ⊥

@@ -1,4 +1,4 @@
--- Tokens are one expression at most, in front of a token that may stand behind one: the machine gives it back.
+-- Tokens are at most one expression, before a token that may follow one: the machine gives it back.
 use Rattle.std.proofs.Common.{◌≡◌, List, [], ◌∷◌, Option, Some, None, refl, sym, ap, ◌∙◌}
 use Rattle.syntax.specs.Tokens.{Spot}
 use Rattle.syntax.specs.Grammar.{Position, Expr, sum_alone, Sum, prod_alone, unary_alone, literal}
@@ -20,7 +20,7 @@ stopped nothing_left here later = here
 stopped at_fault here later = here
 stopped (limit_passed place) here later = here
 
--- what may come, and the tokens that are left, where the machine goes on no more
+-- where the machine stops: what may come, and the tokens that are left
 abbrev until : List Expected → List Spot → Stopped
 until stack [] = (stack, [])
 until stack (spot ∷ spots) = stopped (next stack spot) (stack, spot ∷ spots) (λ more. until more spots)
@@ -28,7 +28,7 @@ until stack (spot ∷ spots) = stopped (next stack spot) (stack, spot ∷ spots)
 until_on : (stack more : List Expected) (spot : Spot) (spots : List Spot) → next stack spot ≡ on more → until stack (spot ∷ spots) ≡ until more spots
 until_on stack more spot spots is = ap (λ (after : Next). stopped after (stack, spot ∷ spots) (λ then_on. until then_on spots)) is
 
--- an expression that is whole stops it
+-- an expression that is whole stops the machine
 stops : (deep : List Position) (before : Option Position) (here : Stopped) (later : List Expected → Stopped)
     → stopped (met (within deep (elim before [ None ↦ left_out | Some place ↦ passed place ])) [] nothing_left) here later ≡ here
 stops [] None here later = refl

@@ -1,4 +1,4 @@
--- Tokens are one graph text at most.
+-- Tokens are at most one graph text.
 use Rattle.std.proofs.Common.{◌≡◌, ℕ, ◌+◌, arith, List, ◌∷◌, ◌++◌, Some, None, refl, ap, ◌∙◌}
 use Rattle.std.specs.Prelude.{⊤}
 use Rattle.std.specs.List.{flat_map}
@@ -27,7 +27,7 @@ steps_only them = all_only step_pieces AnyTokens (Front IsEnd) step_only (λ mor
 
 -- ---- relations
 
--- the token behind the last relation
+-- the token after the last relation
 abbrev BehindRelations : Lexeme → Type 0
 BehindRelations (word kept.Step) = ⊤
 BehindRelations unknown = ⊤
@@ -69,7 +69,7 @@ abbrev semicolon_code : Lexeme → ℕ
 semicolon_code (symbol sign.Semicolon) = 1
 semicolon_code _ = 0
 
--- what tells a declaration: a bracket, and a colon behind the name or a semicolon behind the other bracket
+-- what distinguishes a declaration: a bracket, and a colon after the name or a semicolon after the other bracket
 abbrev declares : List Lexeme → ℕ
 declares (first ∷ second ∷ third ∷ fourth ∷ more) = behind_bracket first (colon_code third + semicolon_code fourth)
 declares _ = 0

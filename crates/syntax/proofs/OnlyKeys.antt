@@ -1,4 +1,4 @@
--- Tokens are one key at most, and one list of names.
+-- Tokens are at most one key, and at most one list of names.
 use Rattle.std.proofs.Common.{◌≡◌, List, [], ◌∷◌, ◌++◌, Option, refl, sym, ap, subst, ◌∙◌}
 use Rattle.std.specs.Prelude.{⊤}
 use Rattle.std.specs.List.{flat_map}
@@ -26,7 +26,7 @@ more_only : (more : List Sum) → Only (Front EndsKey) (flat_map comma_and) more
 more_only more = all_only comma_and (Front EndsComponent) (Front EndsKey) (λ sum. behind (a_sign sign.Comma) (component_only sum)) more_start
     (λ sum pieces all later. begins_without EndsKey (plain (symbol sign.Comma)) (sum_pieces sum ++ pieces) all later (λ ends. ends)) more
 
--- at least one component, behind a colon
+-- at least one component, after a colon
 components_only : (sum : Sum) (more : List Sum) → Only (Front EndsKey) (λ (pair : Sum × List Sum). (a_sign sign.Colon ++ sum_pieces pair.0) ++ flat_map comma_and pair.1) (sum, more)
 components_only sum more = both (behind (a_sign sign.Colon) (component_only sum)) more_start (more_only more)
 
@@ -83,7 +83,7 @@ components_named_only names = optional_only {Follow = Front EndsNames} {f = λ (
     (λ it. behind (a_sign sign.Colon) (fewer (λ tokens ends. ends_not_comma (front_of tokens).0 ends) (names_only it)))
     (λ it all later. begins_without EndsNames (plain (symbol sign.Colon)) (names_pieces it) all later (λ ends. ends)) names
 
--- the bracket behind parameters
+-- the bracket after parameters
 abbrev pub EndsParameters : Lexeme → Type 0
 EndsParameters (symbol sign.CloseRound) = ⊤
 EndsParameters _ = ⊥
@@ -97,7 +97,7 @@ parameters_only names = optional_only {Follow = Front EndsParameters} {f = names
     (λ it. fewer (λ tokens ends. round_not_comma (front_of tokens).0 ends) (names_only it))
     (λ it all later. begins_without EndsParameters (named it.first) (flat_map comma_named it.more) all later (λ ends. ends)) names
 
--- the word behind variables
+-- the word after variables
 abbrev pub EndsVariables : Lexeme → Type 0
 EndsVariables (word kept.Read) = ⊤
 EndsVariables _ = ⊥

@@ -1,4 +1,4 @@
--- Tokens are one declaration at most, and one relation.
+-- Tokens are at most one declaration, and at most one relation.
 use Rattle.std.proofs.Common.{◌≡◌, ℕ, ◌+◌, ◌*◌, arith, List, [], ◌∷◌, ◌++◌, Option, sym, ap, ◌∙◌}
 use Rattle.syntax.specs.declared.token.Word.TheVariants as kept
 use Rattle.syntax.specs.declared.token.Symbol.{Symbol}
@@ -11,7 +11,7 @@ use Rattle.syntax.proofs.JudgedNames.{EndsNames}
 use Rattle.syntax.proofs.Only.{Only, AnyTokens, both, behind, before, any_starts, piece_starts, AreMany, lexemes, lexemes_of, lexemes_are, named_only, place_only}
 use Rattle.syntax.proofs.OnlyKeys.{components_named_only}
 
--- the numbers of the tokens that tell declarations and relations, and 0 for all others
+-- the numbers of the tokens that distinguish declarations and relations, and 0 for all others
 abbrev code : Lexeme → ℕ
 code (symbol sign.Less) = 1
 code (symbol sign.OpenBracket) = 2
@@ -59,7 +59,7 @@ declaration_only declaration = record {
 
 -- ---- relations
 
--- told by its first token, its third and its fifth
+-- a relation is recognized by its first, its third and its fifth token
 abbrev code_of : List Lexeme → ℕ
 code_of (first ∷ second ∷ third ∷ fourth ∷ fifth ∷ []) = code first * 25 + code third * 5 + code fifth
 code_of _ = 0
@@ -79,7 +79,7 @@ two_names : (front middle back : List Piece) (one two : Named) → Only AnyToken
 two_names front middle back one two =
     both {Two = AnyTokens} (before {Two = AnyTokens} middle any_starts (behind front (named_only one))) (λ other. any_starts) (before {Two = AnyTokens} back any_starts (named_only two))
 
--- a token at a position in front of them
+-- a token at a position before them
 abbrev Placed : Type 0
 Placed = Position × (Named × Named)
 

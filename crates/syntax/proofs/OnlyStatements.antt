@@ -1,4 +1,4 @@
--- Tokens are one list of statements at most.
+-- Tokens are at most one list of statements.
 use Rattle.std.proofs.Common.{◌≡◌, ℕ, suc, arith, List, [], ◌∷◌, ◌++◌, refl, sym, ap, subst, ◌∙◌}
 use Rattle.syntax.specs.declared.token.Word.TheVariants as kept
 use Rattle.syntax.specs.declared.token.Symbol.TheVariants as sign
@@ -12,7 +12,7 @@ use Rattle.syntax.proofs.JudgedStatements.{NotElse, EndsBlock, block_not_else}
 use Rattle.syntax.proofs.Only.{Only, Starts, AnyTokens, Front, halves, both, behind, before, any_starts, piece_starts, starts_more, begins_without, named_only, place_only}
 use Rattle.syntax.proofs.OnlyExpressions.{expression_only}
 
--- the number of the statements that such a token begins: 1 an assignment, 2 an `if`, 3 a `for`, 4 one of its block's own
+-- the kind of statement that a token begins: 1 an assignment, 2 an `if`, 3 a `for`, 4 one that only its part has
 abbrev kind : Lexeme → ℕ
 kind (name text) = 1
 kind (word kept.If) = 2
@@ -21,7 +21,7 @@ kind (word kept.Get) = 4
 kind (word kept.Put) = 4
 kind _ = 0
 
--- it begins a statement of the kind with so many before
+-- the token begins a statement of the kind with `which` kinds before it
 abbrev IsKind : ℕ → Lexeme → Type 0
 IsKind which lexeme = kind lexeme ≡ suc which
 
@@ -40,7 +40,7 @@ condition_only : (condition : Expr) → Only AnyTokens condition_pieces conditio
 condition_only condition = before (a_sign sign.CloseRound) (piece_starts AfterExpression tt) (behind (a_word kept.If ++ a_sign sign.OpenRound) (expression_only condition))
 
 module _ {B : Type 0} (own_pieces : B → List Piece) (own_only : (it : B) → Only AnyTokens own_pieces it) (own_starts : (it : B) → Starts (Front BeginsOwn) (own_pieces it) AnyTokens) where
-  -- so many kinds are before that of a statement
+  -- the number of kinds before that of a statement
   abbrev which : Statement B → ℕ
   which (own it) = 3
   which (assigned it expr) = 0
@@ -55,11 +55,11 @@ module _ {B : Type 0} (own_pieces : B → List Piece) (own_only : (it : B) → O
   statement_starts (if_else condition brace first other second) = piece_starts (IsKind 1) refl
   statement_starts (for it from to brace block) = piece_starts (IsKind 2) refl
 
-  -- tokens that are both of two statements
+  -- tokens that are the pieces of two statements make them equal, and leave the same tokens
   abbrev AreSame : Statement B → Statement B → Type 0
   AreSame x y = (all later rest : List Spot) → Front NotElse later → Front NotElse rest → Spells (statement_pieces own_pieces x) all later → Spells (statement_pieces own_pieces y) all rest → (x ≡ y) × (later ≡ rest)
 
-  -- two statements that begin alike are compared
+  -- it is enough to compare two statements that begin alike
   compared_alike : (x : Statement B) → ((y : Statement B) → suc (which x) ≡ suc (which y) → AreSame x y) → Only (Front NotElse) (statement_pieces own_pieces) x
   compared_alike x alike = record {
     only = λ y all later rest follow follows one two.
@@ -107,7 +107,7 @@ module _ {B : Type 0} (own_pieces : B → List Piece) (own_only : (it : B) → O
   if_only : (condition : Expr) (brace : Position) (first : Statements B) → OneBlock first → Only AnyTokens if_pieces (condition, (brace, first))
   if_only condition brace first inner = both (condition_only condition) (λ other. any_starts) (block_only brace first inner)
 
-  -- an `else` behind the block of an `if`
+  -- an `else` after the block of an `if`
   record Otherwise (it : Expr × Block) (all later : List Spot) : Type 0 where
     middle : List Spot
     first : Spells (if_pieces it) all middle

@@ -1,4 +1,4 @@
--- Tokens are one step at most.
+-- Tokens are at most one step.
 use Rattle.std.proofs.Common.{◌≡◌, ℕ, arith, List, [], ◌∷◌, ◌++◌, Option, sym, ap, ◌∙◌, refl}
 use Rattle.syntax.specs.declared.token.Word.TheVariants as kept
 use Rattle.syntax.specs.declared.token.Symbol.TheVariants as sign
@@ -35,7 +35,7 @@ get_starts get = piece_starts (BeginsOwn) refl
 
 -- ---- what is put
 
--- which key a put is of, told by the bracket
+-- which kind of key a put has, by the bracket
 abbrev bracket_kind : List Lexeme → ℕ
 bracket_kind (first ∷ symbol sign.Less ∷ []) = 1
 bracket_kind _ = 0

@@ -13,7 +13,7 @@ use Rattle.syntax.specs.Front.{front_of, behind_front}
 use Rattle.syntax.specs.Partial.{read_so_far, IsClear, IsSumAlone, Onward, outermost, state_pieces, state_limits, level_limits, sum_limits_before, product_limits_before, comparison_limits_before, minus_pieces, sum_waiting, product_waiting, comparison_waiting}
 use Rattle.syntax.proofs.Moves.{took, spelled_one, spelled_on}
 
--- one token more
+-- one more token
 pub onward_one : (from to : Expected) (piece : Piece) (before after : List Spot) → (front_of before).0 ≢ unknown → after ≡ behind_front before
     → look from (front_of before).0 (front_of before).1 ≡ taken (to ∷ []) → IsPiece piece (front_of before) → read_so_far to ≡ read_so_far from ++ piece ∷ []
     → (IsClear from → IsClear to) → (IsSumAlone from → IsSumAlone to) → Onward from to before after
@@ -49,7 +49,7 @@ negating_pieces state place = simp append_assoc
 pub bracketing_pieces : (state : Expression) (place : Position) → state_pieces (bracketing state place) ≡ state_pieces state ++ sign_at place sign.OpenRound
 bracketing_pieces state place = simp (append_assoc, append-nil)
 
--- an operand behind what is spelled so far
+-- an operand after what is spelled so far
 pub operand_pieces : (state : Expression) (unary : Unary) → read_so_far (behind_operand (without_product state) (product_behind state unary)) ≡ state_pieces state ++ unary_pieces unary
 operand_pieces state unary = simp (product_pieces, negated_pieces, append_assoc, append-nil)
 
@@ -65,7 +65,7 @@ pub awaiting_comparison_pieces : (state : Expression) (prod : Prod) (how : Compa
     → state_pieces (awaiting_comparison state prod how) ≡ read_so_far (behind_operand state prod) ++ a_sign (comparison_sign how)
 awaiting_comparison_pieces state prod how may none no_minus = simp (may, none, no_minus, added_pieces, append_assoc, append-nil)
 
--- behind the bracket that closes
+-- after the bracket that closes
 pub closing_pieces : (state : Expression) (level : Level) (place : Position) (outer : List (Level × Position)) (prod : Prod) → state.outer ≡ (level, place) ∷ outer
     → state.level.product ≡ None → state.level.negations ≡ []
     → state_pieces (closed state level outer) ++ unary_pieces (bracketed place (level_expr state.level prod)) ≡ read_so_far (behind_operand state prod) ++ a_sign sign.CloseRound
@@ -93,7 +93,7 @@ compared_within n (behind_left left how) sum = refl
 pub level_within : (n : ℕ) (level : Level) (prod : Prod) → level.product ≡ None → expr_within n (level_expr level prod) ≡ level_limits n level ++ prod_within n prod
 level_within n level prod none = simp (none, compared_within, added_within, append_assoc, append-nil)
 
--- what was not passed before, and is not now
+-- no limit was passed before, and none is passed now
 pub not_earlier : (passed : Option Position) (places : List Position) → earlier passed places ≡ None → (passed ≡ None) × (places ≡ [])
 not_earlier None [] e = (refl, refl)
 not_earlier None (place ∷ places) e = cc

@@ -78,7 +78,7 @@ popped state kept rest around items is =
     split state kept rest around state.outer refl
     (subst (AreAll (λ (one : Level × Position). IsLevel one.0) state.outer) (ap reverse items ∙ reverse-append rest (around ∷ [])) is.outer)
 
--- with the same levels in another place
+-- the same levels in another vector
 pub still : (state : Expression) (kept : Partial) (outer : Vec Kept_level Global) → outer.items ≡ kept.outer.items → IsPartial state kept → IsPartial state (record kept { outer = outer })
 still state kept outer same is = record {
   first = is.first;

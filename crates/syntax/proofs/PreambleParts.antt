@@ -1,4 +1,4 @@
--- Declarations one behind another, and relations behind them.
+-- Declarations one after another, and relations after them.
 use Rattle.std.proofs.Common.{◌≡◌, ◌<◌, ℕ, suc, nat_lt, Bool, true, false, if◌then◌else◌, rules, List, [], ◌∷◌, ◌++◌, refl, sym, ap, subst, ◌∙◌, append_assoc}
 use Rattle.std.specs.List.{flat_map}
 use Rattle.std.proofs.lemmas.List.{append-nil}
@@ -19,7 +19,7 @@ use Rattle.syntax.specs.Declarations.{IsDeclarationRest, AreDeclared, ArePreambl
 use Rattle.syntax.proofs.Moves.{spelled_on}
 use Rattle.syntax.proofs.KeyParts.{flat_more, all_more}
 
--- one more behind those
+-- one more after those
 spelled_more : {X : Type 0} (pieces : X → List Piece) (read : List X) (one : X) (rest : List Piece) (start now after : List Spot) → pieces one ≡ rest
     → Spells (flat_map pieces read) start now → Spells rest now after → Spells (flat_map pieces (read ++ one ∷ [])) start after
 spelled_more pieces read one rest start now after same first second =
@@ -48,7 +48,7 @@ declared_alone {items} {tags} {trees} {start} {now} so_far = record {
   relations_within = refl;
 }
 
--- where others may come in place of those
+-- where `others` may come in place of `more`
 pub preamble_on : {more others : List Expected} {declared : List Declared} {related : List Related} {start now : List Spot} (after : List Spot) → ArePreamble more declared related start now
     → Reads more others [] now after → ArePreamble others declared related start after
 preamble_on {more} {others} {declared} {related} {start} {now} after so_far next = record {

@@ -1,4 +1,4 @@
--- The longest front of a text that passes a test, and a text of ASCII.
+-- The longest prefix of a text that passes a test, and a text of ASCII.
 use Rattle.std.proofs.Common.{◌≡◌, ℕ, ◌+◌, ◌<◌, ◌≤◌, zero, suc, Bool, true, false, cond, List, [], ◌∷◌, ◌++◌, length, take, drop, refl, sym, subst, arith, lit<, one-add}
 use Rattle.std.specs.List.{AllByRecursion, prefix_len, take_while}
 use Rattle.std.specs.Str.{IsAscii, IsCharBoundary}
@@ -26,7 +26,7 @@ pub stops : (is : ℕ → Bool) (bytes : List ℕ) → BeginsWithout is (drop (p
 stops is [] = tt
 stops is (first ∷ rest) = stops_by is first rest (is first) refl (stops is rest)
 
--- a front that passes, with a rest that does not go on, is told by the text
+-- the text determines the prefix that passes, if the rest does not go on
 pub split_once : (is : ℕ → Bool) (a b x y : List ℕ) → Passes is a → Passes is b → BeginsWithout is x → BeginsWithout is y → a ++ x ≡ b ++ y → (a ≡ b) × (x ≡ y)
 split_once is [] [] x y pa pb sx sy e = (refl, e)
 split_once is [] (d ∷ b) x y pa pb sx sy e = let h : is d ≡ false = subst (BeginsWithout is) e sx in let k : is d ≡ true = pb.0 in absurd (cc)

@@ -1,4 +1,4 @@
--- A sign is told by its number.
+-- A sign is determined by its number.
 use Rattle.std.proofs.Common.{◌≡◌, Bool, true, false, nat_eq, List, [], ◌∷◌, Some, refl, sym, ap, ◌∙◌, slice_get, IsTrue, rules}
 use Rattle.syntax.specs.declared.token.Symbol.{Symbol}
 use Rattle.syntax.specs.declared.token.Symbol.TheVariants.{OpenBracket, CloseBracket, OpenRound, CloseRound, Less, Greater, OpenBrace, CloseBrace, Colon, Semicolon, Comma, Assign, Plus, Minus, Star, Slash, Percent, DoubleColon, Arrow, DoubleDot, Equal, NotEqual, LessOrEqual, GreaterOrEqual}

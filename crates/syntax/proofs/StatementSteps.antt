@@ -1,4 +1,4 @@
--- A statement, and the statements behind it.
+-- A statement, and the statements after it.
 use Rattle.std.proofs.Common.{◌≡◌, ℕ, List, [], ◌∷◌, ◌++◌, drop, refl, sym, ap, subst, ◌∙◌, append_assoc}
 use Rattle.std.specs.List.{flat_map}
 use Rattle.steptree.specs.declared.step.NamedBlock.{NamedBlock}
@@ -82,7 +82,7 @@ pub statement_stops : (part : Part) (around : ℕ) (expected : List Expected) (b
 statement_stops part around expected before after cause begins stops behind =
     subst (Tells cause after) (sym (same_run part around expected behind before begins)) (stops (statements part around ∷ behind))
 
--- ---- statements one behind another
+-- ---- statements one after another
 
 pub no_statements : (part : Part) (around : ℕ) (start : List Spot) → StatementsSoFar part around start start []
 no_statements part around start = record { read = []; reads = record { spells = refl; goes = λ behind. refl }; are = tt; within = refl }
@@ -105,7 +105,7 @@ all_limits : (part : Part) (around : ℕ) (read : List (Statement (Own part))) �
 all_limits part around [] = refl
 all_limits part around (first ∷ read) = ap (λ limits. statement_limits (own_limits part) around first ++ limits) (all_limits part around read)
 
--- ---- what stands behind a statement
+-- ---- what follows a statement
 
 own_weaker : (part : Part) (it : Own part) (tree : NamedBlock) (P Q : NamedBlock → Type 0) → ((other : NamedBlock) → P other → Q other) → is_own part it tree P → is_own part it tree Q
 own_weaker reading get (block.Get' variable key p rest) P Q weaker is = (is.0, is.1, weaker rest is.2)

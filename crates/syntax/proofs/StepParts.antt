@@ -1,4 +1,4 @@
--- The parts of a step, and steps one behind another.
+-- The parts of a step, and steps one after another.
 use Rattle.std.proofs.Common.{◌≡◌, ◌<◌, ◌≤◌, ◌+◌, ◌-◌, ℕ, suc, List, [], ◌∷◌, ◌++◌, length, Bool, true, false, drop, map, refl, sym, ap, subst, ◌∙◌, arith, append_assoc, length-append}
 use Rattle.std.specs.List.{flat_map}
 use Rattle.std.proofs.lemmas.List.{append-nil, drop_all}
@@ -92,7 +92,7 @@ step_within count text given declared room called are few short others fewer sho
     (few_more MOST_COLLECTIONS count text.name.1 room) called (flat_both name_limits one two short shorter) (none_behind MAX_COMPONENTS one (omega (arith, as_given, few)))
     (none_behind MOST_NAMES (one ++ two) all_few) read write
 
--- ---- steps one behind another
+-- ---- steps one after another
 
 pub no_steps : (start : List Spot) → StepsSoFar start start []
 no_steps start = record { texts = []; goes = λ behind. refl; spells = refl; are = tt; within = refl }

@@ -1,18 +1,18 @@
--- The machine, with a say in which limit of a whole expression it tells, and telling none of one that breaks off.
+-- The machine, with a choice of which limit of a whole expression it reports, and reporting none of one that breaks off.
 use Rattle.std.proofs.Common.{◌≡◌, ◌≢◌, List, [], ◌∷◌, Option, Some, None, refl, sym, ap, ◌∙◌}
 use Rattle.syntax.specs.Tokens.{Lexeme, unknown, Spot}
 use Rattle.syntax.specs.Grammar.{Position}
 use Rattle.syntax.specs.Expected.{Level, Expected, whole, operand, behind_operand, Move, taken, left_out, wrong, passed, look, Next, on, nothing_left, at_fault, limit_passed, met, next, Verdict, ended, followed, run}
 
--- what is told sooner of a whole expression that passes both
+-- what is reported sooner of a whole expression that passes both
 pub data Sooner : Type 0 where
   its_depth : Sooner
   within_it : Sooner
 
 pub data Telling : Type 0 where
-  -- as the machine tells it
+  -- as the machine reports it
   as_told : Telling
-  -- of a whole expression this sooner, and none of one that breaks off
+  -- of a whole expression this limit sooner, and none of one that breaks off
   of_whole : Sooner → Telling
 
 -- what comes in place of a limit at this place, where an expression breaks off
@@ -20,33 +20,33 @@ abbrev pub broken : Telling → Position → Move
 broken as_told place = passed place
 broken (of_whole sooner) place = wrong
 
--- where it is whole, with the first limit within it
+-- where the expression is whole, with the first limit within it
 abbrev pub chosen : Sooner → Option Position → Position → Move
 chosen its_depth before place = passed place
 chosen within_it None place = passed place
 chosen within_it (Some other) place = passed other
 
--- behind an operand: it is whole within no bracket
+-- after an operand: the expression is whole if it is within no bracket
 abbrev pub whole_or_broken : Telling → List (Level × Position) → Option Position → Position → Move
 whole_or_broken as_told outer before place = passed place
 whole_or_broken (of_whole sooner) [] before place = chosen sooner before place
 whole_or_broken (of_whole sooner) (around ∷ outer) before place = wrong
 
--- whatever may come first
+-- for whatever may come first
 abbrev pub instead : Expected → Telling → Position → Move
 instead (whole comparing) telling place = broken telling place
 instead (operand state) telling place = broken telling place
 instead (behind_operand state prod) telling place = whole_or_broken telling state.outer state.passed place
 instead _ telling place = passed place
 
--- with this in place of a limit
+-- a move, with this in place of a limit
 abbrev pub changed : (Position → Move) → Move → Move
 changed change (taken more) = taken more
 changed change left_out = left_out
 changed change wrong = wrong
 changed change (passed place) = change place
 
--- the machine that tells so
+-- the machine that reports so
 abbrev pub look_so : Telling → Expected → Lexeme → Position → Move
 look_so telling first lexeme place = changed (instead first telling) (look first lexeme place)
 
@@ -58,7 +58,7 @@ abbrev pub run_so : Telling → List Expected → List Spot → Verdict
 run_so telling stack [] = ended (next_so telling stack (unknown, 0))
 run_so telling stack (spot ∷ spots) = followed (next_so telling stack spot) (spot ∷ spots) (λ after. run_so telling after spots)
 
--- ---- as the machine tells it
+-- ---- as the machine reports it
 
 same_place : (first : Expected) (place : Position) → instead first as_told place ≡ passed place
 same_place (whole comparing) place = refl
@@ -110,7 +110,7 @@ run_on telling stack more spot spots is = ap (λ (it : Next). followed it (spot 
 
 -- ---- where no expression is expected
 
--- what comes of the first thing that may come, which is no expression
+-- what the first expected thing does, which is no expression
 abbrev pub plainly : Expected → Lexeme → Position → Move
 plainly (whole comparing) lexeme place = wrong
 plainly (operand state) lexeme place = wrong

@@ -1,4 +1,4 @@
--- A text that is read as a tree has no fault but want of memory.
+-- A text that is read as a tree has no fault other than `NoMemory`.
 use Rattle.std.proofs.Common.{◌≡◌, ℕ, suc, List, [], take, slice_get, Some, refl, ap, subst}
 use Rattle.syntax.specs.declared.fault.TreeError.{TreeError}
 use Rattle.syntax.specs.declared.fault.TreeError.TheVariants as error

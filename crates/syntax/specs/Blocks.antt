@@ -1,4 +1,4 @@
--- Statements that are read one by one, each as a block that ends behind it.
+-- Statements that are read one by one, each as a block that ends after it.
 use Rattle.std.specs.Prelude.{◌≡◌, List, [], ◌∷◌, ◌++◌, drop}
 use Rattle.steptree.specs.declared.step.Name.{Name}
 use Rattle.steptree.specs.declared.step.NamedBlock.{NamedBlock}
@@ -12,7 +12,7 @@ use Rattle.syntax.specs.Tree.{IsExpr, IsGet, IsPut}
 use Rattle.syntax.specs.Expected.{Expected, exactly, whole, possible, get_rest, put_target, key_rest, item, tag}
 use Rattle.syntax.specs.Parsed.{Reads}
 
--- the first statement, with these behind it
+-- the first statement of a block, with `rest` after it
 abbrev pub with_rest : NamedBlock → NamedBlock → NamedBlock
 with_rest block.End rest = rest
 with_rest (block.Assign' name value p other) rest = block.Assign' name value p rest
@@ -22,14 +22,14 @@ with_rest (block.Get' name key p other) rest = block.Get' name key p rest
 with_rest (block.PutItem' key value p other) rest = block.PutItem' key value p rest
 with_rest (block.PutTag' key p other) rest = block.PutTag' key p rest
 
--- behind the word `get`
+-- after the word `get`
 pub record IsGetRead (tree : NamedBlock) (before after : List Spot) : Type 0 where
   pub get : Get
   pub reads : Reads get_rest [] (drop 1 (get_pieces get)) before after
   pub is : (rest : NamedBlock) → IsGet get (with_rest tree rest) (λ other. other ≡ rest)
   pub within : get_limits get ≡ []
 
--- behind `put [`
+-- after `put [`
 abbrev pub item_rest : List Expected
 item_rest = key_rest item ++ exactly sign.Assign ∷ whole possible ∷ exactly sign.Semicolon ∷ []
 
@@ -40,7 +40,7 @@ pub record IsItemRead (tree : NamedBlock) (before after : List Spot) : Type 0 wh
   pub is : (rest : NamedBlock) → IsPut (put_item key value) (with_rest tree rest) (λ other. other ≡ rest)
   pub within : put_limits (put_item key value) ≡ []
 
--- behind `put <`
+-- after `put <`
 abbrev pub tag_rest : List Expected
 tag_rest = key_rest tag ++ exactly sign.Semicolon ∷ []
 
@@ -50,14 +50,14 @@ pub record IsTagRead (tree : NamedBlock) (before after : List Spot) : Type 0 whe
   pub is : (rest : NamedBlock) → IsPut (put_tag key) (with_rest tree rest) (λ other. other ≡ rest)
   pub within : put_limits (put_tag key) ≡ []
 
--- behind the word `put`
+-- after the word `put`
 pub record IsPutRead (tree : NamedBlock) (before after : List Spot) : Type 0 where
   pub put : Put
   pub reads : Reads (put_target ∷ []) [] (drop 1 (put_pieces put)) before after
   pub is : (rest : NamedBlock) → IsPut put (with_rest tree rest) (λ other. other ≡ rest)
   pub within : put_limits put ≡ []
 
--- behind the name that is assigned
+-- after the name that is assigned
 abbrev pub assignment_rest : List Expected
 assignment_rest = exactly sign.Assign ∷ whole possible ∷ exactly sign.Semicolon ∷ []
 

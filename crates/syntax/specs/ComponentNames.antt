@@ -9,19 +9,19 @@ use Rattle.syntax.specs.Spelled.{Piece, named, names_pieces}
 use Rattle.syntax.specs.Expected.{component_name}
 use Rattle.syntax.specs.Parsed.{Spells, Goes, Reads}
 
--- so many names, few enough
+-- `count` names, and not too many
 pub record AreNamed (count : ℕ) (before after : List Spot) : Type 0 where
   pub names : Names
   pub reads : Reads (component_name 0 ∷ []) [] (names_pieces names) before after
   pub counted : count ≡ length (all_names (Some names))
   pub within : flat_map name_limits (all_names (Some names)) ++ names_behind MAX_COMPONENTS (all_names (Some names)) ≡ []
 
--- names one behind another
+-- names one after another
 abbrev pub pieces_of : List Named → List Piece
 pieces_of [] = []
 pieces_of (first ∷ more) = names_pieces (record { first = first; more = more })
 
--- in front of a name, with so many before
+-- before the next name, with `count` names read
 pub record NamesSoFar (start now : List Spot) (count : ℕ) : Type 0 where
   pub read : List Named
   pub counted : count ≡ length read

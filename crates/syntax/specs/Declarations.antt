@@ -1,4 +1,4 @@
--- Declarations that are read, and the relations behind them.
+-- Declarations that are read, and the relations after them.
 use Rattle.std.specs.Prelude.{◌≡◌, ℕ, suc, Bool, true, false, List, [], ◌∷◌, ◌++◌, length, Option, Some, None}
 use Rattle.std.specs.List.{flat_map}
 use Rattle.terms.specs.declared.key.TheConstants.{MAX_COMPONENTS}
@@ -20,7 +20,7 @@ use Rattle.syntax.specs.Parsed.{Reads}
 use Rattle.syntax.specs.NameLists.{IsFull}
 use Rattle.syntax.specs.Relations.{IsRelationRest, reader_rest, prescribed_step}
 
--- whether there is room for no further collection of a kind, with so many items and tags before
+-- whether there is no room for one more collection of a kind, with `items` items and `tags` tags before it
 abbrev pub IsFullOf : Kind → ℕ → ℕ → Bool → Type 0
 IsFullOf kind items tags full = IsFull full (declared_limits kind items tags)
 
@@ -28,7 +28,7 @@ IsFullOf kind items tags full = IsFull full (declared_limits kind items tags)
 abbrev pub components_rest : Symbol → List Expected
 components_rest close = component_name 0 ∷ exactly close ∷ exactly sign.Semicolon ∷ []
 
--- no name, or few enough, and so many
+-- no names, or not too many, and their number is `count`
 pub record AreCounted (names : Option Names) (count : ℕ) : Type 0 where
   pub counted : count ≡ length (all_names names)
   pub within : flat_map name_limits (all_names names) ++ names_behind MAX_COMPONENTS (all_names names) ≡ []
@@ -38,30 +38,30 @@ pub record IsComponentsRest (close : Symbol) (count : ℕ) (before after : List 
   pub reads : Reads (components_rest close) [] (names_pieces names ++ a_sign close ++ a_sign sign.Semicolon) before after
   pub counted : AreCounted (Some names) count
 
--- behind the collection of a relation
+-- after the collection of a relation
 abbrev pub relation_rest : Kind → List Expected
 relation_rest item = reader_rest
 relation_rest tag = prescribed_step
 
--- behind the closing bracket: the end of a declaration, for which there is room, or a relation
+-- after the closing bracket: the end of a declaration, for which there is room, or a relation
 abbrev pub IsEnd : Kind → ℕ → ℕ → Position → Bool → List Spot → List Spot → Type 0
 IsEnd kind items tags place true before after =
     Reads (front_closed kind items tags place ∷ []) (declared kind items tags ∷ []) (a_sign sign.Semicolon) before after × (declared_limits kind items tags place ≡ [])
 IsEnd kind items tags place false before after = Reads (front_closed kind items tags place ∷ []) (relation_rest kind ++ relations ∷ []) [] before after
 
--- a declaration behind its name, with so many components
+-- a declaration after its name, with `count` components
 pub record IsDeclaredRest (kind : Kind) (items tags : ℕ) (place : Position) (count : ℕ) (before after : List Spot) : Type 0 where
   pub components : Option Names
   pub reads : Reads (front_named kind items tags place ∷ []) (declared kind items tags ∷ []) (after_colon components ++ a_sign (closing kind) ++ a_sign sign.Semicolon) before after
   pub counted : AreCounted components count
   pub room : declared_limits kind items tags place ≡ []
 
--- behind the name: a declaration, or else a relation
+-- after the name: a declaration, or else a relation
 abbrev pub IsBehindName : Kind → ℕ → ℕ → Position → Option ℕ → List Spot → List Spot → Type 0
 IsBehindName kind items tags place (Some count) before after = IsDeclaredRest kind items tags place count before after
 IsBehindName kind items tags place None before after = Reads (front_named kind items tags place ∷ []) (relation_rest kind ++ relations ∷ []) (a_sign (closing kind)) before after
 
--- the rest of a declaration behind these pieces of it; with so many items and tags before, and so many then
+-- the rest of a declaration after these pieces of it, with `items` items and `tags` tags before it, and `more_items` and `more_tags` with it
 pub record IsDeclarationRest (expected : List Expected) (pieces : List Piece) (items tags more_items more_tags : ℕ) (tree : Declared) (before after : List Spot) : Type 0 where
   pub declaration : Declaration
   pub rest : List Piece
@@ -70,25 +70,25 @@ pub record IsDeclarationRest (expected : List Expected) (pieces : List Piece) (i
   pub is : IsDeclaration declaration tree
   pub within : (more : List Declaration) → declarations_limits items tags (declaration ∷ more) ≡ declarations_limits more_items more_tags more
 
--- a declaration behind these pieces of one, or a relation behind those of one
+-- a declaration after the pieces `one` of it, or a relation after the pieces `two` of it
 abbrev pub IsFront : List Expected → List Piece → List Piece → ℕ → ℕ → Front → List Spot → List Spot → Type 0
 IsFront expected one two items tags (begins.Item name count) before after = IsDeclarationRest expected one items tags (suc items) tags (declares.Item name count) before after
 IsFront expected one two items tags (begins.Tag name count) before after = IsDeclarationRest expected one items tags items (suc tags) (declares.Tag name count) before after
 IsFront expected one two items tags (begins.Relation tree) before after = IsRelationRest expected (relations ∷ []) two [] tree before after
 
--- where none begins so, relations may come
+-- if neither begins here, relations may come
 abbrev pub IsFrontOrNone : ℕ → ℕ → Option Front → List Spot → List Spot → Type 0
 IsFrontOrNone items tags (Some front) before after = IsFront (declarations items tags ∷ []) [] [] items tags front before after
 IsFrontOrNone items tags None before after = Reads (declarations items tags ∷ []) (relations ∷ []) [] before after
 
--- declarations so far, with so many items and tags among them
+-- the declarations so far, with `items` items and `tags` tags among them
 pub record AreDeclared (items tags : ℕ) (trees : List Declared) (before after : List Spot) : Type 0 where
   pub read : List Declaration
   pub reads : Reads (declarations 0 0 ∷ []) (declarations items tags ∷ []) (flat_map declaration_pieces read) before after
   pub are : AreAll IsDeclaration read trees
   pub within : (more : List Declaration) → declarations_limits 0 0 (read ++ more) ≡ declarations_limits items tags more
 
--- declarations and relations from the beginning of a text, where these may come behind them
+-- declarations and relations from the beginning of a text, and then `more` may come
 pub record ArePreamble (more : List Expected) (declarations_read : List Declared) (relations_read : List Related) (before after : List Spot) : Type 0 where
   pub declared : List Declaration
   pub related : List Relation

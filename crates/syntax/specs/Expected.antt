@@ -1,4 +1,4 @@
--- What a graph text may go on with: a machine that reads tokens from the left, one for each step, and never looks back.
+-- What may come next in a graph text: a machine that reads tokens from the left, one at each step, and never looks back.
 use Rattle.std.specs.Prelude.{◌≡◌, ℕ, suc, ◌==◌, Bool, if◌then◌else◌, codes, List, [], ◌∷◌, ◌++◌, length, Option, Some, None}
 use Rattle.terms.specs.declared.key.TheConstants.{MAX_COMPONENTS}
 use Rattle.steptree.specs.declared.slot.TheConstants.{MOST_NAMES}
@@ -62,15 +62,15 @@ head (name text) = a_variable text
 head (word it) = no_head
 head unknown = no_head
 
--- whether a comparison may come: never in a key's component outside of brackets; else one, behind whose sign its left
--- operand waits
+-- whether a comparison may come: `never` in a key's component, outside brackets; otherwise one is `possible`, and after its sign
+-- its left operand waits (`behind_left`)
 pub data Comparing : Type 0 where
   never : Comparing
   possible : Comparing
   behind_left : Sum → Comparison → Comparing
 
--- the expression within one bracket, or outside of all: the left operands that wait for their right ones, of the
--- comparison, the sum and the product, and the minus signs in front of the operand, the last one first
+-- the expression within one bracket, or outside all brackets: the left operands of the comparison, the sum and the product that
+-- wait for their right ones, and the minus signs before the operand, the last one first
 pub record Level : Type 0 where
   pub comparing : Comparing
   pub sum : Option (Sum × Addition)
@@ -78,7 +78,7 @@ pub record Level : Type 0 where
   pub negations : List Position
 
 -- an expression so far: the position of its first token, the first limit that is passed within it, its innermost level, and
--- those around it from the inside, each with the position of the bracket that is open in it
+-- the levels around it, the inner ones first, each with the position of the bracket that is open in it
 pub record Expression : Type 0 where
   pub first : Position
   pub passed : Option Position
@@ -102,11 +102,11 @@ compared_of never sum = sum_alone sum
 compared_of possible sum = sum_alone sum
 compared_of (behind_left left how) sum = compared left how sum
 
--- a level whose last product is this one
+-- the expression of a level, whose last product is this one
 abbrev pub level_expr : Level → Prod → Expr
 level_expr level prod = compared_of level.comparing (sum_of level.sum prod)
 
--- the first of a place that was and of these
+-- the place that was noted before, or else the first of these
 abbrev pub earlier : Option Position → List Position → Option Position
 earlier (Some place) places = Some place
 earlier None [] = None
@@ -115,13 +115,13 @@ earlier None (place ∷ places) = Some place
 abbrev pub opened : Comparing → Level
 opened comparing = record { comparing = comparing; sum = None; product = None; negations = [] }
 
--- before the first token of an expression
+-- an expression before its first token
 abbrev pub begun : Comparing → Position → Expression
 begun comparing place = record { first = place; passed = None; level = opened comparing; outer = [] }
 
 -- ---- what may come
 
--- the kinds of collections in front of a text, and of blocks
+-- the kinds of collections that a text declares, and the parts of a step
 pub data Kind : Type 0 where
   item : Kind
   tag : Kind
@@ -136,35 +136,35 @@ pub data Expected : Type 0 where
   a_name : Expected
   -- an expression from its first token on
   whole : Comparing → Expected
-  -- an operand, and what may stand behind one, with the product that ends in it
+  -- an operand; what may follow one, with the product that ends in it
   operand : Expression → Expected
   behind_operand : Expression → Prod → Expected
   -- [ ":" sum { "," sum } ], and { "," sum }
   components : Expected
   more_components : Expected
-  -- the statements of a block, with so many braces open around; its opening brace; what may stand behind the block of an `if`
+  -- the statements of a block, with this number of braces open; its opening brace; what may follow the block of an `if`
   statements : Part → ℕ → Expected
   nested_brace : ℕ → Expected
   or_else : Part → ℕ → Expected
   -- what is put
   put_target : Expected
-  -- declarations, relations and steps, with so many items and tags before
+  -- declarations, relations and steps, with this number of items and of tags before
   declarations : ℕ → ℕ → Expected
-  -- behind the bracket of a declaration or a relation; behind its name, at this place; behind the other bracket
+  -- after the bracket of a declaration or a relation; after its name, at this place; after the other bracket
   front : Kind → ℕ → ℕ → Expected
   front_named : Kind → ℕ → ℕ → Position → Expected
   front_closed : Kind → ℕ → ℕ → Position → Expected
-  -- a component's name, with so many before, and { "," name } behind one
+  -- a component's name, with this number before it, and { "," name } after one
   component_name : ℕ → Expected
   behind_component : ℕ → Expected
   -- relations and steps; what reads an item; what is put
   relations : Expected
   reader : Expected
   related : Expected
-  -- steps, with so many before, and the name of one
+  -- steps, with this number before, and the name of one
   steps : ℕ → Expected
   step_name : ℕ → Expected
-  -- [ parameters ] ")" "{" [ variables ]; each with so many names of the step before
+  -- [ parameters ] ")" "{" [ variables ]; each with this number of names of the step before it
   parameters : Expected
   parameter : ℕ → Expected
   behind_parameter : ℕ → Expected
@@ -172,15 +172,15 @@ pub data Expected : Type 0 where
   step_variable : ℕ → Expected
   behind_variable : ℕ → Expected
 
--- what comes of the first thing that may come, at a token: the token is taken, and these may come in place of it; it is
--- left out; the token is at fault; a limit is passed at this place
+-- what the first expected thing does at a token: it takes the token, and these are expected in its place; it is left out;
+-- the token is wrong; a limit is passed at this place
 pub data Move : Type 0 where
   taken : List Expected → Move
   left_out : Move
   wrong : Move
   passed : Position → Move
 
--- the first of these limits, or else this
+-- the first of these limits, or else this move
 abbrev pub within : List Position → Move → Move
 within [] move = move
 within (place ∷ places) move = passed place
@@ -190,16 +190,16 @@ is_taken fits = if fits then taken [] else wrong
 
 -- ---- operands
 
--- an expression that breaks off: the first limit within it, or else the token
+-- an expression that breaks off: the first limit passed within it, or else the token is wrong
 abbrev pub broken_off : Option Position → Move
 broken_off (Some place) = passed place
 broken_off None = wrong
 
--- an expression that is whole: its depth, or else the first limit within it
+-- an expression that is whole: too deep, or else the first limit passed within it, or else no limit
 abbrev pub finished : Expression → Expr → Move
 finished state expr = within (depth_limits (expr_depth expr) state.first) (elim state.passed [ None ↦ left_out | Some place ↦ passed place ])
 
--- the expression behind a minus sign, behind an opening bracket, and with these limits passed within it
+-- the expression after a minus sign, after an opening bracket, and with these limits passed within it
 abbrev pub negating : Expression → Position → Expression
 negating state place = record state { level = record state.level { negations = place ∷ state.level.negations } }
 
@@ -214,7 +214,7 @@ bracketing state place = record {
 abbrev pub passing : Expression → List Position → Expression
 passing state places = record state { passed = earlier state.passed places }
 
--- behind the operands of a product, of a sum and of a comparison, and outside of its innermost bracket
+-- the expression after a product; after the sign of a product, of a sum and of a comparison; and outside its innermost bracket
 abbrev pub without_product : Expression → Expression
 without_product state = record state { level = record state.level { product = None; negations = [] } }
 
@@ -230,7 +230,7 @@ awaiting_comparison state prod how = record state { level = record state.level {
 abbrev pub closed : Expression → Level → List (Level × Position) → Expression
 closed state level outer = record state { level = level; outer = outer }
 
--- behind a number, a name or a bracket
+-- after a number, a name or a bracket
 abbrev pub product_behind : Expression → Unary → Prod
 product_behind state unary = product_of state.level.product (negated_by state.level.negations unary)
 
@@ -247,7 +247,7 @@ look_operand state place (a_number value) = read_operand state (literal place va
 look_operand state place (a_variable text) = read_operand (passing state (name_limits (text, place))) (variable (text, place))
 look_operand state place no_head = broken_off state.passed
 
--- behind the last operand of its level
+-- after the last operand of its level
 abbrev pub look_end : Expression → List (Level × Position) → Prod → Move
 look_end state [] prod = finished state (level_expr state.level prod)
 look_end state (around ∷ outer) prod = broken_off state.passed
@@ -318,7 +318,7 @@ abbrev pub look_word : Word → Lexeme → Move
 look_word it (word other) = is_taken (word_number it == word_number other)
 look_word it _ = wrong
 
--- a name, these limits of it, and then these
+-- a name with these limits, and then these
 abbrev pub look_name : Lexeme → Position → List Position → List Expected → Move
 look_name (name text) place limits more = within (name_limits (text, place) ++ limits) (taken more)
 look_name _ place limits more = wrong
@@ -340,14 +340,14 @@ abbrev pub closing : Kind → Symbol
 closing item = sign.CloseBracket
 closing tag = sign.Greater
 
--- behind the opening bracket of a key
+-- after the opening bracket of a key
 abbrev pub key_rest : Kind → List Expected
 key_rest kind = a_name ∷ components ∷ exactly (closing kind) ∷ []
 
 abbrev pub get_rest : List Expected
 get_rest = a_name ∷ exactly sign.Assign ∷ exactly sign.OpenBracket ∷ key_rest item ++ exactly sign.Semicolon ∷ []
 
--- a block within a block that has so many braces around
+-- a block within a block that has `around` braces around it
 abbrev pub nested : Part → ℕ → List Expected
 nested part around = nested_brace around ∷ statements part (suc around) ∷ exactly sign.CloseBrace ∷ []
 
@@ -375,7 +375,7 @@ look_put_target (symbol sign.OpenBracket) = taken (key_rest item ++ exactly sign
 look_put_target (symbol sign.Less) = taken (key_rest tag ++ exactly sign.Semicolon ∷ [])
 look_put_target _ = wrong
 
--- behind the first "(" of a step
+-- a step from its word `read` on; and a step after its word `step`, with `before` steps before it
 abbrev pub step_body : List Expected
 step_body = keyword kept.Read ∷ exactly sign.OpenBrace ∷ statements reading 0 ∷ exactly sign.CloseBrace
     ∷ keyword kept.Write ∷ exactly sign.OpenBrace ∷ statements writing 0 ∷ exactly sign.CloseBrace ∷ exactly sign.CloseBrace ∷ []
@@ -389,7 +389,7 @@ round_rest = a_name ∷ exactly sign.CloseRound ∷ []
 abbrev pub semicolon_relations : List Expected
 semicolon_relations = exactly sign.Semicolon ∷ relations ∷ []
 
--- a relation or a step whose first token is none of a declaration
+-- a relation or a step whose first token begins no declaration
 abbrev pub look_relation : Lexeme → Move
 look_relation (symbol sign.OpenRound) = taken (round_rest ++ exactly sign.Arrow ∷ related ∷ semicolon_relations)
 look_relation (word kept.Env) = taken (exactly sign.Arrow ∷ related ∷ semicolon_relations)
@@ -409,7 +409,7 @@ look_relations (symbol sign.OpenBracket) = taken (a_name ∷ exactly sign.CloseB
 look_relations (symbol sign.Less) = taken (a_name ∷ exactly sign.Greater ∷ exactly sign.DoubleColon ∷ prescribed_rest)
 look_relations lexeme = look_relation lexeme
 
--- one declaration more, of a collection named at this place
+-- one more declaration, of a collection named at this place
 abbrev pub declared_limits : Kind → ℕ → ℕ → Position → List Position
 declared_limits item items tags at = one_more MOST_COLLECTIONS items at
 declared_limits tag items tags at = one_more MOST_COLLECTIONS tags at
@@ -441,7 +441,7 @@ look_related (symbol sign.OpenBracket) = taken (a_name ∷ exactly sign.CloseBra
 look_related (symbol sign.Less) = taken (a_name ∷ exactly sign.Greater ∷ [])
 look_related _ = wrong
 
--- the name of a step, with so many of its names before
+-- a parameter or a variable of a step, with `before` names of the step before it
 abbrev pub step_name_limits : ℕ → Position → List Position
 step_name_limits before place = one_more MOST_NAMES before place
 
@@ -493,7 +493,7 @@ look (behind_variable before) lexeme place = look_behind_variable before lexeme
 
 -- ---- the machine
 
--- what may come now, at a token
+-- what the machine does at a token
 pub data Next : Type 0 where
   on : List Expected → Next
   nothing_left : Next
@@ -512,12 +512,12 @@ next (first ∷ rest) spot = met (look first spot.0 spot.1) rest (next rest spot
 
 pub data Verdict : Type 0 where
   accepted : Verdict
-  -- no graph text goes on with the first of these tokens, or ends where there is none
+  -- no graph text goes on with the first of these tokens, or ends here if there are none
   syntax : List Spot → Verdict
   -- a limit is passed at this place
   too_large : Position → Verdict
 
--- no token is unknown at the end
+-- at the end of the tokens, where `unknown` stands for no token
 abbrev pub ended : Next → Verdict
 ended (on stack) = syntax []
 ended nothing_left = accepted
@@ -530,12 +530,12 @@ followed nothing_left here later = syntax here
 followed at_fault here later = syntax here
 followed (limit_passed place) here later = too_large place
 
--- what comes of tokens where these may come, the first of them first
+-- the verdict on tokens where these are expected, the first of them first
 abbrev pub run : List Expected → List Spot → Verdict
 run stack [] = ended (next stack (unknown, 0))
 run stack (spot ∷ spots) = followed (next stack spot) (spot ∷ spots) (λ after. run after spots)
 
--- before a graph text
+-- at the beginning of a graph text
 abbrev pub graph_expected : List Expected
 graph_expected = declarations 0 0 ∷ []
 

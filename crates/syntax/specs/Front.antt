@@ -1,8 +1,8 @@
--- The token in front.
+-- The next token.
 use Rattle.std.specs.Prelude.{List, [], ◌∷◌}
 use Rattle.syntax.specs.Tokens.{Spot, unknown}
 
--- the token in front, and those behind it; at the end an unknown one
+-- the next token, and the tokens after it; at the end an unknown one
 abbrev pub front_of : List Spot → Spot
 front_of [] = (unknown, 0)
 front_of (spot ∷ spots) = spot

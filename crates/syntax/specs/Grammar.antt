@@ -1,4 +1,4 @@
--- The grammar of graph texts: its derivations, one constructor a production. Tokens whose positions matter have theirs.
+-- The grammar of graph texts: its derivations, one constructor for each production. Tokens whose positions matter carry them.
 use Rattle.std.specs.Prelude.{ℕ, List, Option}
 
 -- the position of a token in its text
@@ -64,7 +64,7 @@ pub record Key : Type 0 where
 -- ---- statements
 
 mutual
-  -- a statement of a block whose own statements are of B:
+  -- a statement of a block; B is the type of the statements that only this kind of block has (own):
   -- own | name "=" expr ";" | "if" "(" expr ")" "{" .. "}" [ "else" "{" .. "}" ] | "for" name "in" expr ".." expr "{" .. "}"
   -- each opening brace with its position
   pub data Statement (B : Type 0) : Type 0 where
@@ -100,7 +100,7 @@ pub data Declaration : Type 0 where
   item_declared : Named → Option Names → Declaration
   tag_declared : Named → Option Names → Declaration
 
--- all but a prescription with the position of the first token
+-- all but a prescription carry the position of their first token
 pub data Relation : Type 0 where
   -- "<" name ">" "::" "(" name ")" ";"
   prescribes : Named → Named → Relation

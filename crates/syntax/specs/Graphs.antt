@@ -7,7 +7,7 @@ use Rattle.syntax.specs.Spelled.{Derives}
 use Rattle.syntax.specs.Limits.{IsWithin}
 use Rattle.syntax.specs.Tree.{IsTree}
 
--- the tokens are a graph text within the limits, which is this tree
+-- the tokens are a graph text within the limits, and `tree` is its tree
 pub record IsGraphRead (tree : Tree) (spots : List Spot) : Type 0 where
   pub graph : GraphText
   pub derives : Derives graph spots

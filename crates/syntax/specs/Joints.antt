@@ -1,4 +1,4 @@
--- Tokens as the parser meets them in front of an operand and behind one.
+-- What a token means to the parser before an operand, and after one.
 use Rattle.std.specs.Prelude.{◌≡◌, ⊤}
 use Rattle.std.specs.Int.{cast_unsigned, w64}
 use Rattle.syntax.specs.declared.joints.Head.{Head as Met}

@@ -11,7 +11,7 @@ use Rattle.syntax.specs.Tree.{IsSum, AreAll, AreSums, IsKey}
 use Rattle.syntax.specs.Expected.{Kind, never, whole, components, more_components, key_rest, closing}
 use Rattle.syntax.specs.Parsed.{Spells, Goes, Reads}
 
--- the components behind the name of a key
+-- the components after the name of a key
 pub record AreComponents (expressions : List NamedExpression) (before after : List Spot) : Type 0 where
   pub sums : Sums
   pub reads : Reads (components ∷ []) [] (sums_pieces sums) before after
@@ -22,7 +22,7 @@ abbrev pub sums_of : List Sum → Sums
 sums_of [] = no_sums
 sums_of (first ∷ more) = sums first more
 
--- in front of a component, these are read
+-- before the next component, these are read
 pub record ComponentsSoFar (start now : List Spot) (expressions : List NamedExpression) : Type 0 where
   pub read : List Sum
   pub goes : Goes (components ∷ []) (whole never ∷ more_components ∷ []) start now
@@ -30,7 +30,7 @@ pub record ComponentsSoFar (start now : List Spot) (expressions : List NamedExpr
   pub are : AreAll IsSum read expressions
   pub within : flat_map sum_limits read ≡ []
 
--- the rest of a key, behind its opening bracket
+-- the rest of a key, after its opening bracket
 pub record IsKeyRest (kind : Kind) (tree : NamedKey) (before after : List Spot) : Type 0 where
   pub key : Key
   pub reads : Reads (key_rest kind) [] (named key.collection ∷ sums_pieces key.components ++ a_sign (closing kind)) before after

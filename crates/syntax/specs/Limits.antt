@@ -1,4 +1,4 @@
--- The places of a graph text at which a limit is passed, as its derivation has them.
+-- The places at which a graph text passes a limit, computed from its derivation.
 use Rattle.std.specs.Prelude.{◌≡◌, ℕ, suc, max, nat_lt, if◌then◌else◌, List, [], ◌∷◌, ◌++◌, length, map, drop, Option, Some, None}
 use Rattle.std.specs.List.{flat_map}
 use Rattle.terms.specs.declared.key.TheConstants.{MAX_COMPONENTS}
@@ -9,7 +9,7 @@ use Rattle.syntax.specs.Grammar.{Position, Named, Expr, sum_alone, compared, Sum
 use Rattle.syntax.specs.Grammar.{Statement, own, assigned, if_alone, if_else, for, Statements, no_more, and_then, Get, Put, put_item, put_tag}
 use Rattle.syntax.specs.Grammar.{Names, Declaration, item_declared, tag_declared, Relation, prescribes, reads, puts_item, puts_tag, environment_puts_item, environment_puts_tag, environment_gets, StepText, GraphText}
 
--- one more at this place, with so many there before, where so many may be
+-- one more at `place`, with `before` of them before it, where at most `most` may be
 abbrev pub one_more : ℕ → ℕ → Position → List Position
 one_more most before place = if nat_lt before most then [] else place ∷ []
 
@@ -17,7 +17,7 @@ one_more most before place = if nat_lt before most then [] else place ∷ []
 abbrev pub name_limits : Named → List Position
 name_limits it = if nat_lt MOST_NAME_BYTES (length it.0) then it.1 ∷ [] else []
 
--- the names behind so many
+-- the positions of the names after the first `most` ones
 abbrev pub names_behind : ℕ → List Named → List Position
 names_behind most names = map (λ it. it.1) (drop most names)
 
@@ -62,7 +62,7 @@ abbrev pub expr_first : Expr → Position
 expr_first (sum_alone sum) = sum_first sum
 expr_first (compared left how right) = sum_first left
 
--- names, and brackets where so many are open around
+-- limits passed at names, and at brackets, where `around` brackets are open already
 abbrev mutual
   pub expr_within : ℕ → Expr → List Position
   expr_within around (sum_alone sum) = sum_within around sum
@@ -103,7 +103,7 @@ key_limits key = name_limits key.collection ++ sums_limits key.components
 -- ---- statements
 
 module _ {B : Type 0} (own_limits : B → List Position) where
-  -- with so many braces open around them within the block of the step
+  -- where `around` braces are open already within the block of the step
   abbrev mutual
     pub statement_limits : ℕ → Statement B → List Position
     statement_limits around (own it) = own_limits it
@@ -132,11 +132,11 @@ abbrev pub all_names : Option Names → List Named
 all_names None = []
 all_names (Some names) = names.first ∷ names.more
 
--- a name in front of components
+-- a collection's name, and then its components
 abbrev pub declared_limits : Named → Option Names → List Position
 declared_limits it components = name_limits it ++ flat_map name_limits (all_names components) ++ names_behind MAX_COMPONENTS (all_names components)
 
--- with so many collections of items and of tags before
+-- with `items` collections of items and `tags` of tags before
 abbrev pub declarations_limits : ℕ → ℕ → List Declaration → List Position
 declarations_limits items tags [] = []
 declarations_limits items tags (item_declared it components ∷ more) =
@@ -160,7 +160,7 @@ abbrev pub step_limits : StepText → List Position
 step_limits step = name_limits step.name ++ flat_map name_limits (step_names step) ++ names_behind MAX_COMPONENTS (all_names step.parameters)
     ++ names_behind MOST_NAMES (step_names step) ++ statements_limits get_limits 0 step.read ++ statements_limits put_limits 0 step.write
 
--- with so many steps before
+-- with `before` steps before
 abbrev pub steps_limits : ℕ → List StepText → List Position
 steps_limits before [] = []
 steps_limits before (step ∷ more) = one_more MOST_COLLECTIONS before step.name.1 ++ step_limits step ++ steps_limits (suc before) more

@@ -1,4 +1,4 @@
--- Lists of names that are read, each with a limit on how many they are.
+-- Lists of names that are read, each with a limit on the number of names.
 use Rattle.std.specs.Prelude.{◌≡◌, Bool, true, false, List, [], ◌∷◌}
 use Rattle.steptree.specs.declared.step.Name.{Name}
 use Rattle.syntax.specs.declared.stop.Stop.{Stop}
@@ -8,16 +8,16 @@ use Rattle.syntax.specs.Spelled.{named}
 use Rattle.syntax.specs.Expected.{Expected, look, look_name}
 use Rattle.syntax.specs.Parsed.{Reads, Stops, named_of}
 
--- where a name with these limits may come, and then those
+-- `first` expects a name with these limits, and then `more`
 abbrev pub NameMayCome : Expected → (Position → List Position) → List Expected → Type 0
 NameMayCome first limits more = (lexeme : Lexeme) (place : Position) → look first lexeme place ≡ look_name lexeme place (limits place) more
 
--- whether the limits leave room for no further name
+-- whether the limits leave no room for one more name
 abbrev pub IsFull : Bool → (Position → List Position) → Type 0
 IsFull false limits = (place : Position) → limits place ≡ []
 IsFull true limits = (place : Position) → limits place ≡ place ∷ []
 
--- a name was taken where it may come
+-- a name was taken where one is expected
 abbrev pub TakesName : Bool → Name → List Spot → List Spot → Type 0
 TakesName full name before after = (first : Expected) (limits : Position → List Position) (more : List Expected) → NameMayCome first limits more → IsFull full limits
     → Reads (first ∷ []) more (named (named_of name) ∷ []) before after

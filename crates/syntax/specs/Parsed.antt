@@ -1,4 +1,4 @@
--- What a part of the parser reads: the tokens in front of it and behind it, and where it stops.
+-- What a part of the parser reads: the tokens before and after it, and where it stops.
 use Rattle.std.specs.Prelude.{◌≡◌, ⊤, Bool, true, false, List, [], ◌∷◌, ◌++◌, drop, Option, Some, None}
 use Rattle.steptree.specs.declared.step.Name.{Name}
 use Rattle.syntax.specs.declared.cursor.Cursor.{Cursor}
@@ -18,13 +18,13 @@ left cursor = spots_of (drop cursor.passed cursor.tokens.now)
 abbrev pub named_of : Name → Named
 named_of it = (it.text.now, it.place)
 
--- the tokens are these pieces, and then those behind
+-- the tokens `before` are these pieces, and then the tokens `after`
 abbrev pub Spells : List Piece → List Spot → List Spot → Type 0
 Spells [] before after = before ≡ after
 Spells (piece ∷ pieces) [] after = ⊥
 Spells (piece ∷ pieces) (spot ∷ spots) after = IsPiece piece spot × Spells pieces spots after
 
--- where these may come at the tokens before, those may come at the tokens behind, whatever may come after them
+-- expecting `expected` at `before` has the verdict of expecting `more` at `after`, whatever is expected after both
 abbrev pub Goes : List Expected → List Expected → List Spot → List Spot → Type 0
 Goes expected more before after = (behind : List Expected) → run (expected ++ behind) before ≡ run (more ++ behind) after
 
@@ -32,7 +32,7 @@ pub record Reads (expected more : List Expected) (pieces : List Piece) (before a
   pub spells : Spells pieces before after
   pub goes : Goes expected more before after
 
--- the verdict is told by where the parser stops, with these tokens left
+-- the verdict that fits this stop of the parser, with these tokens left; any verdict fits `NoMemory`
 abbrev pub Tells : Stop → List Spot → Verdict → Type 0
 Tells stop.NoMemory rest verdict = ⊤
 Tells stop.Syntax rest verdict = verdict ≡ syntax rest
@@ -41,19 +41,19 @@ Tells (stop.TooLarge place) rest verdict = verdict ≡ too_large place
 abbrev pub Stops : List Expected → List Spot → List Spot → Stop → Type 0
 Stops expected before after cause = (behind : List Expected) → Tells cause after (run (expected ++ behind) before)
 
--- the verdict where an expression breaks off behind this limit, if one is passed
+-- the verdict where an expression breaks off, with the first limit passed in it before, if there is one
 abbrev pub BreaksOff : Option Position → List Spot → Verdict → Type 0
 BreaksOff None rest verdict = verdict ≡ syntax rest
 BreaksOff (Some place) rest verdict = verdict ≡ too_large place
 
--- where a sign may stand, whether it is taken: where it is, those behind it may come, else what it stands for is left out
+-- whether an optional sign is taken: if so, what follows it may come; if not, all that it would begin is left out
 abbrev pub TakenIf : Symbol → Bool → List Spot → List Spot → Type 0
 TakenIf sign true before after = (first : Expected) (more : List Expected) → ((lexeme : Lexeme) (place : Position) → look first lexeme place ≡ look_if sign lexeme more)
     → Reads (first ∷ []) more (plain (symbol sign) ∷ []) before after
 TakenIf sign false before after = (after ≡ before) × ((first : Expected) (more : List Expected) → ((lexeme : Lexeme) (place : Position) → look first lexeme place ≡ look_if sign lexeme more)
     → Goes (first ∷ []) [] before after)
 
--- where a reserved word may stand, whether it is taken
+-- whether an optional reserved word is taken
 abbrev pub TakenIfWord : Word → Bool → List Spot → List Spot → Type 0
 TakenIfWord kept true before after = (first : Expected) (more : List Expected) → ((lexeme : Lexeme) (place : Position) → look first lexeme place ≡ look_if_word kept lexeme more)
     → Reads (first ∷ []) more (plain (word kept) ∷ []) before after

@@ -1,4 +1,4 @@
--- An expression while it is read: what the parser keeps of it, what it spelled so far, and the limits so far.
+-- An expression while it is read: what the parser keeps of it, the pieces read so far, and the limits passed so far.
 use Rattle.std.specs.Prelude.{◌≡◌, ◌⊎◌, ◌<◌, ◌≤◌, ⊤, ℕ, Bool, true, false, List, [], ◌∷◌, ◌++◌, length, reverse, Option, Some, None}
 use Rattle.steptree.specs.declared.step.NamedExpression.{NamedExpression}
 use Rattle.syntax.specs.declared.limits.TheConstants.{MOST_DEPTH, MOST_BRACKETS}
@@ -21,7 +21,7 @@ use Rattle.syntax.specs.Parsed.{Spells, Goes}
 
 -- ---- operands
 
--- an operand of this depth that is so, or none where it is too deep
+-- an operand of this depth, whose tree satisfies `Is`; or `TooDeep` if this depth is too great
 abbrev pub Holds : (NamedExpression → Type 0) → ℕ → Operand → Type 0
 Holds Is depth (Kept tree kept) = (kept ≡ depth) × (depth ≤ MOST_DEPTH) × Is tree
 Holds Is depth TooDeep = MOST_DEPTH < depth
@@ -38,7 +38,7 @@ HoldsProd prod = Holds (IsProd prod) (prod_depth prod)
 abbrev pub HoldsUnary : Unary → Operand → Type 0
 HoldsUnary unary = Holds (IsUnary unary) (unary_depth unary)
 
--- as many, or too many both
+-- the same number, or both are too many
 abbrev pub Counts : ℕ → ℕ → Type 0
 Counts many counted = (counted ≡ many) ⊎ ((MOST_DEPTH < counted) × (MOST_DEPTH < many))
 
@@ -66,7 +66,7 @@ comparison_may_come never = false
 comparison_may_come possible = true
 comparison_may_come (behind_left left how) = false
 
--- no operand is read yet
+-- no left operand of a comparison waits
 abbrev pub IsFresh : Comparing → Type 0
 IsFresh never = ⊤
 IsFresh possible = ⊤
@@ -79,7 +79,7 @@ pub record IsLevel (level : Level) (kept : Kept_level) : Type 0 where
   pub product : WaitsInProduct level.product kept.product
   pub negations : Counts (length level.negations) kept.negations
 
--- the parser keeps this of an expression
+-- `kept` is what the parser keeps of `state`
 pub record IsPartial (state : Expression) (kept : Partial) : Type 0 where
   pub first : kept.first ≡ state.first
   pub passed : kept.passed ≡ state.passed
@@ -153,13 +153,13 @@ read_so_far (operand state) = state_pieces state
 read_so_far (behind_operand state prod) = state_pieces state ++ prod_pieces prod
 read_so_far other = []
 
--- where no limit is said to be passed, none is
+-- if no passed limit is noted, none was passed
 abbrev pub IsClear : Expected → Type 0
 IsClear (operand state) = state.passed ≡ None → state_limits state ≡ []
 IsClear (behind_operand state prod) = state.passed ≡ None → state_limits state ++ prod_within (length state.outer) prod ≡ []
 IsClear other = ⊤
 
--- a key's component stays one
+-- a key's component stays without a comparison outside brackets
 abbrev pub IsSumAlone : Expected → Type 0
 IsSumAlone (operand state) = outermost state.level state.outer ≡ never
 IsSumAlone (behind_operand state prod) = outermost state.level state.outer ≡ never
@@ -171,17 +171,17 @@ pub record Onward (from to : Expected) (before after : List Spot) : Type 0 where
   pub clear : IsClear from → IsClear to
   pub alone : IsSumAlone from → IsSumAlone to
 
--- nothing waits in front of the operand
+-- no product and no minus sign waits for the operand
 abbrev pub IsBehind : Expression → Type 0
 IsBehind state = (state.level.product ≡ None) × (state.level.negations ≡ [])
 
--- with this product behind an operand, or none before one
+-- after an operand, with this product; or before an operand, with none
 abbrev pub Follows : Expected → List Spot → List Spot → Option Operand → Partial → Type 0
 Follows from before after None kept = (state : Expression) × IsPartial state kept × Onward from (operand state) before after
 Follows from before after (Some product) kept =
     (state : Expression) × (prod : Prod) × IsPartial state kept × IsBehind state × HoldsProd prod product × Onward from (behind_operand state prod) before after
 
--- the expression is whole in front of a token that is not taken
+-- the expression is whole before a token that is not taken
 pub record IsWhole (state : Expression) (prod : Prod) (expression : Operand) (kept : Partial) (before after : List Spot) : Type 0 where
   pub same : after ≡ before
   pub first : kept.first ≡ state.first
@@ -200,11 +200,11 @@ abbrev pub Fewer : After → ℕ → ℕ → Type 0
 Fewer (Whole expression) before after = after ≤ before
 Fewer other before after = after < before
 
--- the expression ends behind this product, within no bracket
+-- the expression ends with this product, outside all brackets
 abbrev pub EndsAs : Expression → Prod → Operand → Partial → Type 0
 EndsAs state prod expression kept = (kept.first ≡ state.first) × (kept.passed ≡ state.passed) × (state.outer ≡ []) × HoldsExpr (level_expr state.level prod) expression
 
--- the expression without the level around its innermost one, which this one is
+-- the expression, after the level around its innermost one was taken out: that level is `around`
 pub record IsAround (state : Expression) (kept : Partial) (level : Level) (outer : List (Level × Position)) (around : Kept_level) : Type 0 where
   pub first : kept.first ≡ state.first
   pub passed : kept.passed ≡ state.passed

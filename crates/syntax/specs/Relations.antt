@@ -22,11 +22,11 @@ last_name_rest close = a_name ∷ exactly close ∷ exactly sign.Semicolon ∷ [
 abbrev pub target_rest : List Expected
 target_rest = exactly sign.Arrow ∷ related ∷ exactly sign.Semicolon ∷ []
 
--- behind an item: an arrow, and what reads it
+-- after an item: an arrow, and what reads it
 abbrev pub reader_rest : List Expected
 reader_rest = exactly sign.Arrow ∷ reader ∷ exactly sign.Semicolon ∷ []
 
--- behind a tag: the step that it prescribes
+-- after a tag: the step that it prescribes
 abbrev pub prescribed_step : List Expected
 prescribed_step = exactly sign.DoubleColon ∷ exactly sign.OpenRound ∷ last_name_rest sign.CloseRound
 
@@ -38,7 +38,7 @@ abbrev pub target_pieces : Target → List Piece
 target_pieces (target.Item name) = bracketed_name (named_of name)
 target_pieces (target.Tag name) = angled_name (named_of name)
 
--- the rest of a relation: behind these pieces of it, within which these limits are passed; these may come in place of those
+-- the rest of a relation after the pieces `front`, in which `limits` are passed; `more` is expected in place of `expected`
 pub record IsRelationRest (expected more : List Expected) (front : List Piece) (limits : List Position) (tree : Related) (before after : List Spot) : Type 0 where
   pub relation : Relation
   pub rest : List Piece
@@ -47,7 +47,7 @@ pub record IsRelationRest (expected more : List Expected) (front : List Piece) (
   pub is : IsRelation relation tree
   pub within : relation_limits relation ≡ limits
 
--- a relation from its first token on; where none begins, steps may come
+-- a relation from its first token on; if none begins here, steps may come
 abbrev pub IsRelationOrNone : Option Related → List Spot → List Spot → Type 0
 IsRelationOrNone (Some tree) before after = IsRelationRest (relations ∷ []) (relations ∷ []) [] [] tree before after
 IsRelationOrNone None before after = Reads (relations ∷ []) (steps 0 ∷ []) [] before after

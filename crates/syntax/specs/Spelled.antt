@@ -184,11 +184,11 @@ ArePieces [] [] = ⊤
 ArePieces (piece ∷ pieces) (spot ∷ spots) = IsPiece piece spot × ArePieces pieces spots
 ArePieces pieces spots = ⊥
 
--- the tokens are a graph text, derived so
+-- the tokens are a graph text with this derivation
 abbrev pub Derives : GraphText → List Spot → Type 0
 Derives graph spots = ArePieces (graph_pieces graph) spots
 
--- a declaration of an item collection with one component is derived so
+-- the derivation of a declaration of an item collection with one component
 abbrev pub GrammarExample : Type 0
 GrammarExample = Derives (record {
   declarations = item_declared ((codes "x"), 1) (Some (record { first = ((codes "i"), 4); more = [] })) ∷ [];

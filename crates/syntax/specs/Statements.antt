@@ -23,22 +23,22 @@ use Rattle.syntax.specs.Parsed.{Goes, Reads}
 
 -- ---- the parts of a step
 
--- the part that is told
+-- the part that the parser's value stands for
 abbrev pub part_of : Told → Part
 part_of told.Reading = reading
 part_of told.Writing = writing
 
--- the word in front of a part
+-- the word that begins a part
 abbrev pub part_word : Part → Word
 part_word reading = kept.Read
 part_word writing = kept.Write
 
--- the statements that a part has of its own
+-- the statements that only this part has
 abbrev pub Own : Part → Type 0
 Own reading = Get
 Own writing = Put
 
--- the word that they begin with, and what may come behind it
+-- the word that they begin with, and what may come after it
 abbrev pub own_word : Part → Word
 own_word reading = kept.Get
 own_word writing = kept.Put
@@ -70,27 +70,27 @@ Begins part lexeme beginning.Repetition = lexeme ≡ word kept.For
 Begins part lexeme beginning.Own = lexeme ≡ word (own_word part)
 Begins part lexeme beginning.Other = (around : ℕ) (place : Position) → look_statement part around lexeme place ≡ left_out
 
--- what may come where a statement is this: a condition, a block, and one more if there is an `else`
+-- what a choice is: its word, a condition, a block, and one more block if there is an `else`
 abbrev pub choice_expected : Part → ℕ → List Expected
 choice_expected part around = keyword kept.If ∷ exactly sign.OpenRound ∷ whole possible ∷ exactly sign.CloseRound ∷ nested part around ++ or_else part around ∷ []
 
--- for a variable, between two bounds
+-- what a repetition is: its word, a variable, two bounds and a block
 abbrev pub repetition_expected : Part → ℕ → List Expected
 repetition_expected part around = keyword kept.For ∷ a_name ∷ keyword kept.In ∷ whole possible ∷ exactly sign.DoubleDot ∷ whole possible ∷ nested part around
 
--- the word of the part's own, and what may come behind it
+-- what a statement that only this part has is: its word, and what may come after it
 abbrev pub own_expected : Part → List Expected
 own_expected part = keyword (own_word part) ∷ own_rest part
 
--- a name, and what may come behind it
+-- what an assignment is: a name, and what may come after it
 abbrev pub assignment_expected : List Expected
 assignment_expected = a_name ∷ assignment_rest
 
--- the first statement of the tree is this one, whatever stands behind it
+-- the first statement of the tree is this one, whatever follows it
 abbrev pub IsFirst : (part : Part) → Statement (Own part) → NamedBlock → Type 0
 IsFirst part statement tree = (rest : NamedBlock) → IsStatement (is_own part) statement (with_rest tree rest) (λ other. other ≡ rest)
 
--- one statement, with so many braces around
+-- one statement, with `around` braces around it
 pub record IsStatementRead (part : Part) (around : ℕ) (expected more : List Expected) (tree : NamedBlock) (before after : List Spot) : Type 0 where
   pub statement : Statement (Own part)
   pub reads : Reads expected more (statement_pieces (own_pieces part) statement) before after
@@ -111,7 +111,7 @@ pub record IsConditionRead (tree : NamedExpression) (before after : List Spot) :
   pub is : IsExpr expr tree
   pub within : expr_limits expr ≡ []
 
--- an opening brace, with so many around
+-- an opening brace, with `around` braces around it
 pub record IsBraceRead (around : ℕ) (before after : List Spot) : Type 0 where
   pub position : Position
   pub reads : Reads (nested_brace around ∷ []) [] (sign_at position sign.OpenBrace) before after
@@ -129,7 +129,7 @@ pub record IsNestedRead (part : Part) (around : ℕ) (tree : NamedBlock) (before
 abbrev pub Second : Part → Type 0
 Second part = Option (Position × Statements (Own part))
 
--- what it spells, the limits that are passed in it, and the tree that it is: an empty one where there is none
+-- what it spells, the limits that are passed in it, and its tree, an empty one if there is no second block
 abbrev pub second_pieces : (part : Part) → Second part → List Piece
 second_pieces part None = []
 second_pieces part (Some second) = a_word kept.Else ++ in_braces_at second.0 (statements_pieces (own_pieces part) second.1)
@@ -147,7 +147,7 @@ abbrev pub choice_of : (part : Part) → Expr → Position → Statements (Own p
 choice_of part condition brace first None = if_alone condition brace first
 choice_of part condition brace first (Some second) = if_else condition brace first second.0 second.1
 
--- the second block, or none, behind the first
+-- the second block, or none, after the first
 pub record IsSecondRead (part : Part) (around : ℕ) (tree : NamedBlock) (before after : List Spot) : Type 0 where
   pub second : Second part
   pub reads : Reads (or_else part around ∷ []) [] (second_pieces part second) before after
@@ -156,24 +156,24 @@ pub record IsSecondRead (part : Part) (around : ℕ) (tree : NamedBlock) (before
 
 -- ---- all statements of a block
 
--- the first statements of these, one behind another, with a block behind them
+-- the first statements of these blocks, one after another, and then a block
 abbrev pub joined : List NamedBlock → NamedBlock → NamedBlock
 joined [] block = block
 joined (first ∷ others) block = with_rest first (joined others block)
 
--- these statements, one behind another
+-- these statements, one after another
 abbrev pub statements_of : {B : Type 0} → List (Statement B) → Statements B
 statements_of [] = no_more
 statements_of (first ∷ more) = and_then first (statements_of more)
 
--- in front of a statement, these are read
+-- before the next statement, these are read
 pub record StatementsSoFar (part : Part) (around : ℕ) (start now : List Spot) (trees : List NamedBlock) : Type 0 where
   pub read : List (Statement (Own part))
   pub reads : Reads (statements part around ∷ []) (statements part around ∷ []) (flat_map (statement_pieces (own_pieces part)) read) start now
   pub are : AreAll (IsFirst part) read trees
   pub within : flat_map (statement_limits (own_limits part) around) read ≡ []
 
--- the statements of a block, with so many braces around
+-- the statements of a block, with `around` braces around them
 pub record AreRead (part : Part) (around : ℕ) (block : NamedBlock) (before after : List Spot) : Type 0 where
   pub read : Statements (Own part)
   pub reads : Reads (statements part around ∷ []) [] (statements_pieces (own_pieces part) read) before after

@@ -15,12 +15,12 @@ use Rattle.syntax.specs.NameLists.{NameMayCome}
 use Rattle.syntax.specs.ComponentNames.{pieces_of}
 use Rattle.syntax.specs.Parsed.{Spells, Goes, Reads, Stops}
 
--- behind a name: a comma and then these, or this sign and then those
+-- after a name: a comma and then `next`, or the sign `close` and then `end`
 abbrev pub look_on : Symbol → List Expected → List Expected → Lexeme → Move
 look_on close next end (symbol it) = if sign_number sign.Comma == sign_number it then taken next else if sign_number close == sign_number it then taken end else wrong
 look_on close next end _ = wrong
 
--- where a comma or this sign may come
+-- `first` expects a comma or this sign
 abbrev pub MayGoOn : Symbol → Expected → List Expected → List Expected → Type 0
 MayGoOn close first next end = (lexeme : Lexeme) (place : Position) → look first lexeme place ≡ look_on close next end lexeme
 
@@ -29,12 +29,12 @@ abbrev pub TakesOn : Symbol → Bool → List Spot → List Spot → Type 0
 TakesOn close true before after = (first : Expected) (next end : List Expected) → MayGoOn close first next end → Reads (first ∷ []) next (a_sign sign.Comma) before after
 TakesOn close false before after = (first : Expected) (next end : List Expected) → MayGoOn close first next end → Reads (first ∷ []) end (a_sign close) before after
 
--- neither stands in front, and this tells it
+-- neither comes next, and the parser stops for this cause
 abbrev pub StopsOn : Symbol → List Spot → List Spot → Stop → Type 0
 StopsOn close before after cause = (first : Expected) (next end : List Expected) → MayGoOn close first next end → Stops (first ∷ []) before after cause
 
--- a list of so many names at most, up to this sign: what may come where a name is expected with so many before, behind so
--- many, and behind the list
+-- a list of at most `most` names, up to this sign: what is expected at a name, by the number of names before it; after a name, by
+-- the number of names so far; and after the list
 pub record NameList (most : ℕ) (close : Symbol) : Type 0 where
   pub name_at : ℕ → Expected
   pub behind_at : ℕ → Expected
@@ -45,7 +45,7 @@ pub record NameList (most : ℕ) (close : Symbol) : Type 0 where
   pub room : (count : ℕ) (place : Position) → count < most → limits count place ≡ []
   pub full : (place : Position) → limits most place ≡ place ∷ []
 
--- in front of a name of such a list, these are read
+-- before the next name of such a list, these are read
 pub record ListSoFar (most : ℕ) (close : Symbol) (start now : List Spot) (them : List Name) (list : NameList most close) : Type 0 where
   pub read : List Named
   pub goes : Goes (list.name_at 0 ∷ []) (list.name_at (length them) ∷ []) start now
@@ -53,26 +53,26 @@ pub record ListSoFar (most : ℕ) (close : Symbol) (start now : List Spot) (them
   pub are : AreAll IsName read them
   pub within : flat_map name_limits read ≡ []
 
--- a list of names, up to the sign behind it
+-- a list of names, with the sign after it
 pub record IsListRead (most : ℕ) (close : Symbol) (them : List Name) (before after : List Spot) (list : NameList most close) : Type 0 where
   pub names : Names
   pub reads : Reads (list.name_at 0 ∷ []) (list.end (length them)) (names_pieces names ++ a_sign close) before after
   pub are : AreAll IsName (all_names (Some names)) them
   pub within : flat_map name_limits (all_names (Some names)) ≡ []
 
--- whether a step has no parameters, and the bracket behind them is taken; else a name may come
+-- whether a step has no parameters, and the bracket after them is taken; if not, a name may come
 abbrev pub NoParameters : Bool → List Spot → List Spot → Type 0
 NoParameters true before after = Reads (parameters ∷ []) (exactly sign.OpenBrace ∷ variables 0 ∷ []) (a_sign sign.CloseRound) before after
 NoParameters false before after = (after ≡ before) × Goes (parameters ∷ []) (parameter 0 ∷ []) before before
 
--- the parameters of a step, up to the bracket behind them
+-- the parameters of a step, with the bracket after them
 pub record AreParameters (them : List Name) (before after : List Spot) : Type 0 where
   pub names : Option Names
   pub reads : Reads (parameters ∷ []) (exactly sign.OpenBrace ∷ variables (length them) ∷ []) (parameters_pieces names ++ a_sign sign.CloseRound) before after
   pub are : AreAll IsName (all_names names) them
   pub within : flat_map name_limits (all_names names) ≡ []
 
--- the variables of a step, with so many of its names before
+-- the variables of a step, with `count` of its names before them
 pub record AreVariables (count : ℕ) (them : List Name) (before after : List Spot) : Type 0 where
   pub names : Option Names
   pub reads : Reads (variables count ∷ []) [] (variables_pieces names) before after

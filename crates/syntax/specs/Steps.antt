@@ -20,14 +20,14 @@ use Rattle.syntax.specs.Parsed.{Spells, Goes, Reads}
 abbrev pub part_expected : Part → List Expected
 part_expected part = keyword (part_word part) ∷ exactly sign.OpenBrace ∷ statements part 0 ∷ exactly sign.CloseBrace ∷ []
 
--- such a part, which is this tree
+-- such a part, and `tree` is its tree
 pub record IsPartRead (part : Part) (tree : NamedBlock) (before after : List Spot) : Type 0 where
   pub block : Statements (Own part)
   pub reads : Reads (part_expected part) [] (a_word (part_word part) ++ in_braces (statements_pieces (own_pieces part) block)) before after
   pub are : AreStatements (is_own part) block tree
   pub within : statements_limits (own_limits part) 0 block ≡ []
 
--- a step behind its word, with so many steps before
+-- a step after its word, with `count` steps before it
 abbrev pub step_expected : ℕ → List Expected
 step_expected count = step_name count ∷ exactly sign.OpenRound ∷ parameters ∷ step_body
 

@@ -95,7 +95,7 @@ pub data Lexeme : Type 0 where
   symbol : Symbol → Lexeme
   unknown : Lexeme
 
--- a number below 0 is, by its 64 bits, above the greatest, and so stands nowhere
+-- a number below 0, read as 64 bits without a sign, is above the greatest number of a text, so no text has it
 abbrev pub lexeme_of : Token → Lexeme
 lexeme_of (token.Name text) = name text.now
 lexeme_of (token.Number value) = number (cast_unsigned w64 value)
@@ -114,11 +114,11 @@ spots_of tokens = map (λ placed. (lexeme_of placed.token, placed.place)) tokens
 abbrev pub GREATEST : ℕ
 GREATEST = 2 ^ 63 - 1
 
--- a number of digits alone, none of them left out at its end, with this value
+-- digits, at least one, with no further digit after them, and their value
 abbrev pub IsNumeral : List ℕ → ℕ → List ℕ → Type 0
 IsNumeral digits value rest = (digits ≢ []) × AreDigits digits × BeginsWithout is_digit rest × (digits_value 10 digits ≡ value)
 
--- letters and digits, none of them left out at their end
+-- letters and digits, with no further letter or digit after them
 abbrev pub IsWhole : List ℕ → List ℕ → Type 0
 IsWhole text rest = IsWordText text × BeginsWithout (λ byte. is_letter byte || is_digit byte) rest
 
@@ -131,7 +131,7 @@ abbrev pub BeginsNone : List ℕ → Type 0
 BeginsNone [] = ⊥
 BeginsNone (first ∷ rest) = (is_letter first ≡ false) × (is_digit first ≡ false) × (is_blank first ≡ false) × ((symbol : Symbol) → Begins (symbol_text symbol) (first ∷ rest) → ⊥)
 
--- the token stands in front of the rest, and none longer does
+-- the bytes begin with this token, `rest` follows it, and no longer token fits
 abbrev pub Stands : Lexeme → List ℕ → List ℕ → Type 0
 Stands (name text) bytes rest = (bytes ≡ text ++ rest) × IsWhole text rest × ((kept : Word) → text ≢ word_text kept)
 Stands (word kept) bytes rest = (bytes ≡ word_text kept ++ rest) × IsWhole (word_text kept) rest
@@ -140,13 +140,13 @@ Stands (symbol sign) bytes rest = (bytes ≡ symbol_text sign ++ rest)
     × ((other : Symbol) → Begins (symbol_text other) bytes → length (symbol_text other) ≤ length (symbol_text sign))
 Stands unknown bytes rest = (rest ≡ []) × (IsTooLarge bytes ⊎ BeginsNone bytes)
 
--- the bytes from this position on are these tokens, with blanks between them; behind an unknown one nothing more is read
+-- the bytes from this position on are these tokens, with blanks between them; after an unknown one nothing more is read
 abbrev pub AreTokens : ℕ → List ℕ → List Spot → Type 0
 AreTokens at bytes [] = AreBlank bytes
 AreTokens at bytes (spot ∷ more) = (blanks here rest : List ℕ) × (bytes ≡ blanks ++ here) × AreBlank blanks × (spot.1 ≡ at + length blanks)
     × Stands spot.0 here rest × AreTokens (spot.1 + (length here - length rest)) rest more
 
--- a text is one list of tokens at most
+-- a text has at most one list of tokens
 abbrev pub TokensOnce : Type 0
 TokensOnce = (bytes : List ℕ) (one two : List Spot) → AreTokens 0 bytes one → AreTokens 0 bytes two → one ≡ two
 

@@ -1,4 +1,4 @@
--- The tree that a derivation of the grammar is: names by their texts and positions, sums and products from the left.
+-- The tree of a derivation: names with their texts and positions; sums and products associate to the left.
 use Rattle.std.specs.Prelude.{◌≡◌, ⊤, pos, List, [], ◌∷◌, length}
 use Rattle.steptree.specs.declared.expression.Operator.{Operator}
 use Rattle.steptree.specs.declared.expression.Operator.TheVariants as operator
@@ -23,7 +23,7 @@ use Rattle.syntax.specs.Limits.{all_names}
 abbrev pub IsName : Named → Name → Type 0
 IsName it name = (name.text.now ≡ it.0) × (name.place ≡ it.1)
 
--- these are those, one for one
+-- the two lists match, element by element
 abbrev pub AreAll : {X Y : Type 0} → (X → Y → Type 0) → List X → List Y → Type 0
 AreAll is [] [] = ⊤
 AreAll is (x ∷ xs) (y ∷ ys) = is x y × AreAll is xs ys
@@ -81,7 +81,7 @@ IsKey key other = IsName key.collection other.collection × AreSums key.componen
 -- ---- statements
 
 module _ {B : Type 0} (IsOwn : B → NamedBlock → (NamedBlock → Type 0) → Type 0) where
-  -- the block is these statements; one without `else` has an empty second block
+  -- the block is these statements; an `if` without `else` has an empty second block
   abbrev mutual
     pub IsStatement : Statement B → NamedBlock → (NamedBlock → Type 0) → Type 0
     IsStatement (own it) other IsRest = IsOwn it other IsRest
@@ -98,7 +98,7 @@ module _ {B : Type 0} (IsOwn : B → NamedBlock → (NamedBlock → Type 0) → 
     AreStatements no_more other = other ≡ block.End
     AreStatements (and_then first more) other = IsStatement first other (AreStatements more)
 
--- the block begins with this get, and its rest is so
+-- the block begins with this `get`, and its rest satisfies `IsRest`
 abbrev pub IsGet : Get → NamedBlock → (NamedBlock → Type 0) → Type 0
 IsGet get (block.Get' name key _ rest) IsRest = IsName get.variable name × IsKey get.item key × IsRest rest
 IsGet get other IsRest = ⊥

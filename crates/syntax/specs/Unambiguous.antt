@@ -4,6 +4,6 @@ use Rattle.syntax.specs.Tokens.{Spot}
 use Rattle.syntax.specs.Grammar.{GraphText}
 use Rattle.syntax.specs.Spelled.{Derives}
 
--- tokens have one derivation at most
+-- tokens have at most one derivation
 abbrev pub OneDerivation : Type 0
 OneDerivation = (spots : List Spot) (one two : GraphText) → Derives one spots → Derives two spots → one ≡ two

@@ -14,7 +14,7 @@ use Rattle.syntax.specs.Expected.{Comparing, never, Expression, Expected, whole,
 use Rattle.syntax.specs.Parsed.{Spells, Goes, Reads}
 use Rattle.syntax.specs.Partial.{HoldsProd, IsPartial, IsBehind, IsClear, IsSumAlone, read_so_far}
 
--- the tokens are an expression within the limits, which is this tree
+-- the tokens are an expression within the limits, and `tree` is its tree
 pub record IsExpression (comparing : Comparing) (tree : NamedExpression) (before after : List Spot) : Type 0 where
   pub expr : Expr
   pub reads : Reads (whole comparing ∷ []) [] (expr_pieces expr) before after
@@ -22,13 +22,13 @@ pub record IsExpression (comparing : Comparing) (tree : NamedExpression) (before
   pub within : expr_limits expr ≡ []
   pub alone : comparing ≡ never → (sum : Sum) × (expr ≡ sum_alone sum)
 
--- a limit is passed, and told
+-- a limit is passed, and the parser stops at it
 abbrev pub TellsLimit : Stop → Move → Type 0
 TellsLimit (stop.TooLarge place) move = move ≡ passed place
 TellsLimit stop.Syntax move = ⊥
 TellsLimit stop.NoMemory move = ⊥
 
--- what a whole expression is within the limits
+-- a whole expression that is within the limits, and its tree
 pub record IsWithinLimits (state : Expression) (expr : Expr) (tree : NamedExpression) : Type 0 where
   pub is : IsExpr expr tree
   pub looks : finished state expr ≡ left_out
@@ -43,7 +43,7 @@ pub record From (comparing : Comparing) (to : Expected) (start now : List Spot) 
   pub clear : IsClear to
   pub alone : comparing ≡ never → IsSumAlone to
 
--- in front of an operand, or behind one that this product ends with
+-- before an operand, or after one that ends this product
 abbrev pub Reached : Comparing → List Spot → List Spot → Option Operand → Partial → Type 0
 Reached comparing start now None kept = (state : Expression) × IsPartial state kept × From comparing (operand state) start now × (length now ≤ length start)
 Reached comparing start now (Some product) kept =

@@ -1,4 +1,4 @@
-//! Blocks: statements one behind another, and blocks inside of them.
+//! Blocks: statements one after another, and the blocks inside them.
 ghost use Rattle.std.specs.Prelude.{◌≡◌, ℕ, ◌<◌, ◌≤◌, ◌∷◌, [], length, MatchOption, IfSome, IfOk, IfErr, OnOk};
 ghost use Rattle.steptree.specs.declared.step.NamedBlock.TheVariants.{End};
 ghost use Rattle.syntax.specs.declared.limits.TheConstants.{MOST_BRACES};
@@ -18,7 +18,7 @@ use crate::{MOST_BRACES, Symbol, Token, Word};
 use std::alloc::Global;
 use steptree::{NamedBlock, NamedExpression};
 
-// Puts a block behind the first statement of another, in place of what stood there.
+// Puts `block` after the first statement of `statement`, in place of what stood there.
 fn put_behind<'a>(statement: &mut NamedBlock<'a>, block: NamedBlock<'a>)
     ensures { statement.new ≡ with_rest statement.old block.entry }
 {
@@ -33,7 +33,7 @@ fn put_behind<'a>(statement: &mut NamedBlock<'a>, block: NamedBlock<'a>)
     }
 }
 
-// The first statements of these blocks, one behind another.
+// The first statements of these blocks, one after another.
 #[tactic(auto, using(crate::proofs::Sequence::joined_last))]
 fn join<'a>(mut statements: Vec<NamedBlock<'a>>) -> NamedBlock<'a>
     ensures { result ≡ joined statements.entry.items End }
@@ -77,7 +77,7 @@ fn own<'a>(alloc: Global, cursor: &mut Cursor<'_, 'a>, part: Part) -> Result<Nam
     }
 }
 
-// The condition of a choice, with its brackets.
+// The condition of an `if`, with its brackets.
 fn condition<'a>(alloc: Global, cursor: &mut Cursor<'_, 'a>) -> Result<NamedExpression<'a>, Stop>
     ensures reads { IfOk result (λ tree. IsConditionRead tree (left cursor.old) (left cursor.new)) }
     ensures fewer { OnOk result (length (left cursor.new) < length (left cursor.old)) }
@@ -89,7 +89,7 @@ fn condition<'a>(alloc: Global, cursor: &mut Cursor<'_, 'a>) -> Result<NamedExpr
     Ok(condition)
 }
 
-// The opening brace of a block, where so many are open around it.
+// The opening brace of a block, where `around` braces are open already.
 fn brace(cursor: &mut Cursor<'_, '_>, around: usize) -> Result<(), Stop>
     ensures reads { OnOk result (IsBraceRead around (left cursor.old) (left cursor.new)) }
     ensures room { OnOk result (around < MOST_BRACES) }
@@ -109,7 +109,7 @@ fn brace(cursor: &mut Cursor<'_, '_>, around: usize) -> Result<(), Stop>
     }
 }
 
-// A block in braces, where so many are open around it.
+// A block in braces, where `around` braces are open already.
 #[cycle(blocks)]
 fn nested<'a>(
     alloc: Global,
@@ -127,7 +127,7 @@ fn nested<'a>(
     Ok(block)
 }
 
-// The second block of a choice; an empty one where the choice has none.
+// The second block of an `if`; an empty one if it has no `else`.
 #[cycle(blocks)]
 fn second<'a>(
     alloc: Global,
@@ -146,7 +146,7 @@ fn second<'a>(
     Ok(block)
 }
 
-// A choice.
+// An `if`, with its `else` if it has one.
 #[cycle(blocks)]
 fn choice<'a>(
     alloc: Global,
@@ -173,7 +173,7 @@ fn choice<'a>(
     })
 }
 
-// A repetition.
+// A `for`.
 #[cycle(blocks)]
 fn repetition<'a>(
     alloc: Global,
@@ -203,7 +203,7 @@ fn repetition<'a>(
     })
 }
 
-// One statement, if one begins here, as a block that ends behind it.
+// One statement, if one begins here, as a block that ends after it.
 #[cycle(blocks)]
 fn statement<'a>(
     alloc: Global,
@@ -237,9 +237,9 @@ fn statement<'a>(
     }
 }
 
-/// The statements of a block, up to a token with which none begins, where so many braces are open around.
+/// The statements of a block, up to a token that begins none, where `around` braces are open already.
 ///
-/// It goes along the statements in a loop, and calls itself for the blocks inside of them.
+/// It loops over the statements, and calls itself for the blocks inside them.
 #[cycle(blocks)]
 pub(crate) fn statements<'a>(
     alloc: Global,

@@ -1,4 +1,4 @@
-//! Characters by their kinds, and how many of a kind a text begins with.
+//! The kinds of characters, and how many of one kind a text begins with.
 ghost use Rattle.std.specs.Prelude.{◌≡◌, ◌||◌};
 ghost use Rattle.std.specs.List.{prefix_len};
 ghost use Rattle.syntax.specs.Tokens.{is_blank, is_digit, is_letter};

@@ -1,4 +1,4 @@
-//! The tokens that are left, and the takes of single ones.
+//! A cursor over the tokens of a text, and the functions that take one token.
 ghost use Rattle.std.specs.Prelude.{◌≡◌, true};
 ghost use Rattle.syntax.specs.Natural.{all_natural};
 
@@ -6,7 +6,7 @@ use crate::stop::Stop;
 use crate::{MOST_NAME_BYTES, Placed, Symbol, Token, Word};
 use steptree::Name;
 
-/// The tokens of a text, and how many of them are passed.
+/// The tokens of a text, and how many of them were taken.
 #[derive(Drop)]
 pub(crate) struct Cursor<'t, 'a> {
     pub(crate) tokens: &'t [Placed<'a>],
@@ -24,7 +24,7 @@ impl<'t, 'a> Cursor<'t, 'a> {
     ghost use Rattle.syntax.specs.Parsed.{left, named_of, Reads, Stops, TakenIf, TakenIfWord};
     ghost use Rattle.syntax.specs.Front.{front_of, behind_front};
 
-    /// In front of all of these tokens, which are those of a text.
+    /// A cursor before the first of these tokens, which are those of a text.
     pub(crate) fn begin(tokens: &'t [Placed<'a>]) -> Cursor<'t, 'a>
         requires { all_natural tokens.now ≡ true }
         ensures { left result ≡ spots_of tokens.now }
@@ -32,7 +32,7 @@ impl<'t, 'a> Cursor<'t, 'a> {
         Cursor { tokens, passed: 0 }
     }
 
-    /// The token in front; at the end an unknown one.
+    /// The next token; at the end an unknown one.
     pub(crate) fn front(&self) -> Token<'a>
         ensures { lexeme_of result ≡ (front_of (left self.now)).0 }
     {
@@ -42,7 +42,7 @@ impl<'t, 'a> Cursor<'t, 'a> {
         }
     }
 
-    /// Its position; 0 at the end.
+    /// The position of the next token; 0 at the end.
     pub(crate) fn place(&self) -> usize
         ensures { result ≡ (front_of (left self.now)).1 }
     {
@@ -52,7 +52,7 @@ impl<'t, 'a> Cursor<'t, 'a> {
         }
     }
 
-    /// Its position; that of the end where no token is left.
+    /// The position of the next token; `end` if no token is left.
     pub(crate) fn place_or(&self, end: usize) -> usize
         ensures { result ≡ get_or (map (λ spot. spot.1) (left self.now)) 0 end }
     {
@@ -69,7 +69,7 @@ impl<'t, 'a> Cursor<'t, 'a> {
         self.passed >= self.tokens.len()
     }
 
-    /// Goes behind the token in front.
+    /// Moves past the next token.
     pub(crate) fn advance(&mut self)
         ensures { left self.new ≡ behind_front (left self.old) }
     {
@@ -108,7 +108,7 @@ impl<'t, 'a> Cursor<'t, 'a> {
         }
     }
 
-    /// Takes a name of at most so many bytes as a name may have.
+    /// Takes a name of at most `MOST_NAME_BYTES` bytes.
     pub(crate) fn name(&mut self) -> Result<Name<'a>, Stop>
         ensures reads { IfOk result (λ name. Reads (a_name ∷ []) [] (named (named_of name) ∷ []) (left self.old) (left self.new)) }
         ensures within { IfOk result (λ name. name_limits (named_of name) ≡ []) }
@@ -128,7 +128,7 @@ impl<'t, 'a> Cursor<'t, 'a> {
         }
     }
 
-    /// Takes this sign, if it stands in front.
+    /// Takes this sign if it is the next token, and returns whether it was.
     pub(crate) fn takes(&mut self, sign: Symbol) -> bool
         ensures taken { TakenIf sign result (left self.old) (left self.new) }
         ensures fewer { length (left self.new) ≤ length (left self.old) }
@@ -142,7 +142,7 @@ impl<'t, 'a> Cursor<'t, 'a> {
         }
     }
 
-    /// Takes this reserved word, if it stands in front.
+    /// Takes this reserved word if it is the next token, and returns whether it was.
     pub(crate) fn takes_word(&mut self, keyword: Word) -> bool
         ensures taken { TakenIfWord keyword result (left self.old) (left self.new) }
         ensures fewer { length (left self.new) ≤ length (left self.old) }
@@ -156,7 +156,7 @@ impl<'t, 'a> Cursor<'t, 'a> {
         }
     }
 
-    /// Takes a name, unless there is no room for one.
+    /// Takes a name, unless `full` says that there is no room for one.
     pub(crate) fn counted_name(&mut self, full: bool) -> Result<Name<'a>, Stop>
         ensures reads { IfOk result (λ name. TakesName full name (left self.old) (left self.new)) }
         ensures within { IfOk result (λ name. name_limits (named_of name) ≡ []) }

@@ -15,7 +15,7 @@ use crate::{Declaration, Relation, Symbol, Token};
 use std::alloc::Global;
 use steptree::{MOST_COLLECTIONS, Name};
 
-/// What begins as a declaration does.
+/// A declaration, or a relation that begins like one.
 #[derive(Clone, Copy, Debug)]
 pub(crate) enum Front<'a> {
     Item { name: Name<'a>, components: usize },
@@ -23,7 +23,7 @@ pub(crate) enum Front<'a> {
     Relation(Relation<'a>),
 }
 
-// How many components are declared, behind the colon, with the closing bracket and the semicolon.
+// How many components are declared, after the colon; the closing bracket and the semicolon are read too.
 fn components(cursor: &mut Cursor<'_, '_>, close: Symbol) -> Result<usize, Stop>
     ensures reads { IfOk result (λ count. IsComponentsRest close count (left cursor.old) (left cursor.new)) }
     ensures fewer { OnOk result (length (left cursor.new) < length (left cursor.old)) }
@@ -35,7 +35,7 @@ fn components(cursor: &mut Cursor<'_, '_>, close: Symbol) -> Result<usize, Stop>
     Ok(count)
 }
 
-// Whether a declaration ends behind its closing bracket, of a collection that is named at this place.
+// Whether a declaration ends here, after its closing bracket. Its collection is named at `place`.
 fn ends(cursor: &mut Cursor<'_, '_>, place: usize, full: bool) -> Result<bool, Stop>
     ensures reads { IfOk result (λ ends. (kind : Kind) (items tags : ℕ) → IsFullOf kind items tags full → IsEnd kind items tags place ends (left cursor.old) (left cursor.new)) }
     ensures fewer { length (left cursor.new) ≤ length (left cursor.old) }
@@ -53,7 +53,7 @@ fn ends(cursor: &mut Cursor<'_, '_>, place: usize, full: bool) -> Result<bool, S
     }
 }
 
-// How many components are declared, behind a name at this place; none if a relation goes on behind the closing bracket.
+// How many components are declared, after a name at `place`; `None` if a relation goes on after the closing bracket.
 fn behind_name(
     cursor: &mut Cursor<'_, '_>,
     close: Symbol,
@@ -84,7 +84,7 @@ fn behind_name(
     }
 }
 
-// An item that is declared, or a relation that begins with one, behind the bracket at this place.
+// A declared item, or a relation that begins with an item, after the bracket at `place`.
 fn item_front<'a>(cursor: &mut Cursor<'_, 'a>, place: usize, full: bool) -> Result<Front<'a>, Stop>
     ensures reads { IfOk result (λ front. (items tags : ℕ) → IsFullOf item_kind items tags full → IsFront (behind_bracket item_kind items tags ∷ []) (a_sign OpenBracket) (sign_at place OpenBracket) items tags front (left cursor.old) (left cursor.new)) }
     ensures fewer { OnOk result (length (left cursor.new) < length (left cursor.old)) }
@@ -100,7 +100,7 @@ fn item_front<'a>(cursor: &mut Cursor<'_, 'a>, place: usize, full: bool) -> Resu
     }
 }
 
-// A tag that is declared, or a prescription, behind the bracket.
+// A declared tag, or a prescription, after the bracket.
 fn tag_front<'a>(cursor: &mut Cursor<'_, 'a>, full: bool) -> Result<Front<'a>, Stop>
     ensures reads { IfOk result (λ front. (items tags : ℕ) → IsFullOf tag_kind items tags full → IsFront (behind_bracket tag_kind items tags ∷ []) (a_sign OpenAngle) (a_sign OpenAngle) items tags front (left cursor.old) (left cursor.new)) }
     ensures fewer { OnOk result (length (left cursor.new) < length (left cursor.old)) }
@@ -116,7 +116,7 @@ fn tag_front<'a>(cursor: &mut Cursor<'_, 'a>, full: bool) -> Result<Front<'a>, S
     }
 }
 
-// A declaration, or a relation that begins as one does, with so many items and tags declared before.
+// A declaration, or a relation that begins like one, with `items` items and `tags` tags declared before.
 fn next_front<'a>(
     cursor: &mut Cursor<'_, 'a>,
     items: usize,
@@ -142,7 +142,7 @@ fn next_front<'a>(
     }
 }
 
-/// Declarations from the beginning of a text, and the first relation if it begins as a declaration does.
+/// Declarations from the beginning of a text, and the first relation if it begins like a declaration.
 pub(crate) fn declarations<'a>(
     alloc: Global,
     cursor: &mut Cursor<'_, 'a>,

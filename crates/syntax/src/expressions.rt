@@ -11,10 +11,10 @@ use crate::stop::Stop;
 use std::alloc::Global;
 use steptree::NamedExpression;
 
-/// An expression, or a component of a key, which has no comparison outside of brackets.
+/// An expression, or a component of a key, which has no comparison outside brackets.
 ///
-/// An expression that is whole and too deep is answered at its first token; else the first limit that is passed within it,
-/// also where it breaks off.
+/// If a whole expression is too deep, the error is at its first token. Otherwise the error is at the first limit that is
+/// passed within the expression, also if the expression breaks off.
 pub(crate) fn expression<'a>(
     alloc: Global,
     cursor: &mut Cursor<'_, 'a>,

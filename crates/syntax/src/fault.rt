@@ -4,21 +4,21 @@ ghost use Rattle.syntax.specs.declared.fault.TreeError.TheVariants.{NoMemory};
 use std::alloc::AllocError;
 use thiserror::Error;
 
-/// Why a text is no graph text.
+/// Why a text is not a graph text.
 #[derive(Clone, Copy, Debug, PartialEq, Eq, Error)]
 pub enum TreeError {
-    /// No graph text goes on with the token at the place, or ends there.
+    /// No graph text goes on with the token at `place`, or ends there if no token is left.
     #[error("syntax")]
     Syntax,
-    /// A limit is passed at the place.
+    /// A limit is passed at `place`.
     #[error("too large")]
     TooLarge,
-    /// A growth was refused.
+    /// Memory was refused.
     #[error("no memory")]
     NoMemory,
 }
 
-/// A fault of a text, and its position: that of the token at fault, or the text's length where it ends too early; 0 where
+/// A fault of a text, and its position: that of the token at fault, or the text's length if it ends too early; 0 if
 /// memory was refused.
 #[derive(Clone, Copy, Debug, PartialEq, Eq)]
 pub struct TreeFault {

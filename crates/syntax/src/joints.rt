@@ -1,4 +1,4 @@
-//! Tokens as they stand in front of an operand and behind one.
+//! What a token means before an operand, and after one.
 ghost use Rattle.syntax.specs.Tokens.{lexeme_of};
 ghost use Rattle.syntax.specs.Joints.{IsHead, IsJoint};
 ghost use Rattle.syntax.specs.Expected.{head as head_of, joint as joint_of};
@@ -26,7 +26,7 @@ pub(crate) enum Joint {
 }
 
 impl<'a> Head<'a> {
-    /// What an operand begins with, with this token in front.
+    /// What an operand begins with if this is its first token.
     pub(crate) fn of(token: Token<'a>) -> Head<'a>
         ensures { IsHead (head_of (lexeme_of token.entry)) result }
     {
@@ -41,7 +41,7 @@ impl<'a> Head<'a> {
 }
 
 impl Joint {
-    /// What this token does behind an operand.
+    /// What this token does after an operand.
     pub(crate) fn of(token: Token<'_>) -> Joint
         ensures { IsJoint (joint_of (lexeme_of token.entry)) result }
     {

@@ -11,7 +11,7 @@ use crate::stop::Stop;
 use std::alloc::Global;
 use steptree::{NamedExpression, NamedKey};
 
-// The components behind the name of a key: none, or a colon and at least one.
+// The components after the name of a key: none, or a colon and at least one.
 fn components<'a>(
     alloc: Global,
     cursor: &mut Cursor<'_, 'a>,
@@ -34,7 +34,7 @@ fn components<'a>(
     }
 }
 
-// A key behind its opening bracket, up to this closing one.
+// A key after its opening bracket, with the closing bracket `close`.
 fn key<'a>(alloc: Global, cursor: &mut Cursor<'_, 'a>, close: Symbol) -> Result<NamedKey<'a>, Stop>
     ensures reads { IfOk result (λ key. (kind : Kind) → close ≡ closing kind → IsKeyRest kind key (left cursor.old) (left cursor.new)) }
     ensures fewer { OnOk result (length (left cursor.new) < length (left cursor.old)) }
@@ -49,7 +49,7 @@ fn key<'a>(alloc: Global, cursor: &mut Cursor<'_, 'a>, close: Symbol) -> Result<
     })
 }
 
-/// An item behind its opening bracket.
+/// An item, after its opening bracket.
 pub(crate) fn item<'a>(alloc: Global, cursor: &mut Cursor<'_, 'a>) -> Result<NamedKey<'a>, Stop>
     ensures reads { IfOk result (λ key. IsKeyRest item_kind key (left cursor.old) (left cursor.new)) }
     ensures fewer { OnOk result (length (left cursor.new) < length (left cursor.old)) }
@@ -59,7 +59,7 @@ pub(crate) fn item<'a>(alloc: Global, cursor: &mut Cursor<'_, 'a>) -> Result<Nam
     Ok(key)
 }
 
-/// A tag behind its opening bracket.
+/// A tag, after its opening bracket.
 pub(crate) fn tag<'a>(alloc: Global, cursor: &mut Cursor<'_, 'a>) -> Result<NamedKey<'a>, Stop>
     ensures reads { IfOk result (λ key. IsKeyRest tag_kind key (left cursor.old) (left cursor.new)) }
     ensures fewer { OnOk result (length (left cursor.new) < length (left cursor.old)) }

@@ -13,26 +13,26 @@ pub fn grammar_limits()
     ensures braces { MOST_BRACES ≡ 16 }
 {}
 
-/// A text is one list of tokens at most; and a worked example.
+/// A text has at most one list of tokens; and a worked example.
 pub fn tokens_once()
     ensures once { TokensOnce }
     ensures example { TokensExample }
 {}
 
-/// What the grammar derives within the limits may come, token by token: expressions, keys, and whole graph texts, of which
-/// each past the limits is told to pass one at a place where it does.
+/// What the grammar derives within the limits may come, token by token: expressions, keys and whole graph texts. For a
+/// graph text past the limits, a limit is reported at a place where the text passes one.
 pub fn derived_may_come()
     ensures expressions { ExpressionsMayCome }
     ensures keys { KeysMayCome }
     ensures graphs { GraphsAreJudged }
 {}
 
-/// Tokens have one derivation of the grammar at most.
+/// Tokens have at most one derivation of the grammar.
 pub fn one_derivation()
     ensures { OneDerivation }
 {}
 
-/// A text that is in the grammar and within the limits has no fault but want of memory.
+/// A text that is in the grammar and within the limits has no fault other than `NoMemory`.
 pub fn read_without_fault()
     ensures { ReadWithoutFault }
 {

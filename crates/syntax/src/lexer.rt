@@ -10,7 +10,7 @@ use crate::words::reserved_word;
 use crate::{Placed, Token};
 use std::alloc::{AllocError, Global};
 
-/// The tokens of a text, up to the first that is unknown. The text is ASCII.
+/// The tokens of a text, which is ASCII. The first unknown token is the last one.
 pub fn tokens<'a>(alloc: Global, text: &'a str) -> Result<Vec<Placed<'a>>, AllocError>
     requires { AllByRecursion (λ byte. byte < 128) text.now }
     ensures { IfOk result (λ tokens. AreTokens 0 text.now (spots_of tokens.items)) }
@@ -28,7 +28,7 @@ pub fn tokens<'a>(alloc: Global, text: &'a str) -> Result<Vec<Placed<'a>>, Alloc
     }
 }
 
-// The token in front of a text, and how many bytes it has. An unknown one has all.
+// The first token of a text, and its number of bytes. An unknown one takes the whole text.
 fn first_token<'a>(text: &'a str) -> (Token<'a>, usize)
     requires ascii { AllByRecursion (λ byte. byte < 128) text.now }
     requires some { 0 < length text.now }
@@ -53,7 +53,7 @@ fn first_token<'a>(text: &'a str) -> (Token<'a>, usize)
     }
 }
 
-// The name that this text is, or the reserved word.
+// The reserved word that this text is, or else the name.
 fn name_or_word<'a>(text: &'a str) -> Token<'a>
     ensures { (rest : List ℕ) → IsWhole text.now rest → Stands (lexeme_of result) (text.now ++ rest) rest }
 {
@@ -63,7 +63,7 @@ fn name_or_word<'a>(text: &'a str) -> Token<'a>
     }
 }
 
-// The longest sign in front, and how many bytes it has. An unknown character takes all that follow it.
+// The longest sign at the beginning, and its number of bytes. An unknown character takes all bytes after it.
 fn symbol_or_unknown(bytes: &[u8]) -> (Token<'static>, usize)
     requires some { 0 < length bytes.now }
     requires not_blank { is_blank (get_or bytes.now 0 0) ≡ false }

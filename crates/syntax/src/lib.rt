@@ -1,8 +1,8 @@
-//! Graph texts: their tokens, and the tree that they are.
+//! Graph texts: their tokens and their trees.
 //!
-//! A text is one list of tokens, each the longest that stands there (`AreTokens`), and the tree that the grammar derives
-//! from them within the limits (`IsRead`). The layer above stands on `read_tree`, which answers that tree or the cause of a
-//! fault, and on the laws `tokens_once`, `one_derivation` and `read_without_fault`.
+//! A text has one list of tokens, each the longest that fits at its place (`AreTokens`). Its tree is the one that the
+//! grammar derives from them within the limits (`IsRead`). The layer above uses `read_tree`, which returns that tree or
+//! the cause of a fault, and the laws `tokens_once`, `one_derivation` and `read_without_fault`.
 #![tactic(auto)]
 
 mod blocks;

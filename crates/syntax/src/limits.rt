@@ -5,7 +5,7 @@ pub const MOST_NAME_BYTES: usize = 32;
 pub const MOST_DEPTH: usize = 64;
 
 /// The greatest number of round brackets that are open at once in an expression. A canonical text has brackets around each
-/// operation, so it reads back only where they may be as many as `MOST_DEPTH` less 1.
+/// operation, so it can be read back only if this is at least `MOST_DEPTH` - 1.
 pub const MOST_BRACKETS: usize = 64;
 
 /// The greatest number of braces that are open at once within a read or a write block.

@@ -9,7 +9,7 @@ use crate::cursor::Cursor;
 use crate::stop::Stop;
 use terms::MAX_COMPONENTS;
 
-/// How many components are named behind the colon of a declaration.
+/// How many components are named after the colon of a declaration.
 pub(crate) fn component_names(cursor: &mut Cursor<'_, '_>) -> Result<usize, Stop>
     ensures reads { IfOk result (λ count. AreNamed count (left cursor.old) (left cursor.new)) }
     ensures fewer { OnOk result (length (left cursor.new) < length (left cursor.old)) }

@@ -3,7 +3,7 @@ ghost use Rattle.std.specs.Prelude.{◌≡◌, ◌≢◌, ◌<◌, ◌≤◌, []
 ghost use Rattle.std.specs.Str.Parse.{digits_value};
 ghost use Rattle.syntax.specs.Tokens.{AreDigits, GREATEST};
 
-/// The value of these digits, or nothing where it is too large.
+/// The value of these digits, or `None` if it is too large.
 pub(crate) fn number(digits: &str) -> Option<i64>
     requires digits { AreDigits digits.now }
     requires some { digits.now ≢ [] }

@@ -19,7 +19,7 @@ pub(crate) enum Operand<'a> {
     TooDeep,
 }
 
-/// An operand that waits for the one on its right.
+/// A left operand and its operator, which wait for the right operand.
 #[derive(Drop)]
 pub(crate) struct Pending<'a> {
     pub(crate) left: Operand<'a>,
@@ -27,7 +27,7 @@ pub(crate) struct Pending<'a> {
 }
 
 impl<'a> Operand<'a> {
-    /// With so many minus signs in front.
+    /// This operand with `times` minus signs before it.
     pub(crate) fn negated(self, alloc: Global, times: usize) -> Result<Operand<'a>, AllocError>
         ensures { IfOk result (λ new. (positions : List Position) (unary : Unary) → Counts (length positions) times → HoldsUnary unary self.entry → HoldsUnary (negated_by positions unary) new) }
     {
@@ -45,7 +45,7 @@ impl<'a> Operand<'a> {
     }
 }
 
-// An expression with so many minus signs in front.
+// An expression with `times` minus signs before it.
 fn negation<'a>(
     alloc: Global,
     tree: NamedExpression<'a>,
@@ -61,7 +61,7 @@ fn negation<'a>(
 }
 
 impl<'a> Pending<'a> {
-    /// The operation of the one that waits and of this.
+    /// The operation on the left operand that waits and on `right`.
     pub(crate) fn with(self, alloc: Global, right: Operand<'a>) -> Result<Operand<'a>, AllocError>
         ensures products { IfOk result (λ new. (left : Prod) (how : Multiplication) (unary : Unary) → self.entry.operator ≡ multiplication_operator how
             → HoldsProd left self.entry.left → HoldsUnary unary right.entry → HoldsProd (multiplied left how unary) new) }
@@ -91,7 +91,7 @@ impl<'a> Pending<'a> {
     }
 }
 
-/// The product of one that may wait and an operand.
+/// The product of the operand that waits, if one does, and `operand`.
 pub(crate) fn product<'a>(
     alloc: Global,
     waiting: Option<Pending<'a>>,
@@ -105,7 +105,7 @@ pub(crate) fn product<'a>(
     }
 }
 
-/// The sum of one that may wait and a product.
+/// The sum of the operand that waits, if one does, and `product`.
 pub(crate) fn sum<'a>(
     alloc: Global,
     waiting: Option<Pending<'a>>,
@@ -119,7 +119,7 @@ pub(crate) fn sum<'a>(
     }
 }
 
-/// The comparison of one that may wait and a sum.
+/// The comparison of the operand that waits, if one does, and `sum`.
 pub(crate) fn comparison<'a>(
     alloc: Global,
     waiting: Option<Pending<'a>>,

@@ -12,7 +12,7 @@ use crate::{Symbol, Token};
 use std::alloc::Global;
 use steptree::{Name, NamedBlock};
 
-/// An assignment, behind its name.
+/// An assignment, after its name.
 pub(crate) fn assignment<'a>(
     alloc: Global,
     cursor: &mut Cursor<'_, 'a>,
@@ -33,7 +33,7 @@ pub(crate) fn assignment<'a>(
     })
 }
 
-/// A read of an item, behind its `get`.
+/// A read of an item, after its `get`.
 pub(crate) fn get<'a>(alloc: Global, cursor: &mut Cursor<'_, 'a>) -> Result<NamedBlock<'a>, Stop>
     ensures reads { IfOk result (λ block. IsGetRead block (left cursor.old) (left cursor.new)) }
     ensures fewer { OnOk result (length (left cursor.new) < length (left cursor.old)) }
@@ -52,7 +52,7 @@ pub(crate) fn get<'a>(alloc: Global, cursor: &mut Cursor<'_, 'a>) -> Result<Name
     })
 }
 
-// An item and its value, behind `put [`.
+// An item and its value, after `put [`.
 fn put_item<'a>(alloc: Global, cursor: &mut Cursor<'_, 'a>) -> Result<NamedBlock<'a>, Stop>
     ensures reads { IfOk result (λ block. IsItemRead block (left cursor.old) (left cursor.new)) }
     ensures fewer { OnOk result (length (left cursor.new) < length (left cursor.old)) }
@@ -66,7 +66,7 @@ fn put_item<'a>(alloc: Global, cursor: &mut Cursor<'_, 'a>) -> Result<NamedBlock
     Ok(NamedBlock::PutItem { item, value, rest })
 }
 
-// A tag, behind `put <`.
+// A tag, after `put <`.
 fn put_tag<'a>(alloc: Global, cursor: &mut Cursor<'_, 'a>) -> Result<NamedBlock<'a>, Stop>
     ensures reads { IfOk result (λ block. IsTagRead block (left cursor.old) (left cursor.new)) }
     ensures fewer { OnOk result (length (left cursor.new) < length (left cursor.old)) }
@@ -78,7 +78,7 @@ fn put_tag<'a>(alloc: Global, cursor: &mut Cursor<'_, 'a>) -> Result<NamedBlock<
     Ok(NamedBlock::PutTag { tag, rest })
 }
 
-/// A put of an item or a tag, behind its `put`.
+/// A put of an item or a tag, after its `put`.
 pub(crate) fn put<'a>(alloc: Global, cursor: &mut Cursor<'_, 'a>) -> Result<NamedBlock<'a>, Stop>
     ensures reads { IfOk result (λ block. IsPutRead block (left cursor.old) (left cursor.new)) }
     ensures fewer { OnOk result (length (left cursor.new) < length (left cursor.old)) }

@@ -35,7 +35,7 @@ fn whole_tree<'a>(alloc: Global, cursor: &mut Cursor<'_, 'a>) -> Result<Tree<'a>
     })
 }
 
-// The fault of a text of so many bytes where the parser stops so.
+// The fault of a text of `end` bytes, if the parser stops at this cursor with `stop`.
 fn fault_of(cursor: &Cursor<'_, '_>, stop: Stop, end: usize) -> TreeFault
     ensures { (text : List ℕ) (spots : List Spot) → AreTokens 0 text spots → end ≡ length text → Tells stop (left cursor.now) (run graph_expected spots) → HasCause text result }
 {
@@ -55,12 +55,12 @@ fn fault_of(cursor: &Cursor<'_, '_>, stop: Stop, end: usize) -> TreeFault
     }
 }
 
-/// The tree of a graph text, which is ASCII.
+/// The tree of a graph text. The text is ASCII.
 ///
-/// `Syntax` comes at the first token with which no graph text goes on behind those in front of it, and at the end of the
-/// text where it ends too early. `TooLarge` comes at the place of a limit that is passed in front of it: a name too many or too
-/// long, a bracket or a brace too many, and, once it is whole, an expression that is too deep, at its first token. A collection
-/// too many is told at its name, once what follows tells that it is declared. `NoMemory` comes where a growth is refused.
+/// `Syntax` comes at the first token that cannot follow the tokens before it in any graph text, and at the end of a text
+/// that ends too early. `TooLarge` comes at the place of a limit that is passed before that: a name too many or too long, a
+/// bracket or a brace too many, or an expression that is too deep, at its first token, once it is whole. A collection too
+/// many is reported at its name, once what follows shows that it is declared. `NoMemory` comes if memory is refused.
 #[tactic(auto, using(crate::proofs::Natural::natural_tokens))]
 pub fn read_tree<'a>(alloc: Global, text: &'a str) -> Result<Tree<'a>, TreeFault>
     requires ascii { AllByRecursion (λ byte. byte < 128) text.now }

@@ -18,13 +18,13 @@ pub(crate) enum Beginning {
     Assignment,
     Choice,
     Repetition,
-    /// A read of an item where a step reads, a put where it writes.
+    /// A `get` in the part that reads, a `put` in the part that writes.
     Own,
     Other,
 }
 
 impl Part {
-    /// The word in front of it.
+    /// The word that begins this part.
     pub(crate) fn word(self) -> Word
         ensures { result ≡ part_word (part_of self) }
     {
@@ -34,7 +34,7 @@ impl Part {
         }
     }
 
-    // What a statement with this word in front is.
+    // What kind of statement begins with this word.
     fn beginning_of(self, word: Word) -> Beginning
         ensures { Begins (part_of self) (a_word word) result }
     {
@@ -47,7 +47,7 @@ impl Part {
         }
     }
 
-    /// What a statement with this token in front is.
+    /// What kind of statement begins with this token.
     pub(crate) fn beginning(self, token: Token<'_>) -> Beginning
         ensures { Begins (part_of self) (lexeme_of token.entry) result }
     {

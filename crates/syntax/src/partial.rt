@@ -1,4 +1,4 @@
-//! What is kept of an expression while it is read.
+//! What the parser keeps of an expression while it reads it.
 ghost use Rattle.std.specs.Prelude.{◌≡◌, ◌≢◌, ◌∷◌, [], ◌<◌, length, List, Option, Some, IfOk, IfErr, OnOk, OnErr};
 ghost use Rattle.syntax.specs.Tokens.{Spot};
 ghost use Rattle.syntax.specs.Grammar.{Position, Expr, Prod, Unary, bracketed, Multiplication, Addition, Comparison};
@@ -19,8 +19,8 @@ use std::alloc::{AllocError, Global};
 use std::mem;
 use steptree::{Name, NamedExpression, Operator};
 
-/// What waits within one bracket, or outside of all: the left operands of a comparison, a sum and a product, and how many
-/// minus signs stand in front of the operand.
+/// What waits within one bracket, or outside all brackets: the left operands of a comparison, a sum and a product, and how
+/// many minus signs stand before the operand.
 pub(crate) struct Level<'a> {
     pub(crate) may_compare: bool,
     pub(crate) comparison: Option<Pending<'a>>,
@@ -30,7 +30,7 @@ pub(crate) struct Level<'a> {
 }
 
 impl<'a> Drop for Level<'a> {
-    // By hand, so that it is one call wherever a level goes.
+    // Written by hand, so that dropping a level is one call everywhere.
     fn drop(self) {
         let Level {
             may_compare: _,
@@ -42,8 +42,8 @@ impl<'a> Drop for Level<'a> {
     }
 }
 
-/// An expression so far: the place of its first token, the first limit that is passed within it, its innermost level, and
-/// those around it, the outermost first.
+/// An expression so far: the place of its first token, the place of the first limit that is passed within it, its
+/// innermost level, and the levels around it, the outermost first.
 pub(crate) struct Partial<'a> {
     pub(crate) first: usize,
     pub(crate) passed: Option<usize>,
@@ -52,7 +52,7 @@ pub(crate) struct Partial<'a> {
 }
 
 impl<'a> Drop for Partial<'a> {
-    // By hand, so that it is one call wherever one goes.
+    // Written by hand, so that dropping an expression is one call everywhere.
     fn drop(self) {
         let Partial {
             first: _,
@@ -63,18 +63,18 @@ impl<'a> Drop for Partial<'a> {
     }
 }
 
-/// What comes of an expression behind an operand.
+/// How an expression goes on after an operand.
 pub(crate) enum After<'a> {
     /// The next operand is expected.
     AwaitsOperand,
-    /// A bracket closed, and this is the product so far.
+    /// A bracket was closed, and this is the product so far.
     HasProduct(Operand<'a>),
     /// The expression is whole.
     Whole(Operand<'a>),
 }
 
 impl<'a> Level<'a> {
-    /// The expression that ends in this product.
+    /// The expression of this level, which ends with `product`.
     fn whole(&mut self, alloc: Global, product: Operand<'a>) -> Result<Operand<'a>, AllocError>
         ensures { IfOk result (λ expression. (level : LevelRead) (prod : Prod) → IsLevel level self.old → HoldsProd prod product.entry → HoldsExpr (level_expr level prod) expression) }
     {
@@ -83,7 +83,7 @@ impl<'a> Level<'a> {
         Ok(expression)
     }
 
-    /// Before its first operand.
+    /// A level before its first operand.
     pub(crate) fn opened(may_compare: bool) -> Level<'a>
         ensures { (comparing : Comparing) → may_compare ≡ comparison_may_come comparing → IsFresh comparing → IsLevel (opened comparing) result }
     {
@@ -98,7 +98,7 @@ impl<'a> Level<'a> {
 }
 
 impl<'a> Partial<'a> {
-    /// Before its first token, which stands at this place.
+    /// An expression before its first token, which is at `first`.
     pub(crate) fn begun(alloc: Global, may_compare: bool, first: usize) -> Partial<'a>
         ensures { (comparing : Comparing) → may_compare ≡ comparison_may_come comparing → IsFresh comparing → IsPartial (begun comparing first) result }
     {
@@ -110,7 +110,7 @@ impl<'a> Partial<'a> {
         }
     }
 
-    /// Behind a minus sign.
+    /// After a minus sign.
     fn negate(&mut self)
         ensures { (state : Expression) (place : Position) → IsPartial state self.old → IsPartial (negating state place) self.new }
     {
@@ -119,7 +119,7 @@ impl<'a> Partial<'a> {
         }
     }
 
-    /// A limit is passed here, if none was before.
+    /// Notes that a limit is passed at `place`, unless one was passed before.
     fn pass(&mut self, place: usize)
         ensures { (state : Expression) (others : List Position) → IsPartial state self.old → IsPartial (passing state (place ∷ others)) self.new }
     {
@@ -128,7 +128,7 @@ impl<'a> Partial<'a> {
         }
     }
 
-    /// One bracket more is to be open.
+    /// Notes a limit at `place` if one more open bracket is too many.
     fn count(&mut self, place: usize)
         ensures { (state : Expression) → IsPartial state self.old → IsPartial (passing state (one_more MOST_BRACKETS (length state.outer) place)) self.new }
     {
@@ -137,7 +137,7 @@ impl<'a> Partial<'a> {
         }
     }
 
-    /// Behind an opening bracket.
+    /// After an opening bracket.
     fn open(&mut self, place: usize) -> Result<(), AllocError>
         ensures { OnOk result ((state : Expression) → IsPartial state self.old → IsPartial (bracketing state place) self.new) }
     {
@@ -148,7 +148,7 @@ impl<'a> Partial<'a> {
         Ok(())
     }
 
-    /// The product so far, behind an operand.
+    /// The product so far, after an operand.
     fn product(&mut self, alloc: Global, operand: Operand<'a>) -> Result<Operand<'a>, AllocError>
         ensures { IfOk result (λ product. (state : Expression) (unary : Unary) → IsPartial state self.old → HoldsUnary unary operand.entry
             → IsPartial (without_product state) self.new × HoldsProd (product_behind state unary) product) }
@@ -159,7 +159,7 @@ impl<'a> Partial<'a> {
         Ok(product)
     }
 
-    /// The expression breaks off: the first limit that is passed within it, or else the token in front.
+    /// Why the parser stops if the expression breaks off: the first limit passed within it, or else the next token.
     pub(crate) fn broken_off(&self) -> Stop
         ensures { (state : Expression) (rest : List Spot) (verdict : Verdict) → IsPartial state self.now → BreaksOff state.passed rest verdict → Tells result rest verdict }
     {
@@ -169,7 +169,7 @@ impl<'a> Partial<'a> {
         }
     }
 
-    /// Takes the token in front, of an operand. An operand that ends here is the product so far.
+    /// Takes the next token, of an operand. If the operand ends with it, returns the product so far.
     pub(crate) fn begin(
         &mut self,
         alloc: Global,
@@ -208,7 +208,7 @@ impl<'a> Partial<'a> {
         }
     }
 
-    // A name of the expression stands here.
+    // Notes a limit at `place` if this name of the expression is too long.
     fn pass_name(&mut self, text: &str, place: usize)
         ensures { (state : Expression) → IsPartial state self.old → IsPartial (passing state (name_limits (text.now, place))) self.new }
     {
@@ -217,7 +217,7 @@ impl<'a> Partial<'a> {
         }
     }
 
-    /// Behind the sign of a product.
+    /// After the sign of a product.
     fn await_product(&mut self, product: Operand<'a>, operator: Operator)
         ensures { (state : Expression) (prod : Prod) (how : Multiplication) → IsPartial state self.old → HoldsProd prod product.entry → operator ≡ multiplication_operator how → IsPartial (awaiting_product state prod how) self.new }
     {
@@ -227,7 +227,7 @@ impl<'a> Partial<'a> {
         });
     }
 
-    /// Behind the sign of a sum.
+    /// After the sign of a sum.
     fn await_sum(
         &mut self,
         alloc: Global,
@@ -241,7 +241,7 @@ impl<'a> Partial<'a> {
         Ok(())
     }
 
-    /// Behind the sign of a comparison.
+    /// After the sign of a comparison.
     fn await_comparison(
         &mut self,
         alloc: Global,
@@ -256,7 +256,7 @@ impl<'a> Partial<'a> {
         Ok(())
     }
 
-    /// Behind the bracket that closes the innermost level, with this level around it.
+    /// After the bracket that closes the innermost level; `around` is the level around that one.
     fn close(
         &mut self,
         alloc: Global,
@@ -272,7 +272,7 @@ impl<'a> Partial<'a> {
         Ok(product)
     }
 
-    /// Takes the token in front, behind an operand with which this product ends, unless the expression is whole there.
+    /// Takes the next token, after an operand that ends `product`, unless the expression is whole there.
     pub(crate) fn go_on(
         &mut self,
         alloc: Global,
@@ -314,7 +314,7 @@ impl<'a> Partial<'a> {
         }
     }
 
-    // The expression that is whole behind this product, unless it breaks off within a bracket.
+    // The whole expression, which ends with `product`, unless it breaks off within a bracket.
     fn end(&mut self, alloc: Global, product: Operand<'a>) -> Result<Operand<'a>, Stop>
         ensures whole { IfOk result (λ expression. (state : Expression) (prod : Prod) → IsPartial state self.old → HoldsProd prod product.entry → EndsAs state prod expression self.new) }
         ensures stops { IfErr result (λ stop. (state : Expression) (rest : List Spot) (verdict : Verdict) → IsPartial state self.old → (state.outer ≢ [] → BreaksOff state.passed rest verdict) → Tells stop rest verdict) }

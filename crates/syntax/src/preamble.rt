@@ -1,4 +1,4 @@
-//! What stands in front of the steps of a text.
+//! What comes before the steps of a text.
 ghost use Rattle.std.specs.Prelude.{◌≤◌, ◌∷◌, [], length, IfOk, IfErr, OnOk};
 ghost use Rattle.syntax.specs.Expected.{declarations as some_declarations, steps};
 ghost use Rattle.syntax.specs.Parsed.{left, Stops};
@@ -11,7 +11,7 @@ use crate::stop::Stop;
 use crate::{Declaration, Relation};
 use std::alloc::Global;
 
-/// Declarations, and the relations behind them.
+/// Declarations, and the relations after them.
 #[derive(Drop)]
 pub(crate) struct Preamble<'a> {
     pub(crate) declarations: Vec<Declaration<'a>>,

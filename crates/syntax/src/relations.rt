@@ -55,7 +55,7 @@ fn arrow_target<'a>(cursor: &mut Cursor<'_, 'a>) -> Result<Target<'a>, Stop>
     }
 }
 
-/// A relation that begins with this item, whose bracket is at this place, behind the item.
+/// A relation that begins with `item`, whose bracket is at `place`. The cursor is after the item.
 pub(crate) fn behind_item<'a>(
     cursor: &mut Cursor<'_, 'a>,
     place: usize,
@@ -81,7 +81,7 @@ pub(crate) fn behind_item<'a>(
     }
 }
 
-/// A prescription by this tag, behind the tag.
+/// A prescription by `tag`. The cursor is after the tag.
 pub(crate) fn behind_tag<'a>(
     cursor: &mut Cursor<'_, 'a>,
     tag: Name<'a>,
@@ -96,7 +96,7 @@ pub(crate) fn behind_tag<'a>(
     Ok(Relation::Prescribes { tag, step })
 }
 
-// A relation that begins with an item, behind the bracket at this place.
+// A relation that begins with an item, after the bracket at `place`.
 fn item_relation<'a>(cursor: &mut Cursor<'_, 'a>, place: usize) -> Result<Relation<'a>, Stop>
     ensures reads { IfOk result (λ relation. IsRelationRest (a_name ∷ exactly CloseBracket ∷ reader_rest) [] (sign_at place OpenBracket) [] relation (left cursor.old) (left cursor.new)) }
     ensures fewer { OnOk result (length (left cursor.new) < length (left cursor.old)) }
@@ -108,7 +108,7 @@ fn item_relation<'a>(cursor: &mut Cursor<'_, 'a>, place: usize) -> Result<Relati
     Ok(relation)
 }
 
-// A prescription, behind its first bracket.
+// A prescription, after its first bracket.
 fn tag_relation<'a>(cursor: &mut Cursor<'_, 'a>) -> Result<Relation<'a>, Stop>
     ensures reads { IfOk result (λ relation. IsRelationRest (a_name ∷ exactly Greater ∷ prescribed_step) [] (a_sign Less) [] relation (left cursor.old) (left cursor.new)) }
     ensures fewer { OnOk result (length (left cursor.new) < length (left cursor.old)) }
@@ -120,7 +120,7 @@ fn tag_relation<'a>(cursor: &mut Cursor<'_, 'a>) -> Result<Relation<'a>, Stop>
     Ok(relation)
 }
 
-// What a step puts, behind the bracket at this place.
+// What a step puts, after the bracket at `place`.
 fn step_relation<'a>(cursor: &mut Cursor<'_, 'a>, place: usize) -> Result<Relation<'a>, Stop>
     ensures reads { IfOk result (λ relation. IsRelationRest (a_name ∷ exactly CloseRound ∷ target_rest) [] (sign_at place OpenRound) [] relation (left cursor.old) (left cursor.new)) }
     ensures fewer { OnOk result (length (left cursor.new) < length (left cursor.old)) }
@@ -134,7 +134,7 @@ fn step_relation<'a>(cursor: &mut Cursor<'_, 'a>, place: usize) -> Result<Relati
     }
 }
 
-// What the environment puts, behind the word at this place.
+// What the environment puts, after the word at `place`.
 fn environment_relation<'a>(cursor: &mut Cursor<'_, 'a>, place: usize) -> Result<Relation<'a>, Stop>
     ensures reads { IfOk result (λ relation. IsRelationRest target_rest [] (environment_at place) [] relation (left cursor.old) (left cursor.new)) }
     ensures fewer { OnOk result (length (left cursor.new) < length (left cursor.old)) }
@@ -146,7 +146,7 @@ fn environment_relation<'a>(cursor: &mut Cursor<'_, 'a>, place: usize) -> Result
     }
 }
 
-/// A relation, if one begins with the token in front.
+/// A relation, if one begins with the next token.
 pub(crate) fn next_relation<'a>(cursor: &mut Cursor<'_, 'a>) -> Result<Option<Relation<'a>>, Stop>
     ensures reads { IfOk result (λ relation. IsRelationOrNone relation (left cursor.old) (left cursor.new)) }
     ensures fewer { IfOk result (λ relation. IfSome relation (λ _. length (left cursor.new) < length (left cursor.old))) }

@@ -13,7 +13,7 @@ use std::alloc::Global;
 use steptree::{MOST_NAMES, Name};
 use terms::MAX_COMPONENTS;
 
-// Takes what stands behind a name: a comma, and a name is to follow, or else the sign behind the list.
+// Takes the token after a name: true for a comma, before one more name; false for `close`, which ends the list.
 fn goes_on(cursor: &mut Cursor<'_, '_>, close: Symbol) -> Result<bool, Stop>
     ensures reads { IfOk result (λ more. TakesOn close more (left cursor.old) (left cursor.new)) }
     ensures fewer { OnOk result (length (left cursor.new) < length (left cursor.old)) }
@@ -33,7 +33,7 @@ fn goes_on(cursor: &mut Cursor<'_, '_>, close: Symbol) -> Result<bool, Stop>
     Err(Stop::Syntax)
 }
 
-// At least one name and at most so many, up to this sign.
+// At least one name and at most `most` names, up to the sign `close`.
 fn listed<'a>(
     alloc: Global,
     cursor: &mut Cursor<'_, 'a>,
@@ -56,7 +56,7 @@ fn listed<'a>(
     }
 }
 
-// Takes the bracket behind the parameters, if there are none.
+// Takes the closing bracket if there are no parameters, and returns whether there are none.
 fn no_parameters(cursor: &mut Cursor<'_, '_>) -> bool
     ensures taken { NoParameters result (left cursor.old) (left cursor.new) }
     ensures fewer { length (left cursor.new) ≤ length (left cursor.old) }
@@ -70,7 +70,7 @@ fn no_parameters(cursor: &mut Cursor<'_, '_>) -> bool
     }
 }
 
-/// The parameters of a step behind their bracket, up to the one behind them.
+/// The parameters of a step after their opening bracket, with the closing one.
 pub(crate) fn parameters<'a>(
     alloc: Global,
     cursor: &mut Cursor<'_, 'a>,
@@ -87,7 +87,7 @@ pub(crate) fn parameters<'a>(
     Ok(names)
 }
 
-/// The variables of a step, where it has so many names before them.
+/// The variables of a step that has `before` names before them.
 pub(crate) fn variables<'a>(
     alloc: Global,
     cursor: &mut Cursor<'_, 'a>,

@@ -34,7 +34,7 @@ fn part_block<'a>(
     Ok(block)
 }
 
-// The name of a step, where so many steps stand before it.
+// The name of a step, with `before` steps before it.
 fn step_name<'a>(cursor: &mut Cursor<'_, 'a>, before: usize) -> Result<Name<'a>, Stop>
     ensures reads { IfOk result (λ name. Reads (name_of_step before ∷ []) [] (named (named_of name) ∷ []) (left cursor.old) (left cursor.new)) }
     ensures within { IfOk result (λ name. name_limits (named_of name) ≡ []) }
@@ -46,7 +46,7 @@ fn step_name<'a>(cursor: &mut Cursor<'_, 'a>, before: usize) -> Result<Name<'a>,
     Ok(name)
 }
 
-// A step behind its word, where so many steps stand before it.
+// A step after its word, with `before` steps before it.
 fn step<'a>(alloc: Global, cursor: &mut Cursor<'_, 'a>, before: usize) -> Result<Step<'a>, Stop>
     ensures reads { IfOk result (λ step. IsStepRead before step (left cursor.old) (left cursor.new)) }
     ensures fewer { OnOk result (length (left cursor.new) < length (left cursor.old)) }

@@ -3,7 +3,7 @@ ghost use Rattle.syntax.specs.declared.stop.Stop.TheVariants.{NoMemory};
 
 use std::alloc::{AllocError, AllocFailed};
 
-/// Why the parser stops: no graph text goes on with the token in front, a limit is passed at a place, or a growth was
+/// Why the parser stops: no graph text goes on with the next token, a limit is passed at a place, or memory was
 /// refused.
 #[derive(Clone, Copy, Debug)]
 pub(crate) enum Stop {

@@ -48,11 +48,11 @@ pub enum Symbol {
 pub enum Token<'a> {
     /// A name that is not reserved.
     Name(&'a str),
-    /// A number, at most the greatest of 64 bits with a sign.
+    /// A number, at most `i64::MAX`.
     Number(i64),
     Word(Word),
     Symbol(Symbol),
-    /// A character that begins no token, or a number that is too large. It is the last token, whatever stands behind it.
+    /// A character that begins no token, or a number that is too large. It is the last token, whatever follows it.
     Unknown,
 }
 

@@ -1,6 +1,6 @@
 use steptree::{Name, Step};
 
-/// A collection as it is declared, and how many components its keys have.
+/// A declared collection, and how many components its keys have.
 #[derive(Clone, Copy, Debug)]
 pub enum Declaration<'a> {
     Item { name: Name<'a>, components: usize },
@@ -51,7 +51,7 @@ pub enum Relation<'a> {
     },
 }
 
-/// A graph as its text has it.
+/// A graph as it is written in its text.
 pub struct Tree<'a> {
     pub declarations: Vec<Declaration<'a>>,
     pub relations: Vec<Relation<'a>>,
@@ -59,7 +59,7 @@ pub struct Tree<'a> {
 }
 
 impl<'a> Drop for Tree<'a> {
-    // By hand, so that it is one call wherever a tree goes.
+    // Written by hand, so that dropping a tree is one call everywhere.
     fn drop(self) {
         let Tree {
             declarations: _,
