@@ -1,4 +1,4 @@
--- A part behind its length, as bytes below 256 spell it.
+-- A part after its length, as bytes below 256 spell it.
 use Rattle.std.proofs.Common.{◌≡◌, ◌≤◌, ◌<◌, ◌+◌, ◌^◌, ℕ, zero, suc, List, [], ◌∷◌, ◌++◌, length, take, drop, get_or, refl, sym, ap, ◌∙◌, arith}
 use Rattle.std.proofs.lemmas.List.{length-take-le, length-drop, take-append-drop, drop-drop}
 use Rattle.std.proofs.lemmas.Nat.{le_bytes_4}

@@ -1,4 +1,4 @@
--- What is held fits a graph where each thing that is listed is looked at and fits.
+-- What is held fits a graph where each thing that is listed fits, and the other way round.
 use Rattle.std.proofs.Common.{◌≡◌, ℤ, Bool, true, false, ◌||◌, ◌&&◌, List, [], ◌∷◌, ◌++◌, map, Option, Some, None, refl, sym, ap, subst, ◌∙◌}
 use Rattle.std.proofs.lemmas.Bool.{or_left, or_right}
 use Rattle.std.specs.Bool.{⊤}
@@ -20,7 +20,7 @@ use Rattle.graph.specs.Fits.{AddressIsOf, TagIsOf, FactIsOf, IsOfEnvironment, Fi
 use Rattle.sides.specs.Looks.{ItemFits, TagFits, InstanceFits, FaultFits, InstancesFit, PutsFit}
 use Rattle.sides.proofs.ListedFacts.{item_fact, tag_fact, all_of_both, all_facts, of_each, each_of, or_false, in_fault, in_items, in_tags, in_done, in_parts, items_of, tags_of, done_of, put_in_items, put_in_tags, put_in_parts}
 
--- what is looked at of a fact
+-- what is checked of a fact
 abbrev pub FactFits : Graph → Facts → Fact → Type 0
 FactFits g X (tag name) = TagIsOf g name
 FactFits g X (item address value by) = ItemFits g X address by
@@ -50,7 +50,7 @@ module _ (g : Graph) (X : Facts) where
   tag_facts_fit [] fits = tt
   tag_facts_fit (marked ∷ tags) fits = (tag_is_of marked.0 marked.1 fits.0, tag_facts_fit tags fits.1)
 
--- what is said of a fact that the environment put
+-- what must hold of a fact that the environment put
 abbrev pub PutFits : Graph → Fact → Type 0
 PutFits g (tag name) = EnvironmentMayPutTag g name
 PutFits g fact = ⊤
@@ -118,7 +118,7 @@ module _ (told : OneFact) (both : AmongBoth) (g : Graph) (image : Image) where
       let no_tag : (put_in_items both image fact || put_in_tags both image fact) ≡ (put_in_items both image fact || false) = ap (λ (b : Bool). put_in_items both image fact || b) (no_item image.tags address value Env) in
       items_of both image address value Env ∙ same_items address value image.items ∙ sym (put_in_parts both image fact ∙ no_tag ∙ or_false (put_in_items both image fact))
 
-  -- of each fact of an image, by its parts
+  -- what holds of the facts of each part of an image holds of each fact of it
   of_parts : (P : Fact → Type 0) → AllByRecursion P (fault_facts image.fault) → AllByRecursion P (map item_fact image.items) → AllByRecursion P (map tag_fact image.tags) → AllByRecursion P (map done image.done) → AllByRecursion P (image_facts image)
   of_parts P faulty items tags ended =
       let two = all_of_both P (fault_facts image.fault) (map item_fact image.items) faulty items in

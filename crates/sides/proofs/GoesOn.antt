@@ -1,4 +1,4 @@
--- What other bytes stand for that begin as a side does, up to its journal.
+-- What bytes stand for that begin as a side does, up to its journal.
 use Rattle.std.proofs.Common.{◌≡◌, ◌+◌, ℕ, Bool, ◌||◌, List, [], ◌∷◌, ◌++◌, length, take, drop, map, refl, sym, ap, subst, ◌∙◌, arith}
 use Rattle.std.specs.List.{AllByRecursion}
 use Rattle.std.proofs.lemmas.List.{append_assoc, append-nil, length-append, map-append, take-append-drop}
@@ -67,13 +67,13 @@ pub stays_alike : (bytes other : List ℕ) (g : Graph) (n : ℕ) (E X : Facts) (
     → StandsFor (drop (start_of side) other) (map commit_bytes side.commits) → (same : IsSide other g n E X) × (end_of same ≡ end_of side)
 stays_alike bytes other g n E X side same stands = (again bytes other g n E X side same stands, refl)
 
--- ---- a commit more
+-- ---- one commit more
 
 pub one_more : {A : Type 0} (P : A → Type 0) (xs : List A) (x : A) → AllByRecursion P xs → P x → AllByRecursion P (xs ++ x ∷ [])
 one_more P [] x all last = (last, tt)
 one_more P (first ∷ xs) x all last = (all.0, one_more P xs x all.1 last)
 
--- the set of a list of facts, and of more
+-- a set that has the facts of a list has them too when both get more
 pub set_grown : AmongBoth → (old : List Fact) (X : Facts) (more : List Fact) → SameSet X (among old) → SameSet (with_facts X more) (among (old ++ more))
 set_grown both old X more same fact = ap (λ (b : Bool). b || among more fact) (same fact) ∙ sym (both old more fact)
 

@@ -21,7 +21,7 @@ or_turned true false = refl
 or_turned false true = refl
 or_turned false false = refl
 
--- one that is there as well, where the other is there
+-- adding a truth that implies the other changes nothing
 or_held : (a b : Bool) → (b ≡ true → a ≡ true) → a ≡ (a || (b || false))
 or_held true b holds = refl
 or_held false true holds = absurd (false≢true (holds refl))
@@ -33,16 +33,16 @@ same_test true b there back = sym (there refl)
 same_test false true there back = back refl
 same_test false false there back = refl
 
--- nothing more
+-- a list to which nothing is added
 pub unchanged : (list : List Fact) → AlsoHas [] list list
 unchanged list = record { same = λ fact. ap (λ (facts : List Fact). among facts fact) (sym (append-nil list)) }
 
--- what holds of the image that is listed holds of the one that is seen
+-- growth from the listed image is growth from the equal image that is seen
 pub grows_from : {given stated : List Fact} {listed seen new : Image} → listed ≡ seen → Grows given stated listed new → Grows given stated seen new
 grows_from {given} {stated} {listed} {seen} {new} same grows = subst (λ (image : Image). Grows given stated image new) same grows
 
 module _ (both : AmongBoth) where
-  -- what stands between others may as well stand behind them
+  -- facts in the middle of a list may as well stand at its end
   pub from_between : (front here back : List Fact) (fact : Fact) → among (front ++ (here ++ back)) fact ≡ among ((front ++ back) ++ here) fact
   from_between front here back fact =
       both front (here ++ back) fact ∙ ap (λ (b : Bool). among front fact || b) (both here back fact ∙ or_turned (among here fact) (among back fact))
@@ -70,12 +70,12 @@ module _ (both : AmongBoth) where
         ∙ ap (λ (facts : List Fact). among facts fact) (append_assoc a first second);
   }
 
-  -- one growth behind another
+  -- one growth after another
   pub grows_on : {first second one two : List Fact} {a b c : Image} → Grows first one a b → Grows second two b c → Grows (first ++ second) (one ++ two) a c
   grows_on start more = record { facts = joined start.facts more.facts; environment = joined start.environment more.environment }
 
   module _ (one_fact : OneFact) where
-    -- one that is there already
+    -- adding a fact that is there already
     pub held_already : (list : List Fact) (held : Fact) → among list held ≡ true → AlsoHas (held ∷ []) list list
     held_already list held there = record {
       same = λ fact.
@@ -83,7 +83,7 @@ module _ (both : AmongBoth) where
           ∙ sym (both list (held ∷ []) fact);
     }
 
--- whether two facts are one, asked the other way
+-- whether two facts are one, in either order
 pub asked_back : OneFact → (one two : Fact) → is_fact one two ≡ is_fact two one
 asked_back one_fact one two =
     same_test (is_fact one two) (is_fact two one)

@@ -34,6 +34,6 @@ head_told (gate ∷ format ∷ a ∷ b ∷ c ∷ d ∷ e ∷ f ∷ g ∷ h ∷ r
     le_bytes_8 (a ∷ b ∷ c ∷ d ∷ e ∷ f ∷ g ∷ h ∷ []) n refl (eight_bytes a b c d e f g h (low 2) (low 3) (low 4) (low 5) (low 6) (low 7) (low 8) (low 9)) (omega arith) in
     (small, (format, rest, ap (λ (x : ℕ). x ∷ format ∷ a ∷ b ∷ c ∷ d ∷ e ∷ f ∷ g ∷ h ∷ rest) begins ∙ ap (λ (front : List ℕ). 1 ∷ format ∷ front ++ rest) (sym spelled)))
 
--- which is open, and has ten bytes
+-- a side with a generation is open, and has ten bytes or more
 pub open_head : (bytes : List ℕ) (generation : ℕ) → HasGeneration bytes generation → IsOpen bytes × (10 ≤ length bytes)
 open_head bytes generation has = ((has.1.0 ∷ little_bytes 8 generation ++ has.1.1, has.1.2), rw has.1.2 (omega arith))

@@ -28,7 +28,7 @@ module _ (both : AmongBoth) (one_fact : OneFact) where
       (or_left (is_fact (done first) (done instance)) (among (map done ended) (done instance)) (asked_back one_fact (done first) (done instance) ∙ ap is_eq (sym is)))
   key_held_by Greater first ended instance is later = behind both (done first ∷ []) later
 
-  -- a key in its place, whether it was there or not
+  -- inserting a key adds its fact, whether the key was there or not
   key_held : (ended : List Inst) (instance : Inst) → AlsoHas (done instance ∷ []) (map done ended) (map done (insert_key inst_cmp ended instance))
   key_held [] instance = record { same = λ fact. refl }
   key_held (first ∷ ended) instance = key_held_by (inst_cmp instance first) first ended instance refl (key_held ended instance)
@@ -42,7 +42,7 @@ module _ (both : AmongBoth) (one_fact : OneFact) where
     environment = unchanged (image_environment (record { fault = fault; items = items; tags = tags; done = ended }));
   }
 
--- the instance is stated before its puts, and is held behind them
+-- the end of the instance is stated before its puts, and inserted after them
 pub done_behind : AmongBoth → (instance : Inst) {puts : List Fact} {first middle last : Image} → Grows [] puts first middle → Grows [] (done instance ∷ []) middle last → Grows [] (done instance ∷ puts) first last
 done_behind both instance {puts} {first} {middle} {last} taken ended =
     let grown = grows_on both taken ended in

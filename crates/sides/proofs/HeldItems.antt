@@ -87,7 +87,7 @@ module _ (fault : Option (Inst × FaultKind)) (entries : List Entry) (tags : Lis
   )
 
   module _ (value : ℤ) (by : Producer) (found : Option (ℤ × Producer)) (free : Bool) (finds : found ≡ found_here) (tells : is_some found ≡ not free) (more : List Entry) (inserted : more ≡ insert_entry addr_cmp entries address (value, by)) where
-    -- there the item stands then
+    -- if it is free, the item is put there
     placed : IsTrue free → Placed entries more (address, (value, by))
     placed is_free =
         subst (λ (list : List Entry). Placed entries list (address, (value, by))) (sym inserted)

@@ -42,7 +42,7 @@ pub all_facts : {X : Type 0} (f : X → Fact) (P : Fact → Type 0) (xs : List X
 all_facts f P [] each = tt
 all_facts f P (x ∷ xs) each = (each.0, all_facts f P xs each.1)
 
--- a fact of another kind than those of a list
+-- a list has no fact of another kind than its own
 pub none : {X : Type 0} (f : X → Fact) (fact : Fact) → ((x : X) → is_fact (f x) fact ≡ false) → (xs : List X) → among (map f xs) fact ≡ false
 none f fact apart [] = refl
 none f fact apart (x ∷ xs) = rw (apart x) (none f fact apart xs)
@@ -56,7 +56,7 @@ module _ (told : OneFact) where
     | inr other ↦ of_each P rest each.1 fact other
   ]
 
-  -- what holds of the elements whose facts are among those of the list holds of each
+  -- what holds of the elements whose facts are among those of the list holds of each element
   pub each_of : {X : Type 0} (f : X → Fact) (P : X → Type 0) (xs : List X) → ((x : X) → among (map f xs) (f x) ≡ true → P x) → AllByRecursion P xs
   each_of f P [] all = tt
   each_of f P (x ∷ xs) all = (
@@ -97,7 +97,7 @@ pub or_false : (b : Bool) → (b || false) ≡ b
 or_false true = refl
 or_false false = refl
 
--- of four truths one may hold
+-- where three of four truths do not hold, the other decides
 first_of : (a b c d : Bool) → b ≡ false → c ≡ false → d ≡ false → (((a || b) || c) || d) ≡ a
 first_of a b c d no_b no_c no_d =
     let others : (((a || b) || c) || d) ≡ (((a || false) || false) || false) = λ i. ((a || no_b i) || no_c i) || no_d i in
@@ -149,7 +149,7 @@ module _ (both : AmongBoth) (image : Image) where
       let fact = done instance in
       in_parts both image fact ∙ fourth _ _ _ _ (no_fault_done image.fault instance) (none item_fact fact (λ x. refl) image.items) (none tag_fact fact (λ x. refl) image.tags)
 
--- ---- what maps by name tell
+-- ---- what maps by name say
 
 either_way : {X : Type 0} (b : Bool) (x : X) (rest : Option X) → (b || is_some rest) ≡ is_some (cond b (Some x) rest)
 either_way true x rest = refl

@@ -30,7 +30,7 @@ module _ {X : Type 0} (cmp : X → X → Ordering) where
   rest_rises x [] rises = tt
   rest_rises x (y ∷ ys) rises = rises.1
 
-  -- what is below the first of some is below all that are above it
+  -- what is below an element is below all that are above that element
   below_each : IsTotalOrder cmp → (x y : X) (ys : List X) → cmp x y ≡ Less → AllByRecursion (λ z. cmp y z ≡ Less) ys → AllByRecursion (λ z. cmp x z ≡ Less) ys
   below_each total x y [] less above = tt
   below_each total x y (z ∷ zs) less above = (total.trans x y z less above.0, below_each total x y zs less above.1)
@@ -39,7 +39,7 @@ module _ {X : Type 0} (cmp : X → X → Ordering) where
   first_is_least total x [] rises = tt
   first_is_least total x (y ∷ ys) rises = (rises.0, below_each total x y ys rises.0 (first_is_least total y ys rises.1))
 
-  -- where each is below the next, each is below all behind it
+  -- where each is below the next, each is below all after it
   pub sorted_from_rises : IsTotalOrder cmp → (xs : List X) → Rises cmp xs → IsStrictlySortedBy cmp xs
   unfolding IsStrictlySortedBy
   sorted_from_rises total [] rises = tt

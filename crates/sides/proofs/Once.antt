@@ -1,4 +1,4 @@
--- The bytes of a side stand for one thing at most.
+-- The bytes of a side stand for at most one thing.
 use Rattle.std.proofs.Common.{◌≡◌, ◌<◌, ◌+◌, ◌^◌, ℕ, List, [], ◌∷◌, ◌++◌, length, take, drop, map, refl, sym, ap, subst, ◌∙◌, arith, length-append}
 use Rattle.std.specs.List.{AllByRecursion}
 use Rattle.std.proofs.lemmas.List.{append_assoc}
@@ -19,7 +19,7 @@ use Rattle.graph.specs.Reads.{Reads}
 use Rattle.graph.specs.Textual.{OneReading}
 use Rattle.sides.specs.Side.{FORMAT, counted, behind_gate, HasGeneration, IsSide, SameSide, end_of}
 
--- two strings with fronts of one length
+-- equal strings with fronts of one length have equal fronts and equal rests
 pub split : (a b x y : List ℕ) → length a ≡ length b → a ++ x ≡ b ++ y → (a ≡ b) × (x ≡ y)
 split a b x y same whole = (
   sym (take-append_seam a x) ∙ ap (take (length a)) whole ∙ ap (λ (n : ℕ). take n (b ++ y)) same ∙ take-append_seam b y,
@@ -30,19 +30,19 @@ number_once : (width m n : ℕ) → m < 256 ^ width → n < 256 ^ width → litt
 number_once width m n small also same =
     sym (little_number-reads_back width m [] small) ∙ ap (λ (bytes : List ℕ). little_from 0 width (bytes ++ [])) same ∙ little_number-reads_back width n [] also
 
--- a number, and what stands behind it
+-- a number, and the bytes after it
 numbered_once : (width m n : ℕ) (x y : List ℕ) → m < 256 ^ width → n < 256 ^ width → little_bytes width m ++ x ≡ little_bytes width n ++ y → (m ≡ n) × (x ≡ y)
 numbered_once width m n x y small also whole =
     let parts = split (little_bytes width m) (little_bytes width n) x y (length-bytes_low_first 0 width m ∙ sym (length-bytes_low_first 0 width n)) whole in
     (number_once width m n small also parts.0, parts.1)
 
--- bytes behind their number, and what stands behind them
+-- bytes after their number, and the bytes that follow
 pub counted_once : (s t x y : List ℕ) → length s < 256 ^ 4 → length t < 256 ^ 4 → counted s ++ x ≡ counted t ++ y → (s ≡ t) × (x ≡ y)
 counted_once s t x y small also whole =
     let parts = numbered_once 4 (length s) (length t) (s ++ x) (t ++ y) small also (sym (append_assoc (little_bytes 4 (length s)) s x) ∙ whole ∙ append_assoc (little_bytes 4 (length t)) t y) in
     split s t x y parts.0 parts.1
 
--- of commits each by its spelling
+-- commits are fixed by their spellings
 commits_once : SpellsOne SpellsCommit → (one two : List Commit) → AllByRecursion IsCommit one → AllByRecursion IsCommit two → map commit_bytes one ≡ map commit_bytes two → one ≡ two
 commits_once each [] [] first second same = refl
 commits_once each [] (e ∷ es) first second same = absurd (cc)

@@ -1,4 +1,4 @@
--- An image whose lists rise has one item at an address.
+-- An image whose lists are in rising order has at most one item at an address.
 use Rattle.std.proofs.Common.{◌≡◌, ◌⊎◌, ℤ, Bool, true, false, ◌||◌, List, [], ◌∷◌, map, inl, inr, refl, sym, ap, subst, ◌∙◌}
 use Rattle.std.proofs.lemmas.Bool.{false≢true}
 use Rattle.std.specs.Cmp.{IsTotalOrder}
@@ -57,7 +57,7 @@ module _ (total : IsTotalOrder addr_cmp) (told : OneFact) where
     congr = λ x y z. total.congr x.0 y.0 z.0;
   }
 
-  -- behind an item none has its address
+  -- no item after an item has its address
   apart : (it : Item) (items : List Item) → Rises item_cmp (it ∷ items) → (address : Addr) (v w : ℤ) (p q : Producer)
       → item it.0 it.1 it.2 ≡ item address v p → among (map item_fact items) (item address w q) ≡ true → ⊥
   apart it items rises address v w p q is later =

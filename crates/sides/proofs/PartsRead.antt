@@ -22,7 +22,7 @@ use Rattle.sides.proofs.Once.{parts_of, counted_once}
 
 -- ---- what the parts make
 
--- where the parts stand behind the head of a side
+-- the parts, after the head of a side
 module _ (n : ℕ) (text part : List ℕ) where
   -- where the journal begins
   starts : length (1 ∷ behind_gate n text part []) ≡ 14 + length text + 4 + length part
@@ -40,7 +40,7 @@ module _ (n : ℕ) (text part : List ℕ) where
       )
 
 module _ (bytes : List ℕ) (n : ℕ) (has : HasGeneration bytes n) (format : get_or bytes 1 0 ≡ FORMAT) where
-  -- behind its head stands the text
+  -- after its head comes the text
   in_front : bytes ≡ 1 ∷ FORMAT ∷ little_bytes 8 n ++ drop 10 bytes
   in_front =
       has.1.2 ∙ ap (λ (byte : ℕ). 1 ∷ byte ∷ little_bytes 8 n ++ has.1.1) (sym (ap (λ (list : List ℕ). get_or list 1 0) has.1.2) ∙ format)
@@ -119,7 +119,7 @@ module _ (bytes : List ℕ) (h : Graph) (n : ℕ) (E X : Facts) (side : IsSide b
         pub is_its_image : IsImageOf g part side.image
         is_its_image = ((side.is_image, images.0), subst (λ (graph : Graph). FitsState graph (among (image_environment side.image)) (among (image_facts side.image))) same side.image_fits)
 
-        -- and a journal of commits that fit behind the image
+        -- and a journal of commits that fit after the image
         pub are_its_commits : SpellsOne SpellsImage → (image : Image) → IsImageOf g part image → AreCommits g image (drop (14 + length text + 4 + length part) bytes) side.commits
         are_its_commits one_image image is_image = record {
           are_commits = side.are_commits;

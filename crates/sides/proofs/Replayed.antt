@@ -26,7 +26,7 @@ use Rattle.sides.proofs.Once.{counted_once}
 
 -- ---- whole records
 
--- whole records, and the record with which the bytes behind them begin
+-- whole records, and one more, with which the bytes after them begin
 leads_on : (bytes payload : List ℕ) (end : ℕ) (payloads : List (List ℕ)) → LeadsTo bytes end payloads → BeginsWith payload (drop end bytes)
     → LeadsTo bytes (end + length (record_of payload)) (payloads ++ payload ∷ [])
 leads_on bytes payload end payloads leads begins = record {
@@ -105,9 +105,9 @@ all_taken g old new bytes end so_far closes = record {
   environment = so_far.environment;
 }
 
--- ---- what stands behind those that were taken
+-- ---- what comes after the commits that were taken
 
--- commits that stand behind others
+-- commits that come after others
 record StandBehind (done commits : List Commit) (rest : List ℕ) : Type 0 where
   more : List Commit
   whole : commits ≡ done ++ more
@@ -131,7 +131,7 @@ module _ (each : SpellsOne SpellsCommit) where
       (record { short = All-tail IsShort there (map commit_bytes es) stands.short; gate = stands.gate; closed = stands.closed; rest = stands.rest; spelled = two.1 }) in
       record { more = others.more; whole = λ i. sym one i ∷ others.whole i; are_commits = others.are_commits; stands = others.stands }
 
-  -- the commits that bytes stand for, behind those that were taken
+  -- the commits that bytes stand for, after those that were taken
   go_on : (g : Graph) (old now : Image) (bytes : List ℕ) (end : ℕ) (commits : List Commit) (so_far : IsTakenTo g old now bytes end) → AreCommits g old bytes commits → StandBehind so_far.commits commits (drop end bytes)
   go_on g old now bytes end commits so_far are =
       stand_behind so_far.commits commits (drop end bytes) so_far.leads.short so_far.are_commits are.are_commits
@@ -151,7 +151,7 @@ module _ (each : SpellsOne SpellsCommit) where
         by (e ∷ es) stands = none (commit_bytes e) (begin (drop end bytes) (commit_bytes e) (map commit_bytes es) stands)
 
     module _ (once : OneInFront) (closes : ClosedBeginsNone) (parts : AllFitInParts) (as_set : EventsAsSet) where
-      -- where a record stands that is of no commit that fits
+      -- where a record is there whose payload is no commit that fits
       pub none_fits : (g : Graph) (old now : Image) (bytes payload : List ℕ) (end : ℕ) → IsTakenTo g old now bytes end → BeginsWith payload (drop end bytes)
           → IsRefused g now payload → (commits : List Commit) → AreCommits g old bytes commits → ⊥
       none_fits g old now bytes payload end so_far begins refused commits are = by behind.more behind.whole behind.are_commits behind.stands

@@ -1,8 +1,8 @@
--- How a side is written: a length over four bytes, and the parts one behind another.
+-- How a side is written: a length over four bytes, and the parts one after another.
 use Rattle.std.proofs.Common.{◌≡◌, ◌+◌, ◌-◌, ℕ, List, ◌++◌, length, take, drop, sym, ap, ◌∙◌, arith}
 use Rattle.std.proofs.lemmas.List.{append_assoc, append-nil, drop-drop, drop_all, length-drop, take_rest}
 
--- bytes written over some of those from a position on
+-- bytes written over others, from a position on
 pub written_over : (bytes written : List ℕ) (at width : ℕ) → take at bytes ++ ((written ++ drop width (take (length bytes - at) (drop at bytes))) ++ drop (length bytes - at) (drop at bytes)) ≡ take at bytes ++ written ++ drop (at + width) bytes
 written_over bytes written at width =
     ap (λ (back : List ℕ). take at bytes ++ ((written ++ drop width (take (length bytes - at) (drop at bytes))) ++ back)) (drop_all (length bytes - at) (drop at bytes) (rw length-drop (omega arith)))

@@ -17,7 +17,7 @@ use Rattle.sides.specs.Growth.{AlsoHas, Grows, PutFits}
 use Rattle.sides.proofs.Grown.{joined, unchanged}
 use Rattle.sides.proofs.PutsInTurn.{with_fact, FitInTurn, in_turn}
 
--- the first puts, so many of them, have been taken between the two images
+-- the first `number` puts have been taken between the two images
 pub record TakenSoFar (g : Graph) (instance : Inst) (puts : List Put) (number : ℕ) (old now : Image) : Type 0 where
   pub fits : FitInTurn g instance 0 puts (facts_in old) ↔ FitInTurn g instance number (drop number puts) (facts_in now)
   pub facts : (fact : Fact) → among (image_facts old ++ put_facts instance 0 puts) fact ≡ among (image_facts now ++ put_facts instance number (drop number puts)) fact
@@ -32,7 +32,7 @@ module _ (g : Graph) (instance : Inst) (puts : List Put) (old : Image) where
   comes : (number : ℕ) (one : Put) → one ≡ get_or puts number one → number < length puts → drop number puts ≡ one ∷ drop (suc number) puts
   comes number one is within = drop-cons puts number one within ∙ ap (λ (first : Put). first ∷ drop (suc number) puts) (sym is)
 
-  -- one that does not fit: then not all do
+  -- if one does not fit, not all do
   pub stops : OneFact → {number : ℕ} {now : Image} → TakenSoFar g instance puts number old now → (one : Put) → one ≡ get_or puts number one → number < length puts
       → (PutFits g (facts_in now) one → ⊥) → AllByRecursion (PutIsOf g) puts × AreNew (facts_in old) puts → ⊥
   stops one_fact {number} {now} taken one is within misfit all =

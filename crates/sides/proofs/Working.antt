@@ -22,7 +22,7 @@ one_at_fault one_fact (Some fault) one absent =
     false≢true (sym (absent fault.0 fault.1) ∙ or_left (is_fact (bad fault.0 fault.1) (bad fault.0 fault.1)) false (one_fact (bad fault.0 fault.1) (bad fault.0 fault.1)).0)
 
 module _ (both : AmongBoth) (g : Graph) {listed seen : Image} (same : listed ≡ seen) (event : Event) where
-  -- behind a fault none does
+  -- after a fault no event fits
   pub none_fits : OneFact → (at_fault : Bool) → at_fault ≡ is_some listed.fault → at_fault ≡ true → IsTrue false ↔ Fits g (facts_in seen) event
   none_fits one_fact at_fault tells is = (
     λ never. absurd (false≢true never),
@@ -31,7 +31,7 @@ module _ (both : AmongBoth) (g : Graph) {listed seen : Image} (same : listed ≡
         sym (faults_of both listed instance kind) ∙ ap (λ (image : Image). facts_in image (bad instance kind)) same ∙ fits.working instance kind)),
   )
 
-  -- and else the event alone decides
+  -- without a fault the event alone decides
   pub fits_alone : (at_fault : Bool) → at_fault ≡ is_some listed.fault → at_fault ≡ false → (taken : Bool) (one : Event) → event ≡ one
       → IsTrue taken ↔ FitsAs g (facts_in seen) one → IsTrue taken ↔ Fits g (facts_in seen) event
   fits_alone at_fault tells isnt taken one is decides = (

@@ -10,20 +10,20 @@ use Rattle.codec.specs.Image.{image_facts, image_environment}
 use Rattle.graph.specs.Graph.{Graph}
 use Rattle.graph.specs.Fits.{IsAbsent, PutIsOf}
 
--- as sets, the new list is the old one with these facts
+-- as sets, the new list is the old one and these facts
 pub record AlsoHas (stated old new : List Fact) : Type 0 where
   pub same : (fact : Fact) → among new fact ≡ among (old ++ stated) fact
 
--- the new image has what the old one has and what is stated, and the environment put what it put in the old one and what is given
+-- the new image has the facts of the old one and those stated; the environment put what it had put in the old one, and those given
 pub record Grows (given stated : List Fact) (old new : Image) : Type 0 where
   pub facts : AlsoHas stated (image_facts old) (image_facts new)
   pub environment : AlsoHas given (image_environment old) (image_environment new)
 
--- by what an event states
+-- the image grows by what an event states
 abbrev pub IsGrownBy : Event → Image → Image → Type 0
 IsGrownBy event = Grows (environment_facts event) (event_facts event)
 
--- an item that is put is absent
+-- if the put is an item, there is none at its address yet
 abbrev pub IsFree : Facts → Put → Type 0
 IsFree X (put.Item address value) = IsAbsent X address
 IsFree X (put.Tag name) = ⊤

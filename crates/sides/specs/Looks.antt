@@ -1,4 +1,4 @@
--- What is looked at of each thing that is held, for all of it to fit a graph. X is what is held.
+-- What is checked of each thing that is held, so that all of it fits a graph. X is what is held.
 use Rattle.std.specs.Prelude.{◌≡◌, ⊤, Bool, true, false, Option, Some, None}
 use Rattle.std.specs.List.{AllByRecursion}
 use Rattle.terms.specs.declared.name.Addr.{Addr}
@@ -14,12 +14,12 @@ use Rattle.codec.specs.Image.{facts_in}
 use Rattle.graph.specs.Graph.{Graph, EnvironmentMayPutItem, EnvironmentMayPutTag}
 use Rattle.graph.specs.Fits.{AddressIsOf, TagIsOf, InstanceIsOf, IsPrescribed}
 
--- an item of the environment is one that it may put; the producer of another is done
+-- the environment may put an item that it put; another item has an address of the graph and a producer that is done
 abbrev pub ItemFits : Graph → Facts → Addr → Producer → Type 0
 ItemFits g X address Env = EnvironmentMayPutItem g address
 ItemFits g X address (By instance number) = AddressIsOf g address × (X (done instance) ≡ true)
 
--- a tag that is marked is one that the environment may put
+-- the environment may put a tag that is marked; another tag is one of the graph
 abbrev pub TagFits : Graph → Tag → Bool → Type 0
 TagFits g name true = EnvironmentMayPutTag g name
 TagFits g name false = TagIsOf g name
@@ -28,15 +28,15 @@ TagFits g name false = TagIsOf g name
 abbrev pub InstanceFits : Graph → Facts → Inst → Type 0
 InstanceFits g X instance = InstanceIsOf g instance × IsPrescribed g X instance
 
--- an instance at fault is so too, and not done
+-- an instance at fault, if there is one, is of the graph, prescribed, and not done
 abbrev pub FaultFits : Graph → Facts → Option (Inst × FaultKind) → Type 0
 FaultFits g X None = ⊤
 FaultFits g X (Some fault) = InstanceFits g X fault.0 × (X (done fault.0) ≡ false)
 
--- the instance at fault and those that are done
+-- the instance at fault and those that are done fit
 abbrev pub InstancesFit : Graph → Image → Type 0
 InstancesFit g image = FaultFits g (facts_in image) image.fault × AllByRecursion (InstanceFits g (facts_in image)) image.done
 
--- the items and the tags
+-- the items and the tags fit
 abbrev pub PutsFit : Graph → Image → Type 0
 PutsFit g image = AllByRecursion (λ it. ItemFits g (facts_in image) it.0 it.2) image.items × AllByRecursion (λ marked. TagFits g marked.0 marked.1) image.tags

@@ -18,19 +18,19 @@ use Rattle.sides.specs.declared.gate.Gate.TheVariants.{Closed, Short, Open}
 use Rattle.sides.specs.declared.reading.Standing.{Standing}
 use Rattle.sides.specs.Side.{counted, IsOpen, HasGeneration, IsSide, end_of}
 
--- what the first ten bytes of a file, or all of fewer, tell of its side
+-- what the first ten bytes of a file say of its side, or all its bytes where it has fewer
 abbrev pub Tells : Gate → List ℕ → Type 0
 Tells Closed bytes = IsOpen bytes → ⊥
 Tells Short bytes = IsOpen bytes × (length bytes < 10)
 Tells (Open generation) bytes = HasGeneration bytes generation
 
--- at this position stands the part, behind its length in four bytes
+-- at this position stand four bytes with the part's length, and then the part
 pub record IsCountedAt (bytes : List ℕ) (at : ℕ) (part : List ℕ) : Type 0 where
   pub short : length part < 2 ^ 32
   pub within : at + 4 + length part ≤ length bytes
   pub spelled : drop at bytes ≡ counted part ++ drop (at + 4 + length part) bytes
 
--- no part stands there whole
+-- no part stands there whole, after its length
 abbrev pub HasNoneAt : List ℕ → ℕ → Type 0
 HasNoneAt bytes at = (part rest : List ℕ) → length part < 2 ^ 32 → drop at bytes ≡ counted part ++ rest → ⊥
 
@@ -42,13 +42,13 @@ IsTextOf text g = Reads text g × (canonical g ≡ text)
 abbrev pub IsImageOf : Graph → List ℕ → Image → Type 0
 IsImageOf g bytes image = SpellsImage bytes image × FitsState g (environment_in image) (facts_in image)
 
--- bytes stand for these commits, one a record, each event of which fits behind what the image has and the events before
+-- the bytes stand for these commits, one a record, and each event fits after the facts of the image and the events before it
 pub record AreCommits (g : Graph) (image : Image) (bytes : List ℕ) (commits : List Commit) : Type 0 where
   pub are_commits : AllByRecursion IsCommit commits
   pub stands : StandsFor bytes (map commit_bytes commits)
   pub fit : AllFit g (image_facts image) (events_of commits)
 
--- such commits stand there, up to this position, and the new image has what the old one has and what they state
+-- the bytes stand for such commits, whose records end here; the new image has what the old one has and what they state
 pub record IsReplayed (g : Graph) (old new : Image) (bytes : List ℕ) (end : ℕ) : Type 0 where
   pub commits : List Commit
   pub are : AreCommits g old bytes commits
@@ -56,7 +56,7 @@ pub record IsReplayed (g : Graph) (old new : Image) (bytes : List ℕ) (end : �
   pub facts : (fact : Fact) → facts_in new fact ≡ among (image_facts old ++ facts (events_of commits)) fact
   pub environment : (fact : Fact) → environment_in new fact ≡ among (image_environment old ++ environment (events_of commits)) fact
 
--- the bytes of the side stand for what was read of them, the text is its graph's, and the journal ends where it says
+-- the side's bytes stand for what was read from them, the text is its graph's, and the journal ends at the position given
 pub record IsRead (bytes : List ℕ) (generation : ℕ) (standing : Standing) : Type 0 where
   pub is_side : IsSide bytes standing.graph generation (environment_in standing.holdings) (facts_in standing.holdings)
   pub ends : standing.end ≡ end_of is_side

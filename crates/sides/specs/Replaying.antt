@@ -16,7 +16,7 @@ use Rattle.sides.specs.declared.replay.Replay.TheVariants.{Ended, Broken}
 use Rattle.sides.specs.Growth.{Grows}
 use Rattle.sides.specs.Reading.{AreCommits, IsReplayed}
 
--- a payload spells a commit whose events fit behind the old image, and the new one has what they state too
+-- a payload spells a commit whose events fit after the old image, and the new image has what they state too
 pub record IsTaken (g : Graph) (old new : Image) (payload : List ℕ) : Type 0 where
   pub commit : Commit
   pub spelled : SpellsCommit payload commit
@@ -27,7 +27,7 @@ pub record IsTaken (g : Graph) (old new : Image) (payload : List ℕ) : Type 0 w
 abbrev pub IsRefused : Graph → Image → List ℕ → Type 0
 IsRefused g old payload = (commit : Commit) → SpellsCommit payload commit → AllFit g (image_facts old) commit → ⊥
 
--- the first bytes, up to this end, are records of commits that fit behind the old image, and the new one has what they state too
+-- a prefix of the bytes, up to this end, is records of commits that fit after the old image; the new one has what they state too
 pub record IsTakenTo (g : Graph) (old new : Image) (bytes : List ℕ) (end : ℕ) : Type 0 where
   pub commits : List Commit
   pub are_commits : AllByRecursion IsCommit commits
@@ -36,17 +36,17 @@ pub record IsTakenTo (g : Graph) (old new : Image) (bytes : List ℕ) (end : ℕ
   pub facts : (fact : Fact) → facts_in new fact ≡ among (image_facts old ++ facts (events_of commits)) fact
   pub environment : (fact : Fact) → environment_in new fact ≡ among (image_environment old ++ environment (events_of commits)) fact
 
--- the bytes stand for commits that fit behind the old image, up to their end, or for none
+-- the bytes stand for commits that fit after the old image, up to this end, or they stand for no such commits
 abbrev pub Replays : Graph → Image → Image → List ℕ → Replay → Type 0
 Replays g old new bytes (Ended end) = IsReplayed g old new bytes end
 Replays g old new bytes (Broken place) = (commits : List Commit) → AreCommits g old bytes commits → ⊥
 
--- where all were taken, the numbers of the image's puts are such as a put may have
+-- where all were taken, the image's puts have numbers that a put may have
 abbrev pub IsNumbered : Image → Replay → Type 0
 IsNumbered new (Ended end) = AllByRecursion HasPutNumber new.items
 IsNumbered new (Broken place) = ⊤
 
--- its position lies among the bytes, or at their end
+-- the position of the result lies among the bytes, or at their end
 abbrev pub IsWithin : List ℕ → Replay → Type 0
 IsWithin bytes (Ended end) = end ≤ length bytes
 IsWithin bytes (Broken place) = place ≤ length bytes

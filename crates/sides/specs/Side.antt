@@ -19,7 +19,7 @@ use Rattle.graph.specs.Fits.{FitsState, AllFit}
 abbrev pub FORMAT : ℕ
 FORMAT = 1
 
--- bytes behind their number in four
+-- the number of the bytes, in four bytes, and then the bytes
 abbrev pub counted : List ℕ → List ℕ
 counted bytes = little_bytes 4 (length bytes) ++ bytes
 
@@ -31,12 +31,12 @@ behind_gate generation text image journal = FORMAT ∷ little_bytes 8 generation
 abbrev pub IsOpen : List ℕ → Type 0
 IsOpen bytes = (rest : List ℕ) × (bytes ≡ 1 ∷ rest)
 
--- it is open, and so long that it has a generation, whatever its format
+-- it is open, and long enough to have a generation, whatever its format
 abbrev pub HasGeneration : List ℕ → ℕ → Type 0
 HasGeneration bytes generation = (generation < 2 ^ 64) × ((format : ℕ) × (rest : List ℕ) × (bytes ≡ 1 ∷ format ∷ little_bytes 8 generation ++ rest))
 
--- The open side of this generation stands for a graph and the facts X, of which the environment put E: those of its image,
--- and of the events in its journal, one commit a record, each event of which fits. The bodies of steps play no part.
+-- The open side of this generation stands for a graph and the facts X, of which the environment put E. The facts are those of its
+-- image and of the events in its journal, one commit a record; each event fits. The bodies of steps play no part.
 pub record IsSide (bytes : List ℕ) (g : Graph) (generation : ℕ) (E X : Facts) : Type 0 where
   pub small : generation < 2 ^ 64
   pub reads : Reads (canonical g) g
@@ -66,7 +66,7 @@ facts_of side = image_facts side.image ++ facts (events_of side.commits)
 
 -- ---- laws
 
--- the bytes of a side stand for one generation, one graph and one set of facts at most
+-- the bytes of a side stand for at most one generation, one graph and one set of facts
 pub record SameSide (g h : Graph) (m n : ℕ) (E F X Y : Facts) : Type 0 where
   pub generation : m ≡ n
   pub graph : g ≡ h
@@ -76,14 +76,14 @@ pub record SameSide (g h : Graph) (m n : ℕ) (E F X Y : Facts) : Type 0 where
 abbrev pub OneMeaning : Type 0
 OneMeaning = (bytes : List ℕ) (g h : Graph) (m n : ℕ) (E F X Y : Facts) → IsSide bytes g m E X → IsSide bytes h n F Y → SameSide g h m n E F X Y
 
--- a side that stands for something has its generation, and bytes have one at most
+-- a side that stands for something has its generation, and bytes have at most one
 abbrev pub StandsWithGeneration : Type 0
 StandsWithGeneration = (bytes : List ℕ) (g : Graph) (n : ℕ) (E X : Facts) → IsSide bytes g n E X → HasGeneration bytes n
 
 abbrev pub OneGeneration : Type 0
 OneGeneration = (bytes : List ℕ) (m n : ℕ) → HasGeneration bytes m → HasGeneration bytes n → m ≡ n
 
--- behind the closed gate that ends its journal a side may have any bytes
+-- after the closed gate that ends its journal a side may have any bytes
 abbrev pub AnyRest : Type 0
 AnyRest = (bytes : List ℕ) (g : Graph) (n : ℕ) (E X : Facts) (side : IsSide bytes g n E X)
     → (front : List ℕ) × (rest : List ℕ) × (bytes ≡ front ++ rest) × (length front ≡ end_of side + 1) × ((other : List ℕ) → IsSide (front ++ other) g n E X)

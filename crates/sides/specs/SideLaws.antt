@@ -1,4 +1,4 @@
--- The laws of a side that a store stands on: what other bytes stand for that begin as a side does, and what a side is made of.
+-- The laws of a side that a store uses: what bytes that begin as a side does stand for, and what makes a side.
 use Rattle.std.specs.Prelude.{◌≡◌, ◌<◌, ◌+◌, ◌^◌, ℕ, List, [], ◌∷◌, ◌++◌, length, map, take, drop}
 use Rattle.terms.specs.Commits.{Commit}
 use Rattle.terms.specs.Facts.{facts, environment}
@@ -15,7 +15,7 @@ use Rattle.graph.specs.Fits.{AllFit, FitsState, HasOneItemEach}
 use Rattle.graph.specs.FitLaws.{SameSet}
 use Rattle.sides.specs.Side.{behind_gate, IsSide, start_of, end_of, facts_of}
 
--- from where its journal begins on, a side's bytes are a journal of its commits
+-- from the position where its journal begins, a side's bytes are a journal of its commits
 abbrev pub HasJournal : Type 0
 HasJournal = (bytes : List ℕ) (g : Graph) (generation : ℕ) (E X : Facts) (side : IsSide bytes g generation E X) → StandsFor (drop (start_of side) bytes) (map commit_bytes side.commits)
 
@@ -25,14 +25,14 @@ StaysAlike = (bytes other : List ℕ) (g : Graph) (generation : ℕ) (E X : Fact
     → take (start_of side) other ≡ take (start_of side) bytes → StandsFor (drop (start_of side) other) (map commit_bytes side.commits)
     → (same : IsSide other g generation E X) × (end_of same ≡ end_of side)
 
--- those that go on with a journal of one commit more, whose events fit, stand for what it leaves
+-- those that go on with a journal of one commit more, whose events fit, stand for what that commit leaves
 abbrev pub GrowsByCommit : Type 0
 GrowsByCommit = (bytes other : List ℕ) (g : Graph) (generation : ℕ) (E X : Facts) (side : IsSide bytes g generation E X) (commit : Commit)
     → IsCommit commit → AllFit g (facts_of side) commit
     → take (start_of side) other ≡ take (start_of side) bytes → StandsFor (drop (start_of side) other) (map commit_bytes side.commits ++ commit_bytes commit ∷ [])
     → (grown : IsSide other g generation (with_facts E (environment commit)) (with_facts X (facts commit))) × (end_of grown ≡ end_of side + length (record_of (commit_bytes commit)))
 
--- how the facts are listed plays no part
+-- a side that stands for some sets of facts stands for equal sets too
 abbrev pub SideAsSet : Type 0
 SideAsSet = (bytes : List ℕ) (g : Graph) (generation : ℕ) (E F X Y : Facts) → SameSet E F → SameSet X Y → (side : IsSide bytes g generation E X)
     → (same : IsSide bytes g generation F Y) × (end_of same ≡ end_of side)
@@ -41,13 +41,13 @@ SideAsSet = (bytes : List ℕ) (g : Graph) (generation : ℕ) (E F X Y : Facts) 
 abbrev pub SideFits : Type 0
 SideFits = (bytes : List ℕ) (g : Graph) (generation : ℕ) (E X : Facts) → IsSide bytes g generation E X → FitsState g E X
 
--- an image that fits, behind the text of its graph, and a closed gate are a side without records
+-- the text of a graph, an image that fits it, and a closed gate make a side without records
 abbrev pub BeginsSide : Type 0
 BeginsSide = (g : Graph) (generation : ℕ) (image : Image) → generation < 2 ^ 64 → Reads (canonical g) g → IsImage image → length (image_bytes image) < 2 ^ 32
     → FitsState g (environment_in image) (facts_in image)
     → (side : IsSide (1 ∷ behind_gate generation (canonical g) (image_bytes image) (0 ∷ [])) g generation (environment_in image) (facts_in image))
     × (end_of side ≡ length (1 ∷ behind_gate generation (canonical g) (image_bytes image) []))
 
--- an image whose lists rise has one item at an address
+-- an image whose lists are in rising order has at most one item at an address
 abbrev pub ListedOnce : Type 0
 ListedOnce = (image : Image) → IsListed image → HasOneItemEach (facts_in image)

@@ -10,7 +10,7 @@ pub enum SideError {
     /// The part at this position is the first that is wrong.
     #[error("damaged at {0}")]
     Damaged(u64),
-    /// A growth was refused.
+    /// Memory was refused.
     #[error("no memory")]
     NoMemory,
 }

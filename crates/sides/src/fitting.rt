@@ -18,21 +18,21 @@ impl Holdings {
         self.instances_fit(graph) && self.puts_fit(graph)
     }
 
-    // The instance at fault and those that are done.
+    // Whether the instance at fault and those that are done fit.
     fn instances_fit(&self, graph: &Graph) -> bool
         ensures { IsTrue result ↔ InstancesFit graph.now self.now }
     {
         self.fault_fits(graph) && self.done_fit(graph)
     }
 
-    // The items and the tags.
+    // Whether the items and the tags fit.
     fn puts_fit(&self, graph: &Graph) -> bool
         ensures { IsTrue result ↔ PutsFit graph.now self.now }
     {
         self.items_fit(graph) && self.tags_fit(graph)
     }
 
-    // An instance at fault is of the graph, prescribed, and not done.
+    // Whether the instance at fault, if there is one, is of the graph, prescribed, and not done.
     fn fault_fits(&self, graph: &Graph) -> bool
         ensures { IsTrue result ↔ FaultFits graph.now (facts_in self.now) self.now.fault }
     {
@@ -42,7 +42,7 @@ impl Holdings {
         }
     }
 
-    // Each item.
+    // Whether each item fits.
     fn items_fit(&self, graph: &Graph) -> bool
         ensures { IsTrue result ↔ AllByRecursion (λ it. ItemFits graph.now (facts_in self.now) it.0 it.2) self.now.items }
     {
@@ -54,7 +54,7 @@ impl Holdings {
         true
     }
 
-    // Each tag.
+    // Whether each tag fits.
     fn tags_fit(&self, graph: &Graph) -> bool
         ensures { IsTrue result ↔ AllByRecursion (λ marked. TagFits graph.now marked.0 marked.1) self.now.tags }
     {
@@ -66,7 +66,7 @@ impl Holdings {
         true
     }
 
-    // Each done instance.
+    // Whether each done instance fits.
     fn done_fit(&self, graph: &Graph) -> bool
         ensures { IsTrue result ↔ AllByRecursion (InstanceFits graph.now (facts_in self.now)) self.now.done }
     {
@@ -78,7 +78,7 @@ impl Holdings {
         true
     }
 
-    // An item of the environment is one that it may put; the producer of another is done.
+    // Whether the environment may put the item, if it did; else whether the address is of the graph and the producer is done.
     fn item_fits(&self, graph: &Graph, address: &Addr, producer: &Producer) -> bool
         ensures { IsTrue result ↔ ItemFits graph.now (facts_in self.now) address.now producer.now }
     {
@@ -88,14 +88,14 @@ impl Holdings {
         }
     }
 
-    // The instance is of the graph and prescribed.
+    // Whether the instance is of the graph and prescribed.
     fn instance_fits(&self, graph: &Graph, instance: &Inst) -> bool
         ensures { IsTrue result ↔ InstanceFits graph.now (facts_in self.now) instance.now }
     {
         graph.is_instance(instance) && self.is_prescribed(graph, instance)
     }
 
-    // A tag that is held prescribes the instance.
+    // Whether a tag that is held prescribes the instance.
     pub(crate) fn is_prescribed(&self, graph: &Graph, instance: &Inst) -> bool
         ensures { IsTrue result ↔ IsPrescribed graph.now (facts_in self.now) instance.now }
     {
@@ -108,7 +108,7 @@ impl Holdings {
         }
     }
 
-    // The tag is held.
+    // Whether the tag is held.
     fn has_tag(&self, name: &Tag) -> bool
         ensures { result ≡ facts_in self.now (tag name.now) }
     {
@@ -117,7 +117,7 @@ impl Holdings {
         self.tags.contains_key(name)
     }
 
-    // The instance is done.
+    // Whether the instance is done.
     pub(crate) fn is_done(&self, instance: &Inst) -> bool
         ensures { result ≡ facts_in self.now (done instance.now) }
     {
@@ -127,7 +127,7 @@ impl Holdings {
     }
 }
 
-// A tag of the environment is one that it may put.
+// Whether the environment may put the tag, if it did; else whether the tag is of the graph.
 fn tag_fits(graph: &Graph, name: &Tag, mark: bool) -> bool
     ensures { IsTrue result ↔ TagFits graph.now name.now mark }
 {

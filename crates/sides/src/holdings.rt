@@ -4,7 +4,7 @@ use std::collections::{BTreeMap, BTreeSet};
 use std::marker::Model;
 use terms::{Addr, FaultKind, Inst, Producer, Tag};
 
-/// What a store holds, by name. It is seen as the image that lists it.
+/// What a store holds, by name. Contracts see it as the image that lists it.
 #[derive(Drop)]
 pub struct Holdings {
     /// The instance at fault, if there is one.
@@ -28,7 +28,7 @@ impl Model for Holdings {
 impl Holdings {
     ghost use Rattle.std.specs.Prelude.{◌≡◌, [], None};
 
-    /// Nothing.
+    /// Holds nothing.
     pub fn new(alloc: Global) -> Self
         ensures { result ≡ record { fault = None; items = []; tags = []; done = [] } }
     {

@@ -54,7 +54,7 @@ impl Holdings {
     }
 }
 
-// Items that rise, by their addresses.
+// A map of the items by address, made from a list in rising order.
 fn items_by_name(alloc: Global, items: Items) -> Result<BTreeMap<Addr, (i64, Producer)>, AllocError>
     requires { Rises item_cmp items }
     ensures { IfOk result (λ held. map named held.entries ≡ items) }
@@ -67,7 +67,7 @@ fn items_by_name(alloc: Global, items: Items) -> Result<BTreeMap<Addr, (i64, Pro
         .collect(alloc)
 }
 
-// Tags that rise, with their marks.
+// A map of the tags with their marks, made from a list in rising order.
 fn tags_by_name(alloc: Global, tags: Tags) -> Result<BTreeMap<Tag, bool>, AllocError>
     requires { Rises marked_cmp tags }
     ensures { IfOk result (λ held. held.entries ≡ tags) }
@@ -76,7 +76,7 @@ fn tags_by_name(alloc: Global, tags: Tags) -> Result<BTreeMap<Tag, bool>, AllocE
     tags.into_vec().into_iter().collect(alloc)
 }
 
-// Done instances that rise.
+// A set of the done instances, made from a list in rising order.
 fn done_by_name(alloc: Global, done: Instances) -> Result<BTreeSet<Inst>, AllocError>
     requires { Rises inst_cmp done }
     ensures { IfOk result (λ held. held.keys ≡ done) }

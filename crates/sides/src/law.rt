@@ -7,7 +7,7 @@ use graph::{fitting, one_reading};
 use journal::one_meaning;
 use terms::{facts_are_told_apart, facts_go_on, orders_are_total};
 
-/// The bytes of a side stand for one graph, one generation and one set of facts at most, whatever lies behind the gate
+/// The bytes of a side stand for at most one graph, one generation and one set of facts, whatever bytes come after the gate
 /// that ends its journal.
 pub fn one_meaning_of_a_side()
     ensures one { OneMeaning }
@@ -21,8 +21,8 @@ pub fn one_meaning_of_a_side()
     one_reading();
 }
 
-/// What a side's bytes stand for when others follow its image: the same where they are a journal of the same commits, what a
-/// commit more leaves where they are a journal of one commit more. Its facts fit its graph, and an image that fits makes a side.
+/// What a side's bytes stand for when other bytes follow its image: a journal of the same commits gives the same, a journal
+/// of one commit more gives what that commit leaves. The facts of a side fit its graph, and an image that fits makes a side.
 pub fn sides_go_on()
     ensures journal { HasJournal }
     ensures alike { StaysAlike }
@@ -36,7 +36,7 @@ pub fn sides_go_on()
     fitting();
 }
 
-/// An image whose lists rise has one item at an address.
+/// An image whose lists are in rising order has at most one item at an address.
 pub fn one_item_each()
     ensures { ListedOnce }
 {

@@ -1,7 +1,7 @@
 //! One side of a store: its bytes, and what they stand for.
 //!
 //! A side is a gate, a head, the canonical text of its graph, an image and a journal (`IsSide` of `specs/Side.antt`). The layer above
-//! stands on `read_side`, which answers what the bytes of a side stand for, on `spell_side`, and on the laws of `law`.
+//! uses `read_side`, which returns what the bytes of a side stand for, `spell_side`, and the laws of `law`.
 #![tactic(auto)]
 
 mod error;

@@ -1,4 +1,4 @@
-//! The parts of a side in front of its journal. That a part is not there is no error: it is answered by `None`.
+//! The parts of a side before its journal. A missing part is no error here: the functions return `None`.
 ghost use Rattle.std.specs.Prelude.{◌≡◌, ◌≤◌, length, IfOk, IfSome, MatchOption};
 ghost use Rattle.std.specs.List.{AllByRecursion};
 ghost use Rattle.codec.specs.declared.image.Image.{Image as Listed};
@@ -13,10 +13,10 @@ use codec::{CodecError, decode_image, spellings_of_images};
 use graph::{Graph, GraphError, one_reading, parse_spelled, reads_without_fault};
 use std::alloc::{AllocError, Global};
 
-/// The bytes in front of a part that are its length.
+/// The number of bytes that spell a part's length, before the part.
 pub(crate) const COUNT: usize = 4;
 
-/// The part that stands whole at a position, behind its length.
+/// The part whose length stands at a position, if the part is there whole.
 pub(crate) fn counted_at(bytes: &[u8], at: usize) -> Option<&[u8]>
     requires { at ≤ length bytes.now }
     ensures { MatchOption result (HasNoneAt bytes.now at) (λ part. IsCountedAt bytes.now at part.now) }
@@ -32,7 +32,7 @@ pub(crate) fn counted_at(bytes: &[u8], at: usize) -> Option<&[u8]>
     Some(&rest[COUNT..COUNT + count])
 }
 
-/// The graph that has this canonical text, and the text anew.
+/// The graph that has this canonical text, and the text spelled anew.
 pub(crate) fn read_graph(alloc: Global, text: &[u8]) -> Result<Option<(Graph, Vec<u8>)>, AllocError>
     ensures { IfOk result (λ found. MatchOption found ((g : Meant) → IsTextOf text.now g → ⊥) (λ both. IsTextOf text.now both.0 × (both.1.items ≡ canonical both.0))) }
 {
@@ -53,7 +53,7 @@ pub(crate) fn read_graph(alloc: Global, text: &[u8]) -> Result<Option<(Graph, Ve
     }
 }
 
-/// What the image lists that these bytes spell, where it fits the graph.
+/// The image that these bytes spell, by name, if it fits the graph.
 pub(crate) fn read_image(
     alloc: Global,
     graph: &Graph,

@@ -26,9 +26,9 @@ pub struct Standing {
 
 /// Reads the bytes of an open side that has its generation.
 ///
-/// `Damaged` tells the place of the first check that failed: the format, at 1; the length of the graph's text, at 10, and the text
-/// itself, at 14; the image, at its length's place; and of the journal the gate of the first record that is not whole with a gate
-/// behind it, is no commit or does not fit, or where its first byte is missing.
+/// `Damaged` gives the position of the first check that failed: 1 for the format; 10 for the length of the graph's text;
+/// 14 for that text; the position of the image's length for the image; for the journal, the gate of the first record that is
+/// not whole and followed by a gate, is no commit or does not fit, or the place where the journal's first byte is missing.
 pub fn read_side(alloc: Global, bytes: &[u8]) -> Result<Standing, SideError>
     requires { IsOpen bytes.now × (10 ≤ length bytes.now) }
     ensures read { IfOk result (λ standing. (generation : ℕ) → HasGeneration bytes.now generation → IsRead bytes.now generation standing) }

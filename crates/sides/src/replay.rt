@@ -50,7 +50,7 @@ pub(crate) fn take_commits(
     }
 }
 
-// Takes the commit that a payload spells, which is of one event, and says whether it is one and fits.
+// Takes the commit of one event that a payload spells. Returns whether the payload spells one that fits.
 fn take_commit(
     alloc: Global,
     graph: &Graph,

@@ -12,10 +12,10 @@ use std::alloc::AllocError;
 // The gate that ends a journal.
 const CLOSED: u8 = 0;
 
-/// Appends a side behind its gate: of this generation, with this graph text and this image, and no record. It tells whether the
-/// image's bytes can be counted in four: where they cannot, what is appended is no side.
+/// Appends what follows a side's gate: this generation, this graph text, this image, and no record. Returns whether four
+/// bytes can hold the number of the image's bytes; if they cannot, what was appended is no side.
 ///
-/// The error is that memory was refused; what `out` holds then is open.
+/// An error says that memory was refused; what `out` holds then is unspecified.
 pub fn spell_side(
     out: &mut Vec<u8>,
     generation: u64,
@@ -35,7 +35,7 @@ pub fn spell_side(
     Ok(counted)
 }
 
-// The format and the generation.
+// Appends the format and the generation.
 fn put_head(out: &mut Vec<u8>, generation: u64) -> Result<(), AllocError>
     ensures { OnOk result (out.new.items ≡ out.old.items ++ FORMAT ∷ little_bytes 8 generation) }
 {
@@ -45,7 +45,7 @@ fn put_head(out: &mut Vec<u8>, generation: u64) -> Result<(), AllocError>
     out.extend_from_slice(&bytes)
 }
 
-// A text behind its length.
+// Appends the length of a text, and the text.
 fn put_text(out: &mut Vec<u8>, text: &[u8]) -> Result<(), AllocError>
     requires { length text.now < 2 ^ 32 }
     ensures { OnOk result (out.new.items ≡ out.old.items ++ counted text.now) }
@@ -56,7 +56,7 @@ fn put_text(out: &mut Vec<u8>, text: &[u8]) -> Result<(), AllocError>
     out.extend_from_slice(text)
 }
 
-// An image behind its length, which is written over four bytes once the image stands there, and whether it can be.
+// Appends the length of an image in four bytes, and the image. Returns whether the length fits in four bytes.
 fn put_image(out: &mut Vec<u8>, image: &Image) -> Result<bool, AllocError>
     requires { IsInOrder image.now }
     ensures spelled { OnOk result (length (image_bytes image.now) < 2 ^ 32 → out.new.items ≡ out.old.items ++ counted (image_bytes image.now)) }

@@ -13,8 +13,8 @@ use std::alloc::AllocError;
 use terms::{Addr, Event, FaultKind, Inst, Producer, Put, Tag, facts_are_told_apart};
 
 impl Holdings {
-    /// Takes an event that fits behind what is held, and says whether it fits. Where it does not, or memory is refused, what
-    /// is held is left open.
+    /// Takes an event if it fits what is held, and returns whether it fits. If it does not, or memory is refused, what is
+    /// held afterwards is unspecified.
     pub fn take(&mut self, graph: &Graph, event: &Event) -> Result<bool, AllocError>
         requires { HasFewPuts event.now }
         ensures fits { IfOk result (λ taken. IsTrue taken ↔ Fits graph.now (facts_in self.old) event.now) }
@@ -75,7 +75,7 @@ impl Holdings {
         Ok(true)
     }
 
-    /// Takes the fault of an instance, where none is at fault.
+    /// Takes the fault of an instance, if it may end; none is at fault before.
     fn take_fault(&mut self, graph: &Graph, instance: &Inst, kind: FaultKind) -> bool
         requires { self.old.fault ≡ None }
         ensures fits { IsTrue result ↔ MayEnd graph.now (facts_in self.old) instance.now }
@@ -120,7 +120,7 @@ impl Holdings {
         Ok(true)
     }
 
-    /// Takes the put of an instance that has this number.
+    /// Takes the put of an instance with this number.
     fn take_put(
         &mut self,
         graph: &Graph,
@@ -149,7 +149,7 @@ impl Holdings {
         }
     }
 
-    /// Puts an item in its place, and says whether its address was free.
+    /// Puts an item in its place, and returns whether its address was free.
     fn hold_item(&mut self, address: &Addr, value: i64, by: Producer) -> Result<bool, AllocError>
         ensures free { IfOk result (λ free. IsTrue free ↔ IsAbsent (facts_in self.old) address.now) }
         ensures grown { IfOk result (λ free. IsTrue free → Grows (environment_item address.now value by) (item address.now value by ∷ []) self.old self.new) }
@@ -160,7 +160,7 @@ impl Holdings {
         Ok(old.is_none())
     }
 
-    /// Puts a tag in its place with a mark, and says whether it was absent. The mark of one that is held stays.
+    /// Puts a tag in its place with a mark, and returns whether it was absent. A tag that is held already keeps its mark.
     fn hold_tag(&mut self, name: &Tag, mark: bool) -> Result<bool, AllocError>
         ensures absent { IfOk result (λ absent. IsTrue absent ↔ (facts_in self.old (tag name.now) ≡ false)) }
         ensures grown { IfOk result (λ absent. IsTrue absent → Grows (environment_tag (name.now, mark)) (tag name.now ∷ []) self.old self.new) }
