@@ -1,4 +1,4 @@
--- What a store stands for while a commit is appended, and then.
+-- What a store stands for while a commit is appended, and afterwards.
 use Rattle.std.proofs.Common.{◌≡◌, ◌≢◌, ◌+◌, ◌≤◌, ◌<◌, ℕ, List, [], ◌∷◌, ◌++◌, length, take, drop, map, inl, inr, sym, ap, subst, ◌∙◌, arith, length-append, length-take, length-drop, take-append-drop}
 use Rattle.std.proofs.lemmas.List.{take-append-le}
 use Rattle.disk.specs.declared.side.Side.{Side}
@@ -33,7 +33,7 @@ other_differs B same = cc
 pub alone : (all items front bytes : List ℕ) → all ≡ items → items ≡ front ++ bytes → front ≡ [] → all ≡ bytes
 alone all items front bytes is added none = is ∙ added ∙ ap (λ (l : List ℕ). l ++ bytes) none
 
--- a write keeps what stands in front of it
+-- a write keeps what comes before it
 front_kept : (old bytes : List ℕ) (start from : ℕ) → start ≤ from → from ≤ length old → take start (overwritten old from bytes) ≡ take start old
 front_kept old bytes start from before within =
     let reaches : start ≤ length (take from old) = omega (arith, before, within, length-take from old) in
@@ -76,14 +76,14 @@ module _ (has_journal : HasJournal) {D : Type 0} (files : D → Side → File) (
       rests : (side : Side) → left side ≡ holds.contents side
       rests side = settled_only (holds.contents side) (left side) (subst (λ (f : File). MayLeave f.durable (left side)) (holds.rests side) (now side))
 
-  -- of the side that is not live it leaves what was there
+  -- it leaves the side that is not live as it was
   still_behind : (left : Contents) → OtherMayBe live (files vault.disk) left → IsBehind (left (other_side live)) vault.generation
   still_behind left others =
       let there = other_side live in
       let same : left there ≡ holds.contents there = settled_only (holds.contents there) (left there) (subst (λ (f : File). MayLeave f.durable (left there)) (holds.rests there) (others there (other_differs live))) in
       subst (λ (bytes : List ℕ). IsBehind bytes vault.generation) (sym same) holds.is_live.behind
 
-  -- an event that fits the facts fits behind those of the side, as they are listed
+  -- an event that fits the facts fits after those of the side, as they are listed
   pub event_fits : EventAsSet → (event : Event) → Fits g X event → AllFit g (facts_of is_side) (event ∷ [])
   event_fits as_set event fits = (as_set g X (among (facts_of is_side)) event is_side.facts fits, tt)
 
@@ -94,7 +94,7 @@ module _ (has_journal : HasJournal) {D : Type 0} (files : D → Side → File) (
     abbrev X_after : Facts
     X_after = with_facts X (facts commit)
 
-    -- a crash while the commit is appended
+    -- what a crash leaves while the commit is appended
     stands_either : (left : Contents) → BeforeOrAfter start (holds.contents live) payloads (commit_bytes commit) (left live) × OtherMayBe live (files vault.disk) left → StandsBeforeOrAfter g E X commit left
     stands_either left either = elim either.0.stands [
       | inl before ↦ inl (live, vault.generation, record { is_side = (alike (holds.contents live) (left live) g vault.generation E X is_side either.0.front before).0; behind = still_behind left either.1 })
@@ -108,7 +108,7 @@ module _ (has_journal : HasJournal) {D : Type 0} (files : D → Side → File) (
         weakened moment left_at vault.disk new _ _ only
         (λ left either. stands_either left (subst (λ (p : List ℕ). BeforeOrAfter start (holds.contents live) payloads p (left live)) spelled either.0, either.1))
 
-    -- and when it was
+    -- and after it was appended
     module _ (new : Vault D) (side : new.journal.side ≡ live) (generation : new.generation ≡ vault.generation) (text : new.text.items ≡ vault.text.items) (bytes : List ℕ)
         (others : OtherStays live (files vault.disk) (files new.disk)) (file : files new.disk live ≡ at_rest (overwritten (files vault.disk live).content vault.journal.end bytes))
         (at : IsAt new.journal start (files new.disk live).content (payloads ++ commit_bytes commit ∷ []))

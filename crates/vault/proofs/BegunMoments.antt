@@ -27,7 +27,7 @@ module _ {D : Type 0} (files : D → Side → File) (moment : D → ℕ) (left_a
       → LeavesOnly moment left_at old new BComesFirst
   closed old new P rests only = weakened moment left_at old new _ _ only (λ c left. a_is_empty old rests c (left.1 A a_is_not_b))
 
-  -- and then, while A is written
+  -- and while A is written after that
   pub written : (old mid new : D) (P : Contents → Type 0) → LeavesOnly moment left_at old mid BComesFirst → files mid B ≡ at_rest (0 ∷ [])
       → LeavesOnly moment left_at mid new (λ c. P c × OtherMayBe A (files mid) c) → LeavesOnly moment left_at old new BComesFirst
   written old mid new P before rests only =

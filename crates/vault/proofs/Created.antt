@@ -1,4 +1,4 @@
--- What a store is made of that holds no facts.
+-- What makes a store that holds no facts.
 use Rattle.std.proofs.Common.{◌≡◌, ◌<◌, ◌^◌, ◌+◌, ℕ, List, [], ◌∷◌, ◌++◌, length, inl, sym, ap, subst, ◌∙◌, arith, length-append}
 use Rattle.disk.specs.declared.side.Side.{Side}
 use Rattle.disk.specs.declared.side.Side.TheVariants.{A, B}
@@ -50,7 +50,7 @@ gate_last text =
     let head = text ++ counted (image_bytes empty) in
     omega (arith, length-append head (0 ∷ []), length-append head [])
 
--- what is spelled behind a closed gate
+-- what is spelled after a closed gate
 module _ (text old new : List ℕ) (image : Image) (is : image ≡ empty) (gate : old ≡ 0 ∷ [])
     (spelled : length (image_bytes image) < 2 ^ 32 → new ≡ old ++ behind_gate 1 text (image_bytes image) (0 ∷ [])) where
   pub side_spelled : new ≡ 0 ∷ behind_gate 1 text (image_bytes empty) (0 ∷ [])

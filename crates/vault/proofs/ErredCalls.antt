@@ -1,4 +1,4 @@
--- That a call of the disk answered an error, in one of two calls.
+-- Whether a call of the disk returned an error, in one of two calls.
 use Rattle.std.proofs.Common.{◌≡◌, ◌≢◌, ◌≤◌, ◌⊎◌, inl, inr, ℕ, zero, suc, refl, sym, ap, ◌∙◌, arith}
 use Rattle.std.specs.Prelude.{Result, Ok, Err, IsErrOf}
 use Rattle.disk.specs.Time.{Contents, HasCauses, HasErred}
@@ -8,7 +8,7 @@ use Rattle.vault.specs.Store.{SaysNothing}
 use Rattle.vault.specs.Opened.{HeadsFault, IsOfAhead, TellsWhy, StandsForNothing}
 use Rattle.vault.proofs.HeadsFaults.{same_error}
 
--- two numbers that do not differ are one
+-- two numbers that do not differ are equal
 pub one_number : (m n : ℕ) → (m ≢ n → ⊥) → m ≡ n
 one_number zero zero never = refl
 one_number zero (suc n) never = absurd (never (λ same. absurd (omega (arith, same))))
@@ -16,7 +16,7 @@ one_number (suc m) zero never = absurd (never (λ same. absurd (omega (arith, sa
 one_number (suc m) (suc n) never = ap suc (one_number m n (λ differ. never (λ same. differ (omega (arith, same)))))
 
 module _ {D : Type 0} (failures refusals : D → ℕ) (old mid new : D) where
-  -- in the second, where the first answered none
+  -- if the first refused no memory, an error in the second is an error in the two
   pub erred_behind : failures old ≤ failures mid → refusals mid ≡ refusals old → HasErred failures refusals mid new → HasErred failures refusals old new
   erred_behind later same (inl failed) = inl (omega (arith, later, failed))
   erred_behind later same (inr refused) = inr (λ is. refused (is ∙ sym same))
@@ -25,7 +25,7 @@ module _ {D : Type 0} (failures refusals : D → ℕ) (old mid new : D) where
 pub ok_is_no_error : {T : Type 0} (value : T) (error : VaultError) → IsErrOf (Ok value) error → ⊥
 ok_is_no_error value error is = absurd (cc)
 
--- a call that answered `Ok` counts none
+-- a call that returned `Ok` counts no refusal
 pub none_refused : {D T : Type 0} (failures refusals : D → ℕ) (old new : D) (value : T) → HasCauses failures refusals Device NoMemory old new (Ok value) → refusals new ≡ refusals old
 none_refused failures refusals old new value causes = one_number (refusals new) (refusals old) (λ changed. ok_is_no_error value NoMemory (causes.refused changed))
 
@@ -33,9 +33,9 @@ pub none_erred : {D T : Type 0} (failures refusals : D → ℕ) (old new : D) (v
 none_erred failures refusals old new value causes (inl failed) = ok_is_no_error value Device (causes.device.1 failed)
 none_erred failures refusals old new value causes (inr changed) = ok_is_no_error value NoMemory (causes.refused changed)
 
--- ---- the answer with its disk
+-- ---- the result with its disk
 
--- the same error, of another value
+-- the same error, in a result of another type
 pub other_error : {S T : Type 0} (error fault : VaultError) → IsErrOf {T = S} (Err error) fault → IsErrOf {T = T} (Err error) fault
 other_error {S} {T} error fault is = ap (λ (it : VaultError). Err it) (same_error {T = S} error fault is)
 

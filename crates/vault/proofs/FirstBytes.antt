@@ -34,7 +34,7 @@ turned_there old behind bytes there (inr turned) none = cc
 
 module _ {D : Type 0} (files : D → Side → File) (moment : D → ℕ) (left_at : D → ℕ → Contents → Type 0) where
   module _ (old : D) (rests : (side : Side) → Rests (files old side)) (gates : HasGates (contents_of (files old))) where
-    -- of a file at rest a crash leaves the first byte
+    -- a crash leaves the first byte of a file at rest
     rest_there : (side : Side) (bytes : List ℕ) → MayLeave (files old side).durable bytes → bytes ≢ []
     rest_there side bytes left none =
         gates side (sym (settled_only (files old side).content bytes (subst (λ (f : File). MayLeave f.durable bytes) (rests side) left)) ∙ none)

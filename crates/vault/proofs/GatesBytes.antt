@@ -14,7 +14,7 @@ use Rattle.vault.specs.Turned.{IsShut, IsUnshut, MayShut, MayTurn}
 pub not_open : (bytes : List ℕ) → IsShut bytes → IsOpen bytes → ⊥
 not_open bytes shut open_one = let is = shut.spelled in let same = open_one.1 in shut.closed cc
 
--- with some first byte they are open, with just these bytes behind, or their gate is not open
+-- bytes after any gate: either the gate is open, and just these bytes follow it, or the gate is not open
 pub by_gate : (gate : ℕ) (rest bytes : List ℕ) → bytes ≡ gate ∷ rest → (bytes ≡ 1 ∷ rest) ⊎ IsShut bytes
 by_gate gate rest bytes is = elim (cases_eq gate 1) [
   | inl one ↦ inl (is ∙ ap (λ (g : ℕ). g ∷ rest) one)
@@ -36,7 +36,7 @@ closing_leaves old bytes (inr open_one) there left =
       | inr closed ↦ inr closed
     ]
 
--- one over a gate that is not open leaves those bytes behind an open gate, or a gate that is not open
+-- such a write over a gate that is not open leaves its bytes after an open gate, or after a gate that is not open
 pub opening_leaves : (gate : ℕ) (rest old bytes : List ℕ) → WriteLeaves (gate ∷ rest) 0 1 bytes → MayTurn old (1 ∷ rest) bytes
 opening_leaves gate rest old bytes left =
     let it = first_only gate rest bytes left in
@@ -49,13 +49,13 @@ opening_leaves gate rest old bytes left =
 pub closed_over : (old : List ℕ) → IsShut (overwritten old 0 (0 ∷ []))
 closed_over old = record { gate = 0; closed = omega arith; rest = drop 1 old; spelled = refl }
 
--- bytes written behind a gate alone
+-- bytes written after a gate alone
 pub written_behind : (gate : ℕ) (bytes : List ℕ) → overwritten (gate ∷ []) 1 bytes ≡ gate ∷ bytes
 written_behind gate bytes = ap (λ (l : List ℕ). gate ∷ (bytes ++ l)) (drop_all (1 + length bytes) (gate ∷ []) (omega arith)) ∙ search rules
 
--- ---- while bytes are written behind the gate
+-- ---- while bytes are written after the gate
 
--- what has the same first byte begins with a gate that is not open either
+-- bytes with the same first byte begin with a gate that is not open either
 pub kept_shut : (content bytes : List ℕ) → IsShut content → slice_get bytes 0 ≡ slice_get content 0 → IsShut bytes
 kept_shut content [] shut same =
     let first : Some shut.gate ≡ slice_get content 0 = ap (λ (l : List ℕ). slice_get l 0) (sym shut.spelled) in
@@ -64,7 +64,7 @@ kept_shut content (gate ∷ rest) shut same =
     let first : Some shut.gate ≡ slice_get content 0 = ap (λ (l : List ℕ). slice_get l 0) (sym shut.spelled) in
     record { gate = gate; closed = λ one. shut.closed cc; rest = rest; spelled = refl }
 
--- after the cut behind the gate
+-- after the cut that leaves the gate alone
 pub cut_leaves : (T : Type 0) (result : Result T DiskError) (content : List ℕ) (new : File) → Changes (cut 1) (cut_touches 1) result (at_rest content) new
     → (bytes : List ℕ) → MayLeave new.durable bytes → slice_get bytes 0 ≡ slice_get content 0
 cut_leaves T (Ok _) content new changes bytes left =
@@ -78,7 +78,7 @@ cut_leaves T (Err NoMemory) content new changes bytes left =
     untouched true is = let within = changes.within 0 is in cc
     untouched false is = refl
 
--- after the cut and a write behind it
+-- after the cut, and a write after the gate
 pub write_leaves : (content : List ℕ) (count : ℕ) → IsShut content
     → (bytes : List ℕ) → let durable = (cut 1 (at_rest content)).durable in MayLeave (touching (write_touches durable 1 count) durable) bytes → slice_get bytes 0 ≡ slice_get content 0
 write_leaves content count shut bytes left = left.agrees.elsewhere 0 (untouched (nat_lt (length content) (1 + count)) (nat_le (length content) 0) none)

@@ -21,7 +21,7 @@ module _ {D : Type 0} (files : D → Side → File) (moment : D → ℕ) (left_a
       goes_on moment left_at old old new (MayLeaveNow (files old)) (begun moment left_at old (MayLeaveNow (files old)) (λ c left. (at_now old c).0 left)) time
       (λ c left. now_same old new same c ((at_now new c).0 left))
 
-  -- two of them
+  -- two such calls
   pub looks_moments : (old mid new : D) → ((each : Side) → files mid each ≡ files old each) → ((each : Side) → files new each ≡ files mid each)
       → Elapses (moment old) (moment mid) (left_at old) (left_at mid) → Elapses (moment mid) (moment new) (left_at mid) (left_at new) → LeavesOnly moment left_at old new (MayLeaveNow (files old))
   looks_moments old mid new first second time later =
@@ -36,7 +36,7 @@ module _ {D : Type 0} (files : D → Side → File) (moment : D → ℕ) (left_a
     unwritten_moments old new rests looked = weakened moment left_at old new _ _ looked (λ c left.
         (inl (settled_only (files old side).content (c side) (subst (λ (f : File). MayLeave f.durable (c side)) rests (left side))), λ other differs. left other))
 
-    -- and where a closed gate was, over an open one
+    -- and where a closed gate was written over an open one
     pub closing_moments : (old mid new : D) → Rests (files old side) → IsUnshut (files old side).content → (files old side).content ≢ [] → ((each : Side) → files mid each ≡ files old each)
         → LeavesOnly moment left_at old mid (MayLeaveNow (files old))
         → LeavesOnly moment left_at mid new (λ c. WriteLeaves (files old side).content 0 1 (c side) × OtherMayBe side (files mid) c)
@@ -45,7 +45,7 @@ module _ {D : Type 0} (files : D → Side → File) (moment : D → ℕ) (left_a
         joined moment left_at old mid new _ _ _ (unwritten_moments old mid rests looked) wrote (λ c left. left)
         (λ c left. (closing_leaves (files old side).content (c side) unshut there left.0, other_before side (files old) (files mid) (λ other differs. same other) c left.1))
 
-    -- ---- the bytes behind it
+    -- ---- the bytes after it
 
     abbrev pub StaysShut : (Side → File) → Contents → Type 0
     StaysShut before c = IsShut (c side) × OtherMayBe side before c

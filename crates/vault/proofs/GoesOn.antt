@@ -57,7 +57,7 @@ module _ (both : AmongBoth) (facts_on : FactsGoOn) (environment_on : Environment
   gives_more = with_both both E (environment (events_of commits)) (environment commit) (environment (events_of (commits ++ commit ∷ [])))
       (ap environment (events_more commits commit) ∙ environment_on (events_of commits) commit)
 
-  -- what holds of the two sets with the commit's facts holds of those behind the commits with it
+  -- what holds of the two sets with the commit's facts holds of the sets after all commits and this one
   of_more : (P : Facts → Facts → Type 0)
       → P (with_facts (environment_behind E commits) (environment commit)) (with_facts (facts_behind X commits) (facts commit))
       → P (environment_behind E (commits ++ commit ∷ [])) (facts_behind X (commits ++ commit ∷ []))
@@ -69,7 +69,7 @@ module _ (both : AmongBoth) (facts_on : FactsGoOn) (environment_on : Environment
 true_is_not_false : true ≡ false → ⊥
 true_is_not_false is = cc
 
--- of a beginning of one commit of two events the facts of the first event are all there is, or none of them, or there are others
+-- the facts of the first event alone are not those of a prefix of one commit of two events, if each event states a new one
 half : (X : Facts) (first second : Event) (one other : Fact) (made later : List Commit) → (first ∷ second ∷ []) ∷ [] ≡ made ++ later
     → X one ≡ false → stated (first ∷ []) one ≡ true → X other ≡ false → stated (first ∷ []) other ≡ false → stated (first ∷ second ∷ []) other ≡ true
     → ((fact : Fact) → with_facts X (facts (first ∷ [])) fact ≡ facts_behind X made fact) → ⊥
@@ -90,7 +90,7 @@ half_is_no_beginning one_store contents g E X first second one other stands one_
 
 -- ---- what a crash leaves at each moment
 
--- bytes that stand for the acknowledged commits stand for a beginning, whatever is pending
+-- bytes that stand for the acknowledged commits stand for a prefix, whatever is pending
 none_made : (g : Graph) (E X : Facts) (commits pending : List Commit) (contents : Contents) → Stands contents g (environment_behind E commits) (facts_behind X commits)
     → StandsForBeginning g E X commits pending contents
 none_made g E X commits pending contents stands = record {
@@ -171,7 +171,7 @@ module _ {D : Type 0} (files : D → Side → File) (moment : D → ℕ) (left_a
       → IsLeft files moment left_at old new crashed → (contents : Contents) → MayLeaveNow (files crashed) contents → P contents
   struck old new P crashed only it contents left = only.each it.struck contents it.begun it.ended (it.crash contents left)
 
-  -- those that gave no store add nothing to what a crash may leave
+  -- openings that gave no store add nothing to what a crash may leave
   openings_leave : (first last : D) (openings : List (D × D)) → Openings files moment left_at first openings last
       → (contents : Contents) → MayLeaveNow (files last) contents → MayLeaveNow (files first) contents
   openings_leave first last [] is contents left = subst (λ (disk : D). MayLeaveNow (files disk) contents) is left
@@ -182,7 +182,7 @@ module _ {D : Type 0} (files : D → Side → File) (moment : D → ℕ) (left_a
         | inr refused ↦ refused.1 contents (subst (λ (disk : D). MayLeaveNow (files disk) contents) refused.0 now)
       ]
 
-  -- what has a property at each moment of a call has it behind a crash and openings
+  -- what holds of the files at each moment of a call holds of them after a crash and openings
   behind_openings : ((disk : D) → MayLeaveNow (files disk) (contents_of (files disk))) → (P : Contents → Type 0) (before after crashed last : D) (openings : List (D × D))
       → LeavesOnly moment left_at before after P → IsLeft files moment left_at before after crashed → Openings files moment left_at crashed openings last → P (contents_of (files last))
   behind_openings reads_left P before after crashed last openings only left ended =
@@ -191,7 +191,7 @@ module _ {D : Type 0} (files : D → Side → File) (moment : D → ℕ) (left_a
   pub gates_go_on : ((disk : D) → MayLeaveNow (files disk) (contents_of (files disk))) → GatesGoOn files moment left_at
   gates_go_on reads_left = behind_openings reads_left HasGates
 
-  -- a vault holds facts however they are listed
+  -- a vault that holds some sets of facts holds equal sets too
   holds_as_set : SideAsSet → (vault : Vault D) (g : Graph) (E F X Y : Facts) → SameSet F E → SameSet Y X → Holds files vault g F Y → Holds files vault g E X
   holds_as_set as_set vault g E F X Y given same it =
       let too = as_set (it.contents vault.journal.side) g vault.generation F E Y X given same it.is_live.is_side in

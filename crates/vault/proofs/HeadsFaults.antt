@@ -1,4 +1,4 @@
--- Which fault of the heads an opening tells.
+-- Which fault of the heads an opening returns.
 use Rattle.std.proofs.Common.{◌≡◌, inl, inr, ℕ, List, length, sym, ap, ◌∙◌, arith, refl, subst}
 use Rattle.std.specs.Prelude.{Option, Some, None, Result, Ok, Err, IsErrOf, IsErrAnd}
 use Rattle.disk.specs.declared.side.Side.{Side}
@@ -15,31 +15,31 @@ pub not_short : (o : Option ℕ) (bytes : List ℕ) → IsGenerationOf o bytes �
 not_short None bytes closed short = closed short.0
 not_short (Some n) bytes has short = omega (arith, (opens bytes n has).1, short.1)
 
--- one that is not open has none
+-- a side that is not open has no generation
 pub closed_none : (o : Option ℕ) (bytes : List ℕ) → IsGenerationOf o bytes → (IsOpen bytes → ⊥) → o ≡ None
 closed_none None bytes closed none = refl
 closed_none (Some n) bytes has none = absurd (none (opens bytes n has).0)
 
--- what asking one side answers where it answers an error, but where a call of the disk did
+-- the side is too short to have a generation, and the error says so
 abbrev pub TellsOne : Side → List ℕ → VaultError → Type 0
 TellsOne side bytes error = IsCutShort bytes × (error ≡ Damaged side (length bytes))
 
 module _ (contents : Contents) (fault error : VaultError) where
-  -- of A
+  -- if A is short, the error is the fault of the heads
   pub a_is_told : HeadsFault contents fault → TellsOne A (contents A) error → error ≡ fault
   a_is_told (inl first) it = it.1 ∙ sym first.1
   a_is_told (inr (inl second)) it = absurd (second.0 it.0)
   a_is_told (inr (inr (inl third))) it = absurd (not_short (Some third.0.0) (contents A) third.0.1 it.0)
   a_is_told (inr (inr (inr none))) it = absurd (none.0 A it.0.0)
 
-  -- of B, where A is not short
+  -- if B is short, and A is not, it is too
   pub b_is_told : (IsCutShort (contents A) → ⊥) → HeadsFault contents fault → TellsOne B (contents B) error → error ≡ fault
   b_is_told long (inl first) it = absurd (long first.0)
   b_is_told long (inr (inl second)) it = it.1 ∙ sym second.2
   b_is_told long (inr (inr (inl third))) it = absurd (not_short (Some third.0.0) (contents B) third.0.2 it.0)
   b_is_told long (inr (inr (inr none))) it = absurd (none.0 B it.0.0)
 
--- of both, where neither is short
+-- if neither is short, the result is the fault of the heads
 pub both_are_told : {T : Type 0} (result : Result T VaultError) (contents : Contents) (a b : Option ℕ) (fault : VaultError) → IsGenerationOf a (contents A) → IsGenerationOf b (contents B)
     → ((generation : ℕ) → HasGeneration (contents A) generation → HasGeneration (contents B) generation → IsErrOf result (Damaged A 2)) → (a ≡ None → b ≡ None → IsErrOf result NotAStore)
     → HeadsFault contents fault → IsErrOf result fault

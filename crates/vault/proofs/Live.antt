@@ -13,7 +13,7 @@ module _ (one_meaning : OneMeaning) (generation : StandsWithGeneration) (one_gen
   is_open : (bytes : List ℕ) (g : Graph) (n : ℕ) (E X : Facts) → IsSide bytes g n E X → IsOpen bytes
   is_open bytes g n E X side = (_, side.spelled)
 
-  -- what is behind a generation has a smaller one, if it stands for something
+  -- a side that is behind a generation has a smaller one, if it stands for something
   smaller : (bytes : List ℕ) (g : Graph) (m n : ℕ) (E X : Facts) → IsSide bytes g m E X → IsBehind bytes n → m < n
   smaller bytes g m n E X side (inl closed) = absurd (closed (is_open bytes g m E X side))
   smaller bytes g m n E X side (inr it) = subst (λ (k : ℕ). k < n) (one_generation bytes it.0 m it.1 (generation bytes g m E X side)) it.2
@@ -38,7 +38,7 @@ module _ (one_meaning : OneMeaning) (generation : StandsWithGeneration) (one_gen
       of_live A B m n first second = absurd (not_both (contents A) (contents B) g h m n E F X Y first.is_side first.behind second.is_side second.behind)
       of_live B A m n first second = absurd (not_both (contents B) (contents A) g h m n E F X Y first.is_side first.behind second.is_side second.behind)
 
--- it stands for that with any bytes behind its journal's end, where the other side is behind it
+-- whatever bytes come after its journal's end, it stands for the same, while the other side is behind it
 pub any_tail : AnyRest → AnyTail
 any_tail any_rest contents g E X live generation it =
     let found = any_rest (contents live) g generation E X it.is_side in (

@@ -11,19 +11,19 @@ use Rattle.disk.specs.Moments.{begun, goes_on, joined}
 use Rattle.disk.specs.Settled.{now_after_sync}
 use Rattle.vault.specs.Opened.{OnlyReads, contents_of}
 
--- what reads give stays at a sync
+-- a sync leaves what reads return
 sync_reads : (T : Type 0) (result : Result T DiskError) (old new : File) → Syncs result old new → new.content ≡ old.content
 sync_reads T (Ok _) old new syncs = ap (λ (f : File). f.content) syncs
 sync_reads T (Err _) old new syncs = ap (λ (f : File). f.content) syncs
 
--- of both files, where the other one stays
+-- so it does for both files, if the other one stays
 reads_stay : (side : Side) (old new : Side → File) → (new side).content ≡ (old side).content → OtherStays side old new → (each : Side) → (new each).content ≡ (old each).content
 reads_stay side old new here stays each = elim (which side each) [
   | inl it ↦ subst (λ (s : Side). (new s).content ≡ (old s).content) it here
   | inr differs ↦ ap (λ (f : File). f.content) (stays each differs)
 ]
 
--- what reads give, as one function
+-- what reads return, as one function
 pub same_contents : (old new : Side → File) → ((side : Side) → (new side).content ≡ (old side).content) → contents_of new ≡ contents_of old
 same_contents old new same = λ i side. same side i
 
@@ -39,7 +39,7 @@ both_synced T (Ok _) old mid new a other_a b other_b = both_rest old mid new a o
 both_synced T (Err _) old mid new a other_a b other_b = tt
 
 module _ {D : Type 0} (files : D → Side → File) (moment : D → ℕ) (left_at : D → ℕ → Contents → Type 0) where
-  -- calls behind others
+  -- calls after others
   pub then_reads : (old mid new : D) → OnlyReads files moment left_at old mid → OnlyReads files moment left_at mid new → OnlyReads files moment left_at old new
   then_reads old mid new first last = record {
     reads = λ side. last.reads side ∙ first.reads side;
@@ -48,7 +48,7 @@ module _ {D : Type 0} (files : D → Side → File) (moment : D → ℕ) (left_a
   }
 
   module _ (at_now : (disk : D) (c : Contents) → left_at disk (moment disk) c ↔ MayLeaveNow (files disk) c) where
-    -- one call behind which a crash leaves nothing more
+    -- one call after which a crash leaves nothing more
     one_call : (old new : D) → ((side : Side) → (files new side).content ≡ (files old side).content) → Elapses (moment old) (moment new) (left_at old) (left_at new)
         → ((c : Contents) → MayLeaveNow (files new) c → MayLeaveNow (files old) c) → OnlyReads files moment left_at old new
     one_call old new reads time left = record {
@@ -65,7 +65,7 @@ module _ {D : Type 0} (files : D → Side → File) (moment : D → ℕ) (left_a
         one_call old new (λ side. ap (λ (f : File). f.content) (same side)) time
         (λ c left each. subst (λ (f : File). MayLeave f.durable (c each)) (same each) (left each))
 
-    -- a sync, whatever it answered
+    -- a sync, whatever it returned
     pub synced : (T : Type 0) (side : Side) (result : Result T DiskError) (old new : D) → MayLeave (files old side).durable (files old side).content → Syncs result (files old side) (files new side)
         → OtherStays side (files old) (files new) → Elapses (moment old) (moment new) (left_at old) (left_at new) → OnlyReads files moment left_at old new
     synced T side result old new reads syncs stays time =

@@ -1,4 +1,4 @@
--- What the first ten bytes of a file tell of all of it.
+-- What the first ten bytes of a file say of all of it.
 use Rattle.std.proofs.Common.{◌≡◌, ◌≤◌, ◌<◌, ℕ, zero, suc, List, [], ◌∷◌, ◌++◌, length, take, drop, min, sym, ap, subst, ◌∙◌, arith}
 use Rattle.std.proofs.lemmas.List.{length-take-le, take-append-drop, take-append-le, take_all}
 use Rattle.sides.specs.declared.gate.Gate.{Gate}
@@ -6,15 +6,15 @@ use Rattle.sides.specs.declared.gate.Gate.TheVariants.{Closed, Short, Open}
 use Rattle.sides.specs.Reading.{Tells}
 use Rattle.sides.specs.Side.{IsOpen, HasGeneration}
 
--- a side with a generation is open, and has ten bytes
+-- a side with a generation is open, and has ten bytes or more
 pub opens : (bytes : List ℕ) (generation : ℕ) → HasGeneration bytes generation → IsOpen bytes × (10 ≤ length bytes)
 opens bytes n has = ((_, has.1.2), omega (arith, ap length has.1.2))
 
--- with more bytes behind it too
+-- it has it with more bytes after it too
 generation_goes_on : (front rest : List ℕ) (generation : ℕ) → HasGeneration front generation → HasGeneration (front ++ rest) generation
 generation_goes_on front rest n has = (has.0, (has.1.0, has.1.1 ++ rest, ap (λ (l : List ℕ). l ++ rest) has.1.2))
 
--- some first bytes are open exactly where all are
+-- a prefix that is not empty is open exactly where all bytes are
 front_open : (bytes : List ℕ) (known : ℕ) → IsOpen bytes → 0 < known → IsOpen (take known bytes)
 front_open bytes zero opened some = absurd (omega arith)
 front_open bytes (suc known) opened some = (take known opened.0, ap (take (suc known)) opened.1)
@@ -42,7 +42,7 @@ head_is content mid buffer zeros behind known count read same few count_is ten =
     front : buffer ≡ take known content
     front = read ∙ ap (λ (n : ℕ). take n mid) asked ∙ ap (take known) same
 
--- the head tells it of the whole file
+-- what the head says holds of the whole file
 pub head_tells : (gate : Gate) (bytes : List ℕ) (known : ℕ) → known ≡ min (length bytes) 10 → Tells gate (take known bytes) → Tells gate bytes
 head_tells Closed bytes known is told = λ (opened : IsOpen bytes). told (front_open bytes known opened (omega (arith, is, long_opened bytes opened)))
 head_tells Short bytes known is told =

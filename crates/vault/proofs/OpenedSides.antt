@@ -12,13 +12,13 @@ use Rattle.vault.specs.Stands.{IsLive, IsBehind, other_side}
 use Rattle.vault.specs.Opened.{IsAhead, StandsForNothing, IsFoundIn, IsFound, IsNoSide}
 use Rattle.vault.proofs.OpenedHeads.{opens}
 
--- the generation of what is open and behind another
+-- a side that is open and behind a generation has a smaller one
 behind_open : (bytes : List ℕ) (n : ℕ) → IsOpen bytes → IsBehind bytes n → (m : ℕ) × HasGeneration bytes m × (m < n)
 behind_open bytes n opened (inl closed) = absurd (closed opened)
 behind_open bytes n opened (inr it) = it
 
 module _ (generation : StandsWithGeneration) where
-  -- where no side is open they stand for nothing
+  -- where no side is open, the files stand for nothing
   pub none_open : (contents : Contents) → (IsOpen (contents A) → ⊥) → (IsOpen (contents B) → ⊥) → StandsForNothing contents
   none_open contents a b g E X (A, n, live) = a (opens (contents A) n (generation (contents A) g n E X live.is_side)).0
   none_open contents a b g E X (B, n, live) = b (opens (contents B) n (generation (contents B) g n E X live.is_side)).0
@@ -72,7 +72,7 @@ module _ (generation : StandsWithGeneration) where
     pub ahead_is_none : (contents : Contents) (side : Side) → IsAhead contents side → IsNoSide (contents side) → StandsForNothing contents
     ahead_is_none contents side ahead none g E X stands = not_behind contents side stands.0 ahead.generation stands.1 g E X ahead.has ahead.behind none stands.2
 
-    -- what was found in the side that is ahead they stand for
+    -- they stand for what was found in the side that is ahead
     pub ahead_is_found : (contents : Contents) (side : Side) (bytes : List ℕ) (found : Found) → IsAhead contents side → bytes ≡ contents side → IsFoundIn side bytes found → IsFound contents found
     ahead_is_found contents side bytes found ahead is it = record {
       is_live = record { is_side = there.0; behind = subst (λ (n : ℕ). IsBehind (contents (other_side found.journal.side)) n) same front.behind };

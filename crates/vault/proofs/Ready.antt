@@ -25,7 +25,7 @@ all_rest side old new content rests written others each = elim (which side each)
   | inr differs ↦ subst Rests (sym (others each differs)) (rests each)
 ]
 
--- the byte behind bytes that were written stands within the file
+-- the byte after bytes that were written lies within the file
 within_written : (content bytes : List ℕ) (end : ℕ) → end ≤ length content → end + length bytes < length (overwritten content end (bytes ++ 0 ∷ []))
 within_written content bytes end within =
     let written = bytes ++ 0 ∷ [] in

@@ -1,4 +1,4 @@
--- A side is as long as its text, and as each list of its image.
+-- A side is at least as long as its text, and as each list of its image.
 use Rattle.std.proofs.Common.{◌≡◌, ℕ, ◌+◌, ◌≤◌, List, [], ◌∷◌, ◌++◌, length, false, max, arith, length-append}
 use Rattle.std.specs.Prelude.{nat_lt}
 use Rattle.std.proofs.lemmas.Bool.Decides.{nat_tests}
@@ -11,7 +11,7 @@ use Rattle.journal.specs.declared.journal.TheConstants.{LIMIT}
 use Rattle.sides.specs.Side.{behind_gate, counted}
 use Rattle.vault.specs.Store.{IsTooLong}
 
--- where each element has a byte
+-- if each element has a byte, the bytes are at least as many as the elements
 longer : {X : Type 0} (bytes : X → List ℕ) → ((x : X) → 1 ≤ length (bytes x)) → (xs : List X) → length xs ≤ length (flat_map bytes xs)
 longer bytes has [] = omega arith
 longer bytes has (x ∷ xs) = omega (arith, length-append (bytes x) (flat_map bytes xs), has x, longer bytes has xs)
@@ -28,7 +28,7 @@ has_marked marked = omega arith
 has_inst : (instance : Inst) → 1 ≤ length (inst_bytes instance)
 has_inst instance = omega arith
 
--- at least so many bytes
+-- this count is at least each of these lengths
 pub record AtLeast (text : List ℕ) (image : Image) (count : ℕ) : Type 0 where
   pub text_within : length text ≤ count
   pub items_within : length image.items ≤ count
@@ -55,7 +55,7 @@ side_longer generation text image =
       image_within = omega (arith, whole);
     }
 
--- where the longest of these reaches the limit, so does the side
+-- if the longest of these reaches the limit, so does the side
 pub too_long : (text : List ℕ) (image : Image) (longest : ℕ) → longest ≡ max (max (max (length text) (length image.items)) (length image.tags)) (length image.done)
     → nat_lt longest LIMIT ≡ false → (generation : ℕ) → IsTooLong generation text image
 too_long text image longest is long generation =

@@ -1,4 +1,4 @@
--- The side that a turnover writes stands for what the old one stands for, which is behind it.
+-- The side that a turnover writes stands for what the old one stands for, and the old one is behind it.
 use Rattle.std.proofs.Common.{◌≡◌, ◌≢◌, inl, inr, ℕ, ◌+◌, ◌<◌, ◌^◌, List, [], ◌∷◌, length, refl, sym, subst, ◌∙◌, arith}
 use Rattle.disk.specs.declared.side.Side.{Side}
 use Rattle.disk.specs.declared.side.Side.TheVariants.{A, B}
@@ -21,7 +21,7 @@ pub not_other : (side : Side) → side ≢ other_side side
 not_other A e = cc
 not_other B e = cc
 
--- what is not open is behind each generation, and so is a side of a smaller one
+-- a side of a generation is behind the next one
 pub behind_next : StandsWithGeneration → (bytes : List ℕ) (g : Graph) (n : ℕ) (E X : Facts) → IsSide bytes g n E X → IsBehind bytes (n + 1)
 behind_next stands bytes g n E X side = inr (n, stands bytes g n E X side, omega arith)
 
@@ -29,11 +29,11 @@ other_twice : (side : Side) → side ≡ other_side (other_side side)
 other_twice A = refl
 other_twice B = refl
 
--- what is behind the other side
+-- the other side of the other side is the side itself
 pub behind_other : (contents : Contents) (live : Side) (generation : ℕ) → IsBehind (contents live) generation → IsBehind (contents (other_side (other_side live))) generation
 behind_other contents live generation = subst (λ (s : Side). IsBehind (contents s) generation) (other_twice live)
 
--- how the sides are, of which one holds these facts and the image lists them
+-- one side holds these facts, and the image lists them
 module _ (as_set : SideAsSet) (fits : SideFits) (begins : BeginsSide) (state_as_set : StateAsSet) (stands : StandsWithGeneration)
     (g : Graph) (E X : Facts) (image : Image) (lists : Lists image E X) (is_image : IsImage image) (short : length (image_bytes image) < 2 ^ 32) where
   module _ (old : List ℕ) (n : ℕ) (small : n + 1 < 2 ^ 64) (side : IsSide old g n E X) where
@@ -44,7 +44,7 @@ module _ (as_set : SideAsSet) (fits : SideFits) (begins : BeginsSide) (state_as_
         let same = as_set (new_side (n + 1) (canonical g) image) g (n + 1) (environment_in image) E (facts_in image) X lists.environment lists.facts begun_side.0 in
         (same.0, same.1 ∙ begun_side.1)
 
-  -- a crash while the other side is written
+  -- what a crash leaves while the other side is written
   pub passing : (contents : Contents) (live : Side) (n : ℕ) → n + 1 < 2 ^ 64 → IsLive contents live n g E X
       → (now : Contents) → now live ≡ contents live → MayTurn (contents (other_side live)) (new_side (n + 1) (canonical g) image) (now (other_side live)) → Stands now g E X
   passing contents live n small is_live now same turns = by turns

@@ -23,7 +23,7 @@ use Rattle.vault.specs.Turned.{Rests, MayTurn}
 use Rattle.vault.proofs.TurnedSides.{not_other, behind_next, behind_other, turned_side, passing}
 
 module _ {D : Type 0} (files : D → Side → File) where
-  -- of a store both files rest
+  -- both files of a store are at rest
   pub held_rests : (vault : Vault D) (g : Graph) (E X : Facts) → Holds files vault g E X → (side : Side) → Rests (files vault.disk side)
   held_rests vault g E X holds side = let is = holds.rests side in is ∙ ap (λ (f : File). at_rest f.content) (sym is)
 
@@ -79,7 +79,7 @@ module _ {D : Type 0} (files : D → Side → File) where
         (subst (λ (bytes : List ℕ). MayTurn (files old.disk other).content bytes (c other))
         (ap (λ (l : List ℕ). 1 ∷ l) is ∙ ap (λ (l : List ℕ). new_side (old.generation + 1) l image) holds.text) left.0)))
 
-    -- and when it was
+    -- and after it was written
     pub turned_holds : (new : Vault D) → new.journal.side ≡ other_side old.journal.side → files new.disk new.journal.side ≡ at_rest (new_side (old.generation + 1) old.text.items image)
         → OtherStays new.journal.side (files old.disk) (files new.disk) → new.generation ≡ old.generation + 1
         → new.journal.end ≡ length (1 ∷ behind_gate (old.generation + 1) old.text.items (image_bytes image) []) → new.text.items ≡ old.text.items → Holds files new g E X

@@ -1,4 +1,4 @@
--- What the calls of a vault promise: why they answer an error and why a vault halts, what a refusal leaves, and what is written.
+-- What the calls of a vault promise: why they return an error and why a vault halts, what a refusal leaves, and what is written.
 use Rattle.std.specs.Prelude.{◌≡◌, ◌≢◌, ◌⊎◌, ◌↔◌, ◌+◌, ◌++◌, ◌∷◌, [], ℕ, Bool, List, length, true, false, Result, IfOk, OnOk, OnErr, IfErr, IsErrOf}
 use Rattle.disk.specs.declared.side.Side.{Side}
 use Rattle.disk.specs.declared.side.Side.TheVariants.{A, B}
@@ -16,29 +16,29 @@ use Rattle.vault.specs.Store.{Holds, IsSame, IsReady, new_side, empty, nothing}
 
 -- ---- calls of a vault
 
--- an error that `append` and `turn` may answer
+-- an error that `append` and `turn` may return
 abbrev pub IsOfCall : VaultError → Type 0
 IsOfCall error = (error ≡ Device) ⊎ (error ≡ NoMemory) ⊎ (error ≡ Full) ⊎ (error ≡ Halted)
 
--- Why a call halts: exactly where a call of the disk answered an error. What it answers then, and what another refusal leaves.
+-- When a call halts: exactly if a call of the disk returned an error. What it returns then, and what another refusal leaves.
 pub record Halts {D T : Type 0} (failures refusals : D → ℕ) (old new : Vault D) (result : Result T VaultError) : Type 0 where
-  -- behind the call it is halted exactly where it was before, or where a call of the disk answered an error
+  -- after the call the vault is halted exactly if it was before, or if a call of the disk returned an error
   pub halts : (new.halted ≡ true) ↔ ((old.halted ≡ true) ⊎ HasErred failures refusals old.disk new.disk)
-  -- a halted vault answers `Halted`, and makes no call of the disk
+  -- a halted vault returns `Halted`, and makes no call of the disk
   pub halted : IsErrOf result Halted ↔ (old.halted ≡ true)
   pub disk : HasCauses failures refusals Device NoMemory old.disk new.disk result
-  -- where an error does not halt it, nothing changed
+  -- if an error does not halt it, nothing changed
   pub same : OnErr result (new.halted ≡ old.halted → IsSame old new)
   pub causes : IfErr result IsOfCall
 
--- `Full` is answered where it has this cause, and not elsewhere: where it has, a working vault answers it, or that memory was refused first.
+-- `Full` is returned for this cause only. If the cause is there, a working vault returns `Full`, or `NoMemory` if memory was refused first.
 pub record IsFullWhere {T : Type 0} (halted : Bool) (cause : Type 0) (result : Result T VaultError) : Type 0 where
   pub why : IsErrOf result Full → cause
   pub told : halted ≡ false → cause → IsErrOf result Full ⊎ IsErrOf result NoMemory
 
 -- ---- appends
 
--- Where an append leaves the vault, on every disk: from `Ok` on it ends behind the record. The live side, the generation and the text stay.
+-- How an append leaves the vault, on every disk: after `Ok` its journal ends after the record. The live side, the generation and the text stay.
 pub record Appended {D T : Type 0} (old new : Vault D) (bytes : List ℕ) (result : Result T VaultError) : Type 0 where
   pub working : OnOk result ((old.halted ≡ false) × (new.halted ≡ false))
   pub moved : OnOk result (new.journal.end ≡ old.journal.end + length bytes)
@@ -47,7 +47,7 @@ pub record Appended {D T : Type 0} (old new : Vault D) (bytes : List ℕ) (resul
   pub text : new.text ≡ old.text
 
 -- What an append writes, on an honest disk: its record and a closed gate, over the gate that ended the journal of the live side. The other
--- file stays as it was, whatever is answered; and where the vault is not halted, it is ready for the next call.
+-- file stays as it was, whatever is returned; and if the vault is not halted, it is ready for the next call.
 pub record WritesRecord {D T : Type 0} (files : D → Side → File) (old new : Vault D) (bytes : List ℕ) (result : Result T VaultError) : Type 0 where
   pub written : OnOk result (files new.disk old.journal.side ≡ at_rest (overwritten (files old.disk old.journal.side).content old.journal.end (bytes ++ 0 ∷ [])))
   pub other : OtherStays old.journal.side (files old.disk) (files new.disk)
@@ -71,7 +71,7 @@ pub record IsCreated {D : Type 0} (files : D → Side → File) (text : List ℕ
   pub b : files vault.disk B ≡ at_rest (0 ∷ [])
   pub ready : IsReady files vault
 
--- Files that are not both empty, on an honest disk: no store is made of them, both stay as they are, and a crash at any moment leaves what
+-- If the files are not both empty, on an honest disk: no store is made of them, both stay as they are, and a crash at any moment leaves what
 -- one might have left before. `Exists` says that one is not empty.
 pub record LeavesNonEmpty {D T : Type 0} (files : D → Side → File) (moment : D → ℕ) (left_at : D → ℕ → Contents → Type 0) (old new : D) (result : Result T VaultError) : Type 0 where
   pub were_empty : OnOk result ((side : Side) → (files old side).content ≡ [])
@@ -81,8 +81,8 @@ pub record LeavesNonEmpty {D T : Type 0} (files : D → Side → File) (moment :
 
 -- ---- turnovers
 
--- Where a turnover leaves the vault, on every disk: from `Ok` on the other side is live, one generation greater, and its journal ends at the
--- last byte of the new side; after an error what was. The text stays.
+-- How a turnover leaves the vault, on every disk: after `Ok` the other side is live, one generation greater, and its journal ends at the
+-- last byte of the new side; after an error the side and the generation are those before. The text stays.
 pub record TurnsOver {D : Type 0} (old new : Vault D) (image : Image) (result : Result ℕ VaultError) : Type 0 where
   pub working : OnOk result ((old.halted ≡ false) × (new.halted ≡ false))
   pub side : IfOk result (λ generation. (generation ≡ old.generation + 1) × (new.generation ≡ generation) × (new.journal.side ≡ other_side old.journal.side))
@@ -90,7 +90,7 @@ pub record TurnsOver {D : Type 0} (old new : Vault D) (image : Image) (result : 
   pub stays : OnErr result ((new.generation ≡ old.generation) × (new.journal.side ≡ old.journal.side))
   pub text : new.text ≡ old.text
 
--- What a turnover writes, on an honest disk: the other side anew. The file that was live stays as it was, whatever is answered; and where
+-- What a turnover writes, on an honest disk: the other side anew. The file that was live stays as it was, whatever is returned; and if
 -- the vault is not halted, it is ready for the next call.
 pub record WritesSide {D : Type 0} (files : D → Side → File) (old new : Vault D) (image : Image) (result : Result ℕ VaultError) : Type 0 where
   pub written : IfOk result (λ generation. files new.disk (other_side old.journal.side) ≡ at_rest (new_side generation old.text.items image))

@@ -1,9 +1,9 @@
 -- The commits of a store, and what is left of them from call to call: by a crash, by openings that were cut off, and by the opening that
 -- gives the store back.
 --
--- A commit is the events of one record, all of which are there after a crash, or none; today a record has one event. The commits of a
+-- A commit is the events of one record: after a crash all of them are there, or none; today a record has one event. The commits of a
 -- store begin at a state: at nothing where it was created, at what an opening gave where it was opened. They are in the order of their
--- appends, each of which opens the gate of its record. A commit is acknowledged where the call that made it answered `Ok`.
+-- appends, each of which opens the gate of its record. A commit is acknowledged if the call that made it returned `Ok`.
 use Rattle.std.specs.Prelude.{◌≡◌, ◌⊎◌, ◌≤◌, ℕ, true, false, List, [], ◌∷◌, ◌++◌}
 use Rattle.disk.specs.declared.side.Side.{Side}
 use Rattle.disk.specs.File.{File}
@@ -19,16 +19,16 @@ use Rattle.vault.specs.Opened.{contents_of}
 use Rattle.vault.specs.Stands.{Stands}
 use Rattle.vault.specs.Store.{Holds, HasGates, IsReady, IsSame, StandsBeforeOrAfter}
 
--- The bytes stand for a beginning of the commit order in which each acknowledged commit is: for those, and for some of the pending
--- ones, of which none is passed over and none is there in part.
+-- The bytes stand for a prefix of the commit order that has each acknowledged commit: for these and for a prefix of the pending ones,
+-- none of which is there in part.
 pub record StandsForBeginning (g : Graph) (E X : Facts) (acknowledged pending : List Commit) (contents : Contents) : Type 0 where
   pub made : List Commit
   pub later : List Commit
   pub beginning : pending ≡ made ++ later
   pub stands : Stands contents g (environment_behind E (acknowledged ++ made)) (facts_behind X (acknowledged ++ made))
 
--- An example that it refuses: where one commit of two events is pending, the first of which states a new fact, and the second one too,
--- bytes that stand for what the first alone states are no beginning.
+-- An example that it refuses: one commit of two events is pending, the first event states a new fact, and the second states another one.
+-- Bytes that stand for what the first alone states are no such prefix.
 abbrev pub HalfIsNoBeginning : Type 0
 HalfIsNoBeginning = (contents : Contents) (g : Graph) (E X : Facts) (first second : Event) (one other : Fact)
     → Stands contents g (with_facts E (environment (first ∷ []))) (with_facts X (facts (first ∷ [])))
@@ -36,19 +36,19 @@ HalfIsNoBeginning = (contents : Contents) (g : Graph) (E X : Facts) (first secon
     → X other ≡ false → stated (first ∷ []) other ≡ false → stated (first ∷ second ∷ []) other ≡ true
     → StandsForBeginning g E X [] ((first ∷ second ∷ []) ∷ []) contents → ⊥
 
--- a vault whose store has these commits behind the facts X, of which the environment put E
+-- a vault whose store has these commits after the facts X, of which the environment put E
 abbrev pub IsStoreOf : {D : Type 0} → (D → Side → File) → Vault D → Graph → Facts → Facts → List Commit → Type 0
 IsStoreOf files vault g E X commits = Holds files vault g (environment_behind E commits) (facts_behind X commits)
 
 module _ {D : Type 0} (files : D → Side → File) (moment : D → ℕ) (left_at : D → ℕ → Contents → Type 0) where
-  -- a crash at a moment of a call, or behind it, left this disk
+  -- a crash at a moment of a call, or after it, left this disk
   pub record IsLeft (before after crashed : D) : Type 0 where
     pub struck : ℕ
     pub begun : moment before ≤ struck
     pub ended : struck ≤ moment after
     pub crash : (contents : Contents) → MayLeaveNow (files crashed) contents → left_at after struck contents
 
-  -- an opening ended in this way: a crash cut it off, or it was refused and the disk was handed back
+  -- how an opening ended: a crash cut it off, or it was refused and the disk was handed back
   abbrev pub WasCutOff : D → D → D → Type 0
   WasCutOff before after next = LeavesOnly moment left_at before after (MayLeaveNow (files before)) × IsLeft before after next
 
@@ -62,11 +62,11 @@ module _ {D : Type 0} (files : D → Side → File) (moment : D → ℕ) (left_a
 
   -- ---- laws: what a call makes of a store
 
-  -- what is held is a store without commits behind it: a new store behind nothing, and one that was opened behind what it has
+  -- a vault that holds something is a store without commits yet: after nothing if it is new, after what was found if it was opened
   abbrev pub BegunStore : Type 0
   BegunStore = (vault : Vault D) (g : Graph) (E X : Facts) → Holds files vault g E X → IsStoreOf files vault g E X []
 
-  -- an append that answered `Ok` adds its commit, behind the others
+  -- an append that returned `Ok` adds its commit, after the others
   abbrev pub AppendedStore : Type 0
   AppendedStore = (vault : Vault D) (g : Graph) (E X : Facts) (commits : List Commit) (commit : Commit)
       → Holds files vault g (with_facts (environment_behind E commits) (environment commit)) (with_facts (facts_behind X commits) (facts commit))
@@ -82,7 +82,7 @@ module _ {D : Type 0} (files : D → Side → File) (moment : D → ℕ) (left_a
 
   -- ---- laws: what a crash leaves at each moment
 
-  -- between calls, what is held, and so all of the commits
+  -- between calls a crash leaves what is held, and so all of the commits
   abbrev pub HeldLeaves : Type 0
   HeldLeaves = (vault : Vault D) (g : Graph) (E X : Facts) → Holds files vault g E X → LeavesOnly moment left_at vault.disk vault.disk (λ contents. Stands contents g E X)
 
@@ -90,13 +90,13 @@ module _ {D : Type 0} (files : D → Side → File) (moment : D → ℕ) (left_a
   RestLeaves = (vault : Vault D) (g : Graph) (E X : Facts) (commits : List Commit) → IsStoreOf files vault g E X commits
       → LeavesOnly moment left_at vault.disk vault.disk (StandsForBeginning g E X commits [])
 
-  -- in an append, all of them, and its commit or not
+  -- in an append it leaves all of them, with its commit or without
   abbrev pub AppendLeaves : Type 0
   AppendLeaves = (old new : Vault D) (g : Graph) (E X : Facts) (commits : List Commit) (commit : Commit)
       → LeavesOnly moment left_at old.disk new.disk (StandsBeforeOrAfter g (environment_behind E commits) (facts_behind X commits) commit)
       → LeavesOnly moment left_at old.disk new.disk (StandsForBeginning g E X commits (commit ∷ []))
 
-  -- in a turnover, all of them
+  -- in a turnover it leaves all of them
   abbrev pub TurnLeaves : Type 0
   TurnLeaves = (old new : Vault D) (g : Graph) (E X : Facts) (commits : List Commit)
       → LeavesOnly moment left_at old.disk new.disk (λ contents. Stands contents g (environment_behind E commits) (facts_behind X commits))
@@ -108,7 +108,7 @@ module _ {D : Type 0} (files : D → Side → File) (moment : D → ℕ) (left_a
   abbrev pub GatesRest : Type 0
   GatesRest = (vault : Vault D) (g : Graph) (E X : Facts) → Holds files vault g E X → HasGates (contents_of (files vault.disk)) → LeavesOnly moment left_at vault.disk vault.disk HasGates
 
-  -- Where each crash of a call leaves each file its first byte, each file has it behind the call, and behind a crash and openings.
+  -- Where each crash of a call leaves each file its first byte, each file has it after the call, and after a crash and openings.
   abbrev pub GatesStay : Type 0
   GatesStay = (before after : D) → LeavesOnly moment left_at before after HasGates → HasGates (contents_of (files after))
 
@@ -118,16 +118,16 @@ module _ {D : Type 0} (files : D → Side → File) (moment : D → ℕ) (left_a
 
   -- ---- laws: what an opening gives
 
-  -- Where the files stand for a graph and facts, that is what an opening finds: the vault that it gives holds them, and it gives that
+  -- If the files stand for a graph and facts, that is what an opening finds: the vault that it gives holds them, and it gives that
   -- graph.
   abbrev pub OpeningFinds : Type 0
   OpeningFinds = (disk : D) (g : Graph) (E X : Facts) → Stands (contents_of (files disk)) g E X
       → (vault : Vault D) (h : Graph) (F Y : Facts) → Holds files vault h F Y → ((side : Side) → (files vault.disk side).content ≡ (files disk side).content)
       → Holds files vault g E X × (h ≡ g) × SameSet F E × SameSet Y X
 
-  -- From a call to the next one: at each moment of a call a crash leaves a beginning of the commit order with each acknowledged commit. A
-  -- crash at one of them left a disk, behind which openings were cut off or refused. Then the files stand for such a beginning, so none
-  -- of these said that they stand for nothing; and what an opening gives is a store of it, of the same graph, for the next call.
+  -- From a call to the next one: at each moment of a call a crash leaves a prefix of the commit order with each acknowledged commit. A
+  -- crash at such a moment left a disk, and openings after it were cut off or refused. Then the files stand for such a prefix, so none
+  -- of these openings said that they stand for nothing; and what an opening gives is a store of it, of the same graph, for the next call.
   abbrev pub StoreGoesOn : Type 0
   StoreGoesOn = (g : Graph) (E X : Facts) (acknowledged pending : List Commit) (before after crashed last : D) (openings : List (D × D))
       → LeavesOnly moment left_at before after (StandsForBeginning g E X acknowledged pending) → IsLeft before after crashed → Openings crashed openings last

@@ -19,26 +19,26 @@ use Rattle.vault.specs.declared.error.VaultError.TheVariants.{NotAStore, Damaged
 use Rattle.vault.specs.Stands.{Stands, IsLive, IsBehind, other_side}
 use Rattle.vault.specs.Store.{SaysNothing}
 
--- what reads give of both files
+-- what reads return of both files
 abbrev pub contents_of : (Side → File) → Contents
 contents_of files side = (files side).content
 
 -- ---- what calls that sync and read leave
 
--- What reads give stays, and a crash at any moment of the calls, or behind them, leaves what one might have left before them.
+-- Reads return what they did before, and a crash at any moment of the calls, or after them, leaves what one might have left before.
 pub record OnlyReads {D : Type 0} (files : D → Side → File) (moment : D → ℕ) (left_at : D → ℕ → Contents → Type 0) (old new : D) : Type 0 where
   pub reads : (side : Side) → (files new side).content ≡ (files old side).content
   pub any_moment : LeavesOnly moment left_at old new (MayLeaveNow (files old))
   pub left : (contents : Contents) → MayLeaveNow (files new) contents → MayLeaveNow (files old) contents
 
--- ---- what the heads tell
+-- ---- what the heads say
 
 -- the side is closed, or has this generation
 abbrev pub IsGenerationOf : Option ℕ → List ℕ → Type 0
 IsGenerationOf None bytes = IsOpen bytes → ⊥
 IsGenerationOf (Some generation) bytes = HasGeneration bytes generation
 
--- the side has a generation, and the other one is behind it
+-- the side has a generation, and the other one is closed or has a smaller one
 pub record IsAhead (contents : Contents) (side : Side) : Type 0 where
   pub generation : ℕ
   pub has : HasGeneration (contents side) generation
@@ -60,8 +60,8 @@ StandsForNothing contents = (g : Graph) (E X : Facts) → Stands contents g E X 
 abbrev pub NoneIsOpen : Contents → Type 0
 NoneIsOpen contents = (side : Side) → IsOpen (contents side) → ⊥
 
--- What is told of two heads of which none is ahead. A is short: of A, at its length. A is not, and B is: of B, at its length. Both have one
--- generation: of A, at 2, where its generation begins. None is open: there is no store.
+-- The fault of two heads of which none is ahead. A is short: damage of A, at its length. A is not, and B is: damage of B, at its length.
+-- Both have one generation: damage of A, at 2, where its generation begins. None is open: there is no store.
 abbrev pub HeadsFault : Contents → VaultError → Type 0
 HeadsFault contents error =
     (IsCutShort (contents A) × (error ≡ Damaged A (length (contents A))))
@@ -75,9 +75,9 @@ IsOfAhead contents error = (side : Side) × (place : ℕ) × IsAhead contents si
 
 -- ---- what a side gives
 
--- What an opening gives fits together, whatever the disk is. One list of bytes is a side of this graph, this generation and the image's
--- facts, whose journal ends at this place; the text is the graph's; the image's lists rise, its facts fit the graph, and each address
--- has one item.
+-- The parts of what an opening gives fit together, whatever the disk is. Some bytes are a side of this graph, this generation and the
+-- image's facts, whose journal ends at this position; the text is the graph's; the image's lists are in rising order, its facts fit the
+-- graph, and each address has at most one item.
 pub record IsSound (g : Graph) (image : Image) (generation end : ℕ) (text : List ℕ) : Type 0 where
   pub bytes : List ℕ
   pub is_side : IsSide bytes g generation (environment_in image) (facts_in image)
@@ -87,7 +87,7 @@ pub record IsSound (g : Graph) (image : Image) (generation end : ℕ) (text : Li
   pub fits : FitsState g (environment_in image) (facts_in image)
   pub one_item : HasOneItemEach (facts_in image)
 
--- the bytes of the side stand for what was found of them
+-- the bytes of the side stand for what was found in them
 pub record IsFoundIn (side : Side) (bytes : List ℕ) (found : Found) : Type 0 where
   pub is_side : IsSide bytes found.graph found.generation (environment_in found.image) (facts_in found.image)
   pub side_is : found.journal.side ≡ side
@@ -98,7 +98,7 @@ pub record IsFoundIn (side : Side) (bytes : List ℕ) (found : Found) : Type 0 w
 abbrev pub IsNoSide : List ℕ → Type 0
 IsNoSide bytes = (g : Graph) (generation : ℕ) (E X : Facts) → IsSide bytes g generation E X → ⊥
 
--- both files stand for what was found, and one that is live gave it
+-- both files stand for what was found, and the live one gave it
 pub record IsFound (contents : Contents) (found : Found) : Type 0 where
   pub is_live : IsLive contents found.journal.side found.generation found.graph (environment_in found.image) (facts_in found.image)
   pub ends : found.journal.end ≡ end_of is_live.is_side
@@ -106,13 +106,13 @@ pub record IsFound (contents : Contents) (found : Found) : Type 0 where
 
 -- ---- why it is refused
 
--- What a refusal says of the files. `erred` says that a call of the disk answered an error; where none did, what the heads tell is answered.
--- And damage is told of the side that is ahead, or it is what the heads tell.
+-- What a refusal says of the files. `erred` says that a call of the disk returned an error; if none did, a fault of the heads is returned.
+-- `NotAStore` and `Damaged` say that the files stand for nothing; they are a fault of the heads, or damage of the side that is ahead.
 pub record TellsWhy {T : Type 0} (contents : Contents) (erred : Type 0) (result : Result T VaultError) : Type 0 where
   pub nothing : IfErr result (λ error. SaysNothing error → StandsForNothing contents)
   pub heads : (error : VaultError) → HeadsFault contents error → IsErrOf result error ⊎ erred
   pub cause : IfErr result (λ error. SaysNothing error → HeadsFault contents error ⊎ IsOfAhead contents error)
 
--- an error that opening may answer
+-- an error that opening may return
 abbrev pub IsOfOpening : VaultError → Type 0
 IsOfOpening error = (error ≢ Full) × (error ≢ Halted) × (error ≢ Exists)

@@ -16,7 +16,7 @@ other_side B = A
 abbrev pub IsBehind : List ℕ → ℕ → Type 0
 IsBehind bytes generation = (IsOpen bytes → ⊥) ⊎ ((smaller : ℕ) × HasGeneration bytes smaller × (smaller < generation))
 
--- the live side, of this generation, stands for a graph and facts, and the other one is behind it
+-- the live side, of this generation, stands for a graph and facts, and the other one is closed or has a smaller generation
 pub record IsLive (contents : Contents) (live : Side) (generation : ℕ) (g : Graph) (E X : Facts) : Type 0 where
   pub is_side : IsSide (contents live) g generation E X
   pub behind : IsBehind (contents (other_side live)) generation
@@ -27,12 +27,12 @@ Stands contents g E X = (live : Side) × (generation : ℕ) × IsLive contents l
 
 -- ---- laws
 
--- two files stand for one graph and one set of facts at most
+-- two files stand for at most one graph and one set of facts
 abbrev pub OneStore : Type 0
 OneStore = (contents : Contents) (g h : Graph) (E F X Y : Facts) → Stands contents g E X → Stands contents h F Y
     → (g ≡ h) × ((fact : Fact) → E fact ≡ F fact) × ((fact : Fact) → X fact ≡ Y fact)
 
--- behind the closed gate that ends the live side's journal there may be any bytes, and in the other file any that are behind it
+-- after the closed gate that ends the live side's journal any bytes may come; the other file may have any that are behind the live side
 abbrev pub AnyTail : Type 0
 AnyTail = (contents : Contents) (g : Graph) (E X : Facts) (live : Side) (generation : ℕ) (it : IsLive contents live generation g E X)
     → (front : List ℕ) × (rest : List ℕ) × (contents live ≡ front ++ rest) × (length front ≡ end_of it.is_side + 1)

@@ -38,13 +38,13 @@ pub record Holds {D : Type 0} (files : D → Side → File) (vault : Vault D) (g
   pub ends : vault.journal.end ≡ end_of is_live.is_side
   pub text : vault.text.items ≡ canonical g
 
--- What the calls of a vault ask for, and leave: all of both files is on the disk, and the journal's end lies within the live one.
+-- What the calls of a vault require, and leave: all of both files is on the disk, and the journal's end lies within the live file.
 -- A vault that holds something is ready.
 pub record IsReady {D : Type 0} (files : D → Side → File) (vault : Vault D) : Type 0 where
   pub rests : (side : Side) → files vault.disk side ≡ at_rest (files vault.disk side).content
   pub within : vault.journal.end < length (files vault.disk vault.journal.side).content
 
--- nothing of the vault changed that its promises speak of
+-- nothing that the promises of a vault speak of has changed
 pub record IsSame {D : Type 0} (old new : Vault D) : Type 0 where
   pub disk : new.disk ≡ old.disk
   pub side : new.journal.side ≡ old.journal.side
@@ -59,7 +59,7 @@ pub record IsSame {D : Type 0} (old new : Vault D) : Type 0 where
 abbrev pub HasGates : Contents → Type 0
 HasGates contents = (side : Side) → contents side ≢ []
 
--- two files stand for the state before a commit or for that behind it, and for nothing between
+-- two files stand for the state before a commit or for the state after it, and for nothing between
 abbrev pub StandsBeforeOrAfter : Graph → Facts → Facts → Commit → Contents → Type 0
 StandsBeforeOrAfter g E X commit contents = Stands contents g E X ⊎ Stands contents g (with_facts E (environment commit)) (with_facts X (facts commit))
 
@@ -86,7 +86,7 @@ IsLast generation = generation + 1 ≡ 2 ^ 64
 
 -- ---- calls that take the disk
 
--- the disk of an answer
+-- the disk that a result gives back
 abbrev pub disk_of : {D : Type 0} → Result (Vault D) (Refused D) → D
 disk_of (Ok vault) = vault.disk
 disk_of (Err refused) = refused.disk
@@ -95,7 +95,7 @@ abbrev pub disk_of_opening : {D : Type 0} → Result (Recovered D) (Refused D) �
 disk_of_opening (Ok recovered) = recovered.vault.disk
 disk_of_opening (Err refused) = refused.disk
 
--- the answer, of a refusal its error alone
+-- the result; of a refusal only its error
 abbrev pub answer_of : {D T : Type 0} → Result T (Refused D) → Result T VaultError
 answer_of (Ok value) = Ok value
 answer_of (Err refused) = Err refused.error
@@ -104,6 +104,6 @@ answer_of (Err refused) = Err refused.error
 abbrev pub SaysNothing : VaultError → Type 0
 SaysNothing error = (error ≡ NotAStore) ⊎ ((side : Side) × (place : ℕ) × (error ≡ Damaged side place))
 
--- the text is that of a graph, as its graph spells it
+-- the text is the canonical text of a graph
 abbrev pub IsCanonical : List ℕ → Type 0
 IsCanonical text = (g : Graph) × Reads text g × (text ≡ canonical g)

@@ -10,7 +10,7 @@ pub record IsShut (bytes : List ℕ) : Type 0 where
   pub rest : List ℕ
   pub spelled : bytes ≡ gate ∷ rest
 
--- they are none, or begin with an open one
+-- they are none, or begin with an open gate
 abbrev pub IsUnshut : List ℕ → Type 0
 IsUnshut bytes = (bytes ≡ []) ⊎ IsOpen bytes
 
@@ -18,18 +18,18 @@ IsUnshut bytes = (bytes ≡ []) ⊎ IsOpen bytes
 abbrev pub Rests : File → Type 0
 Rests file = file ≡ at_rest file.content
 
--- and it begins with a gate that is not open
+-- all of it is on the disk, and it begins with a gate that is not open
 abbrev pub RestsShut : File → Type 0
 RestsShut file = Rests file × IsShut file.content
 
--- behind such a gate it has these bytes
+-- after a gate that is not open it has these bytes, and all of it is on the disk
 abbrev pub HasBehindGate : File → List ℕ → Type 0
 HasBehindGate file bytes = (gate : ℕ) × (gate ≢ 1) × (file ≡ at_rest (gate ∷ bytes))
 
--- of the old bytes a crash leaves those, or a side whose gate is not open
+-- a crash leaves the old bytes, or bytes that begin with a gate that is not open
 abbrev pub MayShut : List ℕ → List ℕ → Type 0
 MayShut old bytes = (bytes ≡ old) ⊎ IsShut bytes
 
--- or the new ones
+-- or it leaves the new bytes
 abbrev pub MayTurn : List ℕ → List ℕ → List ℕ → Type 0
 MayTurn old new bytes = MayShut old bytes ⊎ (bytes ≡ new)

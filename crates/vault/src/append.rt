@@ -23,10 +23,11 @@ use sides::sides_go_on;
 use terms::Event;
 
 impl<D: Disk> Vault<D> {
-    /// Adds an event, which fits what the store holds. From `Ok` on it is acknowledged: each crash leaves it.
+    /// Appends an event that fits what the store holds. After `Ok` it is acknowledged: every crash leaves it.
     ///
-    /// It halts exactly where a call of the disk answered an error; then the event may be there or not. Every other error leaves
-    /// the vault and its disk as they were: `Full`, `Halted`, and `NoMemory` where the event or its record cannot be spelled.
+    /// The vault halts exactly if a call of the disk returned an error; then the event may be there or not. Every other
+    /// error leaves the vault and its disk as they were: `Full`, `Halted`, and `NoMemory` if memory for the event or its
+    /// record is refused.
     pub fn append(&mut self, event: &Event) -> Result<(), VaultError>
         requires puts { HasFewPuts event.now }
         requires store { IsTrue D.is_honest → self.old.halted ≡ false → IsReady D.files self.old }
@@ -34,15 +35,15 @@ impl<D: Disk> Vault<D> {
         ensures added { IsTrue D.is_honest → (g : Graph) (E X : Facts) → Holds D.files self.old g E X → Fits g X event.now
             → OnOk result (Holds D.files self.new g (with_facts E (environment (event.now ∷ []))) (with_facts X (facts (event.now ∷ [])))) }
 
-        // A crash at any moment of the call leaves the state before the commit of this one event or behind it.
+        // A crash at any moment of the call leaves the state before the commit of this one event or the state after it.
         ensures any_moment { IsTrue D.is_honest → (g : Graph) (E X : Facts) → Holds D.files self.old g E X → Fits g X event.now
             → LeavesOnly D.moment D.left_at self.old.disk self.new.disk (StandsBeforeOrAfter g E X (event.now ∷ [])) }
 
-        // A crash leaves each file its first byte.
+        // If each file has a first byte, a crash leaves each file one.
         ensures gates { IsTrue D.is_honest → (g : Graph) (E X : Facts) → Holds D.files self.old g E X → HasGates (contents_of (D.files self.old.disk))
             → LeavesOnly D.moment D.left_at self.old.disk self.new.disk HasGates }
 
-        // What it writes, where it leaves the vault, and why it is refused.
+        // What it writes, how it leaves the vault, and why it is refused.
         ensures written { IsTrue D.is_honest → WritesRecord D.files self.old self.new (record_of (commit_bytes (event.now ∷ []))) result }
         ensures appended { Appended self.old self.new (record_of (commit_bytes (event.now ∷ []))) result }
         ensures full { IsFullWhere self.old.halted (LIMIT ≤ self.old.journal.end + length (record_of (commit_bytes (event.now ∷ [])))) result }
@@ -66,7 +67,7 @@ impl<D: Disk> Vault<D> {
     }
 }
 
-// Why an append was refused that made no call of the disk.
+// Why an append was refused before any call of the disk.
 fn refusal(cause: JournalError) -> VaultError
     requires { (cause ≡ JournalError.Full) ⊎ (cause ≡ JournalError.NoMemory) }
     ensures causes { (result ≡ Full) ⊎ (result ≡ NoMemory) }

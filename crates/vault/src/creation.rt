@@ -22,22 +22,24 @@ use std::alloc::{AllocError, Global};
 
 /// Makes a store without facts on two empty files. The text is the canonical text of its graph.
 ///
-/// `Exists` says that a file is not empty. Where one is not, both are left as they are, whatever is answered, and a crash at any
-/// moment of the call leaves what one might have left before it. Where both were empty, and nothing of A is on its way to the disk,
-/// nothing is said of what they hold after an error of the disk, but that A is empty or B has its closed gate. All memory is asked for before the first
-/// call of the disk: where the call's own memory was refused, and not the disk's, the disk is as it was.
+/// `Exists` says that a file is not empty. If one is not, both stay as they are, whatever is returned, and a crash at any
+/// moment of the call leaves what one might have left before it. If both were empty, and nothing of A is on its way to the
+/// disk, an error of the disk leaves A empty or B with its closed gate; nothing more is said of what they hold then. All
+/// memory is asked for before the first call of the disk: if the call's own memory is refused, and not the disk's, the disk
+/// is as it was.
 pub fn create<D: Disk>(alloc: Global, disk: D, text: &[u8]) -> Result<Vault<D>, Refused<D>>
     requires { IsCanonical text.now }
     ensures created { IsTrue D.is_honest → IfOk result (IsCreated D.files text.now) }
     ensures new { IfOk result (IsNew text.now) }
 
-    // Where A is empty, and nothing of it is on its way to the disk, a crash at any moment leaves A empty, or B with its closed gate.
+    // If A is empty, and nothing of it is on its way to the disk, a crash at any moment leaves A empty, or B with its
+    // closed gate.
     ensures begins { IsTrue D.is_honest → D.files disk A ≡ at_rest [] → LeavesOnly D.moment D.left_at disk (disk_of result) BComesFirst }
 
     // Files that are not empty are left as they are.
     ensures non_empty { IsTrue D.is_honest → LeavesNonEmpty D.files D.moment D.left_at disk (disk_of result) (answer_of result) }
 
-    // Why it is refused. All growth comes before the first call of the disk.
+    // Why it is refused. All memory of its own is asked for before the first call of the disk.
     ensures errors { IfErr result (λ refused. (refused.error ≡ Exists) ⊎ (refused.error ≡ NoMemory) ⊎ (refused.error ≡ Device)) }
     ensures causes { HasCauses D.failures D.refusals Device NoMemory disk (disk_of result) (answer_of result) }
     ensures grown_first { IfErr result (λ refused. refused.error ≡ NoMemory → D.refusals refused.disk ≡ D.refusals disk → refused.disk ≡ disk) }
@@ -141,7 +143,8 @@ fn is_there<D: Disk>(disk: &mut D) -> Result<bool, DiskError>
     Ok(a != 0 || b != 0)
 }
 
-// Writes both sides of a new store on empty files: B closed, and A closed first, and opened when all of it is on the disk.
+// Writes both sides of a new store on empty files: B, closed; then A, closed at first, and opened when all of it is on
+// the disk.
 fn write_sides<D: Disk>(disk: &mut D, bytes: &[u8]) -> Result<(), DiskError>
     ensures a { IsTrue D.is_honest → (rest : List ℕ) → bytes.now ≡ 0 ∷ rest → (D.files disk.old A).content ≡ [] → OnOk result (D.files disk.new A ≡ at_rest (1 ∷ rest)) }
     ensures b { IsTrue D.is_honest → (D.files disk.old B).content ≡ [] → OnOk result (D.files disk.new B ≡ at_rest (0 ∷ [])) }

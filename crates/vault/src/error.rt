@@ -13,10 +13,10 @@ pub enum VaultError {
     /// The device failed.
     #[error("the device failed")]
     Device,
-    /// A growth was refused.
+    /// Memory was refused.
     #[error("no memory")]
     NoMemory,
-    /// The two files stand for nothing: of this side, at this place.
+    /// The two files stand for nothing: a check of this side failed, at this position.
     #[error("damaged {0:?} at {1}")]
     Damaged(Side, u64),
     /// The record or the side would reach past the limit, or the generation is the greatest.
@@ -25,7 +25,7 @@ pub enum VaultError {
     /// No side is open.
     #[error("not a store")]
     NotAStore,
-    /// An error of the disk came before: the store must be opened again.
+    /// A call of the disk returned an error before: the store must be opened again.
     #[error("halted")]
     Halted,
     /// A file is not empty.

@@ -17,7 +17,7 @@ use journal::Journal;
 use sides::{Gate, SideError, Standing, gate_of, one_item_each, read_side, sides_go_on};
 use std::alloc::{AllocError, Global};
 
-// What the bytes of a side gave.
+// What was read from the bytes of a side.
 #[derive(Drop)]
 pub(crate) struct Found {
     pub(crate) journal: Journal,
@@ -49,7 +49,7 @@ pub(crate) fn found_in(alloc: Global, side: Side, bytes: &[u8]) -> Result<Found,
     }
 }
 
-// What a side of this generation gave, with its image.
+// What was read from a side of this generation, with its image.
 fn found_of(
     alloc: Global,
     side: Side,

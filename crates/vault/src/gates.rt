@@ -16,8 +16,8 @@ pub(crate) fn other(side: Side) -> Side
     }
 }
 
-/// Writes a side anew, of which all is on the disk: these bytes behind an open gate. Until the gate is opened, at the end, the
-/// file is the old one or begins with a gate that is not open.
+/// Writes a side anew: an open gate and these bytes after it. All of its file is on the disk before. Until the gate is
+/// opened, at the end, the file is the old one or begins with a gate that is not open.
 pub(crate) fn write_side<D: Disk>(disk: &mut D, side: Side, behind: &[u8]) -> Result<(), DiskError>
     requires { IsTrue D.is_honest → Rests (D.files disk.old side) }
     ensures written { IsTrue D.is_honest → OnOk result (D.files disk.new side ≡ at_rest (1 ∷ behind.now)) }
@@ -32,7 +32,7 @@ pub(crate) fn write_side<D: Disk>(disk: &mut D, side: Side, behind: &[u8]) -> Re
     write_synced(disk, side, 0, &[OPEN])
 }
 
-// Writes bytes behind a gate that is not open, and nothing else behind it. At each moment the gate is there, and not open.
+// Writes these bytes, and no others, after a gate that is not open. At each moment the gate is there, and not open.
 fn write_behind<D: Disk>(disk: &mut D, side: Side, behind: &[u8]) -> Result<(), DiskError>
     requires { IsTrue D.is_honest → RestsShut (D.files disk.old side) }
     ensures written { IsTrue D.is_honest → OnOk result (HasBehindGate (D.files disk.new side) behind.now) }
@@ -45,7 +45,7 @@ fn write_behind<D: Disk>(disk: &mut D, side: Side, behind: &[u8]) -> Result<(), 
     write_synced(disk, side, 1, behind)
 }
 
-// Closes the gate of a file, all of which is on the disk. An empty file gets a closed gate; of another nothing else changes.
+// Closes the gate of a file, all of which is on the disk. An empty file gets a closed gate; in another nothing else changes.
 fn close_gate<D: Disk>(disk: &mut D, side: Side) -> Result<(), DiskError>
     requires { IsTrue D.is_honest → Rests (D.files disk.old side) }
     ensures shut { IsTrue D.is_honest → OnOk result (RestsShut (D.files disk.new side)) }

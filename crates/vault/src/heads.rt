@@ -13,10 +13,10 @@ use crate::VaultError;
 use disk::{Disk, DiskError, Side};
 use sides::{Gate, HEAD, gate_of, one_meaning_of_a_side};
 
-// The place in a side at which its generation begins.
+// The position in a side at which its generation begins.
 const GENERATION: u64 = 2;
 
-// The side that has a generation while the other one is behind it.
+// The side that has a generation while the other one is closed or has a smaller one.
 pub(crate) fn live_side<D: Disk>(disk: &mut D) -> Result<Side, VaultError>
     ensures ahead { IsTrue D.is_honest → IfOk result (IsAhead (contents_of (D.files disk.old))) }
     ensures nothing { IsTrue D.is_honest → IfErr result (λ error. SaysNothing error → StandsForNothing (contents_of (D.files disk.old))) }
@@ -32,7 +32,7 @@ pub(crate) fn live_side<D: Disk>(disk: &mut D) -> Result<Side, VaultError>
     ahead(a, b)
 }
 
-// The generation of a side, or `None` where it is closed. It is damaged at its end where it is open and too short to have one.
+// The generation of a side, or `None` if it is closed. A side that is open and too short to have one is damaged, at its end.
 fn generation_of<D: Disk>(disk: &mut D, side: Side) -> Result<Option<u64>, VaultError>
     ensures generation { IsTrue D.is_honest → IfOk result (λ generation. IsGenerationOf generation (D.files disk.old side).content) }
     ensures nothing { IsTrue D.is_honest → IfErr result (λ error. SaysNothing error → StandsForNothing (contents_of (D.files disk.old))) }
@@ -52,7 +52,7 @@ fn generation_of<D: Disk>(disk: &mut D, side: Side) -> Result<Option<u64>, Vault
     }
 }
 
-// What the head of a file tells, and how many bytes the file has.
+// What the head of a file says, and how many bytes the file has.
 fn head_of<D: Disk>(disk: &mut D, side: Side) -> Result<(Gate, u64), DiskError>
     ensures tells { IsTrue D.is_honest → IfOk result (λ head. Tells head.0 (D.files disk.old side).content) }
     ensures count { IsTrue D.is_honest → IfOk result (λ head. head.1 ≡ length (D.files disk.old side).content) }
@@ -68,7 +68,7 @@ fn head_of<D: Disk>(disk: &mut D, side: Side) -> Result<(Gate, u64), DiskError>
     Ok((gate_of(&head[..known]), count))
 }
 
-// Of two sides with these generations, the one that is ahead.
+// Of two sides with these generations, `None` if closed, the one that is ahead.
 fn ahead(a: Option<u64>, b: Option<u64>) -> Result<Side, VaultError>
     ensures ahead { (contents : Contents) → IsGenerationOf a (contents A) → IsGenerationOf b (contents B) → IfOk result (IsAhead contents) }
     ensures nothing { (contents : Contents) → IsGenerationOf a (contents A) → IsGenerationOf b (contents B) → IfErr result (λ _. StandsForNothing contents) }

@@ -8,10 +8,10 @@ use terms::{facts_are_told_apart, facts_go_on};
 
 /// A store from call to call, by its commits.
 ///
-/// They begin at a state: at nothing, or at what an opening gave. An append that answers `Ok` adds its commit to them. A crash at
-/// any moment leaves a beginning of the commit order, with each acknowledged commit and none in part. And behind a crash, and
-/// openings that were cut off or refused, an opening gives the store of such a beginning to the next call, and never says that there
-/// is none. What is said of first bytes is said where each file has one.
+/// They begin at a state: at nothing, or at what an opening gave. An append that returns `Ok` adds its commit. A crash at
+/// any moment leaves a prefix of the commit order that has each acknowledged commit, and none in part. After a crash, and
+/// after openings that were cut off or refused, an opening gives the store of such a prefix to the next call, and never
+/// says that there is none. What is said of first bytes holds if each file has one.
 pub fn stores_go_on<D: Disk>()
     ensures begun { BegunStore D.files D.moment D.left_at }
     ensures appended { AppendedStore D.files D.moment D.left_at }
@@ -36,7 +36,8 @@ pub fn stores_go_on<D: Disk>()
     one_store();
 }
 
-/// A worked example, with nothing to run: what the first event of a commit states, without what the second one does, is no beginning.
+/// A worked example, with nothing to run: what the first event of a commit states, without what the second one does, is
+/// no prefix.
 pub fn half_a_commit()
     ensures { HalfIsNoBeginning }
 {

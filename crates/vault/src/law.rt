@@ -3,7 +3,8 @@ ghost use Rattle.vault.specs.Stands.{OneStore, AnyTail};
 
 use sides::one_meaning_of_a_side;
 
-/// Two files stand for one graph and one set of facts at most, whatever lies behind the gate that ends the live journal.
+/// Two files stand for at most one graph and one set of facts, whatever bytes come after the gate that ends the live
+/// journal.
 pub fn one_store()
     ensures one { OneStore }
     ensures tail { AnyTail }

@@ -29,24 +29,26 @@ pub struct Recovered<D: Disk> {
 
 /// Opens the store on two files, and reads what it holds.
 ///
-/// Both files are synced first, so that what was read is what every later crash leaves. Nothing is written, whatever it answers.
-/// `NotAStore` says that no side is open; `Damaged` names an open side, and the place of its first check that failed. The heads come
-/// first: an open side of fewer than ten bytes (A before B, at its length), then both sides of one generation (A, at 2). Where they
-/// have such a fault, or no side is open, that is told, unless a call of the disk answers an error. Then comes the format of the live side (at
-/// 1), its graph's text, its length first (at 10 and 14), its image (at its length's place), and its journal (at the gate of the first
-/// record that is not whole with a gate behind it, is no event, or does not fit, or where the journal's first byte is missing).
+/// Both files are synced first, so that every later crash leaves what was read. Nothing is written, whatever is returned.
+/// `NotAStore` says that no side is open; `Damaged` names an open side, and the position of its first check that failed.
+/// The heads come first: an open side of fewer than ten bytes (A before B, at its length), then two sides of one
+/// generation (A, at 2). Such a fault, or that no side is open, is returned unless a call of the disk returns an error.
+/// Then come the format of the live side (at 1), the length of its graph's text (at 10), that text (at 14), its image (at
+/// the position of its length), and its journal (at the gate of the first record that is not whole and followed by a
+/// gate, is no event, or does not fit, or where the journal's first byte is missing).
 pub fn open<D: Disk>(alloc: Global, disk: D) -> Result<Recovered<D>, Refused<D>>
     ensures found { IsTrue D.is_honest → IfOk result (λ r. Holds D.files r.vault r.graph (environment_in r.image) (facts_in r.image)) }
     ensures ready { IsTrue D.is_honest → IfOk result (λ r. IsReady D.files r.vault) }
     ensures working { IfOk result (λ r. r.vault.halted ≡ false) }
 
-    // What it gives fits together on every disk.
+    // The parts of what it gives fit together, on every disk.
     ensures sound { IfOk result (λ r. IsSound r.graph r.image r.vault.generation r.vault.journal.end r.vault.text.items) }
 
     // What a refusal says of the files.
     ensures tells { IsTrue D.is_honest → TellsWhy (contents_of (D.files disk)) (HasErred D.failures D.refusals disk (disk_of_opening result)) (answer_of result) }
 
-    // What reads give stays, and a crash at any moment of the call, or behind it, leaves what one might have left before it.
+    // Reads return what they returned before, and a crash at any moment of the call, or after it, leaves what one might
+    // have left before.
     ensures only_reads { IsTrue D.is_honest → OnlyReads D.files D.moment D.left_at disk (disk_of_opening result) }
 
     ensures errors { IfErr result (λ refused. IsOfOpening refused.error) }
@@ -126,7 +128,7 @@ fn look<D: Disk>(alloc: Global, disk: &mut D) -> Result<Found, VaultError>
     found_in(alloc, side, &bytes)
 }
 
-// What reads give of a file.
+// All bytes of a file, as reads return them.
 fn read_whole<D: Disk>(alloc: Global, disk: &mut D, side: Side) -> Result<Vec<u8>, DiskError>
     ensures value { IsTrue D.is_honest → IfOk result (λ bytes. bytes.items ≡ (D.files disk.old side).content) }
     ensures same { IsTrue D.is_honest → (each : Side) → D.files disk.new each ≡ D.files disk.old each }

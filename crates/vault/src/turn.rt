@@ -21,31 +21,32 @@ use journal::LIMIT;
 use sides::{one_meaning_of_a_side, sides_go_on, spell_side};
 
 impl<D: Disk> Vault<D> {
-    /// Turns over: writes the other side anew, one generation greater, with the image of what the store holds and no record, and
-    /// makes it live. It answers the new generation.
+    /// Turns over: writes the other side anew, one generation greater, with the image of what the store holds and no
+    /// record, and makes it live. Returns the new generation.
     ///
-    /// It halts exactly where a call of the disk answered an error; then either side may be live, for the same facts where the other
-    /// file had a first byte. Every other error leaves the vault and its disk as they were: `Full`, `Halted`, and `NoMemory` where
-    /// the side cannot be spelled. At the greatest generation `Full` comes before memory is asked for.
+    /// The vault halts exactly if a call of the disk returned an error; then either side may be live, for the same facts
+    /// if the other file had a first byte. Every other error leaves the vault and its disk as they were: `Full`,
+    /// `Halted`, and `NoMemory` if memory for the side is refused. At the greatest generation `Full` comes before memory
+    /// is asked for.
     pub fn turn(&mut self, image: &Image) -> Result<u64, VaultError>
         requires image { IsListed image.now }
         requires store { IsTrue D.is_honest → self.old.halted ≡ false → IsReady D.files self.old }
 
         ensures turned { IsTrue D.is_honest → (g : Graph) (E X : Facts) → Holds D.files self.old g E X → Lists image.now E X → OnOk result (Holds D.files self.new g E X) }
 
-        // A crash at any moment of the call leaves what the store holds, where the other file has a first byte.
+        // A crash at any moment of the call leaves what the store holds, if the other file has a first byte.
         ensures any_moment { IsTrue D.is_honest → (g : Graph) (E X : Facts) → Holds D.files self.old g E X → Lists image.now E X → (D.files self.old.disk (other_side self.old.journal.side)).content ≢ []
             → LeavesOnly D.moment D.left_at self.old.disk self.new.disk (λ contents. Stands contents g E X) }
 
-        // A crash leaves each file its first byte.
+        // If each file has a first byte, a crash leaves each file one.
         ensures gates { IsTrue D.is_honest → (g : Graph) (E X : Facts) → Holds D.files self.old g E X → HasGates (contents_of (D.files self.old.disk))
             → LeavesOnly D.moment D.left_at self.old.disk self.new.disk HasGates }
 
-        // What it writes, where it leaves the vault, and why it is refused.
+        // What it writes, how it leaves the vault, and why it is refused.
         ensures written { IsTrue D.is_honest → WritesSide D.files self.old self.new image.now result }
         ensures over { TurnsOver self.old self.new image.now result }
 
-        // The greatest generation is told before memory is asked for.
+        // At the greatest generation `Full` comes before memory is asked for.
         ensures last { self.old.halted ≡ false → IsLast self.old.generation → IsErrOf result Full }
         ensures full { IsFullWhere self.old.halted (IsLast self.old.generation ⊎ IsTooLong (self.old.generation + 1) self.old.text.items image.now) result }
         ensures halting { Halts D.failures D.refusals self.old self.new result }
@@ -64,7 +65,7 @@ impl<D: Disk> Vault<D> {
                 self.journal.side = side;
                 self.journal.end = self.buffer.len() as u64;
                 self.generation = generation;
-                // A side may be long.
+                // A side may be long: its memory is given back.
                 self.buffer.clear();
                 self.buffer.shrink_to_fit();
                 Ok(generation)
@@ -77,7 +78,7 @@ impl<D: Disk> Vault<D> {
     }
 }
 
-// Puts into the buffer what stands behind the gate of the side that a turnover writes, and answers its generation.
+// Puts into the buffer what follows the gate of the side that a turnover writes, and returns its generation.
 fn spell_next(
     buffer: &mut Vec<u8>,
     generation: u64,

@@ -3,10 +3,10 @@ ghost use Rattle.std.specs.Prelude.{◌≡◌};
 use disk::Disk;
 use journal::Journal;
 
-/// A store on two files, open.
+/// An open store on two files.
 ///
-/// What it holds is told by its files alone: the fields say where the next record goes. A vault halts exactly where a call of the
-/// disk answers an error in `append` or `turn`, and stays halted until its disk is opened again.
+/// Its files alone say what it holds; the fields say where the next record goes. A vault halts exactly if a call of the disk
+/// returns an error in `append` or `turn`, and stays halted until its disk is opened again.
 pub struct Vault<D: Disk> {
     pub(crate) disk: D,
     // The journal of the live side.
@@ -15,14 +15,14 @@ pub struct Vault<D: Disk> {
     pub(crate) generation: u64,
     // The canonical text of the graph.
     pub(crate) text: Vec<u8>,
-    // Whether a call of the disk answered an error before.
+    // Whether a call of the disk returned an error before.
     pub(crate) halted: bool,
     // Holds an event while it is appended, and a side while it is written.
     pub(crate) buffer: Vec<u8>,
 }
 
 impl<D: Disk + Drop> Drop for Vault<D> {
-    // By hand, so that it is one call wherever a vault goes.
+    // By hand, so that dropping a vault is one call, wherever it is dropped.
     fn drop(self) {
         let Vault {
             disk: _,
@@ -36,15 +36,15 @@ impl<D: Disk + Drop> Drop for Vault<D> {
 }
 
 impl<D: Disk> Vault<D> {
-    /// The generation of the live side, where the vault is not halted: 1 of a new store, and one more with each turnover. A turnover
-    /// that halts leaves it as it was, whichever side is live then.
+    /// The generation of the live side, if the vault is not halted: 1 in a new store, and one more after each turnover. A
+    /// turnover that halts leaves it as it was, whichever side is live then.
     pub fn generation(&self) -> u64
         ensures { result ≡ self.now.generation }
     {
         self.generation
     }
 
-    /// Whether a call of the disk answered an error before, so that its disk must be opened again.
+    /// Whether a call of the disk returned an error before, so that its disk must be opened again.
     pub fn is_halted(&self) -> bool
         ensures { result ≡ self.now.halted }
     {
