@@ -1,4 +1,4 @@
--- Behind each change of a machine no more instances run than the allowance is.
+-- After each change of a machine at most as many instances run as the allowance.
 use Rattle.std.proofs.Common.{◌≡◌, ◌≢◌, ◌∙◌, ◌+◌, ◌<◌, ◌≤◌, ap, sym, refl, subst, inl, inr, ℕ, false, cond, Option, None, Some, IfSome, arith}
 use Rattle.terms.specs.declared.name.Addr.{Addr}
 use Rattle.terms.specs.declared.name.Inst.{Inst}
@@ -39,7 +39,7 @@ ends_none (event.EnvTag name) put instance ends = ends
 ends_none (event.Done ended puts) put instance ends = put
 ends_none (event.Stopped ended kind) put instance ends = put
 
--- what the environment puts costs nothing of the allowance, and an end costs one
+-- a put of the environment uses nothing of the allowance, and an end uses one
 pub costs_nothing : (event : Event) → IsPut event → step_count event ≡ 0
 costs_nothing (event.EnvItem address value) put = refl
 costs_nothing (event.EnvTag name) put = refl
@@ -52,7 +52,7 @@ end_costs_one (event.EnvTag name) task ends = absurd ends
 end_costs_one (event.Done ended puts) task ends = refl
 end_costs_one (event.Stopped ended kind) task ends = refl
 
--- an instance that runs behind an event, and does not end by it, ran before
+-- an instance that runs after an event, and does not end by it, ran before
 ran_before : (m n : Machine) (event : Event) → Takes m n event → (instance : Inst) → (Ends event instance → ⊥) → state_of n instance ≡ Some Running → state_of m instance ≡ Some Running
 ran_before m n event takes instance other runs = goes_on (facts_of n.memory) (state_of m instance) (state_of n instance) (takes.states instance other) runs
 
@@ -72,7 +72,7 @@ behind_end law m n event task allowance left ends ran takes allowed spent =
     each : (instance : Inst) → state_of n instance ≡ Some Running → (instance ≢ task) × (state_of m instance ≡ Some Running)
     each instance runs = (λ is. not_ended instance runs (subst (λ (i : Inst). Ends event i) (sym is) ends), ran_before m n event takes instance (not_ended instance runs) runs)
 
--- where an instance runs something is left of the allowance
+-- if an instance runs, something is left of the allowance
 pub some_left : OneRuns → (m : Machine) (task : Inst) (allowance : ℕ) → state_of m task ≡ Some Running → running_count m ≤ allowance → 0 < allowance
 some_left law m task allowance runs allowed = let one : 1 ≤ running_count m = law m.memory.instances task runs in no_more 1 (running_count m) allowance one allowed
 
@@ -85,7 +85,7 @@ behind_room law m n allowance same allowed =
 pub behind_nothing : (m n : Machine) (allowance : ℕ) → n ≡ m → running_count m ≤ allowance → running_count n ≤ allowance
 behind_nothing m n allowance same allowed = subst (λ (k : Machine). running_count k ≤ allowance) (sym same) allowed
 
--- an instance comes into another state than running
+-- an instance comes into a state other than running
 pub behind_move : (m n : Machine) (instance : Inst) (to : State) (allowance : ℕ) → is_running to ≡ false → Moves m n instance to → running_count m ≤ allowance → running_count n ≤ allowance
 behind_move m n instance to allowance other moves allowed =
     let counts = moves.counts is_running ∙ ap (λ t. running_count m + cond t 1 0) other in
@@ -97,7 +97,7 @@ behind_look m n instance address allowance looks allowed = elim looks [
   | inr ready ↦ behind_move m n instance Ready allowance refl ready.1 allowed
 ]
 
--- an instance is claimed where something is left of the allowance, or none is
+-- if something is left of the allowance, one instance may be claimed, or none
 pub behind_claim : (m n : Machine) (claimed : Option Inst) (P : Inst → Type 0) (allowance : ℕ)
     → IfSome claimed (λ task. P task × (state_of m task ≡ Some Ready) × Moves m n task Running) → (claimed ≡ None → n ≡ m) → running_count m < allowance → running_count n ≤ allowance
 behind_claim m n None P allowance claims none allowed = behind_nothing m n allowance (none refl) (omega (arith, allowed))

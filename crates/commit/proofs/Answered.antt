@@ -1,4 +1,4 @@
--- What is said of one answer, said with other words.
+-- What holds of a result holds of it in other words.
 use Rattle.std.proofs.Common.{Result, Ok, Err, OnOk, OnErr, IfOk, IfErr}
 
 pub on_ok : {T E : Type 0} (result : Result T E) (P Q : Type 0) → (P → Q) → OnOk result P → OnOk result Q

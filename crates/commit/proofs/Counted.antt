@@ -1,4 +1,4 @@
--- Where none is counted, none is in such a state.
+-- If no instance is counted in a state, none is in it.
 use Rattle.std.proofs.Common.{◌≡◌, ◌≢◌, ◌↔◌, false, Some, refl, sym, ap, ◌∙◌}
 use Rattle.std.proofs.lemmas.Bool.{false≢true}
 use Rattle.terms.specs.declared.name.Inst.{Inst}

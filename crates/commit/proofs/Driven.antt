@@ -30,17 +30,17 @@ pub record Driven {D : Type 0} (files : D → Side → File) (moment : D → ℕ
   pub graph_is : given ≡ graph now
   pub allowance : now.allowance ≤ first.allowance
 
--- where none ran, the one that was claimed runs alone
+-- if none ran, the one that was claimed runs alone
 pub alone : {D : Type 0} (old new : Core D) (task : Inst) → NoneRuns old → Moves old new task Running → (instance : Inst) → instance ≢ task → state_of new instance ≢ Some Running
 alone old new task idle moves instance other runs = idle instance (sym (moves.machine.others instance other) ∙ runs)
 
--- where none is claimed of those that are ready, the first may not be claimed either
+-- if none of the ready ones is claimed, the first may not be claimed either
 pub claims_none : {D : Type 0} (old new : Core D) (at ready : ℕ) (claimed : Option Inst) → claimed ≡ None → (MayClaim old at → IsSome claimed) → new ≡ old → at < ready → ready ≡ min (ready_count old.machine) (2 ^ 64 - 1) → MayClaim new 0 → ⊥
 claims_none {D} old new at ready claimed none some same below counted may =
     let first = subst (λ (c : Core D). MayClaim c 0) same may in
     absurd (false≢true (subst (λ (o : Option Inst). IsSome o) none (some (record { below = omega (arith, below, counted); allowed = first.allowed; working = first.working }))))
 
--- what is promised of the one that was claimed
+-- what is promised of the instance that was claimed
 pub of_claim : {D : Type 0} (old new : Core D) (at : ℕ) (claimed : Option Inst) (task : Inst) → claimed ≡ Some task → IfSome claimed (λ one. MayClaim old at × (state_of old one ≡ Some Ready) × Moves old new one Running)
     → MayClaim old at × (state_of old task ≡ Some Ready) × Moves old new task Running
 of_claim old new at claimed task is promised = subst (λ (o : Option Inst). IfSome o (λ one. MayClaim old at × (state_of old one ≡ Some Ready) × Moves old new one Running)) is promised
@@ -60,7 +60,7 @@ module _
       allowance = omega arith;
     }
 
-    -- an instance was claimed, and then came what came of it
+    -- an instance was claimed, and then its run came to this
     pub runs_on : (first mid claimed new : Core D) (task : Inst) → Driven files moment left_at failures refusals honest given first mid → (honest → IsKept files mid) → Moves mid claimed task Running
         → RunsOn files moment left_at failures refusals honest claimed new → RunsOn files moment left_at failures refusals honest first new
     runs_on first mid claimed new task driven kept moves came =
@@ -69,7 +69,7 @@ module _
         goes_on files moment left_at failures refusals honest both gates_stay first claimed new same.halted same.settled
         (goes_on files moment left_at failures refusals honest both gates_stay first mid claimed driven.working driven.settled driven.runs claim) came
 
-    -- and it is driven on
+    -- and the run goes on from there
     pub driven_on : (first new : Core D) → given ≡ graph first → RunsOn files moment left_at failures refusals honest first new → NoneRuns new → is_halted new ≡ false → new.in_doubt ≡ [] → Driven files moment left_at failures refusals honest given first new
     driven_on first new graph_is runs idle working settled = record {
       runs = runs;
@@ -80,7 +80,7 @@ module _
       allowance = omega (arith, runs.runs.spent);
     }
 
--- Where something is left to do, and nothing runs, and nothing may be claimed, the allowance is used up.
+-- If something is left to do, nothing runs, and nothing may be claimed, the allowance is used up.
 pub used_up : {D : Type 0} (c : Core D) → AreCounted c.machine → NoneRuns c → HasNoFault (facts c) → (NoneIsActive c.machine → ⊥) → (MayClaim c 0 → ⊥) → c.allowance ≡ 0
 used_up c counted idle no_fault active never = elim (cases_lt 0 c.allowance) [
   | inl left ↦ absurd (never (record { below = some left; allowed = omega (arith, none, left); working = no_fault }))
@@ -96,6 +96,6 @@ used_up c counted idle no_fault active never = elim (cases_lt 0 c.allowance) [
       | inr not_ready ↦ absurd (active (λ instance. (none_is_ready c.machine counted (omega (arith, not_ready)) instance, idle instance)))
     ]
 
--- how far a store is, told by what it is
+-- how far a store is, by an equal status
 pub is_at : {D : Type 0} (c : Core D) (told status : Status) → told ≡ status → TellsStatus c told → TellsStatus c status
 is_at c told status is tells = subst (λ (s : Status). TellsStatus c s) is tells

@@ -25,7 +25,7 @@ finds files disk recovered c is holds reads =
     let same : here.contents ≡ contents_of (files disk) = λ i side. (ap (λ (file : File). file.content) (sym (here.rests side)) ∙ reads side) i in
     subst (λ (contents : Contents). Stands contents (graph c) (environment c) (facts c)) same (recovered.vault.journal.side, recovered.vault.generation, here.is_live)
 
--- want of memory behind an opening that found a store says nothing of the files
+-- `NoMemory` after an opening that found a store says nothing of the files
 pub tells : {D : Type 0} (contents : Contents) (erred : Type 0) (recovered : Recovered D) → TellsWhy {T = Recovered D} contents erred (Ok recovered) → (T : Type 0) → TellsWhy {T = T} contents erred (Err NoMemory)
 tells {D} contents erred recovered told T = record {
   nothing = λ says. absurd (silent says);
@@ -53,7 +53,7 @@ causes {D} failures refusals old new recovered told T = record {
     apart : IsErrOf {T = Recovered D} {E = VaultError} (Ok recovered) Device → ⊥
     apart is = cc
 
--- the same of either answer
+-- the same for either result
 pub finds_if_ok : {D : Type 0} (files : D → Side → File) (disk : D) (recovered : Recovered D) (result : Result (Core D) (Refused D)) → IfOk result (IsCoreOf recovered) → Holds files recovered.vault recovered.graph (environment_in recovered.image) (facts_in recovered.image)
     → ((side : Side) → (files recovered.vault.disk side).content ≡ (files disk side).content) → IfOk result (Finds files disk)
 finds_if_ok files disk recovered (Ok core) is holds reads = finds files disk recovered core is holds reads
@@ -62,7 +62,7 @@ finds_if_ok files disk recovered (Err refused) is holds reads = tt
 same_error : {T U : Type 0} (one two : VaultError) → ◌≡◌ {A = Result T VaultError} (Err one) (Err two) → ◌≡◌ {A = Result U VaultError} (Err one) (Err two)
 same_error one two is = cc
 
--- an error tells of the files what it tells, whatever is answered else
+-- an error says the same of the files in results of other types
 pub tells_alike : {T U : Type 0} (contents : Contents) (erred : Type 0) (error : VaultError) → TellsWhy {T = T} contents erred (Err error) → TellsWhy {T = U} contents erred (Err error)
 tells_alike contents erred error told = record {
   nothing = told.nothing;

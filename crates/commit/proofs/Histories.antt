@@ -54,7 +54,7 @@ module _ (both : AmongBoth) where
     given : environment c ≡ with_facts nothing (stated_by.environment h.made)
     given = λ i fact. has.environment fact i
 
-    -- a beginning behind what the core has is one behind what is known
+    -- a prefix after what the core has is one after what is known
     pub stands_behind : (doubt : List Event) (contents : Contents) → StandsForBeginning (graph c) (environment c) (facts c) [] (one_by_one doubt) contents → MayStand (record h { doubt = doubt }) contents
     stands_behind doubt contents it =
         let of_graph = subst (λ (g : Graph). Stands contents g (environment_behind (environment c) it.made) (facts_behind (facts c) it.made)) has.graph it.stands in
@@ -77,13 +77,13 @@ module _ (both : AmongBoth) where
           (subst (λ (X : Facts). Stands contents (graph c) (environment c) X) (sym (with_nothing (facts c))) stands);
     })
 
-    -- what is legal behind what the core has is legal behind what is known
+    -- what is legal after what the core has is legal after what is known
     pub legal_behind : (events : List Event) → AreLegalFrom (graph c) (facts c) events → AreLegalFrom h.graph (stated h.made) events
     legal_behind events legal =
         let sets : facts c ≡ stated h.made = λ i fact. has.facts fact i in
         subst (λ (g : Graph). AreLegalFrom g (stated h.made) events) has.graph (subst (λ (X : Facts). AreLegalFrom (graph c) X events) sets legal)
 
-  -- where the store is as it was, the core has what is known
+  -- if the store is as it was, the core has what is known
   pub has_still : {D : Type 0} (h : History) (old new : Core D) → Has h old → KeepsStore old new → Has h new
   has_still h old new has same = record {
     graph = same.graph ∙ has.graph;
@@ -104,7 +104,7 @@ module _ (both : AmongBoth) where
     halted = λ is. has.halted (sym halting ∙ is);
   }
 
-  -- where it halted meanwhile, these events are in doubt
+  -- if the call halted the core, these events are in doubt
   pub has_halted : {D : Type 0} (h : History) (old new : Core D) (doubt : List Event) → Has h old → Stays old new → new.in_doubt ≡ doubt → is_halted new ≡ true → Has (record h { mode = halted; made = h.made ++ []; doubt = doubt }) new
   has_halted h old new doubt has stay in_doubt stops = record {
     graph = stay.graph ∙ has.graph;
@@ -117,7 +117,7 @@ module _ (both : AmongBoth) where
 
 -- ---- what a crash leaves
 
--- before or behind a commit is a beginning of its events
+-- the state before or after a commit is that of a prefix of its events
 before_or_behind : (g : Graph) (E X : Facts) (doubt : List Event) (contents : Contents) → StandsBeforeOrAfter g E X doubt contents → StandsForBeginning g E X [] (one_by_one doubt) contents
 before_or_behind g E X doubt contents (inl before) = record {
   made = [];
@@ -143,7 +143,7 @@ module _
     has_gates : (h : History) (disk : D) → Leaves files moment left_at h disk → HasGates (contents_of (files disk))
     has_gates h disk leaves = (leaves (contents_of (files disk)) (reads disk)).1
 
-    -- behind a call, by what the core keeps
+    -- after a call, by what the core keeps
     leaves_behind : (k : History) (before : D) (new : Core D) → Has k new → IsKept files new → (is_halted new ≡ true → new.in_doubt ≢ []) → LeavesOnly moment left_at before new.vault.disk HasGates → Leaves files moment left_at k new.vault.disk
     leaves_behind k before new has kept doubtful gates contents may = (at (is_halted new) refl, at_end files moment left_at now before new.vault.disk HasGates gates contents may)
       where

@@ -1,4 +1,4 @@
--- Where one instance runs alone, none does behind its end, or where it is given back, or waits.
+-- If one instance runs alone, none runs after its end, or after it is given back, or waits.
 use Rattle.std.proofs.Common.{◌≡◌, ◌≢◌, ◌∙◌, ap, refl, sym, subst, inl, inr, Option, Some, None}
 use Rattle.terms.specs.declared.name.Addr.{Addr}
 use Rattle.terms.specs.declared.name.Inst.{Inst}
@@ -36,7 +36,7 @@ not_running m (event.Stopped ended kind) instance ends_as is runs = apart (sym (
     apart : Some Ready ≡ Some Running → ⊥
     apart same = cc
 
--- one that goes on runs only if it ran
+-- an instance that the event does not end runs only if it ran
 no_state : ◌≡◌ {A = Option State} None (Some Running) → ⊥
 no_state same = cc
 

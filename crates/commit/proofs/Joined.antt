@@ -1,4 +1,4 @@
--- Runs, one behind another.
+-- Runs, one after another.
 use Rattle.std.proofs.Common.{◌<◌, ◌≡◌, ◌≢◌, ◌⊎◌, ◌∙◌, ◌≤◌, ◌+◌, ◌++◌, ap, sym, subst, inl, inr, ℕ, false, List, [], arith}
 use Rattle.std.proofs.lemmas.Bool.{cases_lt, false≢true}
 use Rattle.std.proofs.lemmas.Grind.{flat_map-append}
@@ -22,7 +22,7 @@ use Rattle.commit.specs.Core.{Core, graph, facts, environment, is_halted}
 use Rattle.commit.specs.Runs.{Begun, IsEnd, Runs, RunsOn, RunsSince, begun_by, one_by_one}
 use Rattle.commit.proofs.Lists.{with_both, one_by_one_joined, facts_joined, ends_joined, first_ends, environment_stays, legal_joined}
 
--- a number that is not another than one is that one
+-- two numbers that do not differ are equal
 same_number : (n m : ℕ) → (n ≢ m → ⊥) → n ≡ m
 same_number n m never = elim (cases_lt n m) [
   | inl above ↦ elim (cases_lt m n) [
@@ -35,7 +35,7 @@ same_number n m never = elim (cases_lt n m) [
   ]
 ]
 
--- where nothing erred before, what erred since erred from the beginning on: told by the counts of failures and of refusals
+-- if no call of the disk failed in the first part, an error since then is one since the beginning, by the counts of failures and of refusals
 abbrev HasErredFrom : (failures later refusals now : ℕ) → Type 0
 HasErredFrom failures later refusals now = (failures < later) ⊎ (now ≢ refusals)
 
@@ -51,7 +51,7 @@ erred_later f g h r s t later calm (inl grew) = elim (cases_lt f g) [
 erred_later f g h r s t later calm (inr changed) = inr (λ is. changed (is ∙ same_number s r (λ differs. calm (inr differs))))
 
 module _ {D : Type 0} (moment : D → ℕ) (left_at : D → ℕ → Contents → Type 0) (begun : ℕ) (left : ℕ → Contents → Type 0) where
-  -- of the last moment by itself
+  -- what holds since the beginning holds of the last moment by itself
   leaves_at_last : (mid : D) (P : Contents → Type 0) → LeavesSince moment left_at begun left mid P → LeavesOnly moment left_at mid mid P
   leaves_at_last mid P first = record {
     later = omega arith;
@@ -59,12 +59,12 @@ module _ {D : Type 0} (moment : D → ℕ) (left_at : D → ℕ → Contents →
     stays = λ t c le. (λ was. was, λ was. was);
   }
 
--- what some of the first of these commits leave is a beginning of them all
+-- bytes that stand for a prefix of some commits stand for a prefix of more of them
 extended : (g : Graph) (E X : Facts) (some more : List Commit) (contents : Contents) → StandsForBeginning g E X [] some contents → StandsForBeginning g E X [] (some ++ more) contents
 extended g E X some more contents it =
     record { made = it.made; later = it.later ++ more; beginning = ap (λ (list : List Commit). list ++ more) it.beginning ∙ append_assoc it.made it.later more; stands = it.stands }
 
--- and so is what some commits leave behind them
+-- and so do bytes that stand for a prefix of later commits, after the first ones
 behind :
     AmongBoth → (g h : Graph) (E F X Y : Facts) (ends : List Event) (more : List Commit) (contents : Contents) → h ≡ g → F ≡ E → Y ≡ with_facts X (stated.facts ends) → ((made : List Commit) → environment_behind E (one_by_one ends ++ made) ≡ environment_behind E made) →
     StandsForBeginning h F Y [] more contents → StandsForBeginning g E X [] (one_by_one ends ++ more) contents
@@ -83,7 +83,7 @@ behind both g h E F X Y ends more contents graph given all stays it =
     }
 
 module _ {D : Type 0} (files : D → Side → File) (moment : D → ℕ) (left_at : D → ℕ → Contents → Type 0) (failures refusals : D → ℕ) (honest : Type 0) (both : AmongBoth) where
-  -- a run behind another one, of which nothing is in doubt
+  -- a run after another one, of which nothing is in doubt
   pub since_joined : (honest → GatesStay files moment left_at) → (begun : Begun) (left : ℕ → Contents → Type 0) (mid new : Core D) (first second : List Event)
       → is_halted mid ≡ false → mid.in_doubt ≡ []
       → RunsSince moment left_at failures refusals honest begun left mid first → Runs files moment left_at failures refusals honest mid new second

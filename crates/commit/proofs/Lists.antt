@@ -1,4 +1,4 @@
--- Lists of events, one behind another: what they state, and that they are legal.
+-- Lists of events, one after another: what they state, and that they are legal.
 use Rattle.std.proofs.Common.{◌≡◌, ◌∙◌, ◌||◌, ◌++◌, ap, refl, sym, subst, List, [], ◌∷◌}
 use Rattle.std.proofs.Math.Bool.{or-false, or_assoc}
 use Rattle.std.proofs.lemmas.Grind.{flat_map-append}
@@ -34,7 +34,7 @@ events_joined (commit ∷ first) second = ap (λ (rest : List Event). commit ++ 
 pub one_by_one_joined : (first second : List Event) → one_by_one (first ++ second) ≡ one_by_one first ++ one_by_one second
 one_by_one_joined first second = map-append (λ one. one ∷ []) first second
 
--- what is there behind events and then commits
+-- what is there after events and then commits
 pub facts_joined : AmongBoth → (X : Facts) (first : List Event) (made : List Commit) → facts_behind X (one_by_one first ++ made) ≡ facts_behind (with_facts X (facts first)) made
 facts_joined both X first made =
     ap (λ (events : List Event). with_facts X (facts events)) (events_joined (one_by_one first) made ∙ ap (λ (events : List Event). events ++ events_of made) (events_back first))
@@ -55,7 +55,7 @@ pub first_ends : (first second : List Event) → AllByRecursion IsEnd (first ++ 
 first_ends [] second all = tt
 first_ends (end ∷ first) second all = (all.0, first_ends first second all.1)
 
--- the environment puts nothing by them
+-- the environment puts nothing by an end
 pub puts_nothing : (end : Event) → IsEnd end → environment_facts end ≡ []
 puts_nothing (event.EnvItem address value) is = absurd is
 puts_nothing (event.EnvTag name) is = absurd is

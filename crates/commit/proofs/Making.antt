@@ -1,4 +1,4 @@
--- What a creation answers, told by the vault that it makes.
+-- What a creation returns, by the vault that it makes.
 use Rattle.std.proofs.Common.{◌≡◌, ◌∙◌, ◌↔◌, ap, refl, sym, subst, inl, List, [], ◌∷◌, ℕ, Result, Ok, Err, arith}
 use Rattle.disk.specs.declared.side.Side.{Side}
 use Rattle.disk.specs.declared.side.Side.TheVariants.{A, B}
@@ -15,19 +15,19 @@ use Rattle.commit.specs.declared.creation.CreateError.{CreateError}
 use Rattle.commit.specs.declared.creation.CreateError.TheVariants.{Store}
 use Rattle.commit.specs.Created.{LeavesOthers}
 
--- ---- answers
+-- ---- results
 
 no_error : {T E : Type 0} {value : T} {error : E} → ◌≡◌ {A = Result T E} (Ok value) (Err error) → ⊥
 no_error is = cc
 
--- an error of the store that is made, said as one of the creation
+-- an error of the store that is made, as one of the creation
 inside : {T : Type 0} {one two : VaultError} → ◌≡◌ {A = Result T CreateError} (Err (Store one)) (Err (Store two)) → ◌≡◌ {A = Result T VaultError} (Err one) (Err two)
 inside is = cc
 
 outside : {T : Type 0} {one two : VaultError} → ◌≡◌ {A = Result T VaultError} (Err one) (Err two) → ◌≡◌ {A = Result T CreateError} (Err (Store one)) (Err (Store two))
 outside is = cc
 
--- the same answer with a value of another type
+-- the same result with a value of another type
 module _ {D T U E : Type 0} (failures refusals : D → ℕ) (failed no_memory : E) (old new : D) where
   pub made : {value : T} {other : U} → HasCauses {T = T} failures refusals failed no_memory old new (Ok value) → HasCauses {T = U} failures refusals failed no_memory old new (Ok other)
   made told = record { device = (λ is. absurd (no_error is), λ grew. absurd (no_error (told.device.1 grew))); refused = λ changed. absurd (no_error (told.refused changed)); later = told.later }

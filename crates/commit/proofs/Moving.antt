@@ -7,7 +7,7 @@ use Rattle.instances.specs.declared.state.State.{State}
 use Rattle.instances.specs.declared.state.State.TheVariants.{Ready, Running, Waiting}
 use Rattle.machine.specs.Machine.{Machine, LooksAgain, Moves, environment, facts, state_of}
 
--- the facts of one are those of the other
+-- the two machines have the same facts
 pub record SameFacts (old new : Machine) : Type 0 where
   pub graph : new.graph ≡ old.graph
   pub environment : (fact : Fact) → environment new fact ≡ environment old fact

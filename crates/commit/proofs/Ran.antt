@@ -44,7 +44,7 @@ refutes g address (Stopped instance kind) refuses there = refuses
 refutes g address (AlreadyPut value) refuses there = refuses
 refutes g address Repeat refuses there = refuses
 
--- where no item may be read there is none
+-- at an address that may not be read there is no item
 pub refused_is_absent : (m : Machine) → FitsState m.graph (environment m) (facts m) → (address : Addr) (refusal : Refusal) → RefusesRead m.graph address refusal → IsAbsent (facts m) address
 refused_is_absent m fits address refusal refuses value by =
     not_true (facts m (item address value by)) (λ there. refutes m.graph address refusal refuses (fits.of_graph (item address value by) there))

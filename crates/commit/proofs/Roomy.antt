@@ -1,4 +1,4 @@
--- What is committed behind room that was made is committed from what was there before.
+-- What is committed after room was made is committed from the state before that.
 use Rattle.std.proofs.Common.{◌≡◌, ◌∙◌, ◌↔◌, ◌⊎◌, ◌<◌, ◌≤◌, ◌+◌, ◌||◌, ap, sym, refl, subst, inl, inr, ℕ, ℤ, true, false, List, [], ◌∷◌, length, Result, Ok, Err, IsErrOf, arith}
 use Rattle.std.proofs.lemmas.Bool.{false≢true}
 use Rattle.disk.specs.declared.side.Side.{Side}
@@ -72,7 +72,7 @@ module _ {D : Type 0} (old mid : Core D) (room : GivesRoom old mid) where
     generation = it.generation ∙ ap (λ (v : Vault D). v.generation) room.vault;
   }
 
-  -- or refused
+  -- or it is refused
   pub refuses : (why : Refusal → Type 0) (event : Event) (error : CoreError) → Refuses mid NoCause event error → Refuses old why event error
   refuses why event (Refused refusal) it = absurd it.1
   refuses why event (Store Halted) it = sym halted ∙ it
@@ -96,7 +96,7 @@ module _ {D : Type 0} (old mid : Core D) (room : GivesRoom old mid) where
         (it.gates (subst (λ (v : Vault D). HasGates (contents_of (files v.disk))) (sym room.vault) has));
   }
 
-  -- where it may come, and its record does not fit, that is told
+  -- if the event may come, and its record does not fit, `Full` is returned
   pub tells_full : {T : Type 0} (event : Event) (result : Result T CoreError) → TellsFull mid event result → TellsFull old event result
   tells_full event result it working legal long =
       it (halted ∙ working) (room.machine.legal event legal) (subst (λ (v : Vault D). LIMIT ≤ v.journal.end + length (record_of (commit_bytes (event ∷ [])))) (sym room.vault) long)
@@ -135,7 +135,7 @@ module _ {D : Type 0} (old mid : Core D) (room : GivesRoom old mid) where
     settled = it.settled;
   }
 
-  -- an instance that is given back behind room that was made
+  -- an instance that is given back after room was made
   pub released : (new : Core D) (instance : Inst) → Moves mid new instance Ready → GivesBack old new instance
   released new instance moves = record {
     stays = record {
@@ -148,7 +148,7 @@ module _ {D : Type 0} (old mid : Core D) (room : GivesRoom old mid) where
     others = λ other differs. moves.machine.others other differs ∙ room.machine.states other;
   }
 
--- where nothing on the disk changes, a crash leaves what is held
+-- if nothing on the disk changes, a crash leaves what is held
 pub rests : {D : Type 0} (files : D → Side → File) (moment : D → ℕ) (left_at : D → ℕ → Contents → Type 0) (old new : Core D) (events : List Event) → HeldLeaves files moment left_at → GatesRest files moment left_at
     → IsKept files old → is_halted old ≡ false → new.vault ≡ old.vault → CrashLeaves files moment left_at old new events
 rests files moment left_at old new events leaves gates kept working same =
@@ -161,7 +161,7 @@ rests files moment left_at old new events leaves gates kept working same =
       gates = λ has. subst (λ v. LeavesOnly moment left_at old.vault.disk v.disk HasGates) (sym same) (gates old.vault (graph old) (environment old) (facts old) holds has);
     }
 
--- what refuses an item of the environment does not let it come
+-- an item of the environment that is refused is not legal
 pub illegal_item : (g : Graph) (X : Facts) (address : Addr) (value : ℤ) (refusal : Refusal) → RefusesItem g X address refusal → IsLegal g X (EnvItem address value) → ⊥
 illegal_item g X address value NoSuchCollection why legal = refutes g address NoSuchCollection why legal.event_is_legal.0.0
 illegal_item g X address value WrongArity why legal = refutes g address WrongArity why legal.event_is_legal.0.0
@@ -170,7 +170,7 @@ illegal_item g X address value (Stopped instance kind) why legal = false≢true 
 illegal_item g X address value (AlreadyPut there) why legal = false≢true (sym (legal.event_is_legal.1 there why.2.0) ∙ why.2.1)
 illegal_item g X address value Repeat why legal = why
 
--- where an event may come, and its record does not fit, an error before that is told by want of memory
+-- if an event may come, and its record does not fit, an error before that is `NoMemory`
 pub full_first : {D T : Type 0} (old : Core D) (why : Refusal → Type 0) (event : Event) (error : CoreError)
     → ((refusal : Refusal) → why refusal → IsLegal (graph old) (facts old) event → ⊥) → RefusesFirst old why event error → TellsFull {T = T} old event (Err error)
 full_first old why event (Refused refusal) never it working legal long = absurd (never refusal it.1 legal)
@@ -182,7 +182,7 @@ full_first old why event (Store (Damaged side place)) never it working legal lon
 full_first old why event (Store NotAStore) never it working legal long = absurd it
 full_first old why event (Store Exists) never it working legal long = absurd it
 
--- an error that is answered before anything is written
+-- an error that is returned before anything is written
 pub refused_first :
     {D T : Type 0} (files : D → Side → File) (moment : D → ℕ) (left_at : D → ℕ → Contents → Type 0) (honest : Type 0) (old new : Core D) (why : Refusal → Type 0) (event : Event) (error : CoreError) →
     Refuses old why event error → (IsLegal (graph old) (facts old) event → (error ≡ Store NoMemory) ⊎ ⊥) → is_halted new ≡ is_halted old →
@@ -216,7 +216,7 @@ unhalted {T = T} failures refusals old new error working vault doubt not_halted 
     never : HasErred failures refusals old.vault.disk new.vault.disk → ⊥
     never erred = elim (subst (λ v. HasErred failures refusals old.vault.disk v.disk) vault erred) [ inl grew ↦ absurd (omega (arith, grew)) | inr changed ↦ changed refl ]
 
--- the same, answered with another value
+-- the same, returned with another value
 module _ {D T U : Type 0} (files : D → Side → File) (moment : D → ℕ) (left_at : D → ℕ → Contents → Type 0) (honest : Type 0) (old new : Core D) (event : Event) where
   pub commits_ok : (given : T) (value : U) → Takes old new event → TellsFull {T = T} old event (Ok given) → (honest → CrashLeaves files moment left_at old new (event ∷ []))
       → Commits {T = U} files moment left_at honest old new NoCause event (Ok value)
@@ -244,7 +244,7 @@ module _ {D T U : Type 0} (files : D → Side → File) (moment : D → ℕ) (le
       other : (cause : VaultError) → ◌≡◌ {A = Result T CoreError} (Err error) (Err (Store cause)) → ◌≡◌ {A = Result U CoreError} (Err error) (Err (Store cause))
       other cause is = cc
 
--- what has no cause of a refusal has any
+-- a commit that is refused for no cause keeps its promises for any causes
 pub with_cause :
     {D T : Type 0} (files : D → Side → File) (moment : D → ℕ) (left_at : D → ℕ → Contents → Type 0) (honest : Type 0) (old new : Core D) (why : Refusal → Type 0) (event : Event) (result : Result T CoreError) →
     Commits files moment left_at honest old new NoCause event result → Commits files moment left_at honest old new why event result

@@ -51,7 +51,7 @@ pub is_end : (outcome : Outcome) (instance : Inst) (end : Event) → IsEndOf out
 is_end (Gave given) instance end is = elim is [ inl done ↦ subst IsEnd (sym done) tt | inr stopped ↦ subst IsEnd (sym stopped) tt ]
 is_end (Fault bad) instance end is = subst IsEnd (sym is) tt
 
--- an end costs one of the allowance
+-- an end uses one of the allowance
 costs_one : (end : Event) → IsEnd end → step_count end ≡ 1
 costs_one (event.EnvItem address value) is = absurd is
 costs_one (event.EnvTag name) is = absurd is
@@ -62,7 +62,7 @@ module _
     {D : Type 0} (files : D → Side → File) (moment : D → ℕ) (left_at : D → ℕ → Contents → Type 0) (honest : Type 0) (old new : Core D)
     (instance : Inst) (outcome : Outcome) (result : Result Committed CoreError)
   where
-    -- an end by the puts that a body gave is one of its outcome, and so is one by its fault
+    -- an end by the puts that a body gave is one of its outcome, and so is an end by its fault
     pub of_given : (given : Given) (puts : List Put) → outcome ≡ Gave given → puts ≡ given.puts
         → EndsGiven files moment left_at honest old new instance puts result → Finishes files moment left_at honest old new instance outcome result
     of_given given puts is puts_are it = record {
@@ -82,7 +82,7 @@ module _
           (λ t is. subst (λ (c : Committed). Tells c (event.Stopped instance kind)) (sym is) (instance, refl)) told;
     }
 
--- nothing has changed that is on the disk, or goes there
+-- nothing has changed that is on the disk, or is on its way there
 pub record SameStore {D : Type 0} (old new : Core D) : Type 0 where
   pub graph : graph new ≡ graph old
   pub facts : (fact : Fact) → facts new fact ≡ facts old fact
@@ -159,7 +159,7 @@ module _ {D : Type 0} (files : D → Side → File) (moment : D → ℕ) (left_a
 
   -- ---- an end
 
-  -- at each moment of a commit of one event a crash leaves a beginning of it
+  -- at each moment of a commit of one event a crash leaves a prefix of this one commit
   pub begins : (honest → AppendLeaves files moment left_at) → (old new : Core D) (end : Event) → honest → CrashLeaves files moment left_at old new (end ∷ [])
       → LeavesOnly moment left_at old.vault.disk new.vault.disk (StandsForBeginning (graph old) (environment old) (facts old) [] (one_by_one (end ∷ [])))
   begins leaves old new end on it =

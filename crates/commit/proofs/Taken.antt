@@ -1,4 +1,4 @@
--- What an append makes of a core: where the event is taken, and where an error was answered.
+-- What an append makes of a core: if the event is taken, and if an error is returned.
 use Rattle.std.proofs.Common.{◌≡◌, ◌∙◌, ◌↔◌, ap, sym, refl, subst, inl, ℕ, Bool, true, false, cond, List, [], ◌∷◌, Option, Some, None, Result, Ok, Err, OnOk, OnErr, arith}
 use Rattle.std.proofs.lemmas.Bool.{false≢true}
 use Rattle.std.proofs.lemmas.List.{append-nil}
@@ -31,7 +31,7 @@ use Rattle.commit.specs.Calls.{Halts}
 use Rattle.commit.specs.Doubt.{events_in}
 use Rattle.commit.specs.Kept.{IsKept}
 
--- sets that agree at each fact hold alike
+-- if a vault holds sets of facts, it holds sets that agree with them at each fact
 pub holds_alike :
     {D : Type 0} (files : D → Side → File) (v : Vault D) (g h : Graph) (E F X Y : Facts) → h ≡ g → ((fact : Fact) → F fact ≡ E fact) → ((fact : Fact) → Y fact ≡ X fact) →
     Holds files v g E X → Holds files v h F Y
@@ -57,7 +57,7 @@ pub fits : LegalFitsState → (m : Machine) → machine_kept.IsKept m → (event
 fits law m kept event legal = law m.graph kept.graph (environment_of m) (facts_of m) event kept.fits legal
 
 module _ {D : Type 0} (files : D → Side → File) (moment : D → ℕ) (left_at : D → ℕ → Contents → Type 0) (now : (disk : D) (contents : Contents) → left_at disk (moment disk) contents ↔ MayLeaveNow (files disk) contents) where
-  -- what a crash leaves behind calls is what one leaves at their last moment
+  -- what a crash leaves after calls is what one leaves at their last moment
   pub at_end : (old new : D) (P : Contents → Type 0) → LeavesOnly moment left_at old new P → (contents : Contents) → MayLeaveNow (files new) contents → P contents
   at_end old new P only contents may = only.each (moment new) contents only.later (omega arith) ((now new contents).1 may)
 
@@ -87,7 +87,7 @@ module _ {D : Type 0} (files : D → Side → File) (moment : D → ℕ) (left_a
       (λ fact. takes.facts fact ∙ ap (λ (more : List Fact). with_facts (facts_of m) more fact) (sym (append-nil (event_facts event))))
       holds)
 
-  -- a turnover that answers an error leaves it kept
+  -- a turnover that returns an error leaves the core kept
   pub kept_turned : HeldLeaves files moment left_at → RefusedStore files moment left_at → (v w : Vault D) (m : Machine) (doubt : Option Event) (allowance : ℕ)
       → v.halted ≡ false → doubt ≡ None → Holds files v m.graph (environment_of m) (facts_of m) → (w.halted ≡ v.halted → IsSame v w)
       → IsKept files (record { vault = w; machine = m; in_doubt = events_in doubt; allowance = allowance })
@@ -97,14 +97,14 @@ module _ {D : Type 0} (files : D → Side → File) (moment : D → ℕ) (left_a
       at false is = kept leaves w m (events_in doubt) allowance (refused v w m.graph (environment_of m) (facts_of m) holds (same (is ∙ sym working)))
       at true is = record { holds = λ goes. absurd (false≢true (sym goes ∙ is)); left = λ apart. absurd (apart (is, ap events_in none)) }
 
-  -- and one that answers `Ok` does
+  -- and so does one that returns `Ok`
   pub kept_either : HeldLeaves files moment left_at → RefusedStore files moment left_at → (v w : Vault D) (m : Machine) (doubt : Option Event) (allowance : ℕ) (result : Result ℕ VaultError)
       → v.halted ≡ false → doubt ≡ None → Holds files v m.graph (environment_of m) (facts_of m) → OnOk result (Holds files w m.graph (environment_of m) (facts_of m)) → OnErr result (w.halted ≡ v.halted → IsSame v w)
       → IsKept files (record { vault = w; machine = m; in_doubt = events_in doubt; allowance = allowance })
   kept_either leaves refused v w m doubt allowance (Ok generation) working none holds turned same = kept leaves w m (events_in doubt) allowance turned
   kept_either leaves refused v w m doubt allowance (Err error) working none holds turned same = kept_turned leaves refused v w m doubt allowance working none holds same
 
-  -- an error leaves it kept, with the event in doubt where it halted the vault
+  -- an error leaves the core kept, with the event in doubt if the error halted the vault
   pub kept_refused : HeldLeaves files moment left_at → RefusedStore files moment left_at → (v w : Vault D) (m : Machine) (event : Event) (before after : Option Event) (allowance : ℕ)
       → v.halted ≡ false → after ≡ cond w.halted (Some event) before → Holds files v m.graph (environment_of m) (facts_of m) → (w.halted ≡ v.halted → IsSame v w)
       → LeavesOnly moment left_at v.disk w.disk (StandsBeforeOrAfter m.graph (environment_of m) (facts_of m) (event ∷ []))
@@ -121,7 +121,7 @@ module _ {D : Type 0} (files : D → Side → File) (moment : D → ℕ) (left_a
             (at_end v.disk w.disk (StandsBeforeOrAfter m.graph (environment_of m) (facts_of m) (event ∷ [])) moments contents may);
       }
 
--- why an error halted the core, told by the vault
+-- why an error halted the core, by the vault
 pub halts : {D : Type 0} (failures refusals : D → ℕ) (v w : Vault D) (m n : Machine) (event : Event) (before after : Option Event) (a b : ℕ) (error : VaultError)
     → v.halted ≡ false → after ≡ cond w.halted (Some event) before → calls.Halts {T = Unit {0}} failures refusals v w (Err error)
     → Halts {T = Unit {0}} failures refusals (record { vault = v; machine = m; in_doubt = events_in before; allowance = a }) (record { vault = w; machine = n; in_doubt = events_in after; allowance = b }) (Err (Store error))

@@ -30,7 +30,7 @@ step_count (EnvTag name) = 0
 step_count (Done instance puts) = 1
 step_count (Stopped instance kind) = 1
 
--- The event was legal, and has come: to the state in memory, and to the live side, whose journal it made longer.
+-- The event was legal, and was taken: into the state in memory, and into the journal of the live side, which is longer now.
 pub record Takes {D : Type 0} (old new : Core D) (event : Event) : Type 0 where
   pub legal : IsLegal (graph old) (facts old) event
   pub takes : machine.Takes old.machine new.machine event
@@ -39,19 +39,19 @@ pub record Takes {D : Type 0} (old new : Core D) (event : Event) : Type 0 where
   pub allowance : new.allowance + step_count event ≡ old.allowance
   pub generation : new.vault.generation ≡ old.vault.generation
 
--- No fact has changed, and no allowance.
+-- No fact has changed, and the allowance has not.
 pub record Stays {D : Type 0} (old new : Core D) : Type 0 where
   pub graph : graph new ≡ graph old
   pub facts : (fact : Fact) → facts new fact ≡ facts old fact
   pub environment : (fact : Fact) → environment new fact ≡ environment old fact
   pub allowance : new.allowance ≡ old.allowance
 
--- and no instance has moved
+-- in addition, no instance has changed its state
 pub record IsUnchanged {D : Type 0} (old new : Core D) : Type 0 where
   pub stays : Stays old new
   pub states : (instance : Inst) → state_of new instance ≡ state_of old instance
 
--- and one instance is ready again, and no other has moved
+-- in addition, one instance is ready again, and no other has changed its state
 pub record GivesBack {D : Type 0} (old new : Core D) (instance : Inst) : Type 0 where
   pub stays : Stays old new
   pub ready : state_of new instance ≡ Some Ready
@@ -59,12 +59,12 @@ pub record GivesBack {D : Type 0} (old new : Core D) (instance : Inst) : Type 0 
 
 -- ---- refusals
 
--- the closed gate behind the event's record would not lie below the limit
+-- the closed gate after the event's record would not lie below the limit
 abbrev pub IsTooLong : {D : Type 0} → Core D → Event → Type 0
 IsTooLong c event = LIMIT ≤ c.vault.journal.end + length (record_of (commit_bytes (event ∷ [])))
 
--- Why an event is refused. A halted core says that it is halted, and nothing else. Then comes why the event may not come; an event that may
--- come is refused where its record does not fit, where the device failed, and where memory was refused.
+-- Why an event is refused. A halted core returns `Halted`, and nothing else. Then come the causes why the event may not come; an event that
+-- may come is refused if its record does not fit, if the device failed, or if memory was refused.
 abbrev pub Refuses : {D : Type 0} → Core D → (Refusal → Type 0) → Event → CoreError → Type 0
 Refuses c why event (Refused refusal) = (is_halted c ≡ false) × why refusal
 Refuses c why event (Store Halted) = is_halted c ≡ true
@@ -75,30 +75,30 @@ Refuses c why event (Store (Damaged side place)) = ⊥
 Refuses c why event (Store NotAStore) = ⊥
 Refuses c why event (Store Exists) = ⊥
 
--- Where a core is not halted, and the record of an event that may come does not fit, that is told, or that memory was refused first.
+-- If the core is not halted, and the record of an event that may come does not fit, `Full` is returned, or `NoMemory` if memory was refused first.
 abbrev pub TellsFull : {D T : Type 0} → Core D → Event → Result T CoreError → Type 0
 TellsFull c event result = is_halted c ≡ false → IsLegal (graph c) (facts c) event → IsTooLong c event → IsErrOf result (Store Full) ⊎ IsErrOf result (Store NoMemory)
 
 -- ---- halts
 
--- Why a call halts: exactly where a call of the disk answered an error. Which error it answers then, what another one leaves, and what is in
+-- When a call halts: exactly if a call of the disk returned an error. Which error it returns then, what another one leaves, and what is in
 -- doubt from then on.
 pub record Halts {D T : Type 0} (failures refusals : D → ℕ) (old new : Core D) (result : Result T CoreError) : Type 0 where
   pub halts : (is_halted new ≡ true) ↔ ((is_halted old ≡ true) ⊎ HasErred failures refusals old.vault.disk new.vault.disk)
   pub halted : IsErrOf result (Store Halted) ↔ (is_halted old ≡ true)
   pub disk : HasCauses failures refusals (Store Device) (Store NoMemory) old.vault.disk new.vault.disk result
-  -- where an error does not halt it, nothing on the disk has changed
+  -- if an error does not halt it, nothing on the disk has changed
   pub same : OnErr result (is_halted new ≡ is_halted old → IsSame old.vault new.vault × (new.in_doubt ≡ old.in_doubt))
   pub settled : OnOk result (new.in_doubt ≡ [])
 
--- the event is in doubt, where this call halted
+-- the event is in doubt, if this call halted the core
 abbrev pub IsInDoubt : {D T : Type 0} → Core D → Core D → Event → Result T CoreError → Type 0
 IsInDoubt old new event result = OnErr result (is_halted old ≡ false → is_halted new ≡ true → new.in_doubt ≡ event ∷ [])
 
 -- ---- crashes
 
--- What a crash leaves at any moment of a call that commits these events at `Ok`: the facts before them or behind them, and nothing between. And each file
--- keeps a first byte.
+-- What a crash leaves at any moment of a call that commits these events at `Ok`: the facts before them or after them, and nothing between. If each file
+-- has a first byte, each file keeps one.
 pub record CrashLeaves {D : Type 0} (files : D → Side → File) (moment : D → ℕ) (left_at : D → ℕ → Contents → Type 0) (old new : Core D) (events : List Event) : Type 0 where
   pub facts : LeavesOnly moment left_at old.vault.disk new.vault.disk (StandsBeforeOrAfter (graph old) (environment old) (facts old) events)
   pub gates : HasGates (contents_of (files old.vault.disk)) → LeavesOnly moment left_at old.vault.disk new.vault.disk HasGates
@@ -109,8 +109,8 @@ NoCause refusal = ⊥
 
 -- ---- one event
 
--- A call that commits this event at `Ok`: it was legal, and has come; or why it is refused, and what is in doubt where it halted. A crash at any
--- moment of it leaves the facts before the event or behind it.
+-- A call that commits this event at `Ok`: the event was legal, and was taken; or why it is refused, and what is in doubt if it halted. A crash at any
+-- moment of it leaves the facts before the event or after it.
 pub record Commits {D T : Type 0} (files : D → Side → File) (moment : D → ℕ) (left_at : D → ℕ → Contents → Type 0) (honest : Type 0) (old new : Core D) (why : Refusal → Type 0) (event : Event) (result : Result T CoreError) : Type 0 where
   pub takes : OnOk result (Takes old new event)
   pub refused : IfErr result (Refuses old why event)

@@ -1,4 +1,4 @@
--- What the body of an instance comes to over the items of a set.
+-- What the body of an instance comes to over a set of items.
 use Rattle.std.specs.Prelude.{◌≡◌}
 use Rattle.terms.specs.declared.name.Inst.{Inst}
 use Rattle.terms.specs.Sets.{Facts}
@@ -22,7 +22,7 @@ pub record IsParkedIn (g : Graph) (X : Facts) (instance : Inst) (parked : Parked
   pub body : IsBodyOf g instance parked.checked.now.body
   pub reads : AreItems X parked.reads
 
--- an end, or an item that is not there
+-- its end, or an item that is not there
 abbrev pub CameTo : Machine → Inst → Came → Type 0
 CameTo m instance (Ended outcome) = IsOutcomeIn m.graph (facts m) instance outcome
 CameTo m instance (Waits parked) = IsParkedIn m.graph (facts m) instance parked × IsAbsent (facts m) parked.address

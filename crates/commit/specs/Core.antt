@@ -10,7 +10,7 @@ use Rattle.machine.specs.Machine as machine
 use Rattle.vault.specs.declared.vault.Vault.{Vault}
 
 -- Its files, its graph with all that it holds in memory, the events of the call that halted it, which may be on the disk or not, and how many
--- more steps it may commit, those that run among them.
+-- more steps it may commit, including those that run.
 pub record Core (D : Type 0) : Type 0 where
   pub vault : Vault D
   pub machine : Machine
@@ -31,6 +31,6 @@ environment c = machine.environment c.machine
 abbrev pub state_of : {D : Type 0} → Core D → Inst → Option State
 state_of c instance = machine.state_of c.machine instance
 
--- whether a call of its disk answered an error before
+-- whether a call of its disk returned an error before
 abbrev pub is_halted : {D : Type 0} → Core D → Bool
 is_halted c = c.vault.halted

@@ -1,4 +1,4 @@
--- What a creation gives, and what it leaves.
+-- What a creation returns, and what it leaves.
 use Rattle.std.specs.Prelude.{◌≡◌, ◌≢◌, ◌⊎◌, ℕ, false, List, [], Result, Ok, Err, IsErrOf, OnOk}
 use Rattle.disk.specs.declared.side.Side.{Side}
 use Rattle.disk.specs.declared.side.Side.TheVariants.{A, B}
@@ -16,8 +16,8 @@ use Rattle.commit.specs.declared.creation.NotCreated.{NotCreated}
 use Rattle.commit.specs.Core.{Core, graph, facts, environment}
 use Rattle.commit.specs.Opened.{IsOpened}
 
--- A new store: the text reads as its graph, it has no facts, its core is as one that was just opened, and its side is the first one. On an honest disk
--- each file has its first byte.
+-- A new store: the text reads as its graph, it has no facts, its core is as one that was just opened, and it has the first generation. On an honest
+-- disk each file has its first byte.
 pub record IsCreated {D : Type 0} (files : D → Side → File) (honest : Type 0) (text : List ℕ) (c : Core D) : Type 0 where
   pub reads : Reads text (graph c)
   pub facts : (fact : Fact) → facts c fact ≡ false
@@ -26,7 +26,7 @@ pub record IsCreated {D : Type 0} (files : D → Side → File) (honest : Type 0
   pub generation : c.vault.generation ≡ 1
   pub gates : honest → HasGates (contents_of (files c.vault.disk))
 
--- why none was made: the text has this fault, and then the disk is as it was; or it is a graph's, and a file is not empty, memory was refused, or the
+-- why no store was made: the text has this fault, and the disk is as it was; or the text is a graph's, and a file is not empty, memory was refused, or
 -- device failed
 abbrev pub TellsCause : {D : Type 0} → List ℕ → D → D → CreateError → Type 0
 TellsCause text old new (Graph fault) = HasCause text fault × (new ≡ old)
@@ -35,17 +35,17 @@ TellsCause text old new (Store error) = ((g : TheGraph) × Reads text g) × ((er
 abbrev pub TellsCreation : {D : Type 0} → List ℕ → D → NotCreated D → Type 0
 TellsCreation text old refused = TellsCause text old refused.disk refused.error
 
--- the disk of an answer
+-- the disk that a result gives back
 abbrev pub disk_of : {D : Type 0} → Result (Core D) (NotCreated D) → D
 disk_of (Ok core) = core.vault.disk
 disk_of (Err refused) = refused.disk
 
--- what was answered, apart from the disk
+-- the result, without the disk
 abbrev pub answer_of : {D : Type 0} → Result (Core D) (NotCreated D) → Result (Core D) CreateError
 answer_of (Ok core) = Ok core
 answer_of (Err refused) = Err refused.error
 
--- Files that are not both empty, on an honest disk: no store is made of them, both stay as they are, and a crash at any moment leaves what one
+-- If the files are not both empty, on an honest disk: no store is made of them, both stay as they are, and a crash at any moment leaves what one
 -- might have left before. `Exists` says that one is not empty.
 pub record LeavesOthers {D T : Type 0} (files : D → Side → File) (moment : D → ℕ) (left_at : D → ℕ → Contents → Type 0) (old new : D) (result : Result T CreateError) : Type 0 where
   pub were_empty : OnOk result ((side : Side) → (files old side).content ≡ [])

@@ -10,8 +10,8 @@ use Rattle.commit.specs.Core.{Core, graph, facts, environment, is_halted}
 abbrev pub IsHaltedByTurn : {D : Type 0} → Core D → Type 0
 IsHaltedByTurn c = (is_halted c ≡ true) × (c.in_doubt ≡ [])
 
--- On an honest disk: where it is not halted, its files hold its facts. A crash between its calls leaves its facts, or those with the event in
--- doubt; where a turnover halted it, the call's own clause says what a crash leaves.
+-- On an honest disk: if the core is not halted, its files hold its facts. A crash between its calls leaves its facts, or those with the event in
+-- doubt; if a turnover halted it, the clause of that call says what a crash leaves.
 pub record IsKept {D : Type 0} (files : D → Side → File) (c : Core D) : Type 0 where
   pub holds : is_halted c ≡ false → Holds files c.vault (graph c) (environment c) (facts c)
   pub left : (IsHaltedByTurn c → ⊥) → (contents : Contents) → MayLeaveNow (files c.vault.disk) contents → StandsBeforeOrAfter (graph c) (environment c) (facts c) c.in_doubt contents

@@ -1,4 +1,4 @@
--- Each call of a core is a move, and so is a crash at any moment of it, and an opening: told by the words that the calls promise.
+-- Each call of a core is a move, and so is a crash at any moment of it, and an opening. The laws use the clauses that the calls promise.
 use Rattle.std.specs.Prelude.{◌≡◌, ◌⊎◌, ℕ, true, false, List, [], ◌∷◌, ◌++◌, Result, Ok, Err, OnErr}
 use Rattle.disk.specs.declared.side.Side.{Side}
 use Rattle.disk.specs.File.{File}
@@ -34,12 +34,12 @@ RefusesEvent c (Stopped instance kind) = RefusesEnd (facts c)
 abbrev pub IsIdle : Move → Type 0
 IsIdle move = (move ≡ commits []) ⊎ (move ≡ stays)
 
--- a call that commits one event at `Ok`: there it did; at an error it did not, and has it in doubt where it halted
+-- a call that commits one event at `Ok`: then it did; at an error it did not, and the event is in doubt if the call halted the core
 abbrev pub MayBe : {T : Type 0} → Event → Result T CoreError → Move → List Event → Type 0
 MayBe event (Ok value) move events = (move ≡ commits (event ∷ [])) × (events ≡ event ∷ [])
 MayBe event (Err error) move events = (IsIdle move ⊎ (move ≡ halts [] (event ∷ []))) × ((events ≡ []) ⊎ (events ≡ event ∷ []))
 
--- no fact has changed, nothing on the disk, and nothing in doubt: so of each claim, park, release and allowance, and of each call of a halted core
+-- no fact has changed, nothing on the disk, and nothing in doubt: such is each claim, park, release and allowance, and each call of a halted core
 pub record KeepsStore {D : Type 0} (old new : Core D) : Type 0 where
   pub graph : graph new ≡ graph old
   pub facts : (fact : Fact) → facts new fact ≡ facts old fact
@@ -53,7 +53,7 @@ module _ {D : Type 0} (files : D → Side → File) (moment : D → ℕ) (left_a
   abbrev pub Leaves : History → D → Type 0
   Leaves h disk = (contents : Contents) → MayLeaveNow (files disk) contents → MayStand h contents × HasGates contents
 
-  -- what is known before a call is there, and what the core keeps holds before it and behind it
+  -- what is known before a call is there, and what the core keeps holds before the call and after it
   pub record Stood (h : History) (old new : Core D) : Type 0 where
     pub has : Has h old
     pub leaves : Leaves h old.vault.disk
@@ -62,8 +62,8 @@ module _ {D : Type 0} (files : D → Side → File) (moment : D → ℕ) (left_a
     pub kept_behind : IsKept files new
     pub settled_behind : is_halted new ≡ false → new.in_doubt ≡ []
 
-  -- The call is this move: what that makes of what was known is there behind it. A crash at any moment of the call leaves what was known, with these
-  -- events in doubt; of a halted core it leaves what was known.
+  -- The call is this move: what the move makes of what was known is there after it. A crash at any moment of the call leaves what was known, with these
+  -- events in doubt; if the core was halted, it leaves what was known.
   pub record IsMove (h : History) (old new : Core D) (move : Move) (events : List Event) : Type 0 where
     pub after : History
     pub follows : After move h after
@@ -105,24 +105,24 @@ module _ {D : Type 0} (files : D → Side → File) (moment : D → ℕ) (left_a
   CreationBegins honest =
       (text : List ℕ) (core : Core D) → honest → IsCreated files honest text core → IsKept files core → Has (begun (graph core)) core × Leaves (begun (graph core)) core.vault.disk
 
-  -- an opening that answers `Ok`: what it finds is what was committed, with some of the first events that were in doubt
+  -- an opening that returns `Ok`: it finds what was committed, with a prefix of the events that were in doubt
   abbrev pub OpeningIsMove : Type 0
   OpeningIsMove =
       (h : History) (disk : D) (core : Core D) → h.mode ≡ closed → Leaves h disk → IsOpened core → Finds files disk core → OnlyReads files moment left_at disk core.vault.disk → IsKept files core
       → (came : List Event) × (after : History) × After (opens came) h after × Has after core × Leaves after core.vault.disk
 
-  -- one that is refused, which hands the disk back
+  -- an opening that is refused, and hands the disk back
   abbrev pub RefusedOpeningIsMove : Type 0
   RefusedOpeningIsMove = (h : History) (disk new : D) → Leaves h disk → OnlyReads files moment left_at disk new → Leaves h new
 
-  -- a crash, at a moment of a call, of an opening or between two, at each of which one leaves what is known
+  -- a crash at a moment of a call, of an opening or between two, if at each such moment a crash leaves what is known
   abbrev pub CrashLeavesMove : Type 0
   CrashLeavesMove = (h : History) (old new crashed : D) → LeavesOnly moment left_at old new (λ contents. MayStand h contents × HasGates contents) → IsLeft files moment left_at old new crashed → Leaves h crashed
 
   abbrev pub OpeningLeaves : Type 0
   OpeningLeaves = (h : History) (disk new : D) → Leaves h disk → OnlyReads files moment left_at disk new → LeavesOnly moment left_at disk new (λ contents. MayStand h contents × HasGates contents)
 
-  -- between two calls
+  -- a crash between two calls leaves what is known
   abbrev pub RestLeaves : Type 0
   RestLeaves = (h : History) (disk : D) → Leaves h disk → LeavesOnly moment left_at disk disk (λ contents. MayStand h contents × HasGates contents)
 

@@ -1,4 +1,4 @@
--- What an opening and a creation give.
+-- What an opening and a creation return.
 use Rattle.std.specs.Prelude.{◌≡◌, false, [], Some, Result, Ok, Err}
 use Rattle.disk.specs.declared.side.Side.{Side}
 use Rattle.disk.specs.File.{File}
@@ -15,7 +15,7 @@ use Rattle.vault.specs.Stands.{Stands}
 use Rattle.commit.specs.declared.commit_core.TheConstants.{FIRST_ALLOWANCE}
 use Rattle.commit.specs.Core.{Core, graph, facts, environment, state_of, is_halted}
 
--- the disk of an answer
+-- the disk that a result gives back
 abbrev pub disk_of : {D : Type 0} → Result (Core D) (Refused D) → D
 disk_of (Ok core) = core.vault.disk
 disk_of (Err refused) = refused.disk
@@ -29,12 +29,12 @@ pub record IsOpened {D : Type 0} (c : Core D) : Type 0 where
   pub instances : (instance : Inst) → IsReadyOrDone (state_of c instance)
   pub ready : (instance : Inst) → IsPrescribed (graph c) (facts c) instance → facts c (done instance) ≡ false → state_of c instance ≡ Some Ready
 
--- it has what an opening gave: the vault, the graph, and the facts of the image, of which the environment put those of the image
+-- it has what an opening gave: the vault, the graph, and the facts of the image, and of these the environment put those of the image
 pub record IsCoreOf {D : Type 0} (recovered : Recovered D) (c : Core D) : Type 0 where
   pub vault : c.vault ≡ recovered.vault
   pub graph : graph c ≡ recovered.graph
   pub lists : Lists recovered.image (environment c) (facts c)
 
--- it has the graph and the facts for which the files stand that were opened
+-- it has the graph and the facts that the files stood for when they were opened
 abbrev pub Finds : {D : Type 0} → (D → Side → File) → D → Core D → Type 0
 Finds files disk c = Stands (contents_of (files disk)) (graph c) (environment c) (facts c)

@@ -1,4 +1,4 @@
--- What an instance came to, and the event that tells it.
+-- What an instance came to, and the event that says so.
 use Rattle.std.specs.Prelude.{◌≡◌, ◌⊎◌, ℕ, List, Result, IfOk}
 use Rattle.disk.specs.declared.side.Side.{Side}
 use Rattle.disk.specs.File.{File}
@@ -18,33 +18,33 @@ use Rattle.commit.specs.declared.outcome.Committed.{Committed}
 use Rattle.commit.specs.declared.outcome.Committed.TheVariants.{Done, Stopped}
 use Rattle.commit.specs.Core.{Core, graph, facts}
 
--- What a finish asks of its outcome: it is of this instance and of the body of its step, and what was read are items here.
+-- What a finish requires of its outcome: it is of this instance and of the body of its step, and the items that it read are items here.
 abbrev pub IsOutcomeOf : {D : Type 0} → Core D → Inst → Outcome → Type 0
 IsOutcomeOf c instance outcome = IsOutcomeIn (graph c) (facts c) instance outcome
 
--- the ends of an instance whose body gave these puts
+-- the ways in which an instance ends whose body gave these puts
 abbrev pub IsEndOfGiven : Inst → List Put → Event → Type 0
 IsEndOfGiven instance puts end = (end ≡ event.Done instance puts) ⊎ (end ≡ event.Stopped instance DoublePut)
 
 -- The event by which the instance ends: it is done with the puts that its body gave, or stopped by a double put of them; or it is stopped by its
--- body's fault. Which of the first two is legal is told by the facts.
+-- body's fault. The facts decide which of the first two is legal.
 abbrev pub IsEndOf : Outcome → Inst → Event → Type 0
 IsEndOf (Gave given) instance end = IsEndOfGiven instance given.puts end
 IsEndOf (Fault bad) instance end = end ≡ event.Stopped instance bad.kind
 
--- what was committed, as an answer tells it
+-- the result says what was committed
 abbrev pub Tells : Committed → Event → Type 0
 Tells Done end = (instance : Inst) × (puts : List Put) × (end ≡ event.Done instance puts)
 Tells (Stopped kind) end = (instance : Inst) × (end ≡ event.Stopped instance kind)
 
--- One of them is committed at `Ok`, as the answer tells, or refused.
+-- One of these ends is committed at `Ok`, as the result says, or refused.
 pub record EndsGiven {D : Type 0} (files : D → Side → File) (moment : D → ℕ) (left_at : D → ℕ → Contents → Type 0) (honest : Type 0) (old new : Core D) (instance : Inst) (puts : List Put) (result : Result Committed CoreError) : Type 0 where
   pub end : Event
   pub is_end : IsEndOfGiven instance puts end
   pub commits : Commits files moment left_at honest old new (RefusesEnd (facts old)) end result
   pub told : IfOk result (λ committed. Tells committed end)
 
--- An end of the instance is committed at `Ok`, as the answer tells, or refused.
+-- An end of the instance is committed at `Ok`, as the result says, or refused.
 pub record Finishes {D : Type 0} (files : D → Side → File) (moment : D → ℕ) (left_at : D → ℕ → Contents → Type 0) (honest : Type 0) (old new : Core D) (instance : Inst) (outcome : Outcome) (result : Result Committed CoreError) : Type 0 where
   pub end : Event
   pub is_end : IsEndOf outcome instance end

@@ -9,15 +9,15 @@ use Rattle.commit.specs.declared.error.CoreError.{CoreError}
 use Rattle.commit.specs.declared.error.CoreError.TheVariants.{Refused, Store}
 use Rattle.commit.specs.Core.{Core, graph, facts, is_halted}
 
--- nothing changes but that there may be more room in memory
+-- nothing changes, except that there may be more room in memory
 pub record GivesRoom {D : Type 0} (old new : Core D) : Type 0 where
   pub machine : machine.GivesRoom old.machine new.machine
   pub vault : new.vault ≡ old.vault
   pub in_doubt : new.in_doubt ≡ old.in_doubt
   pub allowance : new.allowance ≡ old.allowance
 
--- Why an event is refused before its record is written: the core is halted; or there is a cause why it may not come; or it may come, and memory was
--- refused.
+-- Why an event is refused before its record is written: the core is halted; or there is a cause why the event may not come; or it may come, and
+-- memory was refused.
 abbrev pub RefusesFirst : {D : Type 0} → Core D → (Refusal → Type 0) → Event → CoreError → Type 0
 RefusesFirst c why event (Refused refusal) = (is_halted c ≡ false) × why refusal
 RefusesFirst c why event (Store Halted) = is_halted c ≡ true

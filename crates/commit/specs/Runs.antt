@@ -1,4 +1,4 @@
--- A run of the steps of a core: the ends of instances that it commits, and what it answers.
+-- A run of the steps of a core: the ends of instances that it commits, and what it returns.
 use Rattle.std.specs.Prelude.{◌≡◌, ◌≢◌, ◌⊎◌, ◌↔◌, ◌+◌, ◌<◌, ◌≤◌, ⊤, ℕ, Bool, true, false, List, [], ◌∷◌, ◌++◌, map, length, Some, Result, Ok, Err}
 use Rattle.std.specs.List.{AllByRecursion}
 use Rattle.disk.specs.declared.side.Side.{Side}
@@ -41,7 +41,7 @@ NoneRuns c = (instance : Inst) → state_of c instance ≢ Some Running
 
 -- ---- what is committed
 
--- an instance comes to its end: it is done, or at fault
+-- the event ends an instance, as done or at fault
 abbrev pub IsEnd : Event → Type 0
 IsEnd (event.EnvItem address value) = ⊥
 IsEnd (event.EnvTag name) = ⊥
@@ -76,9 +76,9 @@ begun_by files moment failures refusals c = record {
   contents = contents_of (files c.vault.disk);
 }
 
--- From a core that was so, that was not halted, and of which a crash might leave this, these ends of instances were committed, one after another; and where
--- the core is halted now, one more is in doubt. They were legal, and state all that is new; each used one of the allowance. At each moment a crash leaves what
--- some of the first of them state, each of which is there whole. The core is halted exactly where a call of the disk answered an error.
+-- Since a core that was like this, was not halted, and of which a crash might leave this, these ends of instances were committed, one after another;
+-- if the core is halted now, one more is in doubt. They were legal, and state all that is new; each used one of the allowance. At each moment a
+-- crash leaves what a prefix of them states, each of which is there whole. The core is halted exactly if a call of the disk returned an error.
 pub record RunsSince {D : Type 0} (moment : D → ℕ) (left_at : D → ℕ → Contents → Type 0) (failures refusals : D → ℕ) (honest : Type 0) (begun : Begun) (left : ℕ → Contents → Type 0) (new : Core D) (ends : List Event) : Type 0 where
   pub are_ends : AllByRecursion IsEnd (ends ++ new.in_doubt)
   pub legal : AreLegalFrom begun.graph begun.facts (ends ++ new.in_doubt)
@@ -92,23 +92,23 @@ pub record RunsSince {D : Type 0} (moment : D → ℕ) (left_at : D → ℕ → 
   pub later : begun.failures ≤ failures new.vault.disk
   pub one_in_doubt : is_halted new ≡ true → (end : Event) × (new.in_doubt ≡ end ∷ []) × (length ends < begun.allowance)
 
--- the same from a core to another
+-- the same from one core to another
 abbrev pub Runs : {D : Type 0} → (D → Side → File) → (D → ℕ) → (D → ℕ → Contents → Type 0) → (failures refusals : D → ℕ) → Type 0 → (old new : Core D) → List Event → Type 0
 Runs files moment left_at failures refusals honest old new ends = RunsSince moment left_at failures refusals honest (begun_by files moment failures refusals old) (left_at old.vault.disk) new ends
 
--- ---- what is answered
+-- ---- what is returned
 
 -- the core is not halted, and this is how far it is
 abbrev pub IsAt : {D : Type 0} → Core D → Status → Type 0
 IsAt c status = (is_halted c ≡ false) × TellsStatus c status × IsMeantIfQuiet c status
 
--- an end of an instance may come, whose record does not fit
+-- some end of an instance may come, and its record does not fit
 abbrev pub IsFull : {D : Type 0} → Core D → Type 0
 IsFull c = (end : Event) × IsEnd end × IsLegal (graph c) (facts c) end × IsTooLong c end
 
--- This is answered behind a run with this limit, in which so many ends were committed, by a driver that may be asked to stop, or may start threads.
--- The first line that holds is answered, in this order: the core is halted; it is stopped; it is quiet. Of the other lines something is
--- ready, and there is no fault. Of these three errors and the limit any may be told that holds; one thread tells `Full` only where its limit was not met.
+-- This is returned after a run with this limit, in which `count` ends were committed, by a driver that may be asked to stop, or may start threads.
+-- The first line that holds is returned, in this order: the core is halted; it is stopped; it is quiet. In the other lines something is ready, and
+-- there is no fault. Any of the three errors and of the limit that holds may be returned; one thread returns `Full` only if its limit was not met.
 abbrev pub TellsVerdict : {D : Type 0} → (may_be_asked may_spawn : Bool) → Core D → (limit count : ℕ) → Result Verdict RunError → Type 0
 TellsVerdict may_be_asked may_spawn c limit count (Ok Halted) = is_halted c ≡ true
 TellsVerdict may_be_asked may_spawn c limit count (Ok (Stopped instance kind)) = IsAt c (status.Stopped instance kind)
@@ -120,11 +120,11 @@ TellsVerdict may_be_asked may_spawn c limit count (Err Full) = IsAt c status.Wor
 TellsVerdict may_be_asked may_spawn c limit count (Ok Limit) = IsAt c status.Working × (count ≡ limit)
 TellsVerdict may_be_asked may_spawn c limit count (Ok Asked) = IsAt c status.Working × (may_be_asked ≡ true) × (count ≢ limit)
 
--- why a run ends before its limit in a core that is not halted: memory was refused, or it is full, and the limit not met
+-- why a run ends before its limit in a core that is not halted: memory was refused, or the core is full and the limit not met
 abbrev pub EndsEarly : {D : Type 0} → Core D → CoreError → Type 0
 EndsEarly c error = is_halted c ≡ false → (error ≡ Store vault.NoMemory) ⊎ ((error ≡ Store vault.Full) × IsFull c × (0 < c.allowance))
 
--- A run with a limit: from a core that is halted nothing changes, and that is told; else it may commit as many ends of instances, and tells how it ended.
+-- A run with a limit: a core that is halted stays as it is, and `Halted` is returned; another may commit `limit` ends; the result says how it ended.
 abbrev pub with_allowance : {D : Type 0} → Core D → ℕ → Core D
 with_allowance c count = record c { allowance = count }
 
@@ -133,12 +133,12 @@ pub record RunsWithin {D : Type 0} (files : D → Side → File) (moment : D →
   pub runs : Runs files moment left_at failures refusals honest (with_allowance old limit) new ends
   pub told : TellsVerdict may_be_asked may_spawn new limit (length ends) result
 
--- the same, where what is committed is of no account
+-- the same, for some list of ends
 pub record RunsOn {D : Type 0} (files : D → Side → File) (moment : D → ℕ) (left_at : D → ℕ → Contents → Type 0) (failures refusals : D → ℕ) (honest : Type 0) (old new : Core D) : Type 0 where
   pub ends : List Event
   pub runs : Runs files moment left_at failures refusals honest old new ends
 
--- A finish is a run by itself: of the one end at `Ok`, and of none at an error.
+-- A finish is a run by itself: of one end at `Ok`, and of none at an error.
 abbrev pub EndRuns : {D : Type 0} → (D → Side → File) → (D → ℕ) → (D → ℕ → Contents → Type 0) → (failures refusals : D → ℕ) → Type 0 → (old new : Core D) → Inst → Outcome → Result Committed CoreError → Type 0
 EndRuns files moment left_at failures refusals honest old new instance outcome (Ok committed) = (end : Event) × IsEndOf outcome instance end × Tells committed end × Runs files moment left_at failures refusals honest old new (end ∷ [])
 EndRuns files moment left_at failures refusals honest old new instance outcome (Err error) = Runs files moment left_at failures refusals honest old new []

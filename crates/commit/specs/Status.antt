@@ -1,4 +1,4 @@
--- What a core tells of itself.
+-- What a core says of itself.
 use Rattle.std.specs.Prelude.{◌≡◌, ◌-◌, ◌^◌, ⊤, min, true}
 use Rattle.terms.specs.Facts.{bad}
 use Rattle.graph.specs.Fits.{HasNoFault}
@@ -9,14 +9,14 @@ use Rattle.commit.specs.declared.status.Status.{Status}
 use Rattle.commit.specs.declared.status.Status.TheVariants.{Working, Quiet, Stopped}
 use Rattle.commit.specs.Core.{Core, graph, facts}
 
--- This is how far the store is. It works where it has no fault, and some instance is ready or runs: not all of them are neither. It is quiet
--- where it has none, and none is, and so many wait. It is stopped where it has this fault.
+-- This is how far the store is. `Working`: it has no fault, and some instance is ready or runs. `Quiet`: it has no fault, no instance is ready or
+-- runs, and this number of instances wait. `Stopped`: it has this fault.
 abbrev pub TellsStatus : {D : Type 0} → Core D → Status → Type 0
 TellsStatus c Working = HasNoFault (facts c) × (NoneIsActive c.machine → ⊥)
 TellsStatus c (Quiet blocked) = HasNoFault (facts c) × NoneIsActive c.machine × (blocked ≡ min (waiting_count c.machine) (2 ^ 64 - 1))
 TellsStatus c (Stopped instance kind) = facts c (bad instance kind) ≡ true
 
--- where it is quiet nothing is left to do, and where legal events led there its facts are all of the meaning
+-- if it is quiet nothing is left to do, and if legal events led there its facts are all of the meaning
 abbrev pub IsMeantIfQuiet : {D : Type 0} → Core D → Status → Type 0
 IsMeantIfQuiet c Working = ⊤
 IsMeantIfQuiet c (Quiet blocked) = IsQuiet (graph c) (facts c) × IsAllOfMeaning c.machine

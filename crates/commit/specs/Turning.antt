@@ -19,7 +19,7 @@ pub record Turns {D : Type 0} (old new : Core D) (generation : ℕ) : Type 0 whe
   pub machine : new.machine ≡ old.machine
   pub allowance : new.allowance ≡ old.allowance
 
--- why it is refused: the core is halted, and else it is full, the device failed, or memory was refused
+-- why it is refused: the core is halted, or it is full, the device failed, or memory was refused
 abbrev pub RefusesTurn : {D : Type 0} → Core D → CoreError → Type 0
 RefusesTurn c (Refused refusal) = ⊥
 RefusesTurn c (Store Halted) = is_halted c ≡ true
@@ -30,11 +30,11 @@ RefusesTurn c (Store (Damaged side place)) = ⊥
 RefusesTurn c (Store NotAStore) = ⊥
 RefusesTurn c (Store Exists) = ⊥
 
--- a core of the greatest generation that is not halted says that it is full, or that memory was refused first
+-- a core of the greatest generation that is not halted returns `Full`, or `NoMemory` if memory was refused first
 abbrev pub TellsLast : {D T : Type 0} → Core D → Result T CoreError → Type 0
 TellsLast c result = is_halted c ≡ false → IsLast c.vault.generation → IsErrOf result (Store Full) ⊎ IsErrOf result (Store NoMemory)
 
--- What a crash leaves at any moment of a turnover: the facts of the core, where the other file has a first byte. And each file keeps one.
+-- What a crash leaves at any moment of a turnover: the facts of the core, if the other file has a first byte. If each file has one, each keeps one.
 pub record TurnLeaves {D : Type 0} (files : D → Side → File) (moment : D → ℕ) (left_at : D → ℕ → Contents → Type 0) (old new : Core D) : Type 0 where
   pub facts : (files old.vault.disk (other_side old.vault.journal.side)).content ≢ [] → LeavesOnly moment left_at old.vault.disk new.vault.disk (λ contents. Stands contents (graph old) (environment old) (facts old))
   pub gates : HasGates (contents_of (files old.vault.disk)) → LeavesOnly moment left_at old.vault.disk new.vault.disk HasGates

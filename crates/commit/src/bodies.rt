@@ -15,17 +15,17 @@ use steplang::{Checked, Parked, Run, Turn};
 use steptree::ends_within_limits;
 use terms::{Addr, Inst};
 
-/// What the body of an instance came to.
+/// What running the body of an instance came to.
 #[derive(Drop)]
 pub enum Came<'a> {
-    /// Its end.
+    /// The body's end.
     Ended(Outcome<'a>),
-    /// An item that is not there.
+    /// The body waits for an item that is not there.
     Waits(Parked<'a>),
 }
 
-/// Runs the body of an instance, to its end or to an item that is not there. The graph is the machine's, by itself, so that the machine can be changed
-/// while the result is kept.
+/// Runs the body of an instance, to its end or to an item that is not there. The graph is the machine's, passed by
+/// itself, so that the machine can be changed while the result is kept.
 pub fn run_body<'a>(
     alloc: Global,
     machine: &Machine,
@@ -42,7 +42,7 @@ pub fn run_body<'a>(
     go_on(machine, run)
 }
 
-// The step of an instance.
+// The body of an instance's step.
 fn body_of<'a>(graph: &'a Graph, instance: &Inst) -> &'a Checked
     requires graph { IsGraph graph.now }
     requires instance { InstanceIsOf graph.now instance.now }
@@ -52,7 +52,7 @@ fn body_of<'a>(graph: &'a Graph, instance: &Inst) -> &'a Checked
     graph.body(instance.collection).unwrap()
 }
 
-// Answers what a run asks for, to its end or to an item that is not there.
+// Gives a run the items that it asks for, to its end or to an item that is not there.
 fn go_on<'a>(machine: &Machine, mut run: Run<'a>) -> Result<Came<'a>, AllocError>
     requires body { IsBodyOf machine.now.graph run.instance run.checked.now.body }
     requires begun { run.awaits ≡ Nothing }
@@ -75,7 +75,7 @@ fn go_on<'a>(machine: &Machine, mut run: Run<'a>) -> Result<Came<'a>, AllocError
     }
 }
 
-// The value at an address; none where no item is there, nor can be.
+// The value at an address; `None` if no item is there, or none can be.
 fn value_at(machine: &Machine, address: Addr) -> Option<i64>
     ensures { IsValueAt (facts machine.now) address result }
 {

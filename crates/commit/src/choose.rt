@@ -1,9 +1,9 @@
 ghost use Rattle.std.specs.Prelude.{◌<◌};
 
-/// Who picks which of the ready instances runs next. What a run comes to doesn't depend on it, but for which fault is told and where a
-/// limit is met.
+/// Picks which of the ready instances runs next. What a run comes to doesn't depend on the choice, except which fault is
+/// reported and where a limit is met.
 pub trait Choose {
-    /// The number of one of so many ready instances, from 0.
+    /// The number of one of `ready` instances, from 0.
     fn pick(&mut self, ready: usize) -> usize
         requires { 0 < ready }
         ensures { result < ready };

@@ -7,21 +7,21 @@ use std::sync::Arc;
 use terms::{Event, FaultKind, Inst};
 use vault::Vault;
 
-/// A store on two files, with the state of it in memory.
+/// A store on two files, with its state in memory.
 ///
-/// Each event that it takes is on the disk before the call answers `Ok`, and a refusal leaves each fact as it was. Where a call of the disk
-/// answers an error the core halts: from then on it answers `Halted`, until its disk is opened again.
+/// Each event that it takes is on the disk before the call returns `Ok`, and a refusal leaves each fact as it was. If a
+/// call of the disk returns an error the core halts: from then on it returns `Halted`, until its disk is opened again.
 pub struct Core<D: Disk> {
     pub(crate) vault: Vault<D>,
     pub(crate) machine: Machine,
-    // The event of the call that halted it, if that had one.
+    // The event of the call that halted the core, if that call had one.
     pub(crate) in_doubt: Option<Event>,
-    // How many more steps may be committed, those that run among them.
+    // How many more steps may be committed, including those that run.
     pub(crate) allowance: u64,
 }
 
 impl<D: Disk + Drop> Drop for Core<D> {
-    // By hand, so that it is one call wherever a core goes.
+    // By hand, so that dropping a core is one call, wherever it is dropped.
     fn drop(self) {
         let Core {
             vault: _,
@@ -69,5 +69,5 @@ impl<D: Disk> Core<D> {
     }
 }
 
-/// How many steps a core may commit that was opened, before the first `allow`.
+/// How many steps a core that was opened may commit before the first `allow`.
 pub const FIRST_ALLOWANCE: u64 = 1_000_000_000;

@@ -15,7 +15,7 @@ impl<D: Disk> Core<D> {
     ghost use Rattle.commit.specs.Core.{facts, graph, is_halted, state_of};
     ghost use Rattle.commit.specs.Calls.{Takes, IsUnchanged, GivesBack, Refuses, TellsFull, Halts, IsInDoubt, CrashLeaves, NoCause};
 
-    /// Commits what the environment puts, which is legal and for which there is room.
+    /// Commits a put of the environment. It must be legal, and there must be room for it.
     pub(crate) fn commit_put(&mut self, event: Event) -> Result<(), CoreError>
         requires put { IsPut event }
         requires working { is_halted self.old ≡ false }
@@ -46,7 +46,8 @@ impl<D: Disk> Core<D> {
         }
     }
 
-    /// Commits the end of the instance of a task, which is legal and for which there is room. Where it is refused the instance is ready.
+    /// Commits the end of the instance of a task. It must be legal, and there must be room for it. If it is refused the
+    /// instance is ready.
     pub(crate) fn commit_step(&mut self, task: Task, event: Event) -> Result<(), CoreError>
         requires ends { Ends event task }
         requires running { state_of self.old task ≡ Some Running }
@@ -81,7 +82,7 @@ impl<D: Disk> Core<D> {
     }
 }
 
-// Keeps the event of an append that answered an error, if that halted the vault.
+// Keeps the event of an append that returned an error, if the error halted the vault.
 fn keep_in_doubt(in_doubt: &mut Option<Event>, halted: bool, event: Event)
     ensures { in_doubt.new ≡ cond halted (Some event) in_doubt.old }
 {

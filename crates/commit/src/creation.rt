@@ -15,7 +15,7 @@ use vault::{Refused, VaultError, stores_go_on};
 /// Why a store was not created.
 #[derive(Clone, Copy, Debug, PartialEq, Eq)]
 pub enum CreateError {
-    /// The text is no graph. This is looked for first; both files are left as they are.
+    /// The text is no graph. This is checked first; both files are left as they are.
     Graph(GraphFault),
     /// The store could not be made: `Exists`, `NoMemory` or `Device`.
     Store(VaultError),
@@ -45,10 +45,10 @@ impl<D: Disk> Core<D> {
     ghost use Rattle.commit.specs.Created.{IsCreated, TellsCreation, LeavesOthers, disk_of, answer_of};
     ghost use Rattle.commit.specs.Opened.{IsOpened, disk_of as opened_disk};
 
-    /// Makes a store of the graph that a text is, on two empty files. It holds nothing.
+    /// Makes a store of the graph of this text, on two empty files. It holds nothing.
     ///
-    /// The text is looked at first, and all memory is asked for before the first call of the disk. Files that are not both empty are left as they are:
-    /// `Exists`. An error hands the disk back.
+    /// The text is checked first, and all memory is asked for before the first call of the disk. Files that are not both
+    /// empty are left as they are: `Exists`. An error hands the disk back.
     pub fn create(alloc: Global, disk: D, text: &[u8]) -> Result<Core<D>, NotCreated<D>>
         ensures created { IfOk result (IsCreated D.files (IsTrue D.is_honest) text.now) }
         ensures refused { IfErr result (TellsCreation text.now disk) }
@@ -77,7 +77,7 @@ impl<D: Disk> Core<D> {
         }
     }
 
-    // Makes a store of a graph whose canonical text this is.
+    // Makes a store of a graph with this canonical text.
     fn made(alloc: Global, disk: D, graph: Graph, text: &[u8]) -> Result<Core<D>, Refused<D>>
         requires spelled { text.now ≡ canonical graph }
         requires reads { Reads text.now graph }

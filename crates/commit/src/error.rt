@@ -7,15 +7,17 @@ use std::alloc::AllocError;
 use thiserror::Error;
 use vault::VaultError;
 
-/// Why a call of a core was refused. Where several causes apply the first of them is told: `Store(Halted)` before all others, then
-/// those of `Refusal` in their order, then `Store(Full)`. `Store(NoMemory)` may stand in place of `Store(Full)`, or of success.
+/// Why a call of a core was refused. If several causes apply the first of them is returned: `Store(Halted)` before all
+/// others, then those of `Refusal` in their order, then `Store(Full)`. `Store(NoMemory)` may come in place of
+/// `Store(Full)`, or of success.
 #[derive(Clone, Copy, Debug, PartialEq, Eq, Error)]
 pub enum CoreError {
-    /// The event may not come, or the item may not be got. Nothing has changed.
+    /// The event may not come, or the item may not be read. Nothing has changed.
     #[error("{0}")]
     Refused(Refusal),
-    /// The store did not take it: `Full`, `Halted`, `Device` or `NoMemory`. Where a call of the disk answered an error, which is so behind
-    /// each `Device`, the core is halted: the event may be on the disk or not, and the store is to be opened again. Else nothing has changed.
+    /// The store did not take it: `Full`, `Halted`, `Device` or `NoMemory`. If a call of the disk returned an error, as
+    /// it did at each `Device`, the core is halted: the event may be on the disk or not, and the store must be opened
+    /// again. Otherwise nothing has changed.
     #[error("{0}")]
     Store(VaultError),
 }

@@ -24,11 +24,13 @@ impl<D: Disk> Core<D> {
     ghost use Rattle.commit.specs.Runs.{EndRuns};
     ghost use Rattle.commit.specs.Steps.{Moves};
 
-    /// Commits what the body of an instance came to: the instance is done, with its puts; or it is at fault, which stops the store. It is at fault where
-    /// its body is, and by a double put where one of its items is there already or stands twice among its puts.
+    /// Commits what the body of an instance came to. Either the instance is done, with its puts, or it is at fault, which
+    /// stops the store. It is at fault if its body is; and by a double put, if one of its items is there already or is
+    /// put twice.
     ///
-    /// The outcome is of the task's instance and of the body of its step in this graph, and what it read are items of this core. The causes of a refusal, in
-    /// their order: `Halted`; a fault stopped the store; `Full`. Where it is refused the instance is ready.
+    /// The outcome must be of the task's instance and of the body of its step in this graph, and the items that it read
+    /// must be items of this core. The causes of a refusal, in their order: `Halted`; a fault stopped the store; `Full`.
+    /// If it is refused the instance is ready.
     pub fn finish(&mut self, task: Task, outcome: Outcome<'_>) -> Result<Committed, CoreError>
         requires running { state_of self.old task ≡ Some Running }
         requires outcome { IsOutcomeOf self.old task outcome }
@@ -137,7 +139,7 @@ impl<D: Disk> Core<D> {
         }
     }
 
-    // Makes room for what an instance puts that is done.
+    // Makes room for the puts of an instance that is done.
     fn make_room_for(&mut self, task: &Task, puts: &[Put]) -> Result<(), CoreError>
         requires { IsLegal (graph self.old) (facts self.old) (Done task.now puts.now) }
         ensures ok { OnOk result (HasRoom self.new.machine puts.now) }

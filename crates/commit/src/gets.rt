@@ -11,7 +11,7 @@ impl<D: Disk> Core<D> {
     ghost use Rattle.commit.specs.Core.{facts, graph, is_halted};
     ghost use Rattle.commit.specs.Gets.{RefusesOrHalted};
 
-    /// The value at an address, as the environment gets it; none where no item is there. It takes no memory.
+    /// The value at an address, as the environment gets it; `None` if no item is there. It takes no memory.
     pub fn get(&self, addr: Addr) -> Result<Option<i64>, CoreError>
         ensures allowed { OnOk result ((is_halted self.now ≡ false) × EnvironmentMayGet (graph self.now) addr) }
         ensures value { IfOk result (IsValueAt (facts self.now) addr) }
@@ -26,7 +26,8 @@ impl<D: Disk> Core<D> {
         }
     }
 
-    /// The value at an address of any collection of the graph, as a step reads it; none where no item is there. It takes no memory.
+    /// The value at an address of any collection of the graph, as a step reads it; `None` if no item is there. It takes
+    /// no memory.
     pub fn read(&self, addr: Addr) -> Result<Option<i64>, CoreError>
         ensures allowed { OnOk result ((is_halted self.now ≡ false) × AddressIsOf (graph self.now) addr) }
         ensures value { IfOk result (IsValueAt (facts self.now) addr) }

@@ -8,7 +8,7 @@ impl<D: Disk> Core<D> {
     ghost use Rattle.machine.specs.Machine.{running_count};
     ghost use Rattle.machine.specs.Promise.{IsKept as KeepsMachine};
 
-    /// A law, with nothing to run: what a core keeps.
+    /// A law, with nothing to run: what a core keeps from call to call.
     pub fn is_kept(&self)
         ensures kept { IsTrue D.is_honest → IsKept D.files self.now }
         ensures settled { is_halted self.now ≡ false → self.now.in_doubt ≡ [] }

@@ -1,8 +1,9 @@
-//! The core of a store: its files and the state of it in memory, as one.
+//! The core of a store: its files and its state in memory, as one.
 //!
-//! A `Core` is seen as its vault, its machine, the events in doubt and its allowance. It takes each event exactly where that is legal, and a
-//! crash at any moment leaves the facts before the event or behind it. The layers above stand on `put_item`, `put_tag`, `finish` and `turn`, on
-//! `claim`, `park` and `release`, and on `status`, which tells when nothing is left to do: then the facts are the meaning of the graph.
+//! Contracts see a `Core` as its vault, its machine, the events in doubt and its allowance. It takes each event exactly
+//! if the event is legal, and a crash at any moment leaves the facts before the event or after it. The layers above use
+//! `put_item`, `put_tag`, `finish` and `turn`, `claim`, `park` and `release`, and `status`, which says when nothing is
+//! left to do: then the facts are the meaning of the graph.
 #![tactic(auto)]
 
 mod bodies;

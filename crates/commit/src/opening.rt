@@ -21,10 +21,10 @@ impl<D: Disk> Core<D> {
     ghost use Rattle.vault.specs.declared.error.VaultError.TheVariants.{Device, NoMemory};
     ghost use Rattle.commit.specs.Opened.{IsOpened, IsCoreOf, Finds, disk_of};
 
-    /// Opens the store on two files. What it holds is what they stand for, and each prescribed instance that is not done is ready.
+    /// Opens the store on two files. It holds what they stand for, and each prescribed instance that is not done is ready.
     ///
-    /// It answers `Damaged` and `NotAStore` only where the files stand for nothing, and hands the disk back with each error. Nothing is written,
-    /// whatever it answers.
+    /// It returns `Damaged` and `NotAStore` only if the files stand for nothing, and hands the disk back with each error.
+    /// Nothing is written, whatever is returned.
     pub fn open(alloc: Global, disk: D) -> Result<Core<D>, Refused<D>>
         ensures opened { IfOk result IsOpened }
         ensures finds { IsTrue D.is_honest → IfOk result (Finds D.files disk) }
@@ -74,7 +74,7 @@ impl<D: Disk> Core<D> {
     }
 }
 
-// The state in memory of a store of this graph that an image lists.
+// The state in memory of a store of this graph, with what this image lists.
 fn restored(alloc: Global, graph: Graph, image: &Image) -> Result<Machine, AllocError>
     requires fits { FitsState graph (environment_in image.now) (facts_in image.now) }
     requires listed { IsListed image.now }

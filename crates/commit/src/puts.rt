@@ -16,8 +16,9 @@ impl<D: Disk> Core<D> {
 
     /// Puts an item of the environment.
     ///
-    /// The causes of a refusal, in their order: `Halted`; no such collection; another number of components; the graph gives the environment no such put; a
-    /// fault stopped the store; the item is there already; `Full`. An error that does not halt leaves all as it was.
+    /// The causes of a refusal, in their order: `Halted`; no such collection; the wrong number of components; not a put
+    /// of the environment in this graph; a fault stopped the store; the item is there already; `Full`. An error that does
+    /// not halt leaves everything as it was.
     pub fn put_item(&mut self, addr: Addr, value: i64) -> Result<(), CoreError>
         ensures ok { OnOk result (Takes self.old self.new (EnvItem addr value)) }
         ensures err { OnErr result (IsUnchanged self.old self.new) }
@@ -36,10 +37,11 @@ impl<D: Disk> Core<D> {
         }
     }
 
-    /// Puts a tag of the environment, and with it the instances that it prescribes, which are ready.
+    /// Puts a tag of the environment. The instances that it prescribes are ready then.
     ///
-    /// The causes of a refusal, in their order: `Halted`; no such collection; another number of components; the graph gives the environment no such put; a
-    /// fault stopped the store; the tag is there already; `Full`. An error that does not halt leaves all as it was.
+    /// The causes of a refusal, in their order: `Halted`; no such collection; the wrong number of components; not a put
+    /// of the environment in this graph; a fault stopped the store; the tag is there already; `Full`. An error that does
+    /// not halt leaves everything as it was.
     pub fn put_tag(&mut self, tag: Tag) -> Result<(), CoreError>
         ensures ok { OnOk result (Takes self.old self.new (EnvTag tag)) }
         ensures err { OnErr result (IsUnchanged self.old self.new) }
@@ -58,7 +60,7 @@ impl<D: Disk> Core<D> {
         }
     }
 
-    // Whether the environment may put the item; if so, with room for it.
+    // Checks that the environment may put the item, and makes room for it.
     fn make_ready_for_item(&mut self, addr: Addr, value: i64) -> Result<(), CoreError>
         ensures working { OnOk result (is_halted self.old ≡ false) }
         ensures legal { OnOk result (IsLegal (graph self.new) (facts self.new) (EnvItem addr value)) }
@@ -76,7 +78,7 @@ impl<D: Disk> Core<D> {
         Ok(())
     }
 
-    // Whether the environment may put the tag; if so, with room for it.
+    // Checks that the environment may put the tag, and makes room for it.
     fn make_ready_for_tag(&mut self, tag: Tag) -> Result<(), CoreError>
         ensures working { OnOk result (is_halted self.old ≡ false) }
         ensures legal { OnOk result (IsLegal (graph self.new) (facts self.new) (EnvTag tag)) }

@@ -12,11 +12,12 @@ use std::sync::Arc;
 use terms::facts_are_told_apart;
 use vault::{VaultError, stores_go_on};
 
-/// Runs the steps of a store on one thread, until nothing is left to do, or as many of them came to their end as the limit says. Which instance
-/// runs next is the chooser's to pick; nothing that is answered depends on it, but which fault is told and where a limit is met.
+/// Runs the steps of a store on one thread, until nothing is left to do, or `limit` of them came to their end. The
+/// chooser picks which instance runs next; the result doesn't depend on it, except which fault is reported and where the
+/// limit is met.
 ///
-/// It gives the core back with the verdict. An error leaves all that was committed. Nothing runs in the core that is given, nor in the one that is
-/// given back.
+/// Returns the core with the verdict. An error leaves all that was committed. No instance may run in the core that is
+/// given, and none runs in the one that is returned.
 pub fn run_with<D: Disk, C: Choose>(
     alloc: Global,
     core: Core<D>,
@@ -82,7 +83,7 @@ impl<D: Disk> Core<D> {
         }
     }
 
-    // Commits one end after another.
+    // Commits the end of one instance after another.
     fn run_ends<C: Choose>(
         &mut self,
         alloc: Global,
@@ -109,7 +110,7 @@ impl<D: Disk> Core<D> {
         }
     }
 
-    // Runs ready instances until one of them came to its end: whether one did.
+    // Runs ready instances until one comes to its end. Returns whether one did.
     fn run_to_end<C: Choose>(
         &mut self,
         alloc: Global,
@@ -145,7 +146,8 @@ impl<D: Disk> Core<D> {
         }
     }
 
-    // Runs the instance of a task, to its end, which is committed, or to an item that is not there: whether it came to its end.
+    // Runs the instance of a task, to its end, which is committed, or to an item that is not there. Returns whether it
+    // came to its end.
     fn run_task(&mut self, alloc: Global, graph: &Graph, task: Task) -> Result<bool, CoreError>
         requires graph { graph.now ≡ graph_of self.old }
         requires running { state_of self.old task ≡ Some Running }
@@ -176,7 +178,7 @@ impl<D: Disk> Core<D> {
         }
     }
 
-    // What is answered behind a run that went so.
+    // The verdict after a run that ended with this result.
     fn verdict(&self, went: Result<(), CoreError>) -> Result<Verdict, RunError>
         requires idle { NoneRuns self.now }
         requires ok { OnOk went (MayClaim self.now 0 → ⊥) }

@@ -12,7 +12,7 @@ use vault::VaultError;
 pub enum Status {
     /// An instance is ready or runs, and there is no fault.
     Working,
-    /// Nothing is left to do: so many instances wait for items that are not there.
+    /// Nothing is left to do: `blocked` instances wait for items that are not there.
     Quiet { blocked: usize },
     /// The store is stopped by this fault of this instance.
     Stopped(Inst, FaultKind),
@@ -30,8 +30,8 @@ impl<D: Disk> Core<D> {
     ghost use Rattle.commit.specs.Status.{TellsStatus, IsMeantIfQuiet};
     ghost use Rattle.commit.specs.Steps.{ready_count, running_count};
 
-    /// How far the store is. Where it is quiet nothing is left to do, and where legal events led there, its facts are the meaning of the graph on what
-    /// the environment put. It takes no memory.
+    /// How far the store is. If it is quiet nothing is left to do, and if legal events led there, its facts are the
+    /// meaning of the graph on what the environment put. It takes no memory.
     pub fn status(&self) -> Result<Status, CoreError>
         ensures told { IfOk result (TellsStatus self.now) }
         ensures quiet { IfOk result (IsMeantIfQuiet self.now) }
@@ -82,14 +82,14 @@ impl<D: Disk> Core<D> {
         self.machine.fault()
     }
 
-    /// How many instances are ready, or the greatest `usize` where they are more.
+    /// How many instances are ready, or the greatest `usize` if they are more.
     pub fn ready(&self) -> usize
         ensures { result ≡ min (ready_count self.now) (2 ^ 64 - 1) }
     {
         self.machine.ready()
     }
 
-    /// How many instances run, or the greatest `usize` where they are more.
+    /// How many instances run, or the greatest `usize` if they are more.
     pub fn running(&self) -> usize
         ensures count { result ≡ running_count self.now }
         ensures none { (result ≡ 0) ↔ NoneRuns self.now }

@@ -18,9 +18,9 @@ impl<D: Disk> Core<D> {
     ghost use Rattle.commit.specs.Steps.{Allows, MayClaim, Moves, LooksAgain, IsHalted, RefusesPark, IsParkedOf, ready_count};
     ghost use Rattle.commit.specs.Calls.{GivesBack};
 
-    /// Lets so many steps be committed from now on, or as many as run now where these are more.
+    /// Lets `count` steps be committed from now on, or as many as run now if these are more.
     ///
-    /// Before the first call that is 1,000,000,000.
+    /// Before the first call the number is 1,000,000,000.
     pub fn allow(&mut self, count: u64) -> Result<(), CoreError>
         ensures ok { OnOk result ((is_halted self.old ≡ false) × Allows self.old self.new count) }
         ensures err { OnErr result (IsHalted self.old self.new result) }
@@ -32,15 +32,16 @@ impl<D: Disk> Core<D> {
         Ok(())
     }
 
-    /// How many steps may still be committed, those that run among them.
+    /// How many steps may still be committed, including those that run.
     pub fn allowance(&self) -> u64
         ensures { result ≡ self.now.allowance }
     {
         self.allowance
     }
 
-    /// Lets one of the ready instances run, by its number among them; which one a number stands for is left open. None where the number is not
-    /// below theirs, where those that run use up what is left of the allowance, and in a store that a fault stopped.
+    /// Lets one of the ready instances run, by its number among them; it is unspecified which one a number stands for.
+    /// Returns `None` if the number is not below theirs, if those that run use up what is left of the allowance, and in a
+    /// store that a fault stopped.
     pub fn claim(&mut self, at: usize) -> Result<Option<Task>, CoreError>
         ensures some { IfOk result (λ claimed. MayClaim self.old at → IsSome claimed) }
         ensures claimed { IfOk result (λ claimed. IfSome claimed (λ task. MayClaim self.old at × (state_of self.old task ≡ Some Ready) × Moves self.old self.new task Running)) }
@@ -56,10 +57,12 @@ impl<D: Disk> Core<D> {
         Ok(self.machine.claim(at))
     }
 
-    /// Lets the instance of a task wait for the item that its body asks for, unless that is there by now: then it is ready.
+    /// Lets the instance of a task wait for the item that its body asks for, unless the item is there by now: then the
+    /// instance is ready.
     ///
-    /// The result is of the task's instance and of the body of its step in this graph, and what it read are items of this core. Where it is
-    /// refused the instance is ready: `Halted`, and `NoMemory` where a growth was refused.
+    /// The result must be of the task's instance and of the body of its step in this graph, and the items that it read
+    /// must be items of this core. If it is refused the instance is ready: `Halted`, and `NoMemory` if memory was
+    /// refused.
     pub fn park(&mut self, task: Task, parked: Parked<'_>) -> Result<(), CoreError>
         requires running { state_of self.old task ≡ Some Running }
         requires result { IsParkedOf self.old task parked }
@@ -86,8 +89,8 @@ impl<D: Disk> Core<D> {
         self.machine.release(task);
     }
 
-    /// Runs the body of the instance of a task over the items that are here, to its end or to an item that is not. The graph is this core's, by
-    /// itself, so that the core can take what came of it.
+    /// Runs the body of the instance of a task over the items that are here, to its end or to an item that is not. The
+    /// graph is this core's, passed by itself, so that the core can take the result.
     pub fn run<'a>(
         &self,
         alloc: Global,

@@ -9,10 +9,10 @@ impl<D: Disk> Core<D> {
     ghost use Rattle.commit.specs.Calls.{Halts, IsUnchanged};
     ghost use Rattle.commit.specs.Turning.{RefusesTurn, TellsLast, TurnLeaves, Turns};
 
-    /// Turns over: writes the other side anew, one generation greater, with all that the store holds and no record, and makes it live. It answers the new
-    /// generation. A store that a fault stopped is turned over too.
+    /// Turns over: writes the other side anew, one generation greater, with all that the store holds and no record, and
+    /// makes it live. Returns the new generation. A store that a fault stopped is turned over too.
     ///
-    /// The causes of a refusal, in their order: `Halted`, `Full`. An error that does not halt leaves all as it was.
+    /// The causes of a refusal, in their order: `Halted`, `Full`. An error that does not halt leaves everything as it was.
     pub fn turn(&mut self, alloc: Global) -> Result<u64, CoreError>
         ensures ok { IfOk result (Turns self.old self.new) }
         ensures err { OnErr result (IsUnchanged self.old self.new) }

@@ -8,7 +8,7 @@ use Rattle.commit.specs.declared.creation.CreateError.TheVariants.{Graph as NoGr
 use Rattle.commit.proofs.Making.{others, others_ok, causes, unasked, untouched, left_empty}
 use Rattle.commit.proofs.commit_core.Core.create.Goals as goal
 
--- a fault of the text is none of the store
+-- a fault of the text is no fault of the store
 not_of_text : {T : Type 0} {fault : GraphFault} {error : VaultError} → ◌≡◌ {A = Result T CreateError} (Err (NoGraph fault)) (Err (Store error)) → ⊥
 not_of_text is = cc
 

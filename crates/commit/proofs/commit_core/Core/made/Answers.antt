@@ -24,7 +24,7 @@ invariant_of-result g c =
 same_error : {T U : Type 0} {one two : VaultError} → ◌≡◌ {A = Result T VaultError} (Err one) (Err two) → ◌≡◌ {A = Result U VaultError} (Err one) (Err two)
 same_error is = cc
 
--- want of memory is neither of these
+-- `NoMemory` is neither of these
 not_failed : {T : Type 0} → ◌≡◌ {A = Result T VaultError} (Err NoMemory) (Err Device) → ⊥
 not_failed is = cc
 
