@@ -1,4 +1,4 @@
--- The end that a finish commits is told by its answer.
+-- The result of a finish says which end it commits.
 use Rattle.std.proofs.Common.{◌≡◌, ◌∙◌, ⊎_elim, Bool, true, false, true≢false, sym, ap}
 use Rattle.terms.specs.declared.fault.FaultKind.{FaultKind}
 use Rattle.terms.specs.declared.fault.FaultKind.TheVariants.{DoublePut}

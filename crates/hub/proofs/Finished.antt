@@ -18,7 +18,7 @@ use Rattle.hub.proofs.Ended.{end_is_told}
 use Rattle.hub.proofs.Keeping.{kept_more}
 use Rattle.hub.proofs.Telling.{writes_from}
 
--- the desk has the end, as it is told, and the core has taken it
+-- the desk has the end that the result names, and the core has taken it
 pub kept_ended : AmongBoth → FactsGoOn → EnvironmentGoesOn → {D : Type 0} (Ran : List Event → Core D → Type 0) (opening : Opening) (count number : ℕ) (d shown later : Desk) (old new : Core D) (committed : Committed) (task named : Inst) (outcome said : Outcome) (end : Event)
     → IsKept Ran opening count d old → shown ≡ d → named ≡ task → said ≡ outcome → IsEndOf outcome task end → Tells committed end → Takes old new end
     → Ran (events d.book.history ++ end ∷ []) new → later ≡ writing_by number (end_of committed named said) shown → IsKept Ran opening count later new
@@ -28,7 +28,7 @@ kept_ended both go_on goes_on {D = D} Ran opening count number d shown later old
     (kept_more both go_on goes_on Ran opening count number d old new (end_of committed named said) kept (subst (λ (event : Event). Takes old new event) same takes)
     (subst (λ (event : Event). Ran (events d.book.history ++ event ∷ []) new) same ran))
 
--- and it was made with the pass as it was before it saw the history
+-- and it was made with the pass as the pass was before it saw the history
 pub writes_end : (d shown later : Desk) (before seen after : Known) (committed : Committed) (task named : Inst) (outcome said : Outcome) → shown ≡ d → named ≡ task → said ≡ outcome → Shows d.book.history before seen
     → Writes (end_of committed named said) shown.book.history later.book.history seen after → Writes (end_of committed task outcome) d.book.history later.book.history before after
 writes_end d shown later before seen after committed task named outcome said shown_is named_is said_is shows writes =

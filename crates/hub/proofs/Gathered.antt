@@ -18,7 +18,7 @@ found history number (known ∷ rest) all here = by_case (eqb known.number numbe
     by_case true is _ _ = let same : known.number ≡ number = grind (arith, nat_tests) in ap (λ (n : ℕ). made_by n history) (sym same) ∙ all.0.mine
     by_case false is there more = more there
 
--- where none is here, nothing is its own
+-- if none is here, no event is its own
 none_found : (number : ℕ) (passes : List Known) → has_number number passes ≡ false → mine_of number passes ≡ []
 none_found number [] none = refl
 none_found number (known ∷ rest) none = by_case (eqb known.number number) none (none_found number rest)
@@ -39,7 +39,7 @@ pub all_of_both : {A : Type 0} (such : A → Type 0) (one two : List A) → AllB
 all_of_both such [] two all rest = rest
 all_of_both such (x ∷ one) two all rest = (all.0, all_of_both such one two all.1 rest)
 
--- a pass is among those of two lists where it is among one of them
+-- a pass is in two joined lists exactly if it is in one of them
 pub has_of_both : (number : ℕ) (one two : List Known) → has_number number (one ++ two) ≡ (if has_number number one then true else has_number number two)
 has_of_both number [] two = refl
 has_of_both number (known ∷ one) two = by_case (eqb known.number number) (has_of_both number one two)

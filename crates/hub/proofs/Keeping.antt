@@ -1,4 +1,4 @@
--- What stands under the lock is kept.
+-- What the lock keeps stays kept.
 use Rattle.std.proofs.Common.{◌≡◌, ◌∙◌, ◌≤◌, ⊎_elim, ℕ, Bool, true, false, true≢false, List, [], ◌∷◌, ◌++◌, length, refl, sym, ap, subst, arith, length-append, inl, Result, Err}
 use Rattle.disk.specs.declared.side.Side.{Side}
 use Rattle.disk.specs.File.{File}
@@ -29,7 +29,7 @@ use Rattle.hub.specs.Kept.{IsKept, CommitsAs, CrashLeavesHistory}
 use Rattle.hub.proofs.Lists.{events_append}
 use Rattle.hub.proofs.States.{legal_more, behind_more, behind_same}
 
--- what is known of how events were committed stays, where nothing happens on the disk
+-- what is known of how events were committed stays, if nothing happens on the disk
 abbrev pub RanStays : {D : Type 0} → (List Event → Core D → Type 0) → Type 0
 RanStays {D = D} Ran = (events : List Event) (old new : Core D) → Stays old new → new.vault.disk ≡ old.vault.disk → is_halted new ≡ is_halted old → new.in_doubt ≡ old.in_doubt → Ran events old → Ran events new
 
@@ -93,14 +93,14 @@ pub kept_moved : {D : Type 0} (Ran : List Event → Core D → Type 0) → RanSt
     → IsKept Ran opening passes d new
 kept_moved Ran ran_stays opening passes d old new instance to kept moves = kept_on Ran ran_stays opening passes d old new kept (moves_stay old new instance to moves) moves.vault moves.in_doubt
 
--- what a call tells of the core that is kept, it tells of the core that is seen, and of the event as it is named
+-- what a call says of the core that is kept, it says of the core that is seen, and of the event as it is named
 pub commits_as : {D T : Type 0} (files : D → Side → File) (moment : D → ℕ) (left_at : D → ℕ → Contents → Type 0) (failures refusals : D → ℕ) (honest : Type 0) (inside seen new : Core D) (why : Core D → Refusal → Type 0)
     (event named : Event) (result : Result T CoreError) → inside ≡ seen → event ≡ named
     → CommitsAs files moment left_at failures refusals honest inside new (why inside) event result → CommitsAs files moment left_at failures refusals honest seen new (why seen) named result
 commits_as {D = D} files moment left_at failures refusals honest inside seen new why event named result core_is event_is =
     subst (λ (at : Core D × Event). CommitsAs files moment left_at failures refusals honest at.0 new (why at.0) at.1 result) (λ i. (core_is i, event_is i))
 
--- a crash leaves the state behind the history
+-- a crash leaves the state after the history
 pub crash_leaves : {D : Type 0} (files : D → Side → File) (opening : Opening) (history : List Made) (c : Core D) → IsBehind opening (events history) c → KeepsFiles files c → (IsHaltedByTurn c → ⊥)
     → CrashLeavesHistory files opening (record { history = history; core = c })
 crash_leaves files opening history c behind kept not_turned contents may =

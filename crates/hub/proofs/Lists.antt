@@ -1,4 +1,4 @@
--- Histories, and beginnings of lists.
+-- Histories, and prefixes of lists.
 use Rattle.std.proofs.Common.{◌≡◌, ◌≢◌, ◌⊎◌, ℕ, zero, suc, ◌≤◌, Bool, true, false, eqb, eq-eqb, ne_eqb, List, [], ◌∷◌, ◌++◌, length, refl, sym, ap, ◌∙◌, inl, inr, ⊎_elim, arith, append_assoc, length-append, if◌then◌else◌}
 use Rattle.std.proofs.lemmas.List.{append-nil}
 use mathlib.Core.List.{IsPrefix}
@@ -19,7 +19,7 @@ prefix_further xs ys zs one two = (one.0 ++ two.0, sym (append_assoc xs one.0 tw
 pub prefix_length : {A : Type 0} (xs ys : List A) → IsPrefix xs ys → length xs ≤ length ys
 prefix_length xs ys begins = omega (arith, sym (ap length begins.1) ∙ length-append xs begins.0)
 
--- the events of one history behind another
+-- the events of one history after another
 pub events_append : (one two : List Made) → events (one ++ two) ≡ events one ++ events two
 events_append [] two = refl
 events_append (made ∷ one) two = ap (λ rest. made.event ∷ rest) (events_append one two)
@@ -31,7 +31,7 @@ events_length (made ∷ history) = omega (arith, events_length history)
 abbrev one : ℕ → Event → List Made
 one number event = record { pass = number; event = event } ∷ []
 
--- of one event more, the pass that made it has one more ..
+-- with one event more, the pass that made it has one more ..
 pub made_by_own : (number : ℕ) (event : Event) (history : List Made) → made_by number (history ++ one number event) ≡ made_by number history ++ event ∷ []
 made_by_own number event [] = ap (λ same. if same then event ∷ [] else []) (eq-eqb number number refl)
 made_by_own number event (made ∷ history) = by_case (made_by_own number event history) (eqb made.pass number)
@@ -53,7 +53,7 @@ made_by_other number other event (made ∷ history) apart = by_case (made_by_oth
     by_case rest true = ap (λ all. made.event ∷ all) rest
     by_case rest false = rest
 
--- what stands in a list with one more stood there before, or is the last
+-- an element of a list with one more was in it before, or is the last
 pub at_end : {A : Type 0} (xs : List A) (last found : A) (place : ℕ) → get_elem? (xs ++ last ∷ []) place ≡ some found → (get_elem? xs place ≡ some found) ⊎ ((place ≡ length xs) × (last ≡ found))
 at_end [] last found zero here = inr (refl, some-injective last found here)
 at_end [] last found (suc place) here = absurd (some-ne-none found (sym here))

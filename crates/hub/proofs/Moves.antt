@@ -35,7 +35,7 @@ each_set book stop keeper home views seat view others own other its here =
     (λ (at : (other ≢ seat) × (get_elem? views other ≡ some its)). others other its at.0 at.1)
     (at_set views seat other view its here)
 
--- .. and where one comes
+-- .. and where a seat is added
 each_end : (book : Book) (stop keeper : ℕ) (home : ℕ → ℕ) (views : List SeatView) (view : SeatView)
     → ((other : ℕ) (its : SeatView) → get_elem? views other ≡ some its → Fits book stop keeper home other its) → Fits book stop keeper home (length views) view
     → (other : ℕ) (its : SeatView) → get_elem? (views ++ view ∷ []) other ≡ some its → Fits book stop keeper home other its
@@ -45,7 +45,7 @@ each_end book stop keeper home views view others own other its here =
     (λ (at : (other ≡ length views) × (view ≡ its)). subst (λ (both : ℕ × SeatView). Fits book stop keeper home both.0 both.1) (λ i. (sym at.0 i, at.1 i)) own)
     (at_end views view its other here)
 
--- what the rule says of a seat holds of it elsewhere too, where it holds of the pass that the seat has, and the book is the same
+-- what the rule says of a seat holds for another book and other places too, if it does of the seat's pass, and if the keeper's book is the same
 elsewhere : (book now : Book) (stop stop' keeper : ℕ) (home home' : ℕ → ℕ) (seat : ℕ) (view : SeatView)
     → (seat ≢ keeper) ⊎ (book ≡ now)
     → ((known : Known) → IsPassOf book stop home seat known → IsPassOf now stop' home' seat known)
@@ -77,7 +77,7 @@ comes book stop home seat place known is = record {
   asked = is.asked;
 }
 
--- a pass whose number is that of a pass that has its home elsewhere is not here
+-- passes with different seats have different numbers
 apart_from : (book : Book) (stop : ℕ) (home : ℕ → ℕ) (seat other : ℕ) (one two : Known) → other ≢ seat → IsPassOf book stop home seat one → IsPassOf book stop home other two → two.number ≢ one.number
 apart_from book stop home seat other one two apart is its same = apart (sym its.at_home ∙ (ap home same ∙ is.at_home))
 
@@ -138,7 +138,7 @@ learns slots seat d held state h _ at _ =
     guest None is = tt
     guest (Some known) is = is.in_history
 
--- a pass is told how many events there are
+-- a pass learns how many events there are
 pub counts : (slots seat : ℕ) (known : Known) (held : List (ℕ × Unit {0})) → Allows IsRuled slots seat (pass known, held) 0 (λ n. n) (steps.Counts (step slots 0 0 0 none) (pass known, held))
 counts slots seat known held state h _ at _ =
     let is = h.each seat (pass known) at in
@@ -156,7 +156,7 @@ counts slots seat known held state h _ at _ =
       (refl, (omega (arith, found, old.told), omega (arith, found, prefix_length known.seen (events h.book.history) old.seen, events_length h.book.history))),
     )
 
--- a pass is told whether a stop was asked
+-- a pass learns whether a stop was asked
 pub hears : (slots seat : ℕ) (known : Known) (held : List (ℕ × Unit {0})) → Allows IsRuled slots seat (pass known, held) 1 (λ n. n) (steps.Hears (step slots 1 0 0 none) (pass known, held))
 hears slots seat known held state h _ at _ =
     let is = h.each seat (pass known) at in
@@ -208,7 +208,7 @@ asks slots seat known held state h _ at _ =
       refl,
     )
 
--- ---- an event comes
+-- ---- an event is added
 
 -- what a longer history has of another pass
 others_history : (history : List Made) (number : ℕ) (event : Event) (known : Known) → number ≢ known.number → IsInHistory history known → IsInHistory (history ++ record { pass = number; event = event } ∷ []) known
@@ -218,7 +218,7 @@ others_history history number event known apart was = record {
   told = omega (arith, was.told, length-append history (record { pass = number; event = event } ∷ []));
 }
 
--- and of the pass that made the event
+-- and what it has of the pass that made the event
 own_history : (history : List Made) (event : Event) (known : Known) → IsInHistory history known → IsInHistory (history ++ record { pass = known.number; event = event } ∷ []) (with_event event known)
 own_history history event known was = record {
   seen = subst (IsPrefix known.seen) (sym (events_append history (record { pass = known.number; event = event } ∷ []))) (prefix_more known.seen (events history) (event ∷ []) was.seen);

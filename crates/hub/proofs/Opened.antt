@@ -1,4 +1,4 @@
--- What stands under the lock when the hub is opened, and what the whole history is when it is closed.
+-- What the lock keeps when the hub is opened, and what the whole history is when it is closed.
 use Rattle.std.proofs.Common.{◌≡◌, ◌∙◌, ◌<◌, ◌++◌, ℕ, true, List, [], None, refl, sym, ap, subst, arith}
 use Rattle.std.specs.List.{AllByRecursion}
 use Rattle.disk.specs.declared.side.Side.{Side}

@@ -32,11 +32,11 @@ ahead_further old mid new one two = record {
   asked = two.asked ∙ one.asked;
 }
 
--- a pass that was shown the history, and made nothing
+-- a pass that was shown the history, and with which nothing was made
 pub ahead_of : (opening : Opening) (old new : Known) → Sees opening old new → AddsNothing old new → IsAhead old new
 ahead_of opening old new sees nothing = record { starts = sees.starts; number = sees.same.0; mine = nothing; told = sees.same.1; asked = sees.same.2 }
 
--- an item more was read
+-- one more item was read
 pub reads_more : AmongBoth → FactsGoOn → ReadsStay → (opening : Opening) (old mid new : Known) (first run later : Running) (answer : Option ℤ) (address : Addr) (value : ℤ) → GoesOn opening old mid first run answer
     → later ≡ record (answered run answer) { awaits = ValueOf address } → IsAhead mid new → items (facts_behind opening new.seen) address value → GoesOn opening old new first later (Some value)
 reads_more both go_on stay opening old mid new first run later answer address value goes is ahead there = record {

@@ -21,7 +21,7 @@ use Rattle.hub.specs.Opening.{Opening, opening_of, begun_with}
 use Rattle.hub.specs.Kept.{HasRun}
 use Rattle.hub.proofs.Keeping.{RanStays}
 
--- a hub that has a pass of the environment
+-- `HasRun` holds trivially in a hub that has a pass of the environment
 pub ran_put : {D : Type 0} (moment : D → ℕ) (left_at : D → ℕ → Contents → Type 0) (failures refusals : D → ℕ) (honest : Type 0) (opening : Opening) (left : ℕ → Contents → Type 0) (envs number : ℕ) (events : List Event) (c : Core D)
     → number < envs → HasRun moment left_at failures refusals honest opening left envs events c
 ran_put moment left_at failures refusals honest opening left envs number events c below none working = absurd (omega (arith, below, none))

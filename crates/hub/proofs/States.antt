@@ -1,4 +1,4 @@
--- The state behind one event more.
+-- The state after one event more.
 use Rattle.std.proofs.Common.{◌≡◌, ◌∙◌, ◌||◌, Bool, true, false, true≢false, List, [], ◌∷◌, ◌++◌, refl, sym, ap, subst, arith, ◌+◌}
 use mathlib.Core.List.{IsPrefix}
 use Rattle.std.proofs.Math.Bool.{or-false, or_assoc}
@@ -40,7 +40,7 @@ legal_more_from both g X [] event all last = (subst (λ (Y : Facts). IsLegal g Y
 legal_more_from both g X (first ∷ events) event all last =
     (all.0, legal_more_from both g (with_facts X (event_facts first)) events event all.1 (subst (λ (Y : Facts). IsLegal g Y event) (with_both both X (event_facts first) (stated.facts events)) last))
 
--- what is legal for the core is legal behind the history
+-- what is legal for the core is legal after the history
 pub legal_more : AmongBoth → {D : Type 0} (opening : Opening) (events : List Event) (event : Event) (c : Core D) → AreLegalBehind opening events → IsBehind opening events c → IsLegal (core.graph c) (core.facts c) event → AreLegalBehind opening (events ++ event ∷ [])
 legal_more both opening events event c all behind last =
     legal_more_from both opening.graph opening.facts events event all (subst (λ (at : Graph × Facts). IsLegal at.0 at.1 event) (λ i. (behind.graph i, behind.facts i)) last)
@@ -61,7 +61,7 @@ behind_same opening events old new behind stays = record {
   allowance = ap (λ n. n + steps_in events) stays.allowance ∙ behind.allowance;
 }
 
--- what is there behind some events is there behind more of them
+-- what is there after some events is there after more of them
 pub stays : AmongBoth → FactsGoOn → (opening : Opening) (some all : List Event) → IsPrefix some all → (fact : Fact) → facts_behind opening some fact ≡ true → facts_behind opening all fact ≡ true
 stays both go_on opening some all begins fact there =
     ap (λ (X : Facts). X fact) (ap (facts_behind opening) (sym begins.1) ∙ ap (with_facts opening.facts) (go_on some begins.0))

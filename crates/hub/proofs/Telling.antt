@@ -1,4 +1,4 @@
--- What a locked call tells its pass.
+-- What a locked call says to its pass.
 use Rattle.std.proofs.Common.{◌≡◌, ◌∙◌, List, [], ◌∷◌, ◌++◌, length, refl, sym, ap, subst, arith, length-append, ⊎_elim, true, false, Err}
 use mathlib.Core.List.{IsPrefix}
 use Rattle.terms.specs.declared.event.Event.{Event}
@@ -100,7 +100,7 @@ refuses_wait opening history before now old new address error behind shows refus
 
 -- ---- a pass that sees the history first
 
--- the event that is then made is made with the pass as it was
+-- the event that is made then is made with the pass as it was
 pub writes_from : (event : Event) (before after : List Made) (old seen new : Known) → Shows before old seen → Writes event before after seen new → Writes event before after old new
 writes_from event before after old seen new shows writes = record {
   before = shows.before;

@@ -1,4 +1,4 @@
--- Two threads that put an item each.
+-- Two threads that put one item each.
 use Rattle.std.proofs.Common.{◌≡◌, ◌≢◌, ◌⊎◌, ◌∙◌, ◌≤◌, ℕ, zero, suc, ℤ, Bool, true, false, true≢false, eqb, eq-eqb, ne_eqb, if◌then◌else◌, List, [], ◌∷◌, ◌++◌, length, Result, Ok, Err, IfErr, refl, sym, ap, subst, inl, inr, arith}
 use Rattle.std.proofs.lemmas.Bool.Decides.{nat_tests}
 use Rattle.std.specs.List.{AllByRecursion}
@@ -43,7 +43,7 @@ none_left (event ∷ list) is = absurd (omega (arith, is))
 
 -- ---- what was put
 
--- a history that has events of one pass alone has just those
+-- a history that has events of one pass only has just those
 of_one : (only : ℕ) (history : List Made) → ((number : ℕ) → number ≢ only → made_by number history ≡ []) → events history ≡ made_by only history
 of_one only [] none = refl
 of_one only (made ∷ history) none = by_case (of_one only history (λ number other. fewer made number history (none number other))) (eqb made.pass only) refl
@@ -52,7 +52,7 @@ of_one only (made ∷ history) none = by_case (of_one only history (λ number ot
     by_case rest true is = ap (λ (list : List Event). made.event ∷ list) rest
     by_case rest false is = absurd (made_own made history (none made.pass (apart made.pass only is)))
 
--- each of two passes has one event at most: so these are all, in one order or the other
+-- if each of two passes has at most one event, these are all, in one order or the other
 pub of_both : (history : List Made) (ones twos : List Event) → ((number : ℕ) → number ≢ 0 → number ≢ 1 → made_by number history ≡ []) → made_by 0 history ≡ ones → made_by 1 history ≡ twos → length ones ≤ 1 → length twos ≤ 1
     → (events history ≡ ones ++ twos) ⊎ (events history ≡ twos ++ ones)
 of_both [] ones twos none first second few_ones few_twos = inl (ap (λ (list : List Event). list ++ []) first ∙ ap (λ (list : List Event). ones ++ list) second)

@@ -1,4 +1,4 @@
--- Two threads that put an item each.
+-- Two threads that put one item each.
 use Rattle.std.specs.Prelude.{◌≡◌, ◌⊎◌, ℤ, List, ◌++◌, ◌∷◌, [], Result, Ok, Err, OnOk, OnErr, IfErr}
 use mathlib.Core.List.{IsPrefix}
 use Rattle.terms.specs.declared.name.Addr.{Addr}
@@ -16,25 +16,25 @@ use Rattle.hub.specs.Replies.{RefusesAt, RefusesEvent, Sees, Adds, AddsNothing}
 abbrev pub RefusesPut : Opening → Known → Addr × ℤ → CoreError → Type 0
 RefusesPut opening known put error = RefusesEvent opening known (λ g X. RefusesItem g X put.0) (EnvItem put.0 put.1) error
 
--- what a thread knows that put an item, by its pass before and behind that
+-- what a thread that put an item knows, by its pass before the put and after it
 pub record Puts (opening : Opening) (old new : Known) (put : Addr × ℤ) (result : Result (Unit {0}) CoreError) : Type 0 where
   pub seen : Sees opening old new
   pub ok : OnOk result (Adds (EnvItem put.0 put.1) old new)
   pub err : OnErr result (AddsNothing old new)
   pub refused : IfErr result (RefusesPut opening new put)
 
--- what an answer says was put: the item at `Ok`, and nothing at an error
+-- what a result says was put: the item at `Ok`, and nothing at an error
 abbrev pub put_by : Addr × ℤ → Result (Unit {0}) CoreError → List Event
 put_by put (Ok done) = EnvItem put.0 put.1 ∷ []
 put_by put (Err error) = []
 
--- why an item is not put, in the state behind some first events of the history. That the core is halted tells no cause.
+-- why an item is not put, in the state after a prefix of the history. `Halted` needs no cause here.
 abbrev pub IsRefused : Opening → List Made → Addr × ℤ → Result (Unit {0}) CoreError → Type 0
 IsRefused opening history put result =
     IfErr result (λ error. (before : List Event) × IsPrefix before (events history) × RefusesAt opening.graph (facts_behind opening before) (RefusesItem opening.graph (facts_behind opening before) put.0) (EnvItem put.0 put.1) error)
 
--- There is one history, which is legal and has just what the two answers say was put, in one order or the other. The core has the state behind it, and an item that is not
--- put is refused by it. Where a turnover halted the core, that was before.
+-- There is one history. It is legal and has just what the two results say was put, in one order or the other. The core has the state after it, and an
+-- item that is not put is refused in the state after a prefix of it. If a turnover halted the core, that was before.
 pub record BothPut {D : Type 0} (opening : Opening) (new : Core D) (one two : Addr × ℤ) (first second : Result (Unit {0}) CoreError) : Type 0 where
   pub history : List Made
   pub legal : AreLegalBehind opening (events history)

@@ -1,4 +1,4 @@
--- What stands under the lock of a hub.
+-- What the lock of a hub keeps.
 use Rattle.std.specs.Prelude.{◌≡◌, ◌≤◌, ℕ, false, List, length, Result, OnErr, None}
 use Rattle.disk.specs.declared.side.Side.{Side}
 use Rattle.disk.specs.File.{File}
@@ -19,12 +19,12 @@ pub record Kept (D : Type 0) : Type 0 where
   pub history : List Made
   pub core : Core D
 
--- In a hub that has no pass of the environment, round a core that was not halted: all that was committed since its opening is one run.
+-- In a hub that has no pass of the environment, on a core that was not halted: all that was committed since its opening is one run.
 abbrev pub HasRun : {D : Type 0} → (D → ℕ) → (D → ℕ → Contents → Type 0) → (failures refusals : D → ℕ) → Type 0 → Opening → (left : ℕ → Contents → Type 0) → (envs : ℕ) → List Event → Core D → Type 0
 HasRun moment left_at failures refusals honest opening left envs events c = envs ≡ 0 → opening.halted ≡ false → RunsSince moment left_at failures refusals honest (begun_with opening) left c events
 
--- The keeper is alone, and has the book of all passes. The core has the state behind the history, which is legal and no longer than the journal, since
--- each event moves its end. And where a turnover halted it, that was before the hub was opened. `Ran` is what is known of how the events were committed.
+-- The keeper is alone, and has the book of all passes. The core has the state after the history, which is legal and no longer than the journal, since
+-- each event moves its end. If a turnover halted the core, that was before the hub was opened. `Ran` is what is known of how the events were committed.
 pub record IsKept {D : Type 0} (Ran : List Event → Core D → Type 0) (opening : Opening) (count : ℕ) (d : Desk) (c : Core D) : Type 0 where
   pub alone : d.guest ≡ None
   pub passes : d.book.passes ≡ count
@@ -34,12 +34,12 @@ pub record IsKept {D : Type 0} (Ran : List Event → Core D → Type 0) (opening
   pub turned : IsHaltedByTurn c → WasTurned opening
   pub ran : Ran (events d.book.history) c
 
--- A crash leaves the state behind the history, or, once the core is halted, that with the event that is in doubt.
+-- A crash leaves the state after the history, or, once the core is halted, the state with the event that is in doubt.
 abbrev pub CrashLeavesHistory : {D : Type 0} → (D → Side → File) → Opening → Kept D → Type 0
 CrashLeavesHistory files opening kept = (contents : Contents) → MayLeaveNow (files kept.core.vault.disk) contents
     → StandsBeforeOrAfter opening.graph (environment_behind opening (events kept.history)) (facts_behind opening (events kept.history)) kept.core.in_doubt contents
 
--- A call of the core that commits this event at `Ok`: what it commits or why it is refused, what stands at `Err`, and why it halts.
+-- A call of the core that commits this event at `Ok`: what it commits or why it is refused, what is unchanged at `Err`, and when it halts.
 pub record CommitsAs {D T : Type 0} (files : D → Side → File) (moment : D → ℕ) (left_at : D → ℕ → Contents → Type 0) (failures refusals : D → ℕ) (honest : Type 0) (old new : Core D) (why : Refusal → Type 0) (event : Event) (result : Result T CoreError) : Type 0 where
   pub commits : Commits files moment left_at honest old new why event result
   pub unchanged : OnErr result (IsUnchanged old new)

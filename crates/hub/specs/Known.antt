@@ -2,8 +2,8 @@
 use Rattle.std.specs.Prelude.{◌+◌, ℕ, Bool, true, false, List, [], ◌∷◌, ◌++◌, Option, Some, None, if◌then◌else◌, nat_eq}
 use Rattle.terms.specs.declared.event.Event.{Event}
 
--- A pass: its number, the events that it has seen, those that were made with it, the last answer of `commits` to it, and whether it asked for a
--- stop or was answered that one was asked.
+-- A pass: its number, the events that it has seen, those that were made with it, the last result of `commits` for it, and whether it asked for a
+-- stop or learned that one was asked.
 pub record Known : Type 0 where
   pub number : ℕ
   pub seen : List Event
@@ -60,11 +60,11 @@ up_to_date history known = record known { seen = events history }
 abbrev pub with_event : Event → Known → Known
 with_event event known = record known { mine = known.mine ++ event ∷ [] }
 
--- how many events there are was told to it
+-- it learned how many events there are
 abbrev pub told_of : ℕ → Known → Known
 told_of count known = record known { told = count }
 
--- it asked for a stop, or was told that one was asked
+-- it asked for a stop, or learned that one was asked
 abbrev pub asked_of : Known → Known
 asked_of known = record known { asked = true }
 

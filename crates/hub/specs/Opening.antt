@@ -1,4 +1,4 @@
--- What a hub is opened with, and the state behind events from there.
+-- What a hub is opened with, and the state after events from there.
 use Rattle.std.specs.Prelude.{◌≡◌, ◌+◌, ℕ, Bool, true, false, List, [], ◌∷◌}
 use Rattle.disk.specs.declared.side.Side.{Side}
 use Rattle.disk.specs.File.{File}
@@ -15,8 +15,8 @@ use Rattle.commit.specs.Calls.{step_count}
 use Rattle.commit.specs.Runs.{Begun}
 use Rattle.vault.specs.Opened.{contents_of}
 
--- The graph, the facts that the store had, what of them the environment put, and how many steps the core might commit; whether it was halted, and which
--- events were in doubt then; and of its disk the moment, the counts of errors, and the contents of both files.
+-- The graph, the facts that the store had, which of them the environment put, and how many steps the core might commit; whether it was halted, and
+-- which events were in doubt then; and of its disk the moment, the counts of errors, and the contents of both files.
 pub record Opening : Type 0 where
   pub graph : Graph
   pub facts : Facts
@@ -44,7 +44,7 @@ nothing = record {
   contents = λ _. [];
 }
 
--- what a core has when a hub is opened round it
+-- what a core has when a hub is opened on it
 abbrev pub opening_of : {D : Type 0} → (D → Side → File) → (D → ℕ) → (failures refusals : D → ℕ) → Core D → Opening
 opening_of files moment failures refusals c = record {
   graph = core.graph c;
@@ -59,7 +59,7 @@ opening_of files moment failures refusals c = record {
   contents = contents_of (files c.vault.disk);
 }
 
--- what a run from there began with
+-- the beginning of a run from there
 abbrev pub begun_with : Opening → Begun
 begun_with opening = record {
   graph = opening.graph;
@@ -72,7 +72,7 @@ begun_with opening = record {
   contents = opening.contents;
 }
 
--- the facts behind these events, and what of them the environment put
+-- the facts after these events, and those of them that the environment put
 abbrev pub facts_behind : Opening → List Event → Facts
 facts_behind opening events = with_facts opening.facts (stated.facts events)
 
@@ -88,11 +88,11 @@ steps_in (event ∷ events) = step_count event + steps_in events
 abbrev pub WasTurned : Opening → Type 0
 WasTurned opening = (opening.halted ≡ true) × (opening.in_doubt ≡ [])
 
--- each of the events is legal behind those before it
+-- each of the events is legal after those before it
 abbrev pub AreLegalBehind : Opening → List Event → Type 0
 AreLegalBehind opening events = AreLegalFrom opening.graph opening.facts events
 
--- the core has the state behind these events, and may commit as many steps less as they have
+-- the core has the state after these events, and may commit one step less for each end of a step among them
 pub record IsBehind {D : Type 0} (opening : Opening) (events : List Event) (c : Core D) : Type 0 where
   pub graph : core.graph c ≡ opening.graph
   pub facts : core.facts c ≡ facts_behind opening events

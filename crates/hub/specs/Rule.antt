@@ -1,4 +1,4 @@
--- The rule of a hub's table. Word 0 is how many events there are, and word 1 is 1 once a stop was asked.
+-- The rule of a hub's table. Word 0 is the number of events, and word 1 is 1 once a stop was asked.
 use Rattle.std.specs.Prelude.{◌≡◌, ◌⊎◌, ⊤, ℕ, ◌<◌, ◌≤◌, true, List, [], ◌∷◌, length, IfSome}
 use mathlib.Core.List.{IsPrefix}
 use mathlib.Core.Option.{some}
@@ -6,8 +6,8 @@ use lib.ListN.{get_elem?}
 use Rattle.atomic_table.specs.Table.{State}
 use Rattle.hub.specs.Known.{Known, Made, Book, SeatView, nobody, pass, desk, events, made_by}
 
--- What a history has of a pass: it begins with what the pass has seen, what was made with the pass is all that it has of its number, and it is no
--- shorter than what `commits` told.
+-- What a history has of a pass: it begins with what the pass has seen, the events made with the pass are all that it has of its number, and it is no
+-- shorter than `commits` said.
 pub record IsInHistory (history : List Made) (known : Known) : Type 0 where
   pub seen : IsPrefix known.seen (events history)
   pub mine : made_by known.number history ≡ known.mine
@@ -17,21 +17,21 @@ pub record IsInHistory (history : List Made) (known : Known) : Type 0 where
 abbrev pub HasNoneFrom : ℕ → List Made → Type 0
 HasNoneFrom count history = (number : ℕ) → count ≤ number → made_by number history ≡ []
 
--- What the rule says of a pass that is with a seat. Of each number `home` tells one seat, so no two seats have the same pass.
+-- What the rule says of a pass that is with a seat. `home` gives one seat for each number, so no two seats have the same pass.
 pub record IsPassOf (book : Book) (stop : ℕ) (home : ℕ → ℕ) (seat : ℕ) (known : Known) : Type 0 where
   pub at_home : home known.number ≡ seat
   pub numbered : known.number < book.passes
   pub in_history : IsInHistory book.history known
   pub asked : known.asked ≡ true → stop ≡ 1
 
--- What the rule says of a seat. The keeper's alone has a book, and it is the book.
+-- What the rule says of a seat. Only the keeper's seat has a book, and it is the book.
 abbrev pub Fits : Book → ℕ → ℕ → (ℕ → ℕ) → ℕ → SeatView → Type 0
 Fits book stop keeper home seat nobody = ⊤
 Fits book stop keeper home seat (pass known) = IsPassOf book stop home seat known
 Fits book stop keeper home seat (desk own) = (seat ≡ keeper) × (own.book ≡ book) × IfSome own.guest (IsPassOf book stop home seat)
 
--- There is one book. Word 0 is the length of its history, word 1 is 0 or 1, and 1 where a pass has asked for a stop. Of each pass the history has just
--- what was made with it, and it begins with what the pass has seen; of a number that no pass has it has nothing.
+-- There is one book. Word 0 is the length of its history; word 1 is 0 or 1, and 1 if a pass has asked for a stop. Of each pass the history has just
+-- what was made with it, and it begins with what the pass has seen; it has nothing of a number that no pass has.
 pub record IsRuled (state : State (Unit {0}) SeatView) : Type 0 where
   pub book : Book
   pub stop : ℕ

@@ -16,7 +16,7 @@ use Rattle.commit.specs.declared.bodies.Came.TheVariants.{Ended, Waits}
 use Rattle.hub.specs.Known.{Known}
 use Rattle.hub.specs.Replies.{RefusesQuestion}
 
--- the pass has seen no less than before, and else nothing of it has changed
+-- the pass has seen no less than before, and nothing else of it has changed
 pub record IsAhead (old new : Known) : Type 0 where
   pub starts : IsPrefix old.seen new.seen
   pub number : new.number ≡ old.number
@@ -24,11 +24,11 @@ pub record IsAhead (old new : Known) : Type 0 where
   pub told : new.told ≡ old.told
   pub asked : new.asked ≡ old.asked
 
--- an end, or an item that is not of this set; what was read are items of it
+-- an end, or an item that is not of this set; the items that it read are of it
 abbrev pub CameIn : Graph → Facts → Inst → Came → Type 0
 CameIn g X instance (Ended outcome) = IsOutcomeIn g X instance outcome
 CameIn g X instance (Waits parked) = IsParkedIn g X instance parked × IsAbsent X parked.address
 
--- which errors end it: want of memory, and those of a read
+-- which errors end it: `NoMemory`, and those of a read
 abbrev pub StopsRun : Graph → CoreError → Type 0
 StopsRun g error = (error ≡ Store NoMemory) ⊎ ((address : Addr) × RefusesQuestion (RefusesRead g address) error)

@@ -1,4 +1,4 @@
--- What each step of a hub's table changes, and what it tells.
+-- What each step of a hub's table changes, and what it says.
 use Rattle.std.specs.Prelude.{◌≡◌, ◌⊎◌, ◌≤◌, ⊤, ℕ, Bool, false, List, [], ◌∷◌, length, Option, IfSome, Some, None, if◌then◌else◌}
 use Rattle.terms.specs.declared.event.Event.{Event}
 use Rattle.atomic_table.specs.Table.{Me, Step}
@@ -23,7 +23,7 @@ abbrev pub guest_gone : SeatView → SeatView
 guest_gone (desk d) = desk (alone d)
 guest_gone view = view
 
--- the seat of a guest that went
+-- the seat of a guest that was given back
 abbrev pub gone_as : Book → Option Known → SeatView
 gone_as book (Some known) = pass (up_to_date book.history known)
 gone_as book None = nobody
@@ -49,7 +49,7 @@ written_to event view = view
 abbrev pub Adds : Event → Step (Unit {0}) → Seated → ℕ → Seated → Type 0
 Adds event step before found after = after ≡ (written_to event before.0, before.1)
 
--- The history has the guest's events, and none of a number that no pass has.
+-- The history has what the guest knows, and no events of a number that no pass has.
 pub record IsCompared (d : Desk) : Type 0 where
   pub guest : IfSome d.guest (IsInHistory d.book.history)
   pub none_else : HasNoneFrom d.book.passes d.book.history
@@ -58,7 +58,7 @@ abbrev pub TellsDesk : SeatView → Type 0
 TellsDesk (desk d) = IsCompared d
 TellsDesk view = ⊤
 
--- The keeper is told that the history has what its guest knows.
+-- The keeper learns that the history has what its guest knows.
 abbrev pub Learns : Step (Unit {0}) → Seated → ℕ → Seated → Type 0
 Learns step before found after = (after ≡ before) × TellsDesk before.0
 
@@ -68,7 +68,7 @@ abbrev pub telling : ℕ → SeatView → SeatView
 telling count (pass known) = pass (told_of count known)
 telling count view = view
 
--- how many events there are is no less than the pass was told, or has seen
+-- the number of events is not below what the pass was told, or has seen
 abbrev pub IsCountFor : ℕ → Known → Type 0
 IsCountFor count known = (known.told ≤ count) × (length known.seen ≤ count)
 
@@ -76,7 +76,7 @@ abbrev pub TellsCount : ℕ → SeatView → Type 0
 TellsCount count (pass known) = IsCountFor count known
 TellsCount count view = ⊤
 
--- The pass is told how many events there are.
+-- The pass learns how many events there are.
 abbrev pub Counts : Step (Unit {0}) → Seated → ℕ → Seated → Type 0
 Counts step before found after = (after ≡ (telling found before.0, before.1)) × TellsCount found before.0
 
@@ -92,11 +92,11 @@ abbrev pub HasNotAsked : SeatView → Type 0
 HasNotAsked (pass known) = known.asked ≡ false
 HasNotAsked view = ⊤
 
--- The pass is told whether a stop was asked.
+-- The pass learns whether a stop was asked.
 abbrev pub Hears : Step (Unit {0}) → Seated → ℕ → Seated → Type 0
 Hears step before found after = ((found ≡ 0) × HasNotAsked before.0 × (after ≡ before)) ⊎ ((found ≡ 1) × (after ≡ (asking before.0, before.1)))
 
--- the pass after it was told so
+-- the pass after it learned so
 abbrev pub heard_of : Bool → Known → Known
 heard_of heard known = if heard then asked_of known else known
 

@@ -24,7 +24,7 @@ use Rattle.hub.specs.Known.{Known}
 use Rattle.hub.specs.Opening.{Opening}
 use Rattle.hub.specs.Replies.{RefusesEvent}
 
--- One of the two holds: of the task that comes back, or of what the core answers.
+-- One of the two holds: of the task that comes back, or of what the core returns.
 abbrev pub OnTask : {T : Type 0} → Result T TaskError → (Inst → Type 0) → (Result T CoreError → Type 0) → Type 0
 OnTask (Ok value) foreign answers = answers (Ok value)
 OnTask (Err (Refused error)) foreign answers = answers (Err error)
@@ -66,6 +66,6 @@ pub record Ends {D : Type 0} (files : D → Side → File) (moment : D → ℕ) 
 
 -- ---- refusals
 
--- an end of the instance is refused so in the state that the pass knows
+-- an end of the instance is refused with this error in the state that the pass knows
 abbrev pub RefusesEndOf : Opening → Known → Inst → Outcome → CoreError → Type 0
 RefusesEndOf opening known task outcome error = (end : Event) × IsEndOf outcome task end × RefusesEvent opening known (λ g X. RefusesEnd X) end error

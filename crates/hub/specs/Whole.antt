@@ -16,7 +16,7 @@ use Rattle.hub.specs.Known.{Known, Made, events, made_by, newcomer}
 use Rattle.hub.specs.Rule.{IsInHistory}
 use Rattle.hub.specs.Opening.{Opening, opening_of, WasTurned, AreLegalBehind, IsBehind}
 
--- so many new passes, the first of which has this number
+-- this many new passes, the first of which has this number
 abbrev pub new_passes : ℕ → ℕ → List Known
 new_passes first zero = []
 new_passes first (suc count) = new_passes first count ++ newcomer (first + count) ∷ []
@@ -31,13 +31,13 @@ abbrev pub mine_of : ℕ → List Known → List Event
 mine_of number [] = []
 mine_of number (known ∷ rest) = if nat_eq known.number number then known.mine else mine_of number rest
 
--- each event of each of the passes is such a one
+-- each event of each of the passes is such an event
 abbrev pub AllMade : (Event → Type 0) → List Known → Type 0
 AllMade such passes = AllByRecursion (λ known. AllByRecursion such known.mine) passes
 
--- The whole history of a hub that is closed with these passes. It is legal, and the core has the state behind it. It begins with what each pass has
+-- The whole history of a hub that is closed with these passes. It is legal, and the core has the state after it. It begins with what each pass has
 -- seen, and has just the passes' events, those of each pass in their order. Those of the environment's passes are its puts, and those of the workers'
--- passes are ends of instances. Where a turnover halted the core, that was before the hub was opened. `Ran` is what is known of how the events were
+-- passes are ends of instances. If a turnover halted the core, that was before the hub was opened. `Ran` is what is known of how the events were
 -- committed.
 pub record IsWhole {D : Type 0} (Ran : List Event → Core D → Type 0) (opening : Opening) (envs workers : List Known) (c : Core D) (history : List Made) : Type 0 where
   pub legal : AreLegalBehind opening (events history)
@@ -55,8 +55,8 @@ pub record Blank : Type 0 where
   pub envs : ℕ
   pub workers : ℕ
 
--- The names of a hub fit this blank and this core: they have the blank's words and counts of passes, what the core has when the hub is opened, and for each moment what a
--- crash may leave, as the disk tells then.
+-- The names of a hub fit this blank and this core: they have the blank's words and counts of passes, what the core has when the hub is opened, and
+-- for each moment what a crash may leave, as the disk says then.
 pub record IsNamedFor {D : Type 0} (files : D → Side → File) (moment : D → ℕ) (left_at : D → ℕ → Contents → Type 0) (failures refusals : D → ℕ) (table : TableId) (passes envs : ℕ) (opening : Opening) (left : ℕ → Contents → Type 0) (blank : Blank) (c : Core D) : Type 0 where
   pub words : table ≡ blank.table
   pub passes_are : passes ≡ blank.envs + blank.workers
@@ -64,7 +64,7 @@ pub record IsNamedFor {D : Type 0} (files : D → Side → File) (moment : D →
   pub opening_is : opening ≡ opening_of files moment failures refusals c
   pub left_is : (t : ℕ) (contents : Contents) → left t contents ↔ left_at c.vault.disk t contents
 
--- Why a hub with so many passes is not closed with these: one is missing; or, for `TaskOut`, none is.
+-- Why a hub with `count` passes is not closed with these: one is missing; or, for `TaskOut`, none is.
 abbrev pub WhyNotClosed : ℕ → List Known → CloseError → Type 0
 WhyNotClosed count passes PassMissing = (number : ℕ) × (number < count) × (has_number number passes ≡ false)
 WhyNotClosed count passes TaskOut = (number : ℕ) → number < count → has_number number passes ≡ true

@@ -17,7 +17,8 @@ pub struct Board<J: Naming> {
 }
 
 impl<J: Naming> Board<J> {
-    // The pass comes to the keeper. At the load, whose value is of no use, the rule tells that the history has what the pass knows.
+    // The pass is lent to the keeper. The load's value is not used; at the load the rule says that the history has what
+    // the pass knows.
     pub(crate) fn lend(&self, desk: &mut Desk<J>, badge: Badge<View>)
         requires alone { desk.old.guest ≡ None }
         requires pass { IsBadge J.table badge }
@@ -29,7 +30,7 @@ impl<J: Naming> Board<J> {
         shared.load::<Learns>(&mut desk.seat, 0);
     }
 
-    // The event of `M` is written for the guest.
+    // Writes the event of `M` for the guest.
     pub(crate) fn write<M: Commit>(&self, desk: &mut Desk<J>)
         requires guest { IsSome desk.old.guest }
         requires room { length desk.old.book.history + 1 < 2 ^ 64 }
@@ -38,7 +39,7 @@ impl<J: Naming> Board<J> {
         self.words.shared.fetch_add::<Adds<M>>(&mut desk.seat, 0, 1);
     }
 
-    // The guest goes, and has seen all.
+    // The guest is given back, and has seen all.
     pub(crate) fn give_back(&self, desk: &mut Desk<J>) -> Badge<View>
         requires { IsSome desk.old.guest }
         ensures desk { desk.new ≡ alone desk.old }
@@ -50,7 +51,7 @@ impl<J: Naming> Board<J> {
             .into_badge()
     }
 
-    // At the load the rule tells that no event was made with a pass whose number is not below the count of passes.
+    // At the load the rule says that no event was made with a pass whose number is not below the count of passes.
     pub(crate) fn look(&self, desk: &mut Desk<J>)
         ensures same { desk.new ≡ desk.old }
         ensures compared { IsCompared desk.new }
@@ -58,7 +59,7 @@ impl<J: Naming> Board<J> {
         self.words.shared.load::<Learns>(&mut desk.seat, 0);
     }
 
-    // There is a pass more.
+    // Makes one more pass.
     pub(crate) fn make(&self, desk: &mut Desk<J>) -> Badge<View>
         ensures desk { desk.new ≡ one_more desk.old }
         ensures pass { (result.table_id ≡ J.table) × (result.views ≡ pass (newcomer desk.old.book.passes) ∷ []) }
@@ -69,7 +70,7 @@ impl<J: Naming> Board<J> {
             .into_badge()
     }
 
-    // The pass is told how many events there are.
+    // Gives the pass the number of events.
     pub(crate) fn count(&self, badge: Badge<View>) -> (Badge<View>, u64)
         requires { IsBadge J.table badge }
         ensures pass { (result.0.table_id ≡ J.table) × (result.0.views ≡ pass (told_of result.1 (known badge.views)) ∷ []) }
@@ -80,7 +81,7 @@ impl<J: Naming> Board<J> {
         (seat.into_badge(), found)
     }
 
-    // The pass asks for a stop.
+    // Asks for a stop, with the pass.
     pub(crate) fn ask(&self, badge: Badge<View>) -> Badge<View>
         requires { IsBadge J.table badge }
         ensures { (result.table_id ≡ J.table) × (result.views ≡ pass (asked_of (known badge.views)) ∷ []) }
@@ -90,7 +91,7 @@ impl<J: Naming> Board<J> {
         seat.into_badge()
     }
 
-    // The pass is told whether a stop was asked.
+    // Says whether a stop was asked, and the pass knows if one was.
     pub(crate) fn hear(&self, badge: Badge<View>) -> (Badge<View>, bool)
         requires { IsBadge J.table badge }
         ensures pass { (result.0.table_id ≡ J.table) × (result.0.views ≡ pass (heard_of result.1 (known badge.views)) ∷ []) }

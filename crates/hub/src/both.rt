@@ -1,4 +1,4 @@
-//! A hub from its opening to its close: two threads put an item each.
+//! A hub from its opening to its close: two threads put one item each.
 ghost use Rattle.std.specs.Prelude.{◌≡◌, IfErr, IfOk};
 ghost use Rattle.commit.specs.Runs.{NoneRuns};
 ghost use Rattle.hub.specs.declared.both.BothError.TheVariants.{TaskOut, NoMemory};
@@ -16,7 +16,7 @@ use std::thread::{Threads, join};
 use terms::Addr;
 use thiserror::Error;
 
-/// What came of two puts, with the core behind them.
+/// What came of two puts, with the core after them.
 #[derive(Drop)]
 pub struct Both<D: Disk> {
     pub core: Core<D>,
@@ -42,7 +42,7 @@ pub struct NonePut<D: Disk> {
     pub core: Core<D>,
 }
 
-// Puts an item, and gives the pass back with the answer.
+// Puts an item, and gives the pass back with the result.
 fn put_as<J: Naming, D: Disk, R: Wait>(
     rt: &R,
     hub: &Hub<J, D>,
@@ -55,7 +55,7 @@ fn put_as<J: Naming, D: Disk, R: Wait>(
     (pass, answer)
 }
 
-// Two threads put an item each into a hub that is opened for them, and closed after them.
+// Two threads put one item each into a hub that is opened for them, and closed after them.
 fn put_both<J: Naming + Send + Sync, D: Disk + Drop + Send, R: Threads + Wait + Sync>(
     rt: &R,
     alloc: Global,
@@ -101,10 +101,10 @@ fn put_both<J: Naming + Send + Sync, D: Disk + Drop + Send, R: Threads + Wait + 
     })
 }
 
-/// Two threads put an item each, through a hub that is opened for them.
+/// Two threads put one item each, through a hub that is opened for them.
 ///
-/// The store has the item of a thread that is answered `Ok`, and of no other; an error tells why. `NonePut` comes where an instance runs in the core, and where memory
-/// is refused before the threads are started.
+/// The store has the item of a thread whose result is `Ok`, and of no other; an error says why. `NonePut` is returned if
+/// an instance runs in the core, or if memory is refused before the threads are started.
 pub fn put_two<D: Disk + Drop + Send, R: Threads + Wait + Sync>(
     rt: &R,
     alloc: Global,

@@ -25,7 +25,7 @@ pub enum CloseError {
     TaskOut,
 }
 
-/// A hub was not closed. It comes back, with its passes.
+/// A hub that was not closed. It comes back, with its passes.
 pub struct NotClosed<J: Naming, D: Disk> {
     pub error: CloseError,
     pub hub: Hub<J, D>,
@@ -47,7 +47,7 @@ impl<J: Naming, D: Disk> NotClosed<J, D> {
         (error, hub, envs, workers)
     }
 
-    // Tries once more.
+    // Tries to close the hub again.
     fn again(self) -> Result<Core<D>, NotClosed<J, D>>
         ensures all { OnOk result ((number : ℕ) → number < J.passes → has_number number (self.envs.items ++ self.workers.items) ≡ true) }
         ensures whole { IfOk result (λ core. (history : List Made) × IsWhole (HasRun D.moment D.left_at D.failures D.refusals (IsTrue D.is_honest) J.opening J.left J.envs) J.opening self.envs.items self.workers.items core history) }
@@ -71,7 +71,7 @@ impl<J: Naming, D: Disk + Drop> Drop for NotClosed<J, D> {
     }
 }
 
-// Takes in each pass, which is compared with the history.
+// Takes in each pass, and compares it with the history.
 fn gather<J: Naming, K: Kind>(board: &Board<J>, desk: &mut Desk<J>, mut passes: Vec<Pass<J, K>>)
     requires { desk.old.guest ≡ None }
     ensures desk { desk.new ≡ desk.old }
@@ -102,7 +102,7 @@ fn is_among<J: Naming>(envs: &[EnvPass<J>], workers: &[WorkPass<J>], number: usi
     is_here(envs, number) || is_here(workers, number)
 }
 
-// Whether a pass of each number below this one is among them.
+// Whether a pass of each number below `count` is among them.
 fn are_here<J: Naming>(envs: &[EnvPass<J>], workers: &[WorkPass<J>], count: usize) -> bool
     ensures all { result ≡ true → (number : ℕ) → number < count → has_number number (envs.now ++ workers.now) ≡ true }
     ensures missing { result ≡ false → (number : ℕ) × (number < count) × (has_number number (envs.now ++ workers.now) ≡ false) }
@@ -136,10 +136,10 @@ impl<J: Naming, D: Disk> Kept<J, D> {
 }
 
 impl<J: Naming, D: Disk> Hub<J, D> {
-    /// Ends the hub, and gives the core.
+    /// Ends the hub, and returns the core.
     ///
-    /// At `Ok` all passes were here, and no instance runs. Else hub and passes come back: `PassMissing` is answered only where a pass is missing, and `TaskOut` only
-    /// where none is.
+    /// At `Ok` all passes were here, and no instance runs. Otherwise the hub and its passes come back: `PassMissing` only
+    /// if a pass is missing, and `TaskOut` only if none is.
     pub fn close(
         self,
         envs: Vec<EnvPass<J>>,
@@ -176,7 +176,8 @@ impl<J: Naming, D: Disk> Hub<J, D> {
         Ok(kept.close(&board, envs, workers))
     }
 
-    /// Ends the hub, as `close` does. Where `close` would refuse it does not return: the hub and its passes are in this call, so that nobody can change that.
+    /// Ends the hub, as `close` does. If `close` would refuse, it does not return: this call has the hub and its passes,
+    /// so nobody can change that.
     pub fn close_when_idle<R: Wait>(
         self,
         rt: &R,

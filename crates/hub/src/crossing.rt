@@ -1,4 +1,4 @@
-//! That a hub may be shared by threads. Each function here is a law, with nothing to run.
+//! A hub may be shared by threads. Each function here is a law of that, with nothing to run.
 ghost use denote.Param.Send.{IsSend, IsSync};
 ghost use Rattle.commit.specs.contracts.commit_core.Core as of_core;
 ghost use Rattle.hub.specs.contracts.hub.Hub as of_hub;
@@ -12,7 +12,7 @@ use machine::Machine;
 use std::sync::{Arc, Mutex};
 use terms::Event;
 
-// Gives its caller the clause that `T` is `Send`, where the search of traits finds it.
+// Gives its caller the clause that `T` is `Send`, if trait search finds it.
 fn goes<T: Send>()
     ensures { IsSend T.row }
 {}

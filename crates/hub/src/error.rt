@@ -5,6 +5,6 @@ use instances::Task;
 pub enum TaskError {
     /// The instance of the task does not run here. The task comes back, and the store is as it was.
     Foreign(Task),
-    /// The core refused it, as its own call tells.
+    /// The core refused it, as the core's own call says.
     Refused(CoreError),
 }

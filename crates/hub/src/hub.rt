@@ -11,7 +11,8 @@ use std::sync::{Arc, Mutex, Wait};
 use steplang::Parked;
 use terms::{Addr, Tag};
 
-/// A store that threads share. Each of them calls it with a pass of its own, and has seen, behind each locked call, the whole history up to then.
+/// A store that threads share. Each thread calls it with a pass of its own. After each locked call the pass has seen the
+/// whole history up to then.
 ///
 /// The locked calls wait for each other. `graph`, `commits`, `ask_stop` and `stop_asked` wait for nobody.
 pub struct Hub<J: Naming, D: Disk> {
@@ -47,7 +48,7 @@ impl<J: Naming, D: Disk> Hub<J, D> {
     ghost use Rattle.hub.specs.Replies.{Adds, AddsNothing, MayRun, RefusesEvent, RefusesQuestion, RefusesWait, SaysHalted, Sees};
     ghost use Rattle.hub.specs.Tasks.{OnTask, RefusesEndOf};
 
-    // Takes it apart.
+    // Takes the hub apart.
     pub(crate) fn into_parts(self) -> (Board<J>, Kept<J, D>, Arc<Graph>, usize)
         ensures graph { result.2.value ≡ J.opening.graph }
         ensures count { result.3 ≡ J.passes }
@@ -61,7 +62,8 @@ impl<J: Naming, D: Disk> Hub<J, D> {
         (board, kept.into_inner(), graph, count)
     }
 
-    /// Puts an item of the environment. The refusals are those of the core's `put_item`, by the state behind what is then seen.
+    /// Puts an item of the environment. The refusals are those of the core's `put_item`, in the state after what the pass
+    /// has then seen.
     pub fn put_item<R: Wait>(
         &self,
         rt: &R,
@@ -77,7 +79,8 @@ impl<J: Naming, D: Disk> Hub<J, D> {
         self.kept.lock(rt).put_item(&self.board, pass, addr, value)
     }
 
-    /// Puts a tag of the environment. The refusals are those of the core's `put_tag`, by the state behind what is then seen.
+    /// Puts a tag of the environment. The refusals are those of the core's `put_tag`, in the state after what the pass
+    /// has then seen.
     pub fn put_tag<R: Wait>(&self, rt: &R, pass: &mut EnvPass<J>, tag: Tag) -> Result<(), CoreError>
         ensures seen { Sees J.opening pass.old pass.new }
         ensures ok { OnOk result (Adds (EnvTag tag) pass.old pass.new) }
@@ -87,7 +90,7 @@ impl<J: Naming, D: Disk> Hub<J, D> {
         self.kept.lock(rt).put_tag(&self.board, pass, tag)
     }
 
-    /// The value at an address, as the environment gets it, in the state behind what is then seen.
+    /// The value at an address, as the environment gets it, in the state after what the pass has then seen.
     pub fn get<R: Wait>(
         &self,
         rt: &R,
@@ -102,7 +105,7 @@ impl<J: Naming, D: Disk> Hub<J, D> {
         self.kept.lock(rt).get(&self.board, pass, addr)
     }
 
-    /// The value at an address, as a step reads it, in the state behind what is then seen.
+    /// The value at an address, as a step reads it, in the state after what the pass has then seen.
     pub fn read<R: Wait>(
         &self,
         rt: &R,
@@ -117,7 +120,7 @@ impl<J: Naming, D: Disk> Hub<J, D> {
         self.kept.lock(rt).read(&self.board, pass, addr)
     }
 
-    /// Lets one of the ready instances run, by its number among them, as the core's `claim`.
+    /// Lets one of the ready instances run, by its number among them, as the core's `claim` does.
     pub fn claim<R: Wait>(
         &self,
         rt: &R,
@@ -131,9 +134,10 @@ impl<J: Naming, D: Disk> Hub<J, D> {
         self.kept.lock(rt).claim(&self.board, pass, at)
     }
 
-    /// Lets an instance wait for the item that its body asks for, unless that is there by now.
+    /// Lets an instance wait for the item that its body asks for, unless the item is there by now.
     ///
-    /// The result is of the task's instance and of the body of its step in this graph, and each item that it read is in the state that the pass knew.
+    /// The result must be of the task's instance and of the body of its step in this graph, and each item that it read
+    /// must be in the state that the pass knew.
     pub fn park<R: Wait>(
         &self,
         rt: &R,
@@ -163,7 +167,8 @@ impl<J: Naming, D: Disk> Hub<J, D> {
 
     /// Commits what the body of an instance came to: the instance is done, with its puts, or at fault.
     ///
-    /// The outcome is of the task's instance and of the body of its step in this graph, and each item that it read is in the state that the pass knew.
+    /// The outcome must be of the task's instance and of the body of its step in this graph, and each item that it read
+    /// must be in the state that the pass knew.
     pub fn finish<R: Wait>(
         &self,
         rt: &R,
@@ -180,21 +185,21 @@ impl<J: Naming, D: Disk> Hub<J, D> {
         self.kept.lock(rt).finish(&self.board, pass, task, outcome)
     }
 
-    /// Whether an instance runs, or may be claimed. No clause says which it answers.
+    /// Whether an instance runs, or may be claimed. No clause says which it returns.
     pub fn busy<R: Wait>(&self, rt: &R, pass: &mut WorkPass<J>) -> bool
         ensures { Sees J.opening pass.old pass.new × AddsNothing pass.old pass.new }
     {
         self.kept.lock(rt).busy(&self.board, pass)
     }
 
-    /// The graph, of which bodies are run outside the lock.
+    /// The graph; bodies of it are run outside the lock.
     pub fn graph(&self) -> &Graph
         ensures { result.now ≡ J.opening.graph }
     {
         &self.graph
     }
 
-    /// How many events there are in the history. It waits for nobody, and takes no memory.
+    /// The number of events in the history. It waits for nobody, and takes no memory.
     pub fn commits<K: Kind>(&self, pass: &mut Pass<J, K>) -> u64
         ensures pass { pass.new ≡ told_of result pass.old }
         ensures count { IsCountFor result pass.old }
@@ -205,7 +210,7 @@ impl<J: Naming, D: Disk> Hub<J, D> {
         count
     }
 
-    /// Asks all for a stop. It waits for nobody, and takes no memory.
+    /// Asks all threads to stop. It waits for nobody, and takes no memory.
     pub fn ask_stop<K: Kind>(&self, pass: &mut Pass<J, K>)
         ensures { pass.new ≡ asked_of pass.old }
     {

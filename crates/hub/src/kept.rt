@@ -10,17 +10,18 @@ use steplang::Parked;
 use terms::{Addr, Tag, facts_are_told_apart, facts_go_on};
 use vault::stores_go_on;
 
-/// What stands under the lock of a hub: the core, and the keeper's seat. A contract sees the history and the core.
+/// What the lock of a hub keeps: the core, and the keeper's seat. A contract sees the history and the core.
 ///
-/// Between two calls the core has the state behind the history. On an honest disk, and unless a turnover had halted the core before the hub was opened, a crash leaves that
-/// state, or, once the core is halted, perhaps that with the event in doubt (`is_kept`).
+/// Between two calls the core has the state after the history. On an honest disk, and unless a turnover had halted the
+/// core before the hub was opened, a crash leaves that state, or, once the core is halted, perhaps the state with the
+/// event in doubt (`is_kept`).
 pub struct Kept<J: Naming, D: Disk> {
     pub(crate) core: Core<D>,
     pub(crate) desk: Desk<J>,
 }
 
 impl<J: Naming, D: Disk + Drop> Drop for Kept<J, D> {
-    // By hand, so that it is one call wherever it goes.
+    // By hand, so that dropping it is one call, wherever it is dropped.
     fn drop(self) {
         let Kept { core: _, desk: _ } = self;
     }
@@ -182,7 +183,7 @@ impl<J: Naming, D: Disk> Kept<J, D> {
         answer
     }
 
-    /// As the core's `claim`. The instance is prescribed and not done in the state behind what the pass has then seen.
+    /// As the core's `claim`. The instance is prescribed and not done in the state after what the pass has then seen.
     pub fn claim(
         &mut self,
         board: &Board<J>,
@@ -201,7 +202,7 @@ impl<J: Naming, D: Disk> Kept<J, D> {
         claimed
     }
 
-    /// As the core's `park`, of a result whose reads the pass has seen.
+    /// As the core's `park`, for a result whose reads the pass has seen.
     pub fn park(
         &mut self,
         board: &Board<J>,
@@ -247,7 +248,8 @@ impl<J: Naming, D: Disk> Kept<J, D> {
         Ok(())
     }
 
-    /// As the core's `finish`, of an outcome whose reads the pass has seen. At `Ok` the end of the instance is made with the pass.
+    /// As the core's `finish`, for an outcome whose reads the pass has seen. At `Ok` the end of the instance is made with
+    /// the pass.
     pub fn finish(
         &mut self,
         board: &Board<J>,
@@ -282,7 +284,7 @@ impl<J: Naming, D: Disk> Kept<J, D> {
         Ok(committed)
     }
 
-    /// Whether an instance runs, or may be claimed. No clause says which it answers.
+    /// Whether an instance runs, or may be claimed. No clause says which it returns.
     pub fn busy(&mut self, board: &Board<J>, pass: &mut WorkPass<J>) -> bool
         ensures core { IsUnchanged self.old.core self.new.core × (self.new.core.vault ≡ self.old.core.vault) × (self.new.core.in_doubt ≡ self.old.core.in_doubt) }
         ensures history { (self.new.history ≡ self.old.history) × Shows self.old.history pass.old pass.new }

@@ -1,10 +1,11 @@
-//! A store that threads share: one lock, one history, and beside the lock two words that are read and written without it.
+//! A store that threads share: one lock, one history, and two words that are read and written without the lock.
 //!
-//! A thread calls the `Hub` with a `Pass` of its own. A contract sees a pass as what its holder knows: which events it has seen, and which were made
-//! with it. Behind each call that takes the lock, the pass has seen the whole history, and the call is answered by the state behind that. What the
-//! lock keeps is `Kept`: the core, and the keeper's seat with the book, which is the history and how many passes there are. The two words tell how
-//! many events there are and whether a stop was asked; each step on them is a call of `Board`. The layer above stands on the calls of `Hub`, and on
-//! `close`, which gives the core back with a history of just the passes' events.
+//! A thread calls the `Hub` with a `Pass` of its own. A contract sees a pass as what its holder knows: which events it
+//! has seen, and which were made with it. After each call that takes the lock, the pass has seen the whole history, and
+//! the call's result is that of the state after it. The lock keeps `Kept`: the core, and the keeper's seat with the book,
+//! which is the history and the number of passes. The two words hold the number of events, and whether a stop was asked;
+//! each step on them is a call of `Board`. The layer above uses the calls of `Hub`, and `close`, which returns the core
+//! with a history of just the passes' events.
 #![tactic(auto)]
 
 mod board;

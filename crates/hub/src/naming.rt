@@ -1,6 +1,7 @@
 use std::marker::Brand;
 
-/// Which hub it is. A program picks it once, where it opens the hub; each pass has it in its type, and so belongs to that hub alone.
+/// Names a hub. A program picks the name once, where it opens the hub; each pass has it in its type, and so belongs to
+/// that hub alone.
 pub trait Naming {
     ghost use Rattle.std.specs.Prelude.{ℕ};
     ghost use Rattle.disk.specs.Time.{Contents};
@@ -19,11 +20,11 @@ pub trait Naming {
     /// What the hub was opened with.
     ghost opening: { Opening };
 
-    /// For each moment what a crash may leave, as the disk tells when the hub is opened.
+    /// For each moment, what a crash may leave, as the disk says when the hub is opened.
     ghost left: { ℕ → Contents → Type 0 };
 }
 
-// Placeholders: where `Brand` is passed, the proof of the call picks these.
+// Placeholders: where `Brand` is passed, the proof of the call picks the values.
 impl Naming for Brand {
     ghost use Rattle.std.specs.Prelude.{[]};
     ghost use Rattle.hub.specs.Opening.{nothing};

@@ -14,7 +14,8 @@ use std::marker::{Model, PhantomData};
 use std::sync::{Arc, Mutex};
 use vault::stores_go_on;
 
-/// The two words of a hub that is not open yet, and how many passes it is to have: so many for the environment, and so many for workers.
+/// The two words of a hub that is not open yet, and how many passes it is to have: `envs` for the environment, and
+/// `workers` for workers.
 #[derive(Drop)]
 pub struct Blank {
     words: Words,
@@ -36,7 +37,7 @@ impl Model for Blank {
 }
 
 impl Blank {
-    /// The words of a hub with so many passes for the environment, and so many for workers.
+    /// The words of a hub with `envs` passes for the environment, and `workers` for workers.
     pub fn new(alloc: Global, envs: u8, workers: u8) -> Result<Blank, AllocError>
         ensures { IfOk result (λ blank. (blank.envs ≡ envs) × (blank.workers ≡ workers)) }
     {
@@ -50,14 +51,14 @@ impl Blank {
     }
 }
 
-/// A hub was not opened, since memory was refused. The core and the blank come back.
+/// A hub that was not opened, since memory was refused. The core and the blank come back.
 pub struct NotOpened<D: Disk> {
     pub core: Core<D>,
     pub blank: Blank,
 }
 
 impl<D: Disk> NotOpened<D> {
-    /// The core, where the blank is not used again.
+    /// The core, if the blank is not used again.
     pub fn into_core(self) -> Core<D>
         ensures { result ≡ self.core }
     {
@@ -75,7 +76,7 @@ impl<D: Disk + Drop> Drop for NotOpened<D> {
 /// A hub that was opened, the environment's passes, and the workers'.
 pub type Opened<J, D> = (Hub<J, D>, Vec<EnvPass<J>>, Vec<WorkPass<J>>);
 
-// Makes so many passes, the first of which has this number.
+// Makes `count` passes; the first has the number `first`.
 fn deal<J: Naming, K: Kind>(
     board: &Board<J>,
     desk: &mut Desk<J>,
@@ -100,7 +101,7 @@ fn deal<J: Naming, K: Kind>(
 }
 
 impl<J: Naming, D: Disk> Hub<J, D> {
-    /// Opens a hub round a core, with the passes that the blank tells.
+    /// Opens a hub on a core, with as many passes as the blank says.
     pub fn open(alloc: Global, core: Core<D>, blank: Blank) -> Result<Opened<J, D>, NotOpened<D>>
         requires { IsNamedFor D.files D.moment D.left_at D.failures D.refusals J.table J.passes J.envs J.opening J.left blank core }
         ensures ok { IfOk result (λ opened. (opened.1.items ≡ new_passes 0 blank.envs) × (opened.2.items ≡ new_passes blank.envs blank.workers)) }

@@ -10,7 +10,7 @@ pub trait Kind {
     /// The events that may be made with it.
     ghost makes: { Event → Type 0 };
 
-    /// Whether a pass of this kind may have the number, where the first so many are the environment's.
+    /// For a count of the environment's passes, which come first: whether a pass of this kind may have this number.
     ghost is_numbered: { ℕ → ℕ → Type 0 };
 }
 
@@ -70,7 +70,7 @@ impl<J: Naming, K: Kind> Model for Pass<J, K> {
 impl<J: Naming, K: Kind> Pass<J, K> {
     ghost use Rattle.std.specs.Prelude.{◌≡◌};
 
-    // Its number, which its kind may have.
+    // The number of the pass; its kind may have it.
     pub(crate) fn number(&self) -> usize
         ensures number { result ≡ self.now.number }
         ensures of_kind { K.is_numbered J.envs self.now.number }

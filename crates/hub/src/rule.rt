@@ -8,7 +8,7 @@ use atomic_table::{Join, Play, Seat, Split, Table, TableRule};
 use std::alloc::Global;
 use std::marker::{Brand, PhantomData};
 
-/// Word 0 is how many events there are, word 1 is 1 once a stop was asked.
+/// Word 0 is the number of events; word 1 is 1 once a stop was asked.
 pub struct Law;
 
 impl TableRule<(), View, ()> for Law {
@@ -44,7 +44,7 @@ impl<M: Commit> Play<(), View> for Adds<M> {
     ghost then = { steps.Adds M.event };
 }
 
-/// A load of word 0 by the keeper, at which the rule tells that the history has what the guest knows.
+/// A load of word 0 by the keeper, at which the rule says that the history has what the guest knows.
 pub struct Learns;
 
 impl Play<(), View> for Learns {

@@ -21,7 +21,8 @@ use vault::VaultError;
 impl<J: Naming, D: Disk> Hub<J, D> {
     /// Runs the body of the instance of a task, to its end or to an item that is not there.
     ///
-    /// Each read is a `read` by itself, and takes the lock for that alone. No other error is answered than `NoMemory`, and that of a read.
+    /// Each read is a `read` by itself, and takes the lock for that alone. The only errors are `NoMemory`, and those of a
+    /// read.
     pub fn run<'a, R: Wait>(
         &'a self,
         rt: &R,
@@ -42,7 +43,7 @@ impl<J: Naming, D: Disk> Hub<J, D> {
         }
     }
 
-    // Answers what a run asks for, to its end or to an item that is not there.
+    // Gives a run the items that it asks for, to its end or to an item that is not there.
     fn go_on<'a, R: Wait>(
         &'a self,
         rt: &R,

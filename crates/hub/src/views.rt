@@ -1,6 +1,6 @@
 use std::marker::Model;
 
-/// What a seat of the hub's table knows. Contracts use its model alone; no value of it is made.
+/// What a seat of the hub's table knows. Contracts use its model only; no value of it is made.
 #[derive(Drop)]
 pub struct View {
     nothing: (),

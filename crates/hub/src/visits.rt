@@ -1,4 +1,5 @@
-//! What a locked call does with its pass: the pass is lent to the keeper, is compared with the history, and goes with all of it seen.
+//! What a locked call does with its pass: it lends the pass to the keeper, compares it with the history, and gives it
+//! back with all of it seen.
 ghost use Rattle.std.specs.Prelude.{◌≡◌, ◌+◌, ◌<◌, ◌^◌, None, length};
 ghost use Rattle.hub.specs.Known.{up_to_date, with_event, writing_by};
 ghost use Rattle.hub.specs.Rule.{IsInHistory};
@@ -15,7 +16,7 @@ use std::snapshot::Snapshot;
 use terms::{Addr, Inst, Tag};
 
 impl<J: Naming> Board<J> {
-    // The pass sees the history.
+    // Shows the pass the history.
     pub(crate) fn show<K: Kind>(&self, desk: &mut Desk<J>, pass: &mut Pass<J, K>)
         requires { desk.old.guest ≡ None }
         ensures desk { desk.new ≡ desk.old }
@@ -26,7 +27,7 @@ impl<J: Naming> Board<J> {
         pass.badge = self.give_back(desk);
     }
 
-    // The event of `M` is made with the pass, which sees the history, and the event at its end.
+    // Makes the event of `M` with the pass, which then sees the history with the event at its end.
     pub(crate) fn record<K: Kind, M: Commit>(&self, desk: &mut Desk<J>, pass: &mut Pass<J, K>)
         requires alone { desk.old.guest ≡ None }
         requires room { length desk.old.book.history + 1 < 2 ^ 64 }
@@ -39,7 +40,7 @@ impl<J: Naming> Board<J> {
         self.write::<M>(desk);
         pass.badge = self.give_back(desk);
     }
-    // The environment's item is put with its pass.
+    // Puts the environment's item with its pass.
     pub(crate) fn record_item<M: Commit>(
         &self,
         desk: &mut Desk<J>,
@@ -57,7 +58,7 @@ impl<J: Naming> Board<J> {
         self.record::<Env, M>(desk, pass);
     }
 
-    // The environment's tag is put with its pass.
+    // Puts the environment's tag with its pass.
     pub(crate) fn record_tag<M: Commit>(&self, desk: &mut Desk<J>, pass: &mut EnvPass<J>, tag: Tag)
         requires alone { desk.old.guest ≡ None }
         requires room { length desk.old.book.history + 1 < 2 ^ 64 }
@@ -69,7 +70,7 @@ impl<J: Naming> Board<J> {
         self.record::<Env, M>(desk, pass);
     }
 
-    // The end of an instance is made with the pass of its worker.
+    // Makes the end of an instance with the pass of its worker.
     pub(crate) fn record_end<M: Commit>(
         &self,
         desk: &mut Desk<J>,

@@ -2,6 +2,6 @@ use Rattle.std.proofs.Common.{◌≡◌, drop}
 use Rattle.hub.specs.Whole.{has_number}
 use Rattle.hub.proofs.close.is_here.Given as goal
 
--- those that are left decide
+-- the passes that are left decide
 abbrev pub invariant-loop-pass : goal.invariant-loop-pass
 invariant-loop-pass g l = has_number l.number l.passes ≡ has_number l.number (drop l.pass-index l.passes)
