@@ -1,4 +1,4 @@
--- What workers make of a core, and what is told behind them.
+-- What workers make of a core, and which verdict is right after them.
 use Rattle.std.proofs.Common.{◌≡◌, ◌↔◌, ◌∙◌, ◌+◌, ◌++◌, ℕ, zero, suc, Bool, true, false, List, [], ◌∷◌, length, Option, Some, None, IsSome, option_to_list, Result, Ok, Err, refl, sym, subst, inl, inr, arith, length-append}
 use Rattle.std.proofs.lemmas.Bool.{false≢true}
 use Rattle.disk.specs.declared.side.Side.{Side}
@@ -31,7 +31,7 @@ one_out None is = absurd (false≢true is)
 -- ---- a run since the opening of a hub
 
 module _ {D : Type 0} (files : D → Side → File) (moment : D → ℕ) (left_at : D → ℕ → Contents → Type 0) (failures refusals : D → ℕ) (honest : Type 0) where
-  -- what a crash might have left, by its own name
+  -- what a crash might have left, whichever of two equivalent names it has
   unnamed : (begun : ℕ) (left was_left : ℕ → Contents → Type 0) (d : D) (P : Contents → Type 0) → ((t : ℕ) (contents : Contents) → left t contents ↔ was_left t contents) → LeavesSince moment left_at begun left d P → LeavesSince moment left_at begun was_left d P
   unnamed begun left was_left d P alike leaves = record {
     later = leaves.later;
@@ -58,9 +58,9 @@ module _ {D : Type 0} (files : D → Side → File) (moment : D → ℕ) (left_a
         one_in_doubt = it.one_in_doubt;
       }
 
-  -- ---- what is told
+  -- ---- verdicts
 
-  -- what one thread tells behind the last part of a run is told behind all of it, by a driver that may do more
+  -- a verdict of one thread that is right after the last part of a run is right after the whole run, for a driver that may do more
   told_more : (may_be_asked : Bool) (c : Core D) (left count limit before : ℕ) (result : Result Verdict RunError) → left + before ≡ limit → TellsVerdict false false c left count result → TellsVerdict may_be_asked true c limit (before + count) result
   told_more may c left count limit before (Ok Halted) sum told = told
   told_more may c left count limit before (Ok (Stopped instance kind)) sum told = told
@@ -72,7 +72,7 @@ module _ {D : Type 0} (files : D → Side → File) (moment : D → ℕ) (left_a
   told_more may c left count limit before (Err NoMemory) sum told = told
   told_more may c left count limit before (Err Full) sum told = (told.0, told.1, inr refl)
 
-  -- behind the workers
+  -- a run of the workers, and then its conclusion, are a run with the limit
   pub driven : AmongBoth → (honest → GatesStay files moment left_at) → (may_be_asked : Bool) (old first mid new : Core D) (limit : ℕ) (result : Result Verdict RunError) → first ≡ with_allowance old limit → (is_halted mid ≡ false → mid.in_doubt ≡ [])
       → RunsOn files moment left_at failures refusals honest first mid → Concludes files moment left_at failures refusals honest may_be_asked mid new result
       → RunsWithin files moment left_at failures refusals honest may_be_asked true old new limit result

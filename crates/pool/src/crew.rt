@@ -1,4 +1,4 @@
-//! Workers, and the probe that they ask.
+//! Workers, and the probe that they ask before each step.
 ghost use Rattle.std.specs.Prelude.{◌≡◌, ◌≤◌, false, true, Ok, IsTrue};
 ghost use Rattle.commit.specs.declared.verdict.Verdict.TheVariants.{Halted};
 ghost use Rattle.commit.specs.Core.{is_halted};
@@ -11,7 +11,7 @@ use std::alloc::Global;
 use std::sync::Wait;
 use std::thread::Threads;
 
-/// Workers, 1 to 64, that run the steps of a store, each on a thread of its own, and the probe that they ask.
+/// Workers, 1 to 64, that run the steps of a store, each on its own thread; and the probe that they ask.
 #[derive(Drop)]
 pub struct Crew<'a, R, P> {
     rt: &'a R,
@@ -21,7 +21,7 @@ pub struct Crew<'a, R, P> {
 }
 
 impl<'a, R: Threads + Wait + Sync, P: Probe> Crew<'a, R, P> {
-    /// So many workers, with this probe.
+    /// `workers` workers, with this probe.
     pub fn new(rt: &'a R, workers: u8, probe: P) -> Self
         requires { (1 ≤ workers) × (workers ≤ 64) }
     {

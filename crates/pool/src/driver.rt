@@ -16,15 +16,15 @@ use std::thread::Threads;
 /// Who runs the steps of a store.
 #[derive(Drop)]
 pub enum Driver<'a, R, P> {
-    /// The thread that calls, always the first of the ready instances.
+    /// The calling thread; it always takes the first of the ready instances.
     Alone,
     /// Workers, each on a thread of its own.
     Crew(Crew<'a, R, P>),
 }
 
 impl<'a, R: Threads + Wait + Sync, P: Probe> Driver<'a, R, P> {
-    /// Runs the steps of a store, until nothing is left to do, or as many of them came to their end as the limit says, and gives the core
-    /// back with the verdict. Nothing runs in the core that is given, nor in the one that is given back.
+    /// Runs the steps of a store until nothing is left to do, or `limit` of them have ended, and returns the core with
+    /// the verdict. No instance runs in the core that is passed in, nor in the one that is returned.
     pub fn run<D: Disk + Send>(
         &self,
         alloc: Global,

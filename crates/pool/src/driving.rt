@@ -16,11 +16,12 @@ use std::thread::Threads;
 use terms::facts_are_told_apart;
 use vault::stores_go_on;
 
-/// Runs the steps of a store on so many workers, 1 to 64, each in a thread of its own, until nothing is left to do, or as many of them came to their end as the limit
-/// says, or the probe answers `Stop`.
+/// Runs the steps of a store on `workers` workers, 1 to 64, each in its own thread, until nothing is left to do, or
+/// `limit` steps have ended, or the probe answers `Stop`.
 ///
-/// It gives the core back with the verdict. An error leaves all that was committed. Nothing runs in the core that is given, nor in the one that is given
-/// back. Where the workers leave something to do, each had its thread, and none of them was asked to stop or refused memory, the calling thread does it, and asks no probe.
+/// It returns the core with the verdict. An error leaves all that was committed. No instance runs in the core that is
+/// passed in, nor in the one that is returned. If the workers leave something to do although each had its thread and
+/// none was asked to stop or refused memory, the calling thread does it, without asking the probe.
 pub fn drive<D: Disk + Send, P: Probe + Sync, R: Threads + Wait + Sync>(
     rt: &R,
     alloc: Global,
@@ -72,7 +73,7 @@ fn worked<D: Disk + Send, P: Probe + Sync, R: Threads + Wait + Sync>(
     }
 }
 
-// What is answered behind the workers. What they left without a cause is done here.
+// The verdict after the workers have ended. What they left to do without a cause is done here.
 fn conclude<D: Disk, P: Probe>(
     alloc: Global,
     core: Core<D>,

@@ -1,8 +1,10 @@
-//! The worker pool: 1 to 64 threads run the steps of a store to the one answer. A `Driver` is who runs them: a `Crew` of such workers, or the calling thread alone.
+//! The worker pool: 1 to 64 threads run the steps of a store to the one answer. A `Driver` runs them: a `Crew` of such
+//! workers, or the calling thread alone.
 //!
-//! `drive` opens a hub round the core, with a pass for each worker, and closes it behind them. A worker claims an instance, asks its probe, runs the body outside the
-//! lock, and commits the end, or lets the instance wait. What is committed is a run of legal ends, whoever made them in whatever order. That is all that the
-//! layer above needs (`RunsWithin` of `commit`).
+//! `drive` opens a hub round the core, with a pass for each worker, and closes it when they have ended. A worker claims
+//! an instance, asks its probe, runs the body outside the lock, and commits the end, or lets the instance wait. What is
+//! committed is a sequence of legal ends, whichever worker made them and in whatever order. The layer above needs no
+//! more (`RunsWithin` of `commit`).
 #![tactic(auto)]
 
 mod crew;

@@ -4,13 +4,14 @@ use terms::Inst;
 /// What a probe answers.
 #[derive(Clone, Copy, Debug, PartialEq, Eq)]
 pub enum Answer {
-    /// The instance is run.
+    /// Run the instance.
     Go,
-    /// The instance is given back, and all workers end.
+    /// Give the instance back, and end all workers.
     Stop,
 }
 
-/// Is asked by a worker behind each claim, outside the lock. Any number of workers may be in it at one time. What the calling thread runs behind the workers it is not asked.
+/// A worker asks it after each claim, outside the lock. Any number of workers may be in it at one time. It is not asked
+/// about what the calling thread runs after the workers have ended.
 pub trait Probe: Sync {
     ghost use Rattle.std.specs.Prelude.{◌≡◌, Bool, true};
     ghost use Rattle.pool.specs.declared.probe.Answer.TheVariants.{Stop};
@@ -18,7 +19,7 @@ pub trait Probe: Sync {
     /// Whether it may ever answer `Stop`.
     ghost may_stop: { Bool };
 
-    /// Whether this instance is to be run now.
+    /// Says whether this instance is to be run now.
     fn enter(&self, instance: Inst) -> Answer
         ensures { result ≡ Stop → may_stop ≡ true };
 }

@@ -16,7 +16,7 @@ use std::sync::Wait;
 use std::thread::{PromisedHandle, Scope, Threads, scope, scope_env};
 use vault::stores_go_on;
 
-/// What kept workers from their work.
+/// What kept the workers from their work.
 #[derive(Clone, Copy, Debug, PartialEq, Eq)]
 pub(crate) struct Causes {
     /// A thread could not be started.
@@ -50,7 +50,7 @@ impl Causes {
         }
     }
 
-    // With what a worker met.
+    // These causes, and what one more worker met.
     fn also(self, met: Option<Met>) -> Causes
         ensures { result.asked ≡ true → (self.asked ≡ true) ⊎ (met ≡ Some MetAsked) }
     {
@@ -75,15 +75,15 @@ struct Back<J: Naming> {
     causes: Causes,
 }
 
-// Threads that were started, with the passes of those that were not, and of the thread that started them.
+// The threads that were started; and the passes of those that were not started, and of the thread that started them.
 struct Started<J: Naming, P: Probe> {
     handles: Vec<PromisedHandle<Ended<J>, AsProbed<P>>>,
     passes: Vec<WorkPass<J>>,
     no_thread: bool,
 }
 
-/// Runs the steps of a core on as many workers as the blank has passes, but one, which the calling thread keeps. The core comes back, with what they met. Where
-/// memory is refused before the first thread it is as it was.
+/// Runs the steps of a core on a worker for each pass of the blank but one, which the calling thread keeps. It returns
+/// the core and what the workers met. If memory is refused before the first thread, the core is unchanged.
 pub(crate) fn run_team<
     J: Naming + Send + Sync,
     D: Disk + Send,
@@ -118,7 +118,7 @@ pub(crate) fn run_team<
     (core, back.causes)
 }
 
-// Runs a worker with each of these passes, in a thread of its own, until all have ended.
+// Runs a worker with each of these passes, each in its own thread, until all have ended.
 fn in_threads<
     'x,
     J: Naming + Send + Sync,
@@ -151,7 +151,8 @@ fn in_threads<
     )
 }
 
-// Starts a thread for each of these passes, up to the first that cannot be started: then those that were started are asked to stop.
+// Starts a thread for each of these passes. After the first that cannot be started it starts no more, and asks those
+// that run to stop.
 fn start<
     's,
     'e: 's,
@@ -185,7 +186,7 @@ fn start<
             ) {
                 Ok(handle) => handles.push_reserved(handle),
                 Err(refused) => {
-                    // The worker comes back. It is run here, and ends at once, since a stop was asked.
+                    // The worker was given back. It is run here, and ends at once, since a stop was asked for.
                     no_thread = true;
                     hub.ask_stop(&mut boss);
                     let here = refused.value;

@@ -15,25 +15,25 @@ use std::sync::Wait;
 use std::thread::{Promise, yield_now};
 use vault::VaultError;
 
-/// Why a worker asked all to end.
+/// Why a worker asked all workers to end.
 #[derive(Clone, Copy, Debug, PartialEq, Eq)]
 pub(crate) enum Met {
     /// The probe answered `Stop`.
     Asked,
     /// Memory was refused.
     NoMemory,
-    /// Something that the core tells by itself: it is halted or stopped, or a record does not fit.
+    /// Something that the core shows by itself: it is halted or stopped, or a record does not fit.
     Other,
 }
 
-/// A worker that has ended. Its pass comes back.
+/// A worker that has ended, with the pass that it gives back.
 #[derive(Drop)]
 pub(crate) struct Ended<J: Naming> {
     pub(crate) pass: WorkPass<J>,
     pub(crate) met: Option<Met>,
 }
 
-/// What a thread promises of its worker: it met `Asked` only of a probe that may answer `Stop`.
+/// What a thread promises of its worker: it met `Asked` only if its probe may answer `Stop`.
 #[derive(Drop)]
 pub(crate) struct AsProbed<P: Probe> {
     pub(crate) of: PhantomData<P>,
@@ -43,13 +43,13 @@ impl<J: Naming, P: Probe> Promise<Ended<J>> for AsProbed<P> {
     ghost kept_by = { λ _ ended. ended.met ≡ Some MetAsked → P.may_stop ≡ true };
 }
 
-// How often a worker that found nothing to do looks whether something was committed, before it looks for something to do again.
+// How often a worker that found nothing to do looks for a new commit, before it looks for something to do again.
 const LOOKS: u32 = 64;
 
-// How many of these looks come at once. Between the others it lets other threads run.
+// How many of these looks come at once. Before each of the others the worker yields to other threads.
 const SPINS: u32 = 8;
 
-/// Runs instances until there is nothing to do, or a stop was asked.
+/// Runs instances until there is nothing to do, or a stop was asked for.
 pub(crate) fn work<J: Naming, D: Disk, P: Probe, R: Wait>(
     rt: &R,
     alloc: Global,
@@ -66,7 +66,7 @@ pub(crate) fn work<J: Naming, D: Disk, P: Probe, R: Wait>(
     Ended { pass, met }
 }
 
-// Runs them, and tells why it ended.
+// Runs them, and returns why the worker asks all to end, if it does.
 fn run_all<J: Naming, D: Disk, P: Probe, R: Wait>(
     rt: &R,
     alloc: Global,
@@ -99,7 +99,7 @@ fn run_all<J: Naming, D: Disk, P: Probe, R: Wait>(
     unreachable!()
 }
 
-// Waits a little for a commit, since it is mostly a commit that makes an instance ready.
+// Waits a little for a commit, since mostly a commit makes an instance ready.
 fn look_for_commits<J: Naming, D: Disk>(hub: &Hub<J, D>, pass: &mut WorkPass<J>) {
     let before = hub.commits(pass);
     for look in 0..LOOKS {
@@ -114,7 +114,7 @@ fn look_for_commits<J: Naming, D: Disk>(hub: &Hub<J, D>, pass: &mut WorkPass<J>)
     }
 }
 
-// Runs one instance: what ended the worker, if something did.
+// Runs one instance, and returns what ended the worker, if something did.
 fn run_task<J: Naming, D: Disk, P: Probe, R: Wait>(
     rt: &R,
     alloc: Global,
@@ -140,7 +140,7 @@ fn run_task<J: Naming, D: Disk, P: Probe, R: Wait>(
     }
 }
 
-// What ends the worker, of the answer of a call that spent its task.
+// What ends the worker, given the answer of a call that spent its task; or nothing.
 fn settled<T: Drop, R: Wait>(rt: &R, answer: Result<T, TaskError>) -> Option<Met>
     ensures { result ≡ Some MetAsked → ⊥ }
 {
@@ -154,7 +154,8 @@ fn settled<T: Drop, R: Wait>(rt: &R, answer: Result<T, TaskError>) -> Option<Met
     }
 }
 
-// No task of this hub is foreign to it, though no clause says so: this is never called. It does not return, since a task cannot be let go.
+// No task of this hub is foreign to it, though no clause says so: this is never called. It does not return, since a
+// task cannot be dropped.
 fn stranded<R: Wait>(rt: &R, task: Task) -> Option<Met>
     ensures { result ≡ Some MetAsked → ⊥ }
 {

@@ -1,7 +1,7 @@
 use Rattle.std.proofs.Common.{◌≡◌, ◌≤◌, ◌+◌, true, vec_capacity, vec_len}
 use Rattle.pool.proofs.team.join_all.Given as goal
 
--- there is room for the passes of all that are still to come
+-- there is room for the passes of all threads that are still to be joined
 abbrev pub invariant-loop-handle : goal.invariant-loop-handle
 invariant-loop-handle g l = record {
   room : vec_len l.handles + vec_len l.passes ≤ vec_capacity l.passes;
