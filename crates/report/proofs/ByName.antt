@@ -1,4 +1,4 @@
--- Collections in the order of their names, where each number stands once among them.
+-- Collections in the order of their names, where each number occurs once.
 use Rattle.std.proofs.Common.{◌≡◌, ◌≢◌, ◌∙◌, ◌==◌, ◌+◌, ◌<◌, ◌≤◌, ℕ, zero, suc, Bool, true, false, ◌||◌, Some, List, [], ◌∷◌, ◌++◌, map, length, get_or, take, refl, sym, ap, subst, arith, true≢false, eq-eqb, eqb-true, lt-ltb, nat_lt}
 use Rattle.std.specs.List.{AllByRecursion, list_any}
 use Rattle.std.specs.List.Sorted.{IsSortedBy, IsStrictlySortedBy, IsPermutation}
@@ -34,7 +34,7 @@ taken_elsewhere (mark ∷ marks) zero (suc number) other = refl
 taken_elsewhere (mark ∷ marks) (suc below) zero other = refl
 taken_elsewhere (mark ∷ marks) (suc below) (suc number) other = taken_elsewhere marks below number (λ e. other (ap suc e))
 
--- nothing past the marks that are taken
+-- past the marks that are taken there is none
 none_taken : (marks : List Bool) (below : ℕ) → get_or (take below marks) below false ≡ false
 none_taken [] zero = refl
 none_taken [] (suc below) = refl
@@ -55,7 +55,7 @@ elsewhere : (marks : List Bool) (below number : ℕ) → (number == below) ≡ f
 elsewhere marks below number other =
     ap (λ (l : List Bool). get_or l number false) (sym (taken_next marks below)) ∙ taken_elsewhere marks below number (λ e. true≢false (sym (eq-eqb number below e) ∙ other))
 
--- a collection of which the environment may get no items is passed
+-- a collection of which the environment may get no items is passed over
 pub passed : (g : Graph) (below : ℕ) (list : List Named) → AreGotBelow g below list → get_or g.environment_gets below false ≡ false → AreGotBelow g (below + 1) list
 passed g below list are none = record { named = are.named; once = λ number. are.once number ∙ ap how_many (sym (by number (number == below) refl)) }
   where
@@ -91,7 +91,7 @@ none_yet g = record { named = λ k d less. absurd (omega arith); once = λ numbe
 
 -- ---- in the order of the names
 
--- texts of which neither comes before the other are one
+-- texts of which neither comes before the other are equal
 one_text : (one two : Text) → slice_cmp nat_cmp one two ≡ Equal → one ≡ two
 one_text one two e = same_text one two (sym (texts_ties one two ∙ ap is_eq e))
 
@@ -101,21 +101,21 @@ collections_of list = map (λ one. one.1) list
 inside : {m n : ℕ} → Some m ≡ Some n → m ≡ n
 inside e = cc
 
--- the same name is that of one collection
+-- collections with the same name have the same number
 one_number : (g : Graph) (one two : Named) → IsNamed g one → IsNamed g two → one.0.now ≡ two.0.now → one.1.0 ≡ two.1.0
 one_number g one two first second same = inside (sym first.once ∙ ap (place_of (names_in g.items)) same ∙ second.once)
 
 times_more : (number : ℕ) (one : Named) (list : List Named) → times number (one ∷ list) ≡ how_many (number == one.1.0) + times number list
 times_more number one list = sum_by-cons (λ (other : Named). how_many (number == other.1.0)) one list
 
--- a number that the first two have stands there twice
+-- a number that the first two have occurs twice
 twice : (one two : Named) (more : List Named) → one.1.0 ≡ two.1.0 → times one.1.0 (one ∷ two ∷ more) ≤ 1 → ⊥
 twice one two more same few =
     let first : how_many (one.1.0 == one.1.0) ≡ 1 = ap how_many (eq-eqb one.1.0 one.1.0 refl) in
     let second : how_many (one.1.0 == two.1.0) ≡ 1 = ap how_many (eq-eqb one.1.0 two.1.0 same) in
     omega (arith, times_more one.1.0 one (two ∷ more), times_more one.1.0 two more)
 
--- where a test ranks by names, the list is sorted by it, and each number stands there once at most, the names rise
+-- if a test ranks by names, the list is sorted by it, and each number occurs at most once, then the names rise
 module _ (g : Graph) (lt : Named → Named → Bool) (ranks : (one two : Named) → slice_cmp nat_cmp one.0.now two.0.now ≡ Less → lt one two ≡ true) where
   less_names : (one two : Named) (more : List Named) → IsNamed g one → IsNamed g two → times one.1.0 (one ∷ two ∷ more) ≤ 1 → lt two one ≡ false
       → (order : Ordering) → slice_cmp nat_cmp one.0.now two.0.now ≡ order → slice_cmp nat_cmp one.0.now two.0.now ≡ Less
@@ -151,7 +151,7 @@ module _ (g : Graph) (lt : Named → Named → Bool) (ranks : (one two : Named) 
       let less = below_next one two more named.0 named.1.0 (few one.1.0) (sorted 0 one (omega arith) (omega arith)) in
       ((less, above one.1 two.1 (collections_of more) less rest.0), rest)
 
--- a number is among those that stand there
+-- a number is in the list exactly if it occurs more than 0 times
 found : (number : ℕ) (list : List Named) → list_any (λ other. number == other.0) (collections_of list) ≡ nat_lt 0 (times number list)
 found number [] = refl
 found number (one ∷ list) = by (found number list) (number == one.1.0) refl

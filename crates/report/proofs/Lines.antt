@@ -12,7 +12,7 @@ use Rattle.machine.specs.Counts.{AreItemsOf}
 use Rattle.report.specs.Named.{instance_text}
 use Rattle.report.specs.ReportText.{AreItemLines, item_lines, line, stopped_text}
 
--- those of one more collection stand behind
+-- the lines of one more collection come after them
 pub one_more : (g : Graph) (X : Facts) (collections : List ItemCollection) (collection : ItemCollection) (text : List ℕ) (items : List (Addr × ℤ))
     → AreItemLines g X collections text → AreItemsOf X collection items → AreItemLines g X (collections ++ collection ∷ []) (text ++ item_lines g items)
 one_more g X [] collection text items lines of = (items, [], of, refl, ap (λ (l : List ℕ). l ++ item_lines g items) lines ∙ sym (append-nil (item_lines g items)))

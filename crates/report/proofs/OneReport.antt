@@ -1,4 +1,4 @@
--- A graph and a set of facts have one report at most, since each part of a report is told by them.
+-- A graph and a set of facts have at most one report, since they determine each part of a report.
 use Rattle.std.proofs.Common.{◌≡◌, ◌↔◌, ◌==◌, ◌-◌, ◌^◌, ℕ, ℤ, true, Option, Some, None, List, [], ◌∷◌, ◌++◌, length, min, get_or, refl, sym, ap, subst, ◌∙◌, eq-eqb, eqb-true}
 use Rattle.std.proofs.lemmas.Cmp.{nat_list_cmp_total, on_total, tied_itself}
 use Rattle.std.specs.Cmp.{IsTotalOrder, Equal-is}

@@ -1,4 +1,4 @@
--- A report from what a store tells.
+-- A report from what a store shows.
 use Rattle.std.proofs.Common.{ℕ, Option, List, ◌++◌, refl}
 use Rattle.terms.specs.declared.name.Inst.{Inst}
 use Rattle.terms.specs.declared.name.ItemCollection.{ItemCollection}

@@ -1,4 +1,4 @@
--- Lists in order that have the same members are one.
+-- Sorted lists that have the same members are equal.
 use Rattle.std.proofs.Common.{◌≡◌, ◌↔◌, ◌⊎◌, Bool, true, false, ◌||◌, List, [], ◌∷◌, inl, inr, refl, sym, ap, subst, ◌∙◌}
 use Rattle.std.proofs.lemmas.Bool.{false≢true}
 use Rattle.std.proofs.lemmas.Cmp.{tied_itself}
@@ -10,7 +10,7 @@ use Rattle.std.specs.Ordering.{ordering_reverse}
 use Rattle.std.specs.declared.cmp.Ordering.{Ordering}
 use Rattle.std.specs.declared.cmp.Ordering.TheVariants.{Less, Equal, Greater}
 
--- members are told by a test that holds of one value and itself
+-- a test says which values are members: it holds of each value and itself, and of equal values alone
 module _ {N : Type 0} (cmp : N → N → Ordering) (total : IsTotalOrder cmp) (is_one : N → N → Bool) (itself : (n : N) → is_one n n ≡ true) (same : (m n : N) → is_one m n ≡ true → m ≡ n) where
   abbrev Has : N → List N → Type 0
   Has n list = list_any (is_one n) list ≡ true
@@ -48,7 +48,7 @@ module _ {N : Type 0} (cmp : N → N → Ordering) (total : IsTotalOrder cmp) (i
   never_both : (m n : N) → cmp m n ≡ Less → cmp n m ≡ Less → ⊥
   never_both m n less back = let clash : Less ≡ Greater = sym less ∙ total.antisymm m n ∙ ap ordering_reverse back in absurd (cc)
 
-  -- the first of a list in order is no other member
+  -- the first of a sorted list is not in the rest
   not_again : (first n : N) (rest : List N) → IsStrictlySortedBy cmp (first ∷ rest) → Has n rest → n ≡ first → ⊥
   not_again first n rest sorted has is =
       never_itself first (subst (λ (m : N). cmp first m ≡ Less) is (below_each first n rest (sorted_head cmp first rest sorted) has))
@@ -62,7 +62,7 @@ module _ {N : Type 0} (cmp : N → N → Ordering) (total : IsTotalOrder cmp) (i
       by (inr later) (inr early) =
           absurd (never_both m n (below_each m n ms (sorted_head cmp m ms rises) early) (below_each n m ns (sorted_head cmp n ns also) later))
 
-  -- members of the one rest are members of the other
+  -- members of one rest are members of the other
   rest_has : (m n one : N) (ms ns : List N) → IsStrictlySortedBy cmp (m ∷ ms) → m ≡ n → (Has one (m ∷ ms) → Has one (n ∷ ns)) → Has one ms → Has one ns
   rest_has m n one ms ns rises is goes has = by (which one n ns (goes (in_rest one m ms has)))
     where

@@ -20,11 +20,11 @@ abbrev pub how_many : Bool → ℕ
 how_many true = 1
 how_many false = 0
 
--- how often the collection with this number stands there
+-- how often the collection with this number is in the list
 abbrev pub times : ℕ → List Named → ℕ
 times number list = sum_by (λ one. how_many (number == one.1.0)) list
 
--- each collection with a lower number of which the environment may get items stands there once, with its name, and no other collection does
+-- each collection with a number below this, of which the environment may get items, is in the list once, with its name; no other collection is
 pub record AreGotBelow (g : Graph) (below : ℕ) (list : List Named) : Type 0 where
   pub named : All (IsNamed g) list
   pub once : (number : ℕ) → times number list ≡ how_many (get_or (take below g.environment_gets) number false)

@@ -9,11 +9,11 @@ use Rattle.graph.specs.Tree.{names_in}
 use Rattle.graph.specs.Prescribed.{names_of_steps}
 use Rattle.graph.specs.Canonical.{in_brackets, in_rounds, with_colon}
 
--- a name, and behind a colon the components of a key; a name without components stands alone
+-- a name, and after a colon the components of a key; a name without components stands alone
 abbrev pub with_key : List ℕ → List ℤ → List ℕ
 with_key name key = with_colon name (map signed_decimal key)
 
--- these components, each behind a comma and a blank
+-- these components, each after a comma and a space
 abbrev pub more_components : List ℤ → List ℕ
 more_components components = flat_map (λ text. codes ", " ++ text) (map signed_decimal components)
 

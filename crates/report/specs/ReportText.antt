@@ -1,4 +1,4 @@
--- The report of a store, a text that its graph and its facts alone give.
+-- The report of a store, a text that its graph and its facts alone determine.
 use Rattle.std.specs.Prelude.{◌≡◌, ◌↔◌, ◌==◌, ℕ, ℤ, true, false, List, [], ◌∷◌, ◌++◌, codes, get_or, Option, Some, None}
 use Rattle.std.specs.Fmt.{decimal}
 use Rattle.std.specs.List.{flat_map, list_any}
@@ -54,7 +54,7 @@ counts_text counts = decimal counts.items ++ codes " items, " ++ decimal counts.
 abbrev pub stopped_text : Graph → Inst → FaultKind → List ℕ
 stopped_text g instance kind = codes "stopped by fault " ++ decimal (fault_number kind) ++ codes " at " ++ instance_text g instance
 
--- this is the one fault among the facts, or there is none
+-- this is the only fault among the facts, or `None` if there is none
 abbrev pub IsOnlyFault : Facts → Option (Inst × FaultKind) → Type 0
 IsOnlyFault X fault = (instance : Inst) (kind : FaultKind) → (X (bad instance kind) ≡ true) ↔ (fault ≡ Some (instance, kind))
 
@@ -77,6 +77,6 @@ pub record IsReport (g : Graph) (X : Facts) (text : List ℕ) : Type 0 where
   pub only : IsOnlyFault X fault
   pub whole : text ≡ items ++ line (counts_text counts) ++ fault_line g fault
 
--- a graph and a set of facts have one report at most
+-- a graph and a set of facts have at most one report
 abbrev pub ReportsOnce : Type 0
 ReportsOnce = (g : Graph) (X : Facts) (one other : List ℕ) → IsReport g X one → IsReport g X other → one ≡ other

@@ -5,13 +5,13 @@ use std::alloc::AllocError;
 use std::io;
 use thiserror::Error;
 
-/// Why a report was not written whole.
+/// Why the whole report was not written.
 #[derive(Clone, Copy, Debug, PartialEq, Eq, Error)]
 pub enum ReportError {
-    /// The writer answered an error. How much went out is not known.
+    /// The writer returned an error. It is not known how much was written.
     #[error("cannot write the report")]
     Write,
-    /// A growth was refused.
+    /// Memory was refused.
     #[error("no memory")]
     NoMemory,
 }

@@ -22,7 +22,7 @@ fn got(graph: &Graph, collection: ItemCollection) -> Option<(&str, ItemCollectio
     }
 }
 
-/// The collections of which the environment may get items, each with its name, by their numbers.
+/// The collections of which the environment may get items, each with its name, in the order of their numbers.
 fn got_by_number(alloc: Global, graph: &Graph) -> Result<Vec<(&str, ItemCollection)>, AllocError>
     ensures { IfOk result (λ list. AreGotBelow graph.now (length graph.now.items) list.items) }
 {

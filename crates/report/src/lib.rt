@@ -1,7 +1,7 @@
-//! Reports: what a store holds, as a text that its graph and its facts alone give.
+//! Reports: what a store holds, as a text that its graph and its facts alone determine.
 //!
-//! `IsReport` is that text, and the law `reports_once` says that there is one at most. The layer above stands on `write_report`, which writes it, and on
-//! `NamedAddress` and `NamedInstance`, which spell names as it does.
+//! `IsReport` is that text, and the law `reports_once` says that there is at most one. The layer above stands on
+//! `write_report`, which writes it, and on `NamedAddress` and `NamedInstance`, which spell names as it does.
 #![tactic(auto)]
 
 mod error;

@@ -20,7 +20,7 @@ pub struct NamedInstance<'a> {
     pub instance: Inst,
 }
 
-/// A name, and behind a colon the components of a key.
+/// A name, and after a colon the components of a key.
 #[derive(Clone, Copy)]
 struct WithKey<'a> {
     name: &'a str,
@@ -45,7 +45,7 @@ impl fmt::Display for WithKey<'_> {
     }
 }
 
-/// Writes these components, a comma and a blank before each.
+/// Writes these components, each after a comma and a space.
 fn write_more<W: fmt::Write>(f: &mut fmt::Formatter<W>, components: &[i64]) -> fmt::Result
     ensures { WritesOnOk W.write_str_gives f.old result (more_components components.now) f.new }
 {

@@ -72,8 +72,9 @@ fn write_fault<W: Write>(
     Ok(())
 }
 
-/// Writes the report of a store: a line for each item that the environment may get, by the name of its collection and then by key; one with the numbers of
-/// items, tags and steps; and one for the fault, if there is one. Each line ends with a line feed.
+/// Writes the report of a store: a line for each item that the environment may get, sorted by the name of its
+/// collection and then by key; one with the numbers of items, tags and steps; and one for the fault, if there is one.
+/// Each line ends with a line feed.
 pub fn write_report<D: Disk, W: Write>(
     alloc: Global,
     core: &Core<D>,
