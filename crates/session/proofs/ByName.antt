@@ -11,7 +11,7 @@ use Rattle.graph.specs.Graph.{Graph}
 use Rattle.graph.specs.Prescribed.{names_of_steps}
 use Rattle.session.specs.Answers.{instance_cmp}
 
--- the name that is told, or nothing where none is
+-- the name that is found, or the empty name if there is none
 pub told_name : (told : Option (Bor Text)) (none : Bor Text) (names : List Text) (number : ℕ) → none.now ≡ [] → option_map (λ name. name.now) told ≡ slice_get names number
     → (unwrap_or told none).now ≡ get_or names number []
 told_name None none names number empty is = empty ∙ ap (λ (o : Option Text). unwrap_or o []) is ∙ unwrap_or-slice_get names number []

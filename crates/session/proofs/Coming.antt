@@ -1,4 +1,4 @@
--- How a core goes on by a call, and by several, one behind another.
+-- How a core goes on by a call, and by several, one after another.
 use Rattle.std.proofs.Common.{◌≡◌, ◌≢◌, ◌∙◌, ◌≤◌, ◌++◌, ap, refl, sym, subst, inl, inr, ℕ, Bool, true, false, List, [], ◌∷◌, Result, Err, arith}
 use Rattle.std.proofs.lemmas.Bool.{cases_lt, false≢true}
 use Rattle.std.proofs.lemmas.Grind.{flat_map-append}
@@ -33,7 +33,7 @@ use Rattle.session.specs.Went.{GoesOn, Went}
 
 -- ---- errors of a disk
 
--- a number that is not another than one is that one
+-- a number that does not differ from another is equal to it
 same_number : (n m : ℕ) → (n ≢ m → ⊥) → n ≡ m
 same_number n m never = elim (cases_lt n m) [
   | inl above ↦ elim (cases_lt m n) [
@@ -47,7 +47,7 @@ same_number n m never = elim (cases_lt n m) [
 ]
 
 module _ {D : Type 0} (failures refusals : D → ℕ) where
-  -- where no call answered an error before, what erred since erred from the beginning on, and the other way round
+  -- if no call returned an error before `mid`, one did after `mid` exactly if one did from the beginning on
   later_erred : (old mid new : D) → failures old ≤ failures mid → (HasErred failures refusals old mid → ⊥) → HasErred failures refusals mid new → HasErred failures refusals old new
   later_erred old mid new later calm (inl grew) = inl (omega (arith, later, grew))
   later_erred old mid new later calm (inr changed) = inr (λ is. changed (is ∙ sym (same_number (refusals mid) (refusals old) (λ differs. calm (inr differs)))))
@@ -61,12 +61,12 @@ module _ {D : Type 0} (failures refusals : D → ℕ) where
 
 -- ---- what a crash leaves
 
--- what some of the first of these commits leave is a beginning of them all
+-- what a prefix of some commits leaves is what a prefix of these and more leaves
 extended : (g : Graph) (E X : Facts) (some more : List Commit) (contents : Contents) → StandsForBeginning g E X [] some contents → StandsForBeginning g E X [] (some ++ more) contents
 extended g E X some more contents it =
     record { made = it.made; later = it.later ++ more; beginning = ap (λ (list : List Commit). list ++ more) it.beginning ∙ append_assoc it.made it.later more; stands = it.stands }
 
--- and so is what some commits leave behind them
+-- and so is what a prefix of further commits leaves after all of these
 behind : AmongBoth → (g h : Graph) (E F X Y : Facts) (came : List Event) (more : List Commit) (contents : Contents) → h ≡ g → F ≡ with_facts E (stated.environment came) → Y ≡ with_facts X (stated.facts came)
     → StandsForBeginning h F Y [] more contents → StandsForBeginning g E X [] (one_by_one came ++ more) contents
 behind both g h E F X Y came more contents graph given all it =
@@ -84,7 +84,7 @@ behind both g h E F X Y came more contents graph given all it =
     }
 
 module _ {D : Type 0} (files : D → Side → File) (moment : D → ℕ) (left_at : D → ℕ → Contents → Type 0) (failures refusals : D → ℕ) (honest : Type 0) where
-  -- ---- one behind another
+  -- ---- one after another
 
   module _ (both : AmongBoth) (gates_stay : honest → GatesStay files moment left_at) (old mid new : Core D) (first second : List Event) where
     went_on : is_halted mid ≡ false → mid.in_doubt ≡ [] → failures old.vault.disk ≤ failures mid.vault.disk
@@ -130,7 +130,7 @@ module _ {D : Type 0} (files : D → Side → File) (moment : D → ℕ) (left_a
           );
         }
 
-    -- nothing comes behind a halt
+    -- nothing comes after a halt
     went_still : second ≡ [] → KeepsStore mid new → Went files moment left_at failures refusals honest old mid first → Went files moment left_at failures refusals honest old new (first ++ second)
     went_still nothing same one =
         let all : first ++ second ≡ first = ap (λ (events : List Event). first ++ events) nothing ∙ append-nil first in
@@ -150,7 +150,7 @@ module _ {D : Type 0} (files : D → Side → File) (moment : D → ℕ) (left_a
           );
         }
 
-    -- a call behind others
+    -- a call after others
     pub joined_on : GoesOn files moment left_at failures refusals honest old mid first → GoesOn files moment left_at failures refusals honest mid new second → GoesOn files moment left_at failures refusals honest old new (first ++ second)
     joined_on one two = record { went = λ working. at working (is_halted mid) refl; stays = λ halted. still halted; settled = two.settled; later = omega (arith, one.later, two.later) }
       where
@@ -264,7 +264,7 @@ module _ {D : Type 0} (files : D → Side → File) (moment : D → ℕ) (left_a
                 halts = (λ _. erred, λ _. stops);
               }
 
--- ---- what is there behind
+-- ---- what is there afterwards
 
 module _ {D : Type 0} (files : D → Side → File) (moment : D → ℕ) (left_at : D → ℕ → Contents → Type 0) (failures refusals : D → ℕ) (honest : Type 0) (old new : Core D) (events : List Event)
     (goes : GoesOn files moment left_at failures refusals honest old new events) where
@@ -285,7 +285,7 @@ module _ {D : Type 0} (files : D → Side → File) (moment : D → ℕ) (left_a
           let still : facts new ≡ facts old = λ i fact. same.0.facts fact i in
           still ∙ sym (ap (λ (list : List Event). with_facts (facts old) (stated.facts list)) same.1 ∙ with_nothing (facts old))
 
-  -- an answer at what is there is one behind these events
+  -- a reply by what is there now is a reply by what was there, and these events
   pub answered_there : (drive : Drive) (command : Command) (came : List Event) (reply : Reply) → Replies (graph new) drive (facts new) command came reply
       → Replies (graph old) drive (with_facts (facts old) (stated.facts events)) command came reply
   answered_there drive command came reply is =

@@ -1,4 +1,4 @@
--- One line more: in a list, and on an output.
+-- One more line: in a list, and on an output.
 use Rattle.std.proofs.Common.{◌≡◌, ◌≢◌, ◌∙◌, ℕ, zero, suc, arith, ◌+◌, ◌<◌, true, false, List, [], ◌∷◌, ◌++◌, ap, refl, sym, subst, length, get_or, take, drop, append-nil, Option, Some, None, is_some, Result, Ok, Err, OnOk}
 use Rattle.std.specs.List.{flat_map}
 use Rattle.std.specs.Io.KnownBytes.{Appends}
@@ -20,7 +20,7 @@ pub one_more : {X : Type 0} (text : X → List ℕ) (list : List X) (place : ℕ
 one_more text list place none within =
     ap (λ n. flat_map text (take n list)) (add_one place) ∙ ap (flat_map text) (take-suc list place none within) ∙ flat_map-append text (take place list) (get_or list place none ∷ []) ∙ ap (λ more. flat_map text (take place list) ++ more) (append-nil _)
 
--- a list up to a place, with the element there and without, and what is behind it
+-- a list up to a place, with the element there and without it, and what comes after
 pub up_to : {X : Type 0} (list : List X) (place : ℕ) (one : X) → place < length list → one ≡ get_or list place one → take (place + 1) list ≡ take place list ++ one ∷ []
 up_to list place one within is = ap (λ n. take n list) (add_one place) ∙ take-suc list place one within ∙ ap (λ x. take place list ++ x ∷ []) (sym is)
 
@@ -32,7 +32,7 @@ split (first ∷ rest) (suc place) none within = ap (λ more. first ∷ more) (s
 pub split_at : {X : Type 0} (list : List X) (place : ℕ) (one : X) → place < length list → one ≡ get_or list place one → list ≡ take place list ++ one ∷ drop (suc place) list
 split_at list place one within is = split list place one within ∙ ap (λ x. take place list ++ x ∷ drop (suc place) list) (sym is)
 
--- one reply more
+-- one more reply
 pub written_more : (old between new : Option (List ℕ)) (g named : Graph) (replies : List Reply) (reply : Reply) → named ≡ g →
     Appends old between (replies_text g replies) → Appends between new (reply_text named reply) → Appends old new (replies_text g (replies ++ reply ∷ []))
 written_more old between new g named replies reply is before here =

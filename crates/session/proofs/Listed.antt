@@ -1,4 +1,4 @@
--- A list of entries in the order of their keys: what is found by a key is what stands in the list.
+-- A list of entries that is sorted by their keys: what is found by a key is what the list holds.
 use Rattle.std.proofs.Common.{◌≡◌, ◌∙◌, ap, refl, sym, subst, Bool, true, false, cond, T, List, [], ◌∷◌, get_or, map, Option, Some}
 use Rattle.std.proofs.lemmas.List.Elements.{All-nil, All-cons, All-head, All-contains_itself, Contains-append_right}
 use Rattle.std.specs.Cmp.{Equal-is, IsTotalOrder, tied_itself}
@@ -42,7 +42,7 @@ module _ {K X : Type 0} (cmp : K → K → Ordering) where
       at true tied rest = subst (Contains (one ∷ list)) (here tied) (All-head (Contains (one ∷ list)) one list (All-contains_itself (one ∷ list)))
       at false apart rest = Contains-append_right (one ∷ []) list (key, value) (rest (ap (λ b. cond b (Some one.1) (find cmp key list)) (sym apart) ∙ is))
 
-  -- the keys of entries in order rise
+  -- the keys of sorted entries are strictly sorted
   pub keys_rise : (list : List (K × X)) → T (is_sorted cmp list) → IsStrictlySortedBy cmp (map (λ entry. entry.0) list)
   unfolding IsStrictlySortedBy
   keys_rise [] sorted = tt

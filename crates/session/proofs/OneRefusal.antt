@@ -1,4 +1,4 @@
--- A put or a get is refused for one cause at most, and where it is refused it is not answered.
+-- A put or a get is refused for at most one cause, and if it is refused it is not answered.
 use Rattle.std.proofs.Common.{◌≡◌, ◌≢◌, ◌∙◌, ◌==◌, ap, refl, sym, ℕ, ℤ, Bool, true, false, List, length, get_or, slice_get, Option, Some, None, eqb-true, eq-eqb}
 use Rattle.std.proofs.lemmas.Bool.{false≢true}
 use Rattle.terms.specs.declared.name.Addr.{Addr}
@@ -24,7 +24,7 @@ data Grade : Type 0 where
   shut : Grade
   allowed : Grade
 
--- a collection by its number, with keys of so many components, is of this grade
+-- a name with this collection number and this number of components in its key is of this grade
 abbrev Grades : List Collection → ℕ → ℕ → Bool → Grade → Type 0
 Grades collections number components may missing = slice_get collections number ≡ None
 Grades collections number components may another = HasOther collections number components
@@ -37,12 +37,12 @@ of_length false may = another
 of_length true false = shut
 of_length true true = allowed
 
--- that of what is there by a number
+-- the grade of what is found by a number
 abbrev grade : Option Collection → ℕ → Bool → Grade
 grade None components may = missing
 grade (Some collection) components may = of_length (collection.components == components) may
 
--- numbers that differ are told apart
+-- numbers that differ are not equal by the test
 unlike : (m n : ℕ) → m ≢ n → (m == n) ≡ false
 unlike m n apart = by (m == n) refl
   where
@@ -75,14 +75,14 @@ grade_of (AlreadyPut value) = allowed
 grade_of (Stopped instance kind) = allowed
 grade_of Repeat = allowed
 
--- the cause of a grade, where the environment may this one
+-- the cause of a grade; of the last grade, this cause
 abbrev cause_of : Refusal → Grade → Refusal
 cause_of cause missing = NoSuchCollection
 cause_of cause another = WrongArity
 cause_of cause shut = NotFromEnvironment
 cause_of cause allowed = cause
 
--- below the last grade the grade tells the cause
+-- a cause is the cause of its grade
 by_grade : (cause : Refusal) → cause ≡ cause_of cause (grade_of cause)
 by_grade NoSuchCollection = refl
 by_grade WrongArity = refl
@@ -91,7 +91,7 @@ by_grade (AlreadyPut value) = refl
 by_grade (Stopped instance kind) = refl
 by_grade Repeat = refl
 
--- causes of one grade are one, if those are that come where the environment may
+-- causes of one grade are equal, if those of the last grade are
 one_of_grade : (one two : Refusal) → grade_of one ≡ grade_of two → (grade_of one ≡ allowed → grade_of two ≡ allowed → one ≡ two) → one ≡ two
 one_of_grade one two same where_it_may = by (grade_of one) refl (sym same)
   where
@@ -104,22 +104,22 @@ one_of_grade one two same where_it_may = by (grade_of one) refl (sym same)
     by shut is other = told one shut is ∙ sym (told two shut (other ∙ is))
     by allowed is other = where_it_may is (other ∙ is)
 
--- the graph and the facts alone lead to it
+-- the graph and the facts alone lead to this refusal
 abbrev pub IsMeant : Refusal → Type 0
 IsMeant cause = IsOfMeaning (replied.Refused cause)
 
 -- ---- items
 
 module _ (g : Graph) (X : Facts) (address : Addr) where
-  -- the grades of the collection, by what the environment may
+  -- the grade of the name, by what the environment may do
   abbrev ItemGrades : Grade → Type 0
   ItemGrades = Grades g.items address.collection.0 (length address.key) (get_or g.environment_item_puts address.collection.0 false)
 
-  -- there is one
+  -- it has one grade
   one_item_grade : (one two : Grade) → ItemGrades one → ItemGrades two → one ≡ two
   one_item_grade = one_grade g.items address.collection.0 (length address.key) (get_or g.environment_item_puts address.collection.0 false)
 
-  -- a cause comes at its grade
+  -- a cause comes only at its own grade
   item_grade : (cause : Refusal) → RefusesItem g X address cause → ItemGrades (grade_of cause)
   item_grade NoSuchCollection why = why
   item_grade WrongArity why = why
@@ -128,7 +128,7 @@ module _ (g : Graph) (X : Facts) (address : Addr) where
   item_grade (Stopped instance kind) why = why.0
   item_grade Repeat why = absurd why
 
-  -- where the environment may put it, an item is there
+  -- if the environment may put it, the put is refused because an item is there
   item_there : (cause : Refusal) → RefusesItem g X address cause → IsMeant cause → grade_of cause ≡ allowed → (value : ℤ) × (cause ≡ AlreadyPut value) × items X address value
   item_there NoSuchCollection why meant is = absurd (cc)
   item_there WrongArity why meant is = absurd (cc)
@@ -137,7 +137,7 @@ module _ (g : Graph) (X : Facts) (address : Addr) where
   item_there (Stopped instance kind) why meant is = absurd meant
   item_there Repeat why meant is = absurd why
 
-  -- the put of the item is refused for one cause at most
+  -- the put of the item is refused for at most one cause
   pub one_item_cause : HasOneItemEach X → (one two : Refusal) → RefusesItem g X address one → RefusesItem g X address two → IsMeant one → IsMeant two → one ≡ two
   one_item_cause each one two first second meant also =
       one_of_grade one two (one_item_grade (grade_of one) (grade_of two) (item_grade one first) (item_grade two second))
@@ -146,7 +146,7 @@ module _ (g : Graph) (X : Facts) (address : Addr) where
       let b = item_there two second also other in
       a.1 ∙ ap AlreadyPut (each address a.0 b.0 a.2.0 b.2.0 a.2.1 b.2.1).0 ∙ sym b.1)
 
-  -- and not where the item may come
+  -- and for none if the item may come
   pub item_not_refused : ItemMayCome g X address → (cause : Refusal) → RefusesItem g X address cause → IsMeant cause → ⊥
   item_not_refused may cause why meant =
       let it = item_there cause why meant (one_item_grade (grade_of cause) allowed (item_grade cause why) may.0) in
@@ -155,15 +155,15 @@ module _ (g : Graph) (X : Facts) (address : Addr) where
 -- ---- tags
 
 module _ (g : Graph) (X : Facts) (name : Tag) where
-  -- the grades of the collection, by what the environment may
+  -- the grade of the name, by what the environment may do
   abbrev TagGrades : Grade → Type 0
   TagGrades = Grades g.tags name.collection.0 (length name.key) (get_or g.environment_tag_puts name.collection.0 false)
 
-  -- there is one
+  -- it has one grade
   one_tag_grade : (one two : Grade) → TagGrades one → TagGrades two → one ≡ two
   one_tag_grade = one_grade g.tags name.collection.0 (length name.key) (get_or g.environment_tag_puts name.collection.0 false)
 
-  -- a cause comes at its grade
+  -- a cause comes only at its own grade
   tag_grade : (cause : Refusal) → RefusesTag g X name cause → TagGrades (grade_of cause)
   tag_grade NoSuchCollection why = why
   tag_grade WrongArity why = why
@@ -172,7 +172,7 @@ module _ (g : Graph) (X : Facts) (name : Tag) where
   tag_grade (Stopped instance kind) why = why.0
   tag_grade Repeat why = why.0
 
-  -- where the environment may put it, the tag is there
+  -- if the environment may put it, the put is refused because the tag is there
   tag_there : (cause : Refusal) → RefusesTag g X name cause → IsMeant cause → grade_of cause ≡ allowed → (cause ≡ Repeat) × (X (tag name) ≡ true)
   tag_there NoSuchCollection why meant is = absurd (cc)
   tag_there WrongArity why meant is = absurd (cc)
@@ -181,13 +181,13 @@ module _ (g : Graph) (X : Facts) (name : Tag) where
   tag_there (Stopped instance kind) why meant is = absurd meant
   tag_there Repeat why meant is = (refl, why.2)
 
-  -- the put of the tag is refused for one cause at most
+  -- the put of the tag is refused for at most one cause
   pub one_tag_cause : (one two : Refusal) → RefusesTag g X name one → RefusesTag g X name two → IsMeant one → IsMeant two → one ≡ two
   one_tag_cause one two first second meant also =
       one_of_grade one two (one_tag_grade (grade_of one) (grade_of two) (tag_grade one first) (tag_grade two second))
       (λ is other. (tag_there one first meant is).0 ∙ sym (tag_there two second also other).0)
 
-  -- and not where the tag may come
+  -- and for none if the tag may come
   pub tag_not_refused : TagMayCome g X name → (cause : Refusal) → RefusesTag g X name cause → IsMeant cause → ⊥
   tag_not_refused may cause why meant =
       let it = tag_there cause why meant (one_tag_grade (grade_of cause) allowed (tag_grade cause why) may.0) in
@@ -196,15 +196,15 @@ module _ (g : Graph) (X : Facts) (name : Tag) where
 -- ---- gets
 
 module _ (g : Graph) (address : Addr) where
-  -- the grades of the collection, by what the environment may
+  -- the grade of the name, by what the environment may do
   abbrev GetGrades : Grade → Type 0
   GetGrades = Grades g.items address.collection.0 (length address.key) (get_or g.environment_gets address.collection.0 false)
 
-  -- there is one
+  -- it has one grade
   one_get_grade : (one two : Grade) → GetGrades one → GetGrades two → one ≡ two
   one_get_grade = one_grade g.items address.collection.0 (length address.key) (get_or g.environment_gets address.collection.0 false)
 
-  -- a cause comes at its grade
+  -- a cause comes only at its own grade
   get_grade : (cause : Refusal) → RefusesGet g address cause → GetGrades (grade_of cause)
   get_grade NoSuchCollection why = why
   get_grade WrongArity why = why
@@ -213,7 +213,7 @@ module _ (g : Graph) (address : Addr) where
   get_grade (Stopped instance kind) why = absurd why
   get_grade Repeat why = absurd why
 
-  -- where the environment may, nothing refuses it
+  -- if the environment may get it, nothing refuses the get
   get_shut : (cause : Refusal) → RefusesGet g address cause → grade_of cause ≡ allowed → ⊥
   get_shut NoSuchCollection why is = cc
   get_shut WrongArity why is = cc
@@ -222,11 +222,11 @@ module _ (g : Graph) (address : Addr) where
   get_shut (Stopped instance kind) why is = why
   get_shut Repeat why is = why
 
-  -- the get is refused for one cause at most
+  -- the get is refused for at most one cause
   pub one_get_cause : (one two : Refusal) → RefusesGet g address one → RefusesGet g address two → one ≡ two
   one_get_cause one two first second =
       one_of_grade one two (one_get_grade (grade_of one) (grade_of two) (get_grade one first) (get_grade two second)) (λ is other. absurd (get_shut one first is))
 
-  -- and not where the environment may get
+  -- and for none if the environment may get it
   pub get_not_refused : EnvironmentMayGet g address → (cause : Refusal) → RefusesGet g address cause → ⊥
   get_not_refused may cause why = get_shut cause why (one_get_grade (grade_of cause) allowed (get_grade cause why) may)

@@ -1,4 +1,4 @@
--- A command has one reply, where its reply is told by the graph and the facts alone, and by it come the same facts.
+-- A command has one reply, and the same facts come by it, if the graph and the facts alone determine its reply.
 use Rattle.std.proofs.Common.{◌≡◌, ◌≢◌, ◌∙◌, ◌⊎◌, ◌++◌, inl, inr, ap, refl, sym, subst, ℕ, ℤ, codes, List, [], ◌∷◌, length, Some, None}
 use Rattle.std.proofs.lemmas.Bool.{false≢true}
 use Rattle.std.specs.Fmt.{decimal}
@@ -28,7 +28,7 @@ use Rattle.session.specs.Replies.{reply_text, waiting_lines}
 use Rattle.session.proofs.OneRefusal.{IsMeant, get_not_refused, item_not_refused, one_get_cause, one_item_cause, one_tag_cause, tag_not_refused}
 use Rattle.session.proofs.OneWaiting.{none_waits, one_waiting}
 
--- two replies to one command where these facts are there: the same is written, the same facts come, and the events of the first are legal
+-- two replies to one command on a store with these facts: they have the same text, the same facts come, and the events of the first are legal
 pub record AreOne (g : Graph) (X : Facts) (reply other : Reply) (events came : List Event) : Type 0 where
   pub text : reply_text g reply ≡ reply_text g other
   pub facts : with_facts X (stated.facts events) ≡ with_facts X (stated.facts came)
@@ -40,7 +40,7 @@ pub record AreOne (g : Graph) (X : Facts) (reply other : Reply) (events came : L
 abbrev PutComesTo : Graph → Facts → (Refusal → Type 0) → Event → List Event → Reply → Type 0
 PutComesTo g X why event came reply = ((reply ≡ Done) × (came ≡ event ∷ []) × IsLegal g X event) ⊎ ((cause : Refusal) × (reply ≡ Refused cause) × (came ≡ []) × why cause × IsMeant cause)
 
--- where a put is replied to
+-- what a put comes to, by the reply to it
 put_kind : (g : Graph) (X : Facts) (why : Refusal → Type 0) (event : Event) (came : List Event) (reply : Reply) → RepliesPut g X why event came reply → IsOfMeaning reply → PutComesTo g X why event came reply
 put_kind g X why event came Done it meant = inl (refl, it.0, it.1)
 put_kind g X why event came (Refused cause) it meant = inr (cause, refl, it.0, it.1, meant)
@@ -57,7 +57,7 @@ put_kind g X why event came Device it meant = absurd meant
 put_kind g X why event came NoMemory it meant = absurd meant
 put_kind g X why event came NoThread it meant = absurd it
 
--- with one cause at most, and none where it may come, two replies to a put are one
+-- if a put has at most one cause to be refused, and none if it may come, then two replies to it are the same
 one_put : (g : Graph) (X : Facts) (why : Refusal → Type 0) (event : Event) → ((one two : Refusal) → why one → why two → IsMeant one → IsMeant two → one ≡ two)
     → (IsLegal g X event → (cause : Refusal) → why cause → IsMeant cause → ⊥) → (reply other : Reply) (events came : List Event)
     → PutComesTo g X why event events reply → PutComesTo g X why event came other → AreOne g X reply other events came
@@ -76,12 +76,12 @@ one_put g X why event one_cause not_refused reply other events came (inr one) (i
 
 -- ---- gets
 
--- an item is told, or that none is there, or it is refused
+-- the reply says which item is there, or that none is, or the get is refused
 abbrev GetComesTo : Graph → Facts → Addr → Reply → Type 0
 GetComesTo g X address reply = ((v : ℤ) × (reply ≡ Value address v) × EnvironmentMayGet g address × IsValueAt X address (Some v))
     ⊎ (((reply ≡ Absent address) × EnvironmentMayGet g address × IsValueAt X address None) ⊎ ((cause : Refusal) × (reply ≡ Refused cause) × RefusesGet g address cause))
 
--- where a get is replied to
+-- what a get comes to, by the reply to it
 get_kind : (g : Graph) (X : Facts) (address : Addr) (came : List Event) (reply : Reply) → RepliesGet g X address came reply → IsOfMeaning reply → (came ≡ []) × GetComesTo g X address reply
 get_kind g X address came (Value at v) it meant = (it.0, inl (v, ap (λ (a : Addr). Value a v) it.1, it.2, it.3))
 get_kind g X address came (Absent at) it meant = (it.0, inr (inl (ap Absent it.1, it.2, it.3)))
@@ -98,7 +98,7 @@ get_kind g X address came Device it meant = absurd it
 get_kind g X address came NoMemory it meant = absurd it
 get_kind g X address came NoThread it meant = absurd it
 
--- two replies to a get are one
+-- two replies to a get are the same
 one_get : (g : Graph) (X : Facts) → HasOneItemEach X → (address : Addr) (reply other : Reply) → GetComesTo g X address reply → GetComesTo g X address other → reply ≡ other
 one_get g X each address reply other (inl one) (inl two) = one.1 ∙ ap (Value address) (each address one.0 two.0 one.3.0 two.3.0 one.3.1 two.3.1).0 ∙ sym two.1
 one_get g X each address reply other (inl one) (inr (inl two)) = absurd (false≢true (sym (two.2 one.0 one.3.0) ∙ one.3.1))
@@ -110,7 +110,7 @@ one_get g X each address reply other (inr (inr one)) (inl two) = absurd (get_not
 one_get g X each address reply other (inr (inr one)) (inr (inl two)) = absurd (get_not_refused g address two.1 one.0 one.2)
 one_get g X each address reply other (inr (inr one)) (inr (inr two)) = one.1 ∙ ap Refused (one_get_cause g address one.0 two.0 one.2 two.2) ∙ sym two.1
 
--- nothing comes by a get
+-- no event comes by a get
 gets_nothing : (g : Graph) (X : Facts) (reply other : Reply) (events came : List Event) → events ≡ [] → came ≡ [] → reply ≡ other → AreOne g X reply other events came
 gets_nothing g X reply other events came none nothing same = record {
   text = ap (reply_text g) same;
@@ -120,7 +120,7 @@ gets_nothing g X reply other events came none nothing same = record {
 
 -- ---- runs
 
--- what is written where these wait
+-- what is written if these wait
 abbrev blocked_text : Graph → List (Inst × Addr) → List ℕ
 blocked_text g list = line (codes "blocked " ++ decimal (length list)) ++ waiting_lines g list
 
@@ -128,7 +128,7 @@ blocked_text g list = line (codes "blocked " ++ decimal (length list)) ++ waitin
 abbrev RunComesTo : Graph → Facts → Reply → Type 0
 RunComesTo g X reply = ((reply ≡ Complete) × AreAllDone g X) ⊎ ((list : List (Inst × Addr)) × (reply_text g reply ≡ blocked_text g list) × AreWaiting g X list × (list ≢ []))
 
--- where a run is told
+-- what a run comes to, by the reply to it
 run_kind : (g : Graph) (drive : Drive) (X : Facts) (count : ℕ) (reply : Reply) → TellsRun g drive X count reply → IsOfMeaning reply → IsQuiet g X × RunComesTo g X reply
 run_kind g drive X count Complete it meant = (it.0, inl (refl, it.1))
 run_kind g drive X count (Blocked waiting) it meant = (it.0, inr (waiting.items, refl, it.1, it.2))
@@ -146,7 +146,7 @@ run_kind g drive X count (Refused cause) it meant = absurd it
 run_kind g drive X count Device it meant = absurd it
 
 module _ (told : OneFact) (once : LookUpEndsOnce) (goes_on : ReachedGoesOn) (one_item : ReachedHasOneItem) (is_meaning : ReachedIsMeaning) (one_meaning : OneMeaningEach) (g : Graph) where
-  -- where what is reached is quiet, two replies to a run are one text
+  -- if the facts that are reached are quiet, two replies to a run have one text
   one_end : (E X : Facts) → IsReached g E X → (reply other : Reply) → RunComesTo g X reply → RunComesTo g X other → reply_text g reply ≡ reply_text g other
   one_end E X reached reply other (inl one) (inl two) = ap (reply_text g) (one.0 ∙ sym two.0)
   one_end E X reached reply other (inl one) (inr two) = absurd (two.3 (none_waits g X one.1 two.0 two.2))
@@ -154,12 +154,12 @@ module _ (told : OneFact) (once : LookUpEndsOnce) (goes_on : ReachedGoesOn) (one
   one_end E X reached reply other (inr one) (inr two) =
       one.1 ∙ ap (blocked_text g) (one_waiting told once g E X reached (one_item g E X reached) one.0 two.0 one.2 two.2) ∙ sym two.1
 
-  -- a run leads to what is reached on the same environment
+  -- a run leads to facts that are reached from the same environment
   run_reaches : (drive : Drive) (E X : Facts) → IsReached g E X → (came : List Event) (reply : Reply) → RepliesRun g drive X came reply → IsReached g E (with_facts X (stated.facts came))
   run_reaches drive E X reached came reply it =
       subst (λ (F : Facts). IsReached g F (with_facts X (stated.facts came))) (ap (with_facts E) (put_nothing came it.are_ends) ∙ with_nothing E) (goes_on g E X came reached it.legal)
 
-  -- two replies to a run are one text, and both runs lead to the same facts
+  -- two replies to a run have one text, and both runs lead to the same facts
   one_run : (one two : Drive) (E X : Facts) → IsReached g E X → (reply other : Reply) (events came : List Event) → RepliesRun g one X events reply → RepliesRun g two X came other
       → IsOfMeaning reply → IsOfMeaning other → AreOne g X reply other events came
   one_run one two E X reached reply other events came first second meant also =
@@ -178,7 +178,7 @@ module _ (told : OneFact) (once : LookUpEndsOnce) (goes_on : ReachedGoesOn) (one
 
   -- ---- commands
 
-  -- by the kind of the command
+  -- two replies to a command, by its kind
   pub one_reply : (one two : Drive) (E X : Facts) → IsReached g E X → (command : Command) (reply other : Reply) (events came : List Event) → RepliesTo g one X command events reply → RepliesTo g two X command came other
       → IsOfMeaning reply → IsOfMeaning other → AreOne g X reply other events came
   one_reply one two E X reached (Put address v) reply other events came first second meant also =

@@ -1,4 +1,4 @@
--- Of one set of facts, those that wait are told in one list.
+-- For one set of facts, there is one list of the instances that wait.
 use Rattle.std.proofs.Common.{◌≡◌, ◌∙◌, ap, refl, sym, subst, true, List, [], ◌∷◌, map, arith}
 use Rattle.std.proofs.Math.ListN.{get_or-map}
 use Rattle.std.proofs.lemmas.Bool.{false≢true}
@@ -29,11 +29,11 @@ use Rattle.session.proofs.ByName as by_name
 
 -- ---- the item that one needs
 
--- what is asked for is told by the ending
+-- the ending determines what is asked for
 asks_one : (a b : Addr) → ◌≡◌ {A = Ending} (Asks a) (Asks b) → a ≡ b
 asks_one a b same = cc
 
--- over a set with one item at an address an instance needs one item
+-- over a set with at most one item at each address an instance needs one item
 needs_one : OneFact → LookUpEndsOnce → (g : Graph) (E X : Facts) → IsReached g E X → HasOneItemEach X → (instance : Inst) (a b : Addr) → Needs g X instance a → Needs g X instance b → a ≡ b
 needs_one told once g E X reached each instance a b =
     subst (λ (Y : Facts). Needs g Y instance a → Needs g Y instance b → a ≡ b) same
@@ -48,7 +48,7 @@ needs_one told once g E X reached each instance a b =
 abbrev instances : List (Inst × Addr) → List Inst
 instances list = map (λ (entry : Inst × Addr). entry.0) list
 
--- instances that tie are one
+-- instances that tie are equal
 is_one : (one two : Inst) → eq_by_cmp inst_cmp one two ≡ true → one ≡ two
 is_one one two tied = instances_tie one two ((Equal-is (inst_cmp one two)).0 tied)
 
@@ -58,7 +58,7 @@ in_instances list entry within =
     let long = length-map list (λ (entry : Inst × Addr). entry.0) in
     (within.0, omega (arith, within.1), get_or-map (λ (entry : Inst × Addr). entry.0) list within.0 entry ∙ ap (λ (entry : Inst × Addr). entry.0) within.2)
 
--- an instance that waits by the one list waits by the other
+-- an instance that is in one list is in the other
 passes : (g : Graph) (X : Facts) (one two : List (Inst × Addr)) → AreWaiting g X one → AreWaiting g X two → (instance : Inst) → list_any (eq_by_cmp inst_cmp instance) (instances one) ≡ true
     → list_any (eq_by_cmp inst_cmp instance) (instances two) ≡ true
 passes g X one two first second instance has =
@@ -79,14 +79,14 @@ same_instances g X one two first second =
 
 -- ---- the lists
 
--- of lists that are one, the first is one and the rest is
+-- equal lists have equal first elements and equal rests
 first_one : {X : Type 0} (x y : X) (xs ys : List X) → x ∷ xs ≡ y ∷ ys → x ≡ y
 first_one x y xs ys same = cc
 
 rest_one : {X : Type 0} (x y : X) (xs ys : List X) → x ∷ xs ≡ y ∷ ys → xs ≡ ys
 rest_one x y xs ys same = cc
 
--- lists of the same instances, each of which waits at one address, are one
+-- lists of the same instances, each of which waits at one address, are equal
 same_entries : (g : Graph) (X : Facts) → ((instance : Inst) (a b : Addr) → Needs g X instance a → Needs g X instance b → a ≡ b) → (one two : List (Inst × Addr)) → instances one ≡ instances two
     → AllByRecursion (λ entry. Waits g X entry.0 entry.1) one → AllByRecursion (λ entry. Waits g X entry.0 entry.1) two → one ≡ two
 same_entries g X needs [] [] same first second = refl
@@ -98,13 +98,13 @@ same_entries g X needs (x ∷ xs) (y ∷ ys) same first second =
     let rest : xs ≡ ys = same_entries g X needs xs ys (rest_one x.0 y.0 (instances xs) (instances ys) same) first.1 second.1 in
     λ i. (instance i, address i) ∷ rest i
 
--- two lists of all that wait are one
+-- two lists of all instances that wait are equal
 pub one_waiting : OneFact → LookUpEndsOnce → (g : Graph) (E X : Facts) → IsReached g E X → HasOneItemEach X → (one two : List (Inst × Addr)) → AreWaiting g X one → AreWaiting g X two → one ≡ two
 one_waiting told once g E X reached each one two first second =
     same_entries g X (needs_one told once g E X reached each) one two (same_instances g X one two first second)
     (recursion_from_All (λ (entry : Inst × Addr). Waits g X entry.0 entry.1) one first.wait) (recursion_from_All (λ (entry : Inst × Addr). Waits g X entry.0 entry.1) two second.wait)
 
--- where all is done none waits
+-- if all is done, none waits
 pub none_waits : (g : Graph) (X : Facts) → AreAllDone g X → (list : List (Inst × Addr)) → AreWaiting g X list → list ≡ []
 none_waits g X all list are = by list (recursion_from_All (λ (entry : Inst × Addr). Waits g X entry.0 entry.1) list are.wait)
   where

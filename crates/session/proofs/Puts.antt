@@ -1,4 +1,4 @@
--- What is replied to a put, and to a get that is refused.
+-- The replies to a put, and to a get that is refused.
 use Rattle.std.proofs.Common.{◌≡◌, ◌≢◌, ◌∙◌, ◌↔◌, ap, refl, sym, inl, inr, ℕ, Bool, true, false, List, [], ◌∷◌, Option, Some, None, Result, Ok, Err, OnOk, OnErr, IfErr}
 use Rattle.std.proofs.lemmas.Bool.{false≢true}
 use Rattle.disk.specs.declared.side.Side.{Side}
@@ -42,7 +42,7 @@ refused_reply c why event (Store store.Exists) is = absurd is
 
 -- ---- causes
 
--- a reply that tells of no halt, no device and no want of room has no cause to tell
+-- a reply that is not `Halted`, `Device` or `Full` needs no cause
 pub other_cause : {D : Type 0} (failures : D → ℕ) (old new : Core D) (command : Command) (reply : Reply) → reply ≢ replied.Halted → reply ≢ replied.Device → reply ≢ replied.Full → HasCause failures old new command reply
 other_cause failures old new command reply not_halted not_device not_full = record { halted = λ is. absurd (not_halted is); device = λ is. absurd (not_device is); full = λ is. absurd (not_full is) }
 
@@ -60,7 +60,7 @@ refused_cause failures refusals old new why event command room (Store (store.Dam
 refused_cause failures refusals old new why event command room (Store store.NotAStore) is halts = absurd is
 refused_cause failures refusals old new why event command room (Store store.Exists) is halts = absurd is
 
--- of a put
+-- the cause of a reply to a put
 pub put_cause : {D T : Type 0} (failures refusals : D → ℕ) (old new : Core D) (why : Refusal → Type 0) (event : Event) (command : Command) → (IsTooLong old event → HasNoRoom old new command) → (result : Result T CoreError)
     → IfErr result (Refuses old why event) → Halts failures refusals old new result → HasCause failures old new command (put_reply result)
 put_cause failures refusals old new why event command room (Ok done) refuses halts = other_cause failures old new command replied.Done (λ same. cc) (λ same. cc) (λ same. cc)
@@ -79,7 +79,7 @@ module _ {D T : Type 0} (files : D → Side → File) (moment : D → ℕ) (left
   replied_put (Err error) takes same refuses doubt moments halts =
       ([], refused files moment left_at failures refusals honest leaves gates_rest {T = T} append old new event why kept settled error same refuses doubt (λ working on. moments on working) halts, refused_reply old why event error refuses)
 
--- none runs behind an event that ends none, where none ran before
+-- no instance runs after an event that ends none, if none ran before
 pub put_idle : {D T : Type 0} (old new : Core D) (event : Event) → ((instance : Inst) → Ends event instance → ⊥) → NoneRuns old → (result : Result T CoreError) → OnOk result (Takes old new event) → OnErr result (IsUnchanged old new) → NoneRuns new
 put_idle old new event ends_none idle (Ok done) takes same instance runs =
     idle instance (goes_on (facts_of new.machine.memory) (state_of old instance) (state_of new instance) (takes.takes.states instance (ends_none instance)) runs)
@@ -87,7 +87,7 @@ put_idle old new event ends_none idle (Err error) takes same instance runs = idl
 
 -- ---- halts
 
--- of the errors, a halt alone is told so
+-- only the error of a halted core is replied to with `Halted`
 halted_before : {D : Type 0} (c : Core D) (why : Refusal → Type 0) (event : Event) (error : CoreError) → Refuses c why event error → reply_of error ≡ replied.Halted → is_halted c ≡ true
 halted_before c why event (Refused cause) is told = absurd (cc)
 halted_before c why event (Store store.Full) is told = absurd (cc)
@@ -98,7 +98,7 @@ halted_before c why event (Store (store.Damaged side place)) is told = absurd is
 halted_before c why event (Store store.NotAStore) is told = absurd is
 halted_before c why event (Store store.Exists) is told = absurd is
 
--- a put is told to be refused by a halt exactly where the core was halted
+-- the reply to a put is `Halted` exactly if the core was halted before
 pub put_halt : {D T : Type 0} (failures refusals : D → ℕ) (old new : Core D) (why : Refusal → Type 0) (event : Event) (result : Result T CoreError) → OnOk result (Takes old new event) → IfErr result (Refuses old why event)
     → Halts failures refusals old new result → (put_reply result ≡ replied.Halted) ↔ (is_halted old ≡ true)
 put_halt failures refusals old new why event (Ok done) takes refuses halts = (λ told. absurd (cc), λ halted. absurd (false≢true (sym takes.working.0 ∙ halted)))
@@ -108,7 +108,7 @@ module _ {D T : Type 0} (failures refusals : D → ℕ) (old new : Core D) (erro
   error_is : {cause : CoreError} → ◌≡◌ {A = Result T CoreError} (Err error) (Err cause) → error ≡ cause
   error_is is = cc
 
-  -- an error that is not the disk's halts nothing
+  -- an error other than `Device` and `NoMemory` halts nothing
   calm : error ≢ Store store.Device → error ≢ Store store.NoMemory → is_halted old ≡ false → is_halted new ≡ is_halted old
   calm not_device not_memory working = at (is_halted new) refl
     where
@@ -123,7 +123,7 @@ module _ {D T : Type 0} (failures refusals : D → ℕ) (old new : Core D) (erro
 some_is_none : (end : Stop) → ◌≡◌ {A = Option Stop} (Some end) None → ⊥
 some_is_none end is = cc
 
--- a put whose reply ends no session leaves the core halted or not, as it was
+-- after a put whose reply ends no session the core is halted exactly if it was before
 error_stays : {D T : Type 0} (failures refusals : D → ℕ) (old new : Core D) (why : Refusal → Type 0) (event : Event) (error : CoreError) → Refuses old why event error → Halts {T = T} failures refusals old new (Err error)
     → stop_of (reply_of error) ≡ None → is_halted new ≡ is_halted old
 error_stays {T = T} failures refusals old new why event (Refused cause) is halts none = calm {T = T} failures refusals old new (Refused cause) halts (λ same. cc) (λ same. cc) is.0

@@ -1,4 +1,4 @@
--- Two sessions of the same commands on the same store write the same, where each reply is told by the graph and the facts alone.
+-- Two sessions of the same commands on the same store write the same, if the graph and the facts alone determine each reply.
 use Rattle.std.proofs.Common.{◌≡◌, ◌≢◌, ◌∙◌, ◌⊎◌, ◌++◌, inl, inr, ap, refl, sym, subst, ℕ, List, [], ◌∷◌, Option, None}
 use Rattle.std.proofs.lemmas.List.Elements.{recursion_from_All}
 use Rattle.std.specs.List.{AllByRecursion}
@@ -40,7 +40,7 @@ goes_on_behind Device meant = absurd meant
 goes_on_behind NoMemory meant = absurd meant
 goes_on_behind NoThread meant = absurd meant
 
--- nor do they together
+-- nor do several of them
 none_stops : (commands : List Command) (replies : List Reply) (ending : Ending) → ending.stop ≡ None → AllByRecursion IsOfMeaning replies → (ending_from ending commands replies).stop ≡ None
 none_stops [] replies ending none meant = none
 none_stops (command ∷ more) [] ending none meant = none
@@ -53,21 +53,21 @@ reports g drive X commands replies events ending text session meant =
     subst (λ (stop : Option Stop). IsClosing g (with_facts X (stated.facts (all_of events))) stop session.closing)
     (ap (λ (e : Ending). e.stop) session.ends ∙ none_stops commands replies no_ending refl meant) session.closes
 
--- behind a reply that does not end the session the rest is replied to
+-- after a reply that does not end the session the rest is replied to
 rest_of : {A B C : Type 0} (reply : Reply) → stop_of reply ≡ None → ((stop_of reply ≡ None) × A) ⊎ ((stop_of reply ≢ None) × B × C) → A
 rest_of reply none (inl it) = it.1
 rest_of reply none (inr it) = absurd (it.0 none)
 
 -- ---- replies
 
--- what two sessions come to: the same is written, and the same facts are there
+-- two sessions come to the same: they write the same, and lead to the same facts
 record AreSame (g : Graph) (X : Facts) (replies others : List Reply) (events came : List (List Event)) : Type 0 where
   text : replies_text g replies ≡ replies_text g others
   facts : with_facts X (stated.facts (all_of events)) ≡ with_facts X (stated.facts (all_of came))
 
 module _ (told : OneFact) (both : AmongBoth) (facts_go_on : stated.FactsGoOn) (once : LookUpEndsOnce) (goes_on : ReachedGoesOn) (one_item : ReachedHasOneItem) (is_meaning : ReachedIsMeaning)
     (one_meaning : OneMeaningEach) where
-  -- the facts behind the events of a first line, and of the lines behind that one
+  -- the facts after the events of a first line, and of the lines after it
   parted : (X : Facts) (first : List Event) (later : List (List Event)) → with_facts X (stated.facts (all_of (first ∷ later))) ≡ with_facts (with_facts X (stated.facts first)) (stated.facts (all_of later))
   parted X first later = ap (with_facts X) (facts_go_on first (all_of later)) ∙ with_both both X (stated.facts first) (stated.facts (all_of later))
 
@@ -97,7 +97,7 @@ module _ (told : OneFact) (both : AmongBoth) (facts_go_on : stated.FactsGoOn) (o
 
   -- ---- sessions
 
-  -- so the whole text of both is one
+  -- so both have the same whole text
   pub one_text : ReportsOnce → HasOneText
   one_text reports_once g E X one two commands replies others events came ending last text other reached first meant second also =
       let all = recursion_from_All IsOfMeaning replies meant in

@@ -1,4 +1,4 @@
--- Instances that are listed once each, and in the order of the names of their steps, rise strictly.
+-- A list of instances that has each once, in the order of the names of their steps, is strictly sorted.
 use Rattle.std.proofs.Common.{◌≡◌, ◌∙◌, ap, refl, sym, subst, ℕ, ◌+◌, ◌<◌, false, T, List, [], ◌∷◌, map, length, get_or, arith}
 use Rattle.std.proofs.Math.ListN.{get_or-map}
 use Rattle.std.proofs.lemmas.List.{length-map}
@@ -32,7 +32,7 @@ below Greater back apart = absurd (false≢true (sym back))
 tie : (g : Graph) (one two : Inst) → instance_cmp g one two ≡ Equal → inst_cmp one two ≡ Equal
 tie g one two same = (both_tie _ (inst_cmp one two) same).1
 
--- instances in that order, of which no two tie, rise
+-- a list of instances in that order, of which no two tie, is strictly sorted
 rises_apart : (g : Graph) (list : List (Inst × Addr)) → IsSortedBy (λ one two. is_lt (instance_cmp g one.0 two.0)) list → IsDistinct (eq_by_cmp inst_cmp) (map (λ entry. entry.0) list)
     → IsStrictlySortedBy (instance_cmp g) (map (λ entry. entry.0) list)
 unfolding IsStrictlySortedBy
@@ -62,7 +62,7 @@ rises_apart g (first ∷ rest) sorted distinct = sorted_from_all_adjacent (insta
     step k within =
         below (instance_cmp g (at k) (at (k + 1))) (ap is_lt (sym ((instances_total g).antisymm (at (k + 1)) (at k))) ∙ back k within) (apart k within)
 
--- so do instances that are listed once each in the order of their numbers and keys, where they are put in that order
+-- so is a list of instances that is strictly sorted by numbers and keys, once it is sorted in that order
 pub strictly : IsTotalOrder inst_cmp → (g : Graph) (blocked list : List (Inst × Addr)) → T (is_sorted inst_cmp blocked) → IsPermutation blocked list
     → IsSortedBy (λ one two. is_lt (instance_cmp g one.0 two.0)) list → IsStrictlySortedBy (instance_cmp g) (map (λ entry. entry.0) list)
 strictly total g blocked list once same sorted =

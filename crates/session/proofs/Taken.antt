@@ -1,4 +1,4 @@
--- What is read of a script: all of it, or as much as is too large.
+-- What is read of a script: all of it, or a prefix that is too long to be a script.
 use Rattle.std.proofs.Common.{◌≡◌, ◌∙◌, ap, refl, sym, inl, inr, ℕ, zero, suc, ◌+◌, ◌<◌, ◌≤◌, ◌⊎◌, List, [], ◌∷◌, ◌++◌, length, take, drop, Option, Some, None, Result, Ok, Err, IfOk, IfErr, arith, length-take, length-append}
 use Rattle.std.specs.Prelude.{IfSome}
 use Rattle.std.specs.Option.{option_map}
@@ -9,7 +9,7 @@ use Rattle.session.specs.declared.error.SessionError.{SessionError}
 use Rattle.session.specs.declared.error.SessionError.TheVariants.{Read, Write, Script, NoMemory}
 use Rattle.session.specs.Fails.{FailsToRead, IsAllOf, IsAllOrTooLarge, IsRefusedAs}
 
--- what a reader gave that reads no more than so many bytes
+-- what a reader gave that reads at most `limit` bytes
 abbrev pub IsTaken : Option (List ℕ) → ℕ → List ℕ → Type 0
 IsTaken known limit text = IfSome (option_map (take limit) known) (λ bytes. text ≡ bytes)
 
@@ -45,7 +45,7 @@ fails g known text NoMemory is refused = tt
 fails g known text Read is refused = absurd refused
 fails g known text Write is refused = absurd refused
 
--- ---- answers that follow from others
+-- ---- results that follow from others
 
 pub where_it_is_ok : {T E : Type 0} {P Q : T → Type 0} (r : Result T E) → ((x : T) → P x → Q x) → IfOk r P → IfOk r Q
 where_it_is_ok (Ok x) follows holds = follows x holds

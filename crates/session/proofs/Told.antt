@@ -1,4 +1,4 @@
--- What is told of a store by its facts: that each instance is done, and which wait.
+-- What a store shows by its facts: whether each instance is done, and which wait.
 use Rattle.std.proofs.Common.{◌≡◌, ◌≢◌, ◌∙◌, ap, refl, sym, subst, ℕ, Bool, true, false, List, [], ◌∷◌, length, Option, Some, None, is_some, Ok, arith}
 use Rattle.std.proofs.lemmas.Bool.{false≢true}
 use Rattle.std.proofs.lemmas.List.Sorted.{All-permutation, Contains-permutation, length_permutation}
@@ -43,7 +43,7 @@ state_is m kept instance prescribed = at (state_of m instance) refl ((kept.presc
 apart : true ≡ false → ⊥
 apart same = cc
 
--- where none is active and none waits, each is done
+-- if no instance is active and none waits, each is done
 pub all_done : (m : Machine) → IsKept m → NoneIsActive m → waiting_count m ≡ 0 → AreAllDone m.graph (facts m)
 all_done m kept idle none instance prescribed = let it = state_is m kept instance prescribed in at it.0 it.1
   where
@@ -58,7 +58,7 @@ all_done m kept idle none instance prescribed = let it = state_is m kept instanc
 no_address : (address : Addr) → ◌≡◌ {A = Option Addr} None (Some address) → ⊥
 no_address address same = cc
 
--- where the list of those that wait is empty, none is counted
+-- if the list of those that wait is empty, none is counted
 fails : (m : Machine) → AreBlocked m [] → (instance : Inst) (state : State) → state_of m instance ≡ Some state → is_waiting state ≡ false
 fails m are instance Ready is = refl
 fails m are instance Running is = refl
@@ -69,7 +69,7 @@ is_empty : {X : Type 0} (list : List X) → length list ≡ 0 → list ≡ []
 is_empty [] none = refl
 is_empty (first ∷ rest) none = absurd (omega (arith, none))
 
--- where one waits, not each is done
+-- if one waits, not all instances are done
 pub some_wait : (m : Machine) → IsKept m → waiting_count m ≢ 0 → AreAllDone m.graph (facts m) → ⊥
 some_wait m kept some all = some ((kept.counted is_waiting).1 each)
   where
@@ -82,7 +82,7 @@ some_wait m kept some all = some ((kept.counted is_waiting).1 each)
     each instance Done is = refl
     each instance (Waiting address) is = absurd (waits_not address (sym ((kept.done instance).1 (all instance ((kept.prescribed instance).0 (ap is_some is)))) ∙ is))
 
--- all that are not done wait, and some do
+-- the sorted list holds all that are not done, each of which waits, and some do
 pub told_waiting :
     IsTotalOrder inst_cmp → IsAntisymmetric inst_cmp → (m : Machine) → IsKept m → NoneIsActive m → waiting_count m ≢ 0 → (blocked list : List (Inst × Addr)) → AreBlocked m blocked → IsPermutation blocked list
     → IsSortedBy (λ one two. is_lt (instance_cmp m.graph one.0 two.0)) list → AreWaiting m.graph (facts m) list × (list ≢ [])
@@ -121,7 +121,7 @@ told_blocked c kept asked spawn halted limit count blocked reply is tells_it = a
     at replied.Device told = absurd told
     at replied.NoThread told = absurd told
 
--- and neither has a further cause to tell
+-- and neither reply needs a cause
 pub blocked_cause : {D : Type 0} (failures : D → ℕ) (c : Core D) (reply : Reply) → TellsBlocked (graph c) (core.facts c) reply → HasCause failures c c Run reply
 blocked_cause failures c (replied.Blocked waiting) told = other_cause failures c c Run (replied.Blocked waiting) (λ same. cc) (λ same. cc) (λ same. cc)
 blocked_cause failures c replied.NoMemory told = other_cause failures c c Run replied.NoMemory (λ same. cc) (λ same. cc) (λ same. cc)

@@ -1,4 +1,4 @@
--- One line more: what the core comes to by it, and what is answered up to it.
+-- One more line: what the core comes to by it, and what was answered up to it.
 use Rattle.std.proofs.Common.{◌≡◌, ◌≢◌, ℕ, List, [], ◌∷◌, ◌++◌, None, append_assoc, append-nil, refl, subst, sym}
 use Rattle.disk.specs.declared.side.Side.{Side}
 use Rattle.disk.specs.File.{File}
@@ -25,7 +25,7 @@ module _ {D : Type 0} (files : D → Side → File) (moment : D → ℕ) (left_a
   pub linked_nowhere : (core : Core D) → Linked core core [] [] []
   linked_nowhere core = record { follows = λ last more rest later it. it }
 
-  -- and by one more
+  -- it went on by one more line
   linked_on : (old mid new : Core D) (begun : List Command) (replies : List Reply) (events : List (List Event)) → Linked old mid begun replies events → (command : Command) (reply : Reply) (came : List Event)
       → GoesOn files moment left_at failures refusals honest mid new came → HasCause failures mid new command reply → Linked old new (begun ++ command ∷ []) (replies ++ reply ∷ []) (events ++ came ∷ [])
   linked_on old mid new begun replies events linked command reply came goes cause = record {
@@ -44,7 +44,7 @@ module _ {D : Type 0} (files : D → Side → File) (moment : D → ℕ) (left_a
       (subst (λ (all : List (List Event)). GoesOnByLine files moment left_at failures refusals honest old new (begun ++ left) (replies ++ []) all) (append-nil events) (linked.follows new left [] [] refl))
 
   module _ (drive : Drive) where
-    -- Behind this command: the session goes on where its reply does not end it, and else no further command is answered.
+    -- After this command: the session goes on if the reply does not end it, and else no further command is answered.
     pub record Turned (old new : Core D) (begun : List Command) (command : Command) (ending : Ending) (replies : List Reply) (reply : Reply) : Type 0 where
       pub events : List (List Event)
       pub goes : GoesOn files moment left_at failures refusals honest old new (all_of events)

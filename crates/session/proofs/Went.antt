@@ -1,4 +1,4 @@
--- What the first lines of a script came to, up to where a session is.
+-- What the lines of a script came to so far.
 use Rattle.std.proofs.Common.{◌≡◌, ◌≢◌, ◌∙◌, ap, refl, sym, subst, inl, inr, List, [], ◌∷◌, ◌++◌, Option, Some, None, append_assoc, append-nil}
 use Rattle.std.proofs.lemmas.Grind.{flat_map-append}
 use Rattle.terms.specs.declared.event.Event.{Event}
@@ -17,17 +17,17 @@ use Rattle.session.specs.Session.{AreReplies, all_of, ending_from, no_ending, st
 some_is_not_none : (end : Stop) → ◌≡◌ {A = Option Stop} (Some end) None → ⊥
 some_is_not_none end is = cc
 
--- a reply that is the last, with nothing behind it
+-- one command, and one reply to it
 last : (g : Graph) (drive : Drive) (X : Facts) (command : Command) (came : List Event) (reply : Reply) → Replies g drive X command came reply → (o : Option Stop) → stop_of reply ≡ o
     → AreReplies g drive X (command ∷ []) (reply ∷ []) (came ∷ [])
 last g drive X command came reply is None goes_on = (is, inl (goes_on, (refl, refl)))
 last g drive X command came reply is (Some end) stops = (is, inr ((λ none. some_is_not_none end (sym stops ∙ none)), refl, refl))
 
--- the events of one line more
+-- the events of one more line
 pub one_line_more : (events : List (List Event)) (came : List Event) → all_of (events ++ came ∷ []) ≡ all_of events ++ came
 one_line_more events came = flat_map-append (λ (line : List Event). line) events (came ∷ []) ∙ ap (λ (more : List Event). all_of events ++ more) (append-nil came)
 
--- From these facts on the first commands were answered so, and these events came; the session went on, and may end so.
+-- From these facts on the commands `begun` were answered with these replies, and these events came; the session went on, with this ending so far.
 pub record Went (g : Graph) (drive : Drive) (X : Facts) (begun : List Command) (ending : Ending) (replies : List Reply) (events : List (List Event)) : Type 0 where
   pub follows : (more : List Command) (rest : List Reply) (later : List (List Event)) → AreReplies g drive (with_facts X (stated.facts (all_of events))) more rest later → AreReplies g drive X (begun ++ more) (replies ++ rest) (events ++ later)
   pub ends : (more : List Command) (rest : List Reply) → ending_from no_ending (begun ++ more) (replies ++ rest) ≡ ending_from ending more rest
@@ -56,7 +56,7 @@ module _ (both : AmongBoth) (g : Graph) (drive : Drive) (X : Facts) (begun : Lis
         ∙ went.ends (command ∷ more) (reply ∷ rest);
   }
 
-  -- where it ended the session
+  -- if its reply ended the session
   pub stopped : (left : List Command) → stop_of reply ≢ None → AreReplies g drive X (begun ++ command ∷ left) (replies ++ reply ∷ []) (events ++ came ∷ [])
   stopped left stops = went.follows (command ∷ left) (reply ∷ []) (came ∷ []) (answered, inr (stops, refl, refl))
 
@@ -67,7 +67,7 @@ module _ (both : AmongBoth) (g : Graph) (drive : Drive) (X : Facts) (begun : Lis
   pub ended : (left : List Command) → with_reply ending command reply ≡ ending_from no_ending (begun ++ command ∷ left) (replies ++ reply ∷ [])
   ended left = sym (went.ends (command ∷ left) (reply ∷ []) ∙ nothing_more (with_reply ending command reply) left)
 
-  -- where its reply could not be written
+  -- if its reply could not be written
   pub begun_with : AreReplies g drive X (begun ++ command ∷ []) (replies ++ reply ∷ []) (events ++ came ∷ [])
   begun_with = went.follows (command ∷ []) (reply ∷ []) (came ∷ []) (last g drive (with_facts X (stated.facts (all_of events))) command came reply answered (stop_of reply) refl)
 

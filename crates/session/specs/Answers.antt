@@ -1,4 +1,4 @@
--- What the lines of a script come to: the events that each of them commits, and what is replied to it, by the graph and the facts that are there before it.
+-- What the lines of a script come to: the events that each commits, and the reply to it, by the graph and the facts before it.
 use Rattle.std.specs.Prelude.{◌≡◌, ◌≢◌, ◌↔◌, ⊤, ◌≤◌, ℕ, Bool, true, false, List, [], ◌∷◌, length, map, get_or, Some, None, Result, Ok, Err, All}
 use Rattle.std.specs.List.{AllByRecursion, Contains}
 use Rattle.std.specs.List.Sorted.{IsStrictlySortedBy}
@@ -29,8 +29,8 @@ use Rattle.script.specs.declared.command.Command.TheVariants.{Put, Tag, Get, Run
 use Rattle.session.specs.declared.reply.Reply.{Reply}
 use Rattle.session.specs.declared.reply.Reply.TheVariants as replied
 
--- how a session runs: how many ends of instances a run may commit, whether it may be asked to stop, whether it starts threads, which may be refused, and whether
--- the store was halted when it began
+-- how a session runs: how many ends of instances a run may commit, whether it may be asked to stop, whether it starts threads, which may be refused,
+-- and whether the store was halted when the session began
 pub record Drive : Type 0 where
   pub most : ℕ
   pub may_be_asked : Bool
@@ -42,7 +42,7 @@ drive_of most may_be_asked may_spawn was_halted = record { most = most; may_be_a
 
 -- ---- puts and gets
 
--- a put of this event, for which the environment may be refused so; this came by it
+-- the reply to a put of this event, which the environment may be refused for a cause that `why` holds of; and the events that came by it
 abbrev pub RepliesPut : Graph → Facts → (Refusal → Type 0) → Event → List Event → Reply → Type 0
 RepliesPut g X why event came replied.Done = (came ≡ event ∷ []) × IsLegal g X event
 RepliesPut g X why event came (replied.Refused cause) = (came ≡ []) × why cause
@@ -52,7 +52,7 @@ RepliesPut g X why event came replied.NoMemory = (came ≡ []) × IsLegal g X ev
 RepliesPut g X why event came replied.Halted = came ≡ []
 RepliesPut g X why event came other = ⊥
 
--- a get at this address
+-- the reply to a get at this address, and the events that came by it
 abbrev pub RepliesGet : Graph → Facts → Addr → List Event → Reply → Type 0
 RepliesGet g X address came (replied.Value at v) = (came ≡ []) × (at ≡ address) × EnvironmentMayGet g address × IsValueAt X address (Some v)
 RepliesGet g X address came (replied.Absent at) = (came ≡ []) × (at ≡ address) × EnvironmentMayGet g address × IsValueAt X address None
@@ -66,21 +66,21 @@ RepliesGet g X address came other = ⊥
 abbrev pub AreAllDone : Graph → Facts → Type 0
 AreAllDone g X = (instance : Inst) → IsPrescribed g X instance → X (done instance) ≡ true
 
--- there is no fault, and not each prescribed instance is done
+-- there is no fault, and not all prescribed instances are done
 abbrev pub HasMoreToDo : Graph → Facts → Type 0
 HasMoreToDo g X = HasNoFault X × (AreAllDone g X → ⊥)
 
--- two instances by the name of their step, in the order of the bytes, and then by number and key
+-- compares two instances by the name of their step, in the order of the bytes, and then by number and key
 abbrev pub instance_cmp : Graph → Inst → Inst → Ordering
 instance_cmp g one two = ordering_then (slice_cmp nat_cmp (get_or (names_of_steps g.steps) one.collection.0 []) (get_or (names_of_steps g.steps) two.collection.0 [])) (inst_cmp one two)
 
--- all instances that are prescribed and not done, each once, with the address of the item that it needs; in that order
+-- all instances that are prescribed and not done, each once, with the address of the item that it needs; in this order
 pub record AreWaiting (g : Graph) (X : Facts) (list : List (Inst × Addr)) : Type 0 where
   pub wait : All (λ entry. Waits g X entry.0 entry.1) list
   pub all : (instance : Inst) → IsPrescribed g X instance → X (done instance) ≡ false → (address : Addr) × Contains list (instance, address)
   pub rises : IsStrictlySortedBy (instance_cmp g) (map (λ entry. entry.0) list)
 
--- what is told behind a run that committed so many ends, by the facts behind it
+-- the reply to a run that committed `count` ends, by the facts after it
 abbrev pub TellsRun : Graph → Drive → Facts → (count : ℕ) → Reply → Type 0
 TellsRun g drive X count replied.Complete = IsQuiet g X × AreAllDone g X
 TellsRun g drive X count (replied.Blocked waiting) = IsQuiet g X × AreWaiting g X waiting.items × (waiting.items ≢ [])
@@ -93,7 +93,7 @@ TellsRun g drive X count replied.NoMemory = HasMoreToDo g X
 TellsRun g drive X count replied.Halted = ⊤
 TellsRun g drive X count other = ⊥
 
--- a run commits ends of instances, which are legal one after another, and no more than it may; its reply tells what they led to
+-- a run commits ends of instances, which are legal one after another, and no more than it may; its reply says what they led to
 pub record RepliesRun (g : Graph) (drive : Drive) (X : Facts) (came : List Event) (reply : Reply) : Type 0 where
   pub are_ends : AllByRecursion IsEnd came
   pub legal : AreLegalFrom g X came
@@ -102,23 +102,24 @@ pub record RepliesRun (g : Graph) (drive : Drive) (X : Facts) (came : List Event
 
 -- ---- commands
 
--- a command by its kind
+-- the reply to a command, by its kind
 abbrev pub RepliesTo : Graph → Drive → Facts → Command → List Event → Reply → Type 0
 RepliesTo g drive X (Put address v) came reply = RepliesPut g X (RefusesItem g X address) (EnvItem address v) came reply
 RepliesTo g drive X (Tag name) came reply = RepliesPut g X (RefusesTag g X name) (EnvTag name) came reply
 RepliesTo g drive X (Get address) came reply = RepliesGet g X address came reply
 RepliesTo g drive X Run came reply = RepliesRun g drive X came reply
 
--- A store that was halted says so, and a put or a get says so of no other. Of a store that was not, a run may find the device failing.
+-- On a store that was halted when the session began, the reply to each line says so. On any other, no put or get is replied to so; a run may be, if
+-- the device fails in it.
 abbrev pub TellsHalt : Bool → Command → Reply → Type 0
 TellsHalt was_halted Run reply = was_halted ≡ true → reply ≡ replied.Halted
 TellsHalt was_halted other reply = (reply ≡ replied.Halted) ↔ (was_halted ≡ true)
 
--- the reply to a command where these facts are there, and the events that came by it
+-- the reply to a command on a store with these facts, and the events that came by it
 abbrev pub Replies : Graph → Drive → Facts → Command → List Event → Reply → Type 0
 Replies g drive X command came reply = RepliesTo g drive X command came reply × TellsHalt drive.was_halted command reply
 
--- ---- what single calls answer
+-- ---- what single calls return
 
 -- the reply to an error of a put or a get
 abbrev pub reply_of : CoreError → Reply
@@ -128,12 +129,12 @@ reply_of (core.Store store.Device) = replied.Device
 reply_of (core.Store store.NoMemory) = replied.NoMemory
 reply_of (core.Store other) = replied.Halted
 
--- and to a put
+-- the reply to a put
 abbrev pub put_reply : {T : Type 0} → Result T CoreError → Reply
 put_reply (Ok value) = replied.Done
 put_reply (Err error) = reply_of error
 
--- those that wait are told, and some do, unless memory was refused
+-- the reply lists the instances that wait, and some do; or memory was refused
 abbrev pub TellsBlocked : Graph → Facts → Reply → Type 0
 TellsBlocked g X (replied.Blocked waiting) = AreWaiting g X waiting.items × (waiting.items ≢ [])
 TellsBlocked g X replied.NoMemory = ⊤

@@ -1,4 +1,4 @@
--- How a session is answered: what was read, what came, and why it does not come to its end.
+-- What a session comes to: what was read, what came of it, and why it did not come to its end.
 use Rattle.std.specs.Prelude.{◌≡◌, ◌⊎◌, ◌<◌, ⊤, ℕ, List, [], ◌++◌, length, Option, Some, None, Result, Err, IfOk, IfErr}
 use Rattle.std.specs.Io.KnownBytes.{Appends}
 use Rattle.disk.specs.declared.side.Side.{Side}
@@ -22,40 +22,40 @@ use Rattle.session.specs.Went.{GoesOnByAll}
 
 -- ---- what was read
 
--- these are the bytes that a reader had, where it tells them
+-- these are the bytes that a reader had, if they are known
 abbrev pub IsAllOf : Option (List ℕ) → List ℕ → Type 0
 IsAllOf None script = ⊤
 IsAllOf (Some bytes) script = bytes ≡ script
 
--- they are all of these, or a beginning of them that has more than the most bytes that there may be
+-- the text is all of these bytes, or a prefix of them that is longer than a script may be
 abbrev pub IsAllOrTooLarge : (most : ℕ) → Option (List ℕ) → List ℕ → Type 0
 IsAllOrTooLarge most None text = ⊤
 IsAllOrTooLarge most (Some bytes) text = (rest : List ℕ) × (bytes ≡ text ++ rest) × ((rest ≡ []) ⊎ (most < length text))
 
 -- ---- errors
 
--- a text is no script, for its first fault; or memory was refused
+-- a text is not a script, and this is its first fault; or memory was refused
 abbrev pub IsRefusedAs : Graph → List ℕ → SessionError → Type 0
 IsRefusedAs g text (Script number fault) = IsRefused g text (At number fault)
 IsRefusedAs g text NoMemory = ⊤
 IsRefusedAs g text Read = ⊥
 IsRefusedAs g text Write = ⊥
 
--- what was read is no script; or the reader answered an error, or memory was refused
+-- what was read is not a script; or the reader returned an error, or memory was refused
 abbrev pub FailsToRead : Graph → Option (List ℕ) → SessionError → Type 0
 FailsToRead g input (Script number fault) = (script : List ℕ) × IsAllOrTooLarge MOST_BYTES input script × IsRefused g script (At number fault)
 FailsToRead g input Read = ⊤
 FailsToRead g input NoMemory = ⊤
 FailsToRead g input Write = ⊥
 
--- an error of the output, or want of memory
+-- the output failed, or memory was refused
 abbrev pub IsOfOutput : SessionError → Type 0
 IsOfOutput Write = ⊤
 IsOfOutput NoMemory = ⊤
 IsOfOutput Read = ⊥
 IsOfOutput (Script number fault) = ⊥
 
--- the script could not be read, it is none, for its first fault, or memory was refused: the core and the output are as they were
+-- the script could not be read, or has a fault, of which this is the first, or memory was refused: the core and the output are unchanged
 pub record FailsAtOnce {D : Type 0} (input before behind : Option (List ℕ)) (old new : Core D) (result : Result Ending SessionError) : Type 0 where
   pub error : SessionError
   pub told : result ≡ Err error
@@ -65,7 +65,7 @@ pub record FailsAtOnce {D : Type 0} (input before behind : Option (List ℕ)) (o
 
 -- ---- answers
 
--- a session of these commands came to its end: what it is by the definition was written
+-- a session of these commands came to its end, and the text that it has by the definition was written
 pub record Closes (g : Graph) (drive : Drive) (X : Facts) (commands : List Command) (replies : List Reply) (events : List (List Event)) (ending : Ending) (before behind : Option (List ℕ)) : Type 0 where
   pub text : List ℕ
   pub session : IsSession g drive X commands replies events ending text
@@ -77,15 +77,15 @@ pub record AreWritten (g : Graph) (drive : Drive) (X : Facts) (commands : List C
   pub ends : ending ≡ ending_of commands replies
   pub written : Appends before behind (replies_text g replies)
 
--- these first commands were answered, and no further one
+-- a prefix of the commands was answered, and no further one
 pub record HasBegun (g : Graph) (drive : Drive) (X : Facts) (commands begun : List Command) (replies : List Reply) (events : List (List Event)) : Type 0 where
   pub left : List Command
   pub split : commands ≡ begun ++ left
   pub answered : AreReplies g drive X begun replies events
 
 module _ {D : Type 0} (files : D → Side → File) (moment : D → ℕ) (left_at : D → ℕ → Contents → Type 0) (failures refusals : D → ℕ) (honest : Type 0) (drive : Drive) where
-  -- What came of the commands of a script: which of them were begun, what was replied, which events came by each line, and how the core went on by them. At `Ok` all
-  -- were begun, and the whole of it is so. At an error the output failed, or memory was refused, behind some of them.
+  -- What came of the commands of a script: which of them were begun, the replies, which events came by each line, and how the core went on by them. At
+  -- `Ok` all were begun, and `whole` holds. At an error the output failed, or memory was refused, after a prefix of them.
   pub record AnswersBy (whole : List Reply → List (List Event) → Ending → Type 0) (commands : List Command) (old new : Core D) (result : Result Ending SessionError) : Type 0 where
     pub begun : List Command
     pub replies : List Reply
@@ -98,11 +98,11 @@ module _ {D : Type 0} (files : D → Side → File) (moment : D → ℕ) (left_a
   abbrev pub AnswersLines : List Command → (before behind : Option (List ℕ)) → Core D → Core D → Result Ending SessionError → Type 0
   AnswersLines commands before behind old new result = AnswersBy (λ replies events ending. AreWritten (graph old) drive (facts old) commands replies events ending before behind) commands old new result
 
-  -- and with it
+  -- the commands were answered, with the report
   abbrev pub AnswersCommands : List Command → (before behind : Option (List ℕ)) → Core D → Core D → Result Ending SessionError → Type 0
   AnswersCommands commands before behind old new result = AnswersBy (λ replies events ending. Closes (graph old) drive (facts old) commands replies events ending before behind) commands old new result
 
-  -- the script that a reader has was read, and its commands were answered
+  -- the script that a reader had was read, and its commands were answered
   pub record AnswersScript (input before behind : Option (List ℕ)) (old new : Core D) (result : Result Ending SessionError) : Type 0 where
     pub script : List ℕ
     pub is_all : IsAllOf input script

@@ -1,4 +1,4 @@
--- A script on a store has one text, whoever runs its steps: one worker or many, and whichever they claim first.
+-- A script on a store has one text, whoever runs its steps: one worker or many, and whichever step they claim first.
 use Rattle.std.specs.Prelude.{◌≡◌, ⊤, ℕ, List, All}
 use Rattle.terms.specs.declared.event.Event.{Event}
 use Rattle.terms.specs.Sets.{Facts}
@@ -12,8 +12,8 @@ use Rattle.session.specs.declared.reply.Reply.TheVariants.{Done, Value, Absent, 
 use Rattle.session.specs.Answers.{Drive}
 use Rattle.session.specs.Session.{IsSession}
 
--- What the graph and its environment alone lead to: a put or a get is answered, or refused by the graph or the facts; a run leaves nothing to do. It is not so where
--- a limit was met, where somebody asked to stop, where a fault stopped the store, or where the device, its room, memory or a thread was wanting.
+-- A reply that the graph and its environment alone lead to: a put or a get is answered, or refused by graph or facts; a run leaves nothing to do.
+-- No such reply: a limit was met, a stop was asked for, a fault stopped the store, the device failed, or room, memory or a thread was refused.
 abbrev pub IsOfMeaning : Reply → Type 0
 IsOfMeaning Done = ⊤
 IsOfMeaning (Value address v) = ⊤
@@ -24,7 +24,7 @@ IsOfMeaning Complete = ⊤
 IsOfMeaning (Blocked waiting) = ⊤
 IsOfMeaning other = ⊥
 
--- two sessions of the same commands on the same store, each with replies of that kind alone, whatever drives them and with whatever limits: both write the same
+-- two sessions of the same commands on the same store, both with such replies alone, write the same, whatever drives them and with any limits
 abbrev pub HasOneText : Type 0
 HasOneText =
     (g : Graph) (E X : Facts) (one two : Drive) (commands : List Command) (replies others : List Reply) (events came : List (List Event)) (ending last : Ending) (text other : List ℕ) →

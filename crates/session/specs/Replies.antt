@@ -1,4 +1,4 @@
--- What is replied to the lines of a script.
+-- The replies to the lines of a script, as texts.
 use Rattle.std.specs.Prelude.{ℕ, List, ◌++◌, codes, length}
 use Rattle.std.specs.Fmt.{decimal, signed_decimal}
 use Rattle.std.specs.List.{flat_map}
@@ -20,7 +20,7 @@ waiting_text g entry = instance_text g entry.0 ++ codes " waits at " ++ address_
 abbrev pub waiting_lines : Graph → List (Inst × Addr) → List ℕ
 waiting_lines g waiting = flat_map (λ entry. line (waiting_text g entry)) waiting
 
--- a script names collections of the graph, each with its arity, so the refusals 1 and 3 come to none of its lines
+-- a script names only collections of the graph, each with its arity, so none of its lines is refused with 1 or 3
 abbrev pub refusal_text : Graph → Refusal → List ℕ
 refusal_text g refusal.NoSuchCollection = codes "refused 1: no such collection"
 refusal_text g refusal.NotFromEnvironment = codes "refused 2: not from the environment"
@@ -29,7 +29,7 @@ refusal_text g (refusal.AlreadyPut value) = codes "refused 4: already put as " +
 refusal_text g (refusal.Stopped instance kind) = codes "refused 5: " ++ stopped_text g instance kind
 refusal_text g refusal.Repeat = codes "refused 6: repeat"
 
--- the reply, each of its lines with a line feed
+-- the reply; each of its lines ends with a line feed
 abbrev pub reply_text : Graph → Reply → List ℕ
 reply_text g Done = line (codes "ok")
 reply_text g (Value address v) = line (item_text g address v)

@@ -1,4 +1,4 @@
--- A session: the lines of a script, one after another, the events that come by them, and what is replied.
+-- A session: the lines of a script, one after another, with their events and replies.
 use Rattle.std.specs.Prelude.{◌≡◌, ◌≢◌, ◌⊎◌, ◌||◌, ◌++◌, ℕ, Bool, true, false, List, [], ◌∷◌, Option, Some, None}
 use Rattle.std.specs.List.{flat_map}
 use Rattle.terms.specs.declared.event.Event.{Event}
@@ -16,7 +16,7 @@ use Rattle.session.specs.declared.reply.Reply.TheVariants as replied
 use Rattle.session.specs.Answers.{Drive, Replies}
 use Rattle.session.specs.Replies.{reply_text}
 
--- the reply that ends a session
+-- how a reply ends a session, if it does
 abbrev pub stop_of : Reply → Option Stop
 stop_of replied.Halted = Some stop.Halted
 stop_of replied.Device = Some stop.Device
@@ -24,8 +24,8 @@ stop_of replied.NoMemory = Some stop.NoMemory
 stop_of replied.NoThread = Some stop.NoThread
 stop_of other = None
 
--- The replies to the commands in order, and the events that came by each of them, where these facts are there. Each command finds the facts of those before it; a
--- reply that ends the session is the last.
+-- The replies to the commands in order, and the events that came by each of them, on a store with these facts. Each command finds the facts of those
+-- before it; a reply that ends the session is the last.
 abbrev pub AreReplies : Graph → Drive → Facts → List Command → List Reply → (events : List (List Event)) → Type 0
 AreReplies g drive X [] replies events = (replies ≡ []) × (events ≡ [])
 AreReplies g drive X (command ∷ more) (reply ∷ rest) (came ∷ later) = Replies g drive X command came reply
@@ -46,12 +46,12 @@ abbrev pub is_limit : Reply → Bool
 is_limit replied.Limit = true
 is_limit other = false
 
--- a run tells anew whether the limit was met, and no other line does
+-- each run says anew whether the limit was met, and no other line does
 abbrev pub limited_by : Bool → Command → Reply → Bool
 limited_by before Run reply = is_limit reply
 limited_by before other reply = before
 
--- how a session ends, of whose replies this is the last
+-- the ending of a session after one more reply
 abbrev pub with_reply : Ending → Command → Reply → Ending
 with_reply ending command reply = record { stop = stop_of reply; is_full = ending.is_full || is_full reply; is_limited = limited_by ending.is_limited command reply }
 
@@ -69,7 +69,7 @@ ending_of commands replies = ending_from no_ending commands replies
 
 -- ---- what is written
 
--- what is written behind these replies
+-- the text of these replies
 abbrev pub replies_text : Graph → List Reply → List ℕ
 replies_text g replies = flat_map (reply_text g) replies
 
@@ -80,7 +80,7 @@ abbrev pub IsClosing : Graph → Facts → Option Stop → List ℕ → Type 0
 IsClosing g X None text = IsReport g X text
 IsClosing g X (Some end) text = text ≡ []
 
--- A session of these commands where these facts are there: the replies with the events that came by each line, and then the report. How it ended, and what is written.
+-- A session of these commands on a store with these facts: the replies with the events of each line, then the report; its ending, and its text.
 pub record IsSession (g : Graph) (drive : Drive) (X : Facts) (commands : List Command) (replies : List Reply) (events : List (List Event)) (ending : Ending) (text : List ℕ) : Type 0 where
   pub answered : AreReplies g drive X commands replies events
   pub ends : ending ≡ ending_of commands replies

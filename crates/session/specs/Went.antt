@@ -25,14 +25,14 @@ use Rattle.session.specs.Session.{all_of}
 
 -- ---- causes
 
--- the record of the put does not fit; or that of an end of an instance that may come
+-- the record of the put does not fit; for a run, the record of an end of an instance that may come
 abbrev pub HasNoRoom : {D : Type 0} → Core D → Core D → Command → Type 0
 HasNoRoom old new (Put address v) = IsTooLong old (EnvItem address v)
 HasNoRoom old new (Tag name) = IsTooLong old (EnvTag name)
 HasNoRoom old new Run = IsFull new
 HasNoRoom old new (Get address) = ⊥
 
--- Why a line is replied to so: the core is halted, where the reply says so; the device failed meanwhile; what is full had no room.
+-- The cause of a reply: `Halted` if the core is halted, `Device` if the device failed meanwhile, `Full` if a record had no room.
 pub record HasCause {D : Type 0} (failures : D → ℕ) (old new : Core D) (command : Command) (reply : Reply) : Type 0 where
   pub halted : reply ≡ replied.Halted → is_halted new ≡ true
   pub device : reply ≡ replied.Device → failures old.vault.disk < failures new.vault.disk
@@ -41,9 +41,9 @@ pub record HasCause {D : Type 0} (failures : D → ℕ) (old new : Core D) (comm
 -- ---- events
 
 module _ {D : Type 0} (files : D → Side → File) (moment : D → ℕ) (left_at : D → ℕ → Contents → Type 0) (failures refusals : D → ℕ) (honest : Type 0) where
-  -- From a core that is not halted these events came, one after another, each as a commit of its own; and where it is halted now, those in doubt may have come
-  -- behind them. They were legal, and state all that is new. At each moment a crash leaves what some of the first of them state. The core is halted exactly
-  -- where a call of the disk answered an error.
+  -- From a core that is not halted these events came, one after another, each as a commit of its own; and if it is halted now, those in doubt may
+  -- have come after them. They were legal, and all that is new is what they state. At each moment a crash leaves what a prefix of them states. The
+  -- core is halted exactly if a call of the disk returned an error.
   pub record Went (old new : Core D) (events : List Event) : Type 0 where
     pub legal : AreLegalFrom (core.graph old) (core.facts old) (events ++ new.in_doubt)
     pub graph : core.graph new ≡ core.graph old
@@ -53,15 +53,15 @@ module _ {D : Type 0} (files : D → Side → File) (moment : D → ℕ) (left_a
     pub gates : honest → HasGates (contents_of (files old.vault.disk)) → LeavesOnly moment left_at old.vault.disk new.vault.disk HasGates
     pub halts : (is_halted new ≡ true) ↔ HasErred failures refusals old.vault.disk new.vault.disk
 
-  -- A core that is halted stays as it was, and nothing comes. Where it is not halted behind, nothing is in doubt.
+  -- A core that was halted stays as it was, and no event comes. If the core is not halted afterwards, nothing is in doubt.
   pub record GoesOn (old new : Core D) (events : List Event) : Type 0 where
     pub went : is_halted old ≡ false → Went old new events
     pub stays : is_halted old ≡ true → KeepsStore old new × (events ≡ [])
     pub settled : is_halted new ≡ false → new.in_doubt ≡ []
     pub later : failures old.vault.disk ≤ failures new.vault.disk
 
-  -- Line by line: from one line to the next the core goes on by the events of that line, and what is replied has its cause. So what came by a line is behind it when
-  -- the next one begins, and no crash undoes it from then on.
+  -- Line by line: from one line to the next the core goes on by the events of that line, and the reply has its cause. So the events of a line are
+  -- there when the next one begins, and no crash undoes them from then on.
   abbrev pub GoesOnByLine : Core D → Core D → List Command → List Reply → (events : List (List Event)) → Type 0
   GoesOnByLine old new commands replies [] = new ≡ old
   GoesOnByLine old new (command ∷ more) (reply ∷ rest) (came ∷ later) = (mid : Core D) × GoesOn old mid came × HasCause failures old mid command reply × GoesOnByLine mid new more rest later

@@ -1,4 +1,4 @@
-//! What a command comes to in a store.
+//! What a command does in a store, and the reply to it.
 ghost use Rattle.std.specs.Prelude.{◌≡◌, ◌≢◌, ◌↔◌, Bool, List, [], false, true, ℕ, None, Ok, IsTrue};
 ghost use Rattle.commit.specs.declared.verdict.Verdict.TheVariants.{Halted as AllHalted};
 ghost use Rattle.session.specs.declared.reply.Reply.TheVariants.{Halted};
@@ -27,7 +27,7 @@ use std::thread::Threads;
 use terms::{Addr, Tag, orders_are_total};
 use vault::{VaultError, stores_go_on};
 
-/// Does what a command asks for, and gives the store back with the reply.
+/// Does what a command asks for, and returns the store with the reply.
 pub(crate) fn answer<D: Disk + Send, H: Threads + Wait + Sync, P: Probe>(
     alloc: Global,
     core: Core<D>,
@@ -105,7 +105,7 @@ fn put_reply(put: Result<(), CoreError>) -> Reply
     }
 }
 
-// Gets an item for the environment. Nothing comes by it.
+// Gets an item for the environment. No event comes by it.
 fn get<D: Disk>(core: &Core<D>, address: Addr) -> Reply
     ensures goes_on { GoesOn D.files D.moment D.left_at D.failures D.refusals (IsTrue D.is_honest) core.now core.now [] }
     ensures replies { RepliesGet (graph core.now) (facts core.now) address [] result }
@@ -140,7 +140,7 @@ fn refusal(error: CoreError) -> Reply
         CoreError::Store(VaultError::Full) => Reply::Full,
         CoreError::Store(VaultError::Device) => Reply::Device,
         CoreError::Store(VaultError::NoMemory) => Reply::NoMemory,
-        // An open store answers no further error but that it is halted.
+        // An open store returns no other error but that it is halted.
         CoreError::Store(_) => Reply::Halted,
     }
 }
@@ -168,7 +168,7 @@ fn run<D: Disk + Send, H: Threads + Wait + Sync, P: Probe>(
     (core, reply)
 }
 
-// The reply to a run that ended so.
+// The reply to a run with this verdict.
 fn told<D: Disk>(alloc: Global, core: &Core<D>, verdict: Result<Verdict, RunError>) -> Reply
     ensures tells { (may_be_asked may_spawn was_halted : Bool) (limit count : ℕ) → TellsVerdict may_be_asked may_spawn core.now limit count verdict → TellsRun (graph core.now) (drive_of limit may_be_asked may_spawn was_halted) (facts core.now) count result }
     ensures cause { (may_be_asked may_spawn : Bool) (limit count : ℕ) → TellsVerdict may_be_asked may_spawn core.now limit count verdict → HasCause D.failures core.now core.now Run result }
@@ -189,7 +189,7 @@ fn told<D: Disk>(alloc: Global, core: &Core<D>, verdict: Result<Verdict, RunErro
     }
 }
 
-// The reply where nothing is left to do and instances wait: these by the names of their steps, and then by key.
+// The reply when nothing is left to do and instances wait. It lists these by the names of their steps, and then by key.
 fn blocked<D: Disk>(alloc: Global, core: &Core<D>) -> Reply
     ensures { is_halted core.now ≡ false → NoneIsActive core.now.machine → waiting_count core.now.machine ≢ 0 → TellsBlocked (graph core.now) (facts core.now) result }
 {

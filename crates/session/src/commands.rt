@@ -21,7 +21,7 @@ use std::thread::Threads;
 use terms::facts_are_told_apart;
 use vault::stores_go_on;
 
-/// Does what the commands ask for, one after another, and writes the replies; up to a reply that ends the session.
+/// Does what the commands ask for, one after another, up to a reply that ends the session, and writes the replies.
 pub(crate) fn run_commands<D: Disk + Send, W: Write, H: Threads + Wait + Sync, P: Probe>(
     alloc: Global,
     core: Core<D>,

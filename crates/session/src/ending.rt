@@ -29,7 +29,7 @@ pub struct Ending {
 }
 
 impl Ending {
-    /// Of a session without lines.
+    /// The ending of a session without lines.
     pub(crate) fn new() -> Self
         ensures { result ≡ no_ending }
     {
@@ -40,7 +40,7 @@ impl Ending {
         }
     }
 
-    /// Behind one more reply.
+    /// The ending after one more reply.
     pub(crate) fn with_reply(self, command: Command, reply: &Reply) -> Self
         ensures { result ≡ with_reply self command reply.now }
     {

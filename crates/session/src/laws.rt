@@ -6,8 +6,8 @@ use report::reports_once;
 use steptree::ends_once;
 use terms::{facts_are_told_apart, facts_go_on};
 
-/// A script on a store has one text, whoever runs its steps and with however many workers, where each of its lines comes to what the graph and what was put alone
-/// lead to.
+/// A script on a store has one text, whoever runs its steps and with however many workers, if each of its replies is one
+/// that the graph and what was put alone lead to.
 pub fn texts_are_one()
     ensures { HasOneText }
 {

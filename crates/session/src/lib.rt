@@ -1,6 +1,7 @@
-//! Sessions: a script is read, run line by line on a store, and answered; then comes the report.
+//! Sessions: a script is read and run line by line on a store, with a reply to each line; then comes the report.
 //!
-//! A session goes from state to state by the lines of its script, each with a reply (`IsSession`). The layer above stands on `session`.
+//! Each line of the script takes the store from one state to the next, and has a reply (`IsSession`). The layer above
+//! stands on `session`.
 #![tactic(auto)]
 
 mod answers;

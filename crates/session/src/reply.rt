@@ -1,4 +1,4 @@
-//! What is replied to the lines of a script.
+//! The replies to the lines of a script.
 ghost use Rattle.std.specs.Prelude.{Some};
 ghost use Rattle.std.specs.Fmt.{WritesOnOk};
 ghost use Rattle.session.specs.Replies.{refusal_text, reply_text, waiting_lines, waiting_text};
@@ -10,14 +10,14 @@ use report::{NamedAddress, NamedInstance};
 use std::fmt;
 use terms::{Addr, FaultKind, Inst};
 
-/// What is replied to a line of a script.
+/// The reply to a line of a script.
 #[derive(Drop)]
 pub(crate) enum Reply {
     /// The put was committed.
     Done,
     /// The item that was got, and its value.
     Value(Addr, i64),
-    /// The address that was got, where no item is.
+    /// The address that was got, at which no item is.
     Absent(Addr),
     /// Nothing is left to do, and all is done.
     Complete,
@@ -25,11 +25,11 @@ pub(crate) enum Reply {
     Blocked(Vec<(Inst, Addr)>),
     /// The store is stopped by this fault of this instance.
     Stopped(Inst, FaultKind),
-    /// As many steps came to their end as the limit says.
+    /// The run met its limit.
     Limit,
     /// The driver was asked to stop.
     Asked,
-    /// The put or the get may not be, for this cause.
+    /// The put or the get is refused for this cause.
     Refused(Refusal),
     /// A record does not fit.
     Full,
@@ -43,7 +43,7 @@ pub(crate) enum Reply {
     NoThread,
 }
 
-/// A reply with the graph that its names are of.
+/// A reply, and the graph whose names it uses.
 #[derive(Clone, Copy)]
 pub(crate) struct NamedReply<'a> {
     pub(crate) graph: &'a Graph,

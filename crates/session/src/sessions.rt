@@ -1,4 +1,4 @@
-//! A script from its bytes to what is replied.
+//! A script, from its bytes to its replies.
 ghost use Rattle.std.specs.Prelude.{◌≡◌, List, IfErr, IfOk, IsTrue, ℕ};
 ghost use Rattle.std.specs.Io.KnownBytes.{Appends};
 ghost use Rattle.script.specs.Script.{IsScript};
@@ -24,11 +24,13 @@ use std::sync::Wait;
 use std::thread::Threads;
 use vault::stores_go_on;
 
-/// Runs a script on a store: reads it whole, does what its lines ask for one after another, and writes what is replied, and then the report.
+/// Runs a script on a store: reads it whole, does what its lines ask for, one after another, and writes the replies and
+/// then the report.
 ///
-/// A run of the steps is the driver's, with this limit. A reply of `refused 8`, `9` or `10`, or that a thread could not be started, ends the session without a
-/// report. An error before the first line leaves the store and the output as they were; behind one later, what was committed stays. A crash at any moment of a line
-/// leaves all that came by the lines before it, and of its own commits the first few.
+/// The driver runs the steps, with this limit for each run. A reply of `refused 8`, `9` or `10`, or that a thread could
+/// not be started, ends the session without a report. An error before the first line leaves the store and the output as
+/// they were; after a later error, what was committed stays. A crash at any moment of a line leaves all that came by the
+/// lines before it, and a prefix of its own commits.
 pub fn session<D: Disk + Send, R: Read, W: Write, H: Threads + Wait + Sync, P: Probe>(
     alloc: Global,
     core: Core<D>,
@@ -49,7 +51,7 @@ pub fn session<D: Disk + Send, R: Read, W: Write, H: Threads + Wait + Sync, P: P
     }
 }
 
-// The commands of the script that a reader gives. No more is read than one byte beyond the greatest script.
+// The commands of the script that a reader gives. It reads at most one byte more than the longest script has.
 fn read_script<R: Read>(
     alloc: Global,
     graph: &Graph,

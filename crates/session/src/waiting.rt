@@ -1,4 +1,4 @@
-//! The order of those that wait.
+//! The order of the instances that wait.
 ghost use Rattle.std.specs.Prelude.{◌≡◌, [], get_or};
 ghost use Rattle.graph.specs.Prescribed.{names_of_steps};
 ghost use Rattle.std.specs.List.Sorted.{IsPermutation, IsSortedBy};
@@ -17,7 +17,7 @@ pub(crate) fn sort_by_name(graph: &Graph, waiting: &mut Vec<(Inst, Addr)>)
     waiting.sort_unstable_by(|one, two| compare(graph, &one.0, &two.0));
 }
 
-// Two instances by the names of their steps, and then by their numbers and keys.
+// Compares two instances by the names of their steps, and then by their numbers and keys.
 fn compare(graph: &Graph, one: &Inst, two: &Inst) -> Ordering
     ensures { result ≡ instance_cmp graph.now one.now two.now }
 {
