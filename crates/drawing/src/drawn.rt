@@ -2,16 +2,17 @@ use graph::Graph;
 use std::io::{Result, Write};
 use terms::{ItemCollection, StepCollection, TagCollection};
 
-/// Writes a graph as Graphviz text. Each collection is a node, by the order of its number: `"[c]"` of items, a box; `"<t>"` of tags, a triangle; `"(s)"` of a step, an
-/// ellipse. An arrow leads from what is read to the step, from the step to what it puts, from `env` to what the environment may put, from items that it may
-/// get to `env`, and, dashed, from a tag to the step that it prescribes.
+/// Writes a graph as Graphviz text. Each collection is a node, in the order of the numbers: a box `"[c]"` for items, a
+/// triangle `"<t>"` for tags, an ellipse `"(s)"` for a step. An arrow leads from what is read to the step, from the step
+/// to what it puts, from `env` to what the environment may put, from items that it may get to `env`, and, dashed, from
+/// a tag to the step that it prescribes.
 pub fn draw_graph<W: Write>(graph: &Graph, out: &mut W) -> Result<()> {
     writeln!(out, "digraph {{")?;
     draw_collections(graph, out)?;
     writeln!(out, "}}")
 }
 
-// The collections of a graph with their arrows, without what stands around them.
+// The collections of a graph with their arrows, without the lines of Graphviz around them.
 pub(crate) fn draw_collections<W: Write>(graph: &Graph, out: &mut W) -> Result<()> {
     writeln!(out, "  env [shape=plaintext];")?;
     for number in 0..graph.item_count() {
@@ -26,7 +27,7 @@ pub(crate) fn draw_collections<W: Write>(graph: &Graph, out: &mut W) -> Result<(
     Ok(())
 }
 
-// A collection of items, and what the environment may do with it.
+// A collection of items, with arrows for what the environment may do with it.
 fn draw_items<W: Write>(graph: &Graph, items: ItemCollection, out: &mut W) -> Result<()> {
     let name = graph.item_name(items).unwrap_or("");
     writeln!(out, "  \"[{name}]\" [shape=box];")?;
@@ -39,7 +40,7 @@ fn draw_items<W: Write>(graph: &Graph, items: ItemCollection, out: &mut W) -> Re
     Ok(())
 }
 
-// A collection of tags, and whether the environment may put them.
+// A collection of tags, with an arrow if the environment may put them.
 fn draw_tags<W: Write>(graph: &Graph, tags: TagCollection, out: &mut W) -> Result<()> {
     let name = graph.tag_name(tags).unwrap_or("");
     writeln!(out, "  \"<{name}>\" [shape=triangle];")?;

@@ -2,13 +2,13 @@ use std::alloc::AllocError;
 use std::io;
 use thiserror::Error;
 
-/// Why a drawing was not written whole.
+/// Why the whole drawing was not written.
 #[derive(Clone, Copy, Debug, PartialEq, Eq, Error)]
 pub enum DrawError {
-    /// The writer answered an error. How much went out is not known.
+    /// The writer returned an error. It is not known how much was written.
     #[error("cannot write the drawing")]
     Write,
-    /// A growth was refused.
+    /// Memory was refused.
     #[error("no memory")]
     NoMemory,
 }

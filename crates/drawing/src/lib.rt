@@ -1,5 +1,5 @@
-//! Graphs as Graphviz text: items as boxes, tags as triangles, steps as ellipses, and what stands outside as `env`. And stores, with what they hold and what their
-//! steps wait for.
+//! Graphs as Graphviz text: items as boxes, tags as triangles, steps as ellipses, and the environment as `env`. Stores
+//! too, with what they hold and what their steps wait for.
 #![tactic(auto)]
 
 mod drawn;

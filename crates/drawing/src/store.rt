@@ -13,10 +13,11 @@ use std::io::Write;
 use std::sync::Arc;
 use terms::{Addr, Inst, ItemCollection};
 
-/// Writes a store as Graphviz text, and gives its disk back as it was: its graph as `draw_graph` does, the counts and the fault of its report as a label, on each box
-/// how many items there are, and each instance that waits, dashed, with an arrow from the item that it waits for.
+/// Writes a store as Graphviz text, and returns its disk unchanged. It writes the graph as `draw_graph` does, the counts
+/// and the fault of the report as a label, the number of items on each box, and each instance that waits, dashed, with
+/// an arrow from the item that it waits for.
 ///
-/// Nothing is committed. To see what waits, the body of each instance that is ready is run.
+/// Nothing is committed. To see what waits, it runs the body of each ready instance.
 pub fn draw_store<D: Disk, W: Write>(
     alloc: Global,
     core: Core<D>,
@@ -33,14 +34,14 @@ pub fn draw_store<D: Disk, W: Write>(
     (core.into_disk(), drawn)
 }
 
-// Lets each ready instance wait that has to.
+// Lets each ready instance wait, if it has to.
 fn park_all<D: Disk>(alloc: Global, core: &mut Core<D>) -> Result<(), CoreError>
     ensures { core.new.vault ≡ core.old.vault }
 {
     core.allow(u64::MAX)?;
     let graph = Arc::clone(core.graph())?;
-    // How many were given back. They are the first of the ready ones: a claim puts the first in the place of the one that it takes, and one that is given back goes in
-    // front.
+    // How many were given back. They stand first among the ready ones: a claim moves the first into the place of the
+    // one that it takes, and one that is given back goes to the front.
     let mut able: usize = 0;
     for _ in 0..core.ready() {
         if !park(alloc, core, &graph, able)? {
@@ -50,7 +51,7 @@ fn park_all<D: Disk>(alloc: Global, core: &mut Core<D>) -> Result<(), CoreError>
     Ok(())
 }
 
-// Lets a ready instance wait, if it has to, and tells whether it does.
+// Lets a ready instance wait, if it has to, and returns whether it does.
 fn park<D: Disk>(
     alloc: Global,
     core: &mut Core<D>,
@@ -154,7 +155,8 @@ fn write_waiting<D: Disk, W: Write>(
     Ok(())
 }
 
-// An instance that waits. One without a key is its step's own node, and so is an address without one its collection's.
+// An instance that waits. An instance without a key is the node of its step, and an address without a key is the node
+// of its collection.
 fn write_wait<W: Write>(
     graph: &Graph,
     instance: Inst,
