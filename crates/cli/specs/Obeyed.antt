@@ -39,36 +39,36 @@ use Rattle.cli.specs.declared.words.Command.{Command}
 use Rattle.cli.specs.declared.words.Command.TheVariants as asked
 use Rattle.cli.specs.Outcomes.{failure_of_creation, failure_of_report, failure_of_session, failure_of_turn}
 
--- the store has a fault where this says so, and fewer of its instances are done than are prescribed where that does
+-- `left` says whether the store has a fault, and whether fewer of its instances are done than are prescribed
 pub record IsLeft {D : Type 0} (c : Core D) (left : Left) : Type 0 where
   pub stopped : (left.is_stopped ≡ true) ↔ ((instance : Inst) × (kind : FaultKind) × (facts c (bad instance kind) ≡ true))
   pub counts : Counts
   pub are_counts : AreCountsOf (graph c) (facts c) counts
   pub unfinished : (left.is_unfinished ≡ true) ↔ (counts.done < counts.prescribed)
 
--- an opening that was refused so
+-- the result of an opening that was refused with this error
 abbrev pub refusal_of : {D : Type 0} → VaultError → Result (Core D) VaultError
 refusal_of error = Err error
 
--- this was written, a line
+-- this text was written, as a line
 abbrev pub Writes : Option (List ℕ) → Option (List ℕ) → List ℕ → Type 0
 Writes before behind text = Appends before behind (line text)
 
--- what was said of a command that did its work, or the output failed
+-- a command did its work, and this line was written; or the output failed
 abbrev pub SaysOrFails : Option (List ℕ) → Option (List ℕ) → List ℕ → Outcome → Outcome → Type 0
 SaysOrFails before behind text done outcome = ((outcome ≡ done) × Writes before behind text) ⊎ (outcome ≡ Failed failure.Output)
 
--- what a session came to, and what it left
+-- the outcome of a session, with the state of the store after it
 abbrev pub TellsSession : {D : Type 0} → Core D → Result Ending SessionError → Outcome → Type 0
 TellsSession core (Ok ending) outcome = (left : Left) × (outcome ≡ Ran ending left) × IsLeft core left
 TellsSession core (Err error) outcome = outcome ≡ Failed (failure_of_session error)
 
--- what a report came to
+-- the outcome of a report
 abbrev pub TellsReport : {D : Type 0} → Core D → Result (Unit {0}) ReportError → Outcome → Type 0
 TellsReport core (Ok done) outcome = (left : Left) × (outcome ≡ Reported left) × IsLeft core left
 TellsReport core (Err error) outcome = outcome ≡ Failed (failure_of_report error)
 
--- what a turnover came to
+-- the outcome of a turnover
 abbrev pub TellsTurn : (before behind : Option (List ℕ)) → Result ℕ CoreError → Outcome → Type 0
 TellsTurn before behind (Ok generation) outcome = SaysOrFails before behind (codes "turned, generation " ++ decimal generation) (Turned generation) outcome
 TellsTurn before behind (Err error) outcome = (outcome ≡ Failed (failure_of_turn error)) × (behind ≡ before)
@@ -79,23 +79,23 @@ IsNotRead before behind outcome = ((outcome ≡ Failed failure.CannotRead) ⊎ (
 
 -- ---- a drawing
 
--- it was drawn, or the output failed
+-- the drawing was written, or the output failed
 abbrev pub IsDrawn : Outcome → Type 0
 IsDrawn outcome = (outcome ≡ Drawn) ⊎ (outcome ≡ Failed failure.Output)
 
--- the text was a graph, which was drawn, or the output failed; or it was none, for this cause
+-- the text was a graph, and its drawing was written or the output failed; or it was not a graph, for this cause
 abbrev pub DrawsText : List ℕ → (before behind : Option (List ℕ)) → Outcome → Type 0
 DrawsText text before behind outcome = ((g : Graph) × Reads text g × IsDrawn outcome)
     ⊎ ((fault : GraphFault) × HasCause text fault × (outcome ≡ Failed (failure_of_creation (creation.Graph fault))) × (behind ≡ before))
 
--- or it was not read
+-- the same, or the text was not read
 abbrev pub Draws : (input before behind : Option (List ℕ)) → Outcome → Type 0
 Draws input before behind outcome = IsNotRead before behind outcome ⊎ ((text : List ℕ) × IsAllOrTooLarge MOST_TEXT input text × DrawsText text before behind outcome)
 
 module _ {D : Type 0} (files : D → Side → File) (moment : D → ℕ) (left_at : D → ℕ → Contents → Type 0) (failures refusals : D → ℕ) (honest : Type 0) where
   -- ---- a creation
 
-  -- a store was made of the text, or none was made, for its cause
+  -- a store was made of the text, or none was made, with its cause
   pub record Creates (text : List ℕ) (before behind : Option (List ℕ)) (old new : D) (outcome : Outcome) : Type 0 where
     pub answer : Result (Core D) (NotCreated D)
     pub is : MatchResult answer (IsCreated files honest text) (TellsCreation text old)
@@ -104,7 +104,7 @@ module _ {D : Type 0} (files : D → Side → File) (moment : D → ℕ) (left_a
     pub causes : HasCauses failures refusals (creation.Store vault.Device) (creation.Store vault.NoMemory) old (disk_of answer) (answer_of answer)
     pub told : MatchResult answer (λ core. SaysOrFails before behind (codes "created") Created outcome) (λ refused. (outcome ≡ Failed (failure_of_creation refused.error)) × (behind ≡ before))
 
-  -- the text was not read, and then the disk is as it was
+  -- the same; or the text was not read, and the disk is unchanged
   abbrev pub CreatesOrNot : (input before behind : Option (List ℕ)) → D → D → Outcome → Type 0
   CreatesOrNot input before behind old new outcome =
       (IsNotRead before behind outcome × (new ≡ old))
@@ -112,8 +112,8 @@ module _ {D : Type 0} (files : D → Side → File) (moment : D → ℕ) (left_a
 
   -- ---- an open store
 
-  -- The store could not be opened, and this is told: why the files stand for none, or the device failed, or memory was refused. Nothing was written, neither to
-  -- its files nor to the output.
+  -- The store could not be opened, and the outcome says why: the files stand for no store, the device failed, or memory was refused. Nothing was
+  -- written, neither to its files nor to the output.
   pub record IsNotOpened (before behind : Option (List ℕ)) (old new : D) (outcome : Outcome) : Type 0 where
     pub error : VaultError
     pub told : outcome ≡ Failed (failure.Store error)
@@ -160,7 +160,7 @@ module _ {D : Type 0} (files : D → Side → File) (moment : D → ℕ) (left_a
     pub told : TellsTurn before behind answer outcome
     pub disk : new ≡ last.vault.disk
 
-  -- it was drawn, or the output failed, or memory was refused; its disk is as the opening left it
+  -- the drawing was written, or the output failed, or memory was refused; the disk is as the opening left it
   pub record DrawsStore (old new : D) (outcome : Outcome) : Type 0 where
     pub core : Core D
     pub opened : WasOpened old core

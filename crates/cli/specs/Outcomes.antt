@@ -1,4 +1,4 @@
--- What a command comes to: the status that it has, and what is told of a failure.
+-- What a command comes to: its status, and the message for a failure.
 use Rattle.std.specs.Prelude.{ℕ, List, [], ◌++◌, codes, cond, is_some}
 use Rattle.std.specs.Fmt.{decimal}
 use Rattle.disk.specs.declared.side.Side.{Side}
@@ -27,7 +27,8 @@ use Rattle.cli.specs.declared.outcome.Outcome.TheVariants.{Created, Ran, Reporte
 
 -- ---- statuses
 
--- 2 where the graph or the script is refused, or cannot be read; 4 where the store is; 5 where the device failed, memory was refused, or the output failed
+-- 2 if the graph or the script is refused, or cannot be read; 4 if the store is refused; 5 if the device failed, memory was refused, the store is
+-- halted, or the output failed
 abbrev pub store_status : VaultError → ℕ
 store_status store.Device = 5
 store_status store.NoMemory = 5
@@ -45,12 +46,12 @@ failure_status (failure.Store error) = store_status error
 failure_status failure.NoMemory = 5
 failure_status failure.Output = 5
 
--- the first of these: 3 where the store has a fault, 1 where a prescribed instance is not done
+-- the first of these: 3 if the store has a fault, 1 if a prescribed instance is not done; else 0
 abbrev pub report_status : Left → ℕ
 report_status left = cond left.is_stopped 3 (cond left.is_unfinished 1 0)
 
--- the first of these: 5 where a reply ended the session, 4 where a put or a run was refused as full, 3 where the store has a fault, 6 where the last run met its
--- limit, 1 where a prescribed instance is not done
+-- the first of these: 5 if a reply ended the session, 4 if a put or a run was refused as full, 3 if the store has a fault, 6 if the last run met its
+-- limit, 1 if a prescribed instance is not done; else 0
 abbrev pub run_status : Ending → Left → ℕ
 run_status ending left = cond (is_some ending.stop) 5 (cond ending.is_full 4 (cond left.is_stopped 3 (cond ending.is_limited 6 (cond left.is_unfinished 1 0))))
 
@@ -64,7 +65,7 @@ status_of (Failed why) = failure_status why
 
 -- ---- failures
 
--- a growth that was refused while the text was read is no fault of it
+-- memory that was refused while the text was read is not a fault of the text
 abbrev pub failure_of_fault : GraphFault → GraphError → Failure
 failure_of_fault fault graph_error.NoMemory = failure.NoMemory
 failure_of_fault fault other = failure.Graph fault
@@ -83,7 +84,7 @@ abbrev pub failure_of_report : ReportError → Failure
 failure_of_report report.Write = failure.Output
 failure_of_report report.NoMemory = failure.NoMemory
 
--- a turnover is refused by the store alone
+-- only the store refuses a turnover
 abbrev pub failure_of_turn : CoreError → Failure
 failure_of_turn (core.Store error) = failure.Store error
 failure_of_turn (core.Refused refusal) = failure.Store store.Halted
@@ -103,7 +104,7 @@ store_text store.NotAStore = codes "store refused: not a store"
 store_text store.Exists = codes "store refused: exists"
 store_text (store.Damaged side place) = codes "store refused: damaged " ++ side_text side ++ codes " at " ++ decimal place
 
--- what is told of a failure; a file that cannot be read is told by its path, and of an output that failed nothing is told
+-- the message for a failure; a file that cannot be read is named by its path, and for an output that failed there is none
 abbrev pub failure_text : (input : List ℕ) → Failure → List ℕ
 failure_text input (failure.Graph fault) = codes "graph refused " ++ fault_text fault
 failure_text input (failure.Script line fault) = codes "script refused " ++ decimal (fault_number fault) ++ codes " at line " ++ decimal line

@@ -6,7 +6,7 @@ use Rattle.cli.specs.declared.words.Command.{Command}
 use Rattle.cli.specs.declared.words.Command.TheVariants.{Create, Run, Report, Turn, Draw, DrawStore}
 use Rattle.cli.specs.declared.words.TheConstants.{MOST_LIMIT, MOST_WORKERS}
 
--- a run commits no more ends of steps than it may, and has as many workers as it may have
+-- the limit of a run is at most the greatest, and the number of its workers is from 1 to the greatest
 abbrev pub IsInRange : Command → Type 0
 IsInRange (Run directory script limit workers) = (limit ≤ MOST_LIMIT) × (1 ≤ workers) × (workers ≤ MOST_WORKERS)
 IsInRange (Create graph directory) = ⊤
@@ -15,7 +15,7 @@ IsInRange (Turn directory) = ⊤
 IsInRange (Draw graph) = ⊤
 IsInRange (DrawStore directory) = ⊤
 
--- the status of words that ask for nothing: 0 where help was asked for, 5 where memory was refused, and else 2
+-- the status of words that ask for no command: 0 if help was asked for, 5 if memory was refused, else 2
 abbrev pub usage_status_of : ErrorKind → ℕ
 usage_status_of kind.DisplayHelp = 0
 usage_status_of kind.DisplayVersion = 0

@@ -1,4 +1,4 @@
-//! What is wrong at the place that is pointed at, in a few words, for a person who does not know the numbers.
+//! Hints: what is wrong at the place of a fault, in a few words, for a person who does not know the fault numbers.
 use graph::GraphError;
 use script::ScriptFault;
 use steptree::CheckError;

@@ -1,7 +1,8 @@
-//! The program `cnc` as a library: it reads the words of a command, and obeys it on a disk.
+//! The program `cnc` as a library: it reads the words of a command, and does the command on a disk.
 //!
-//! A command makes a store of a graph, runs a script on one, writes its report, turns it over, or draws a graph or a store (`Obeys`). The program stands on `read_words`, which answers
-//! the command that the words ask for, and on `obey`, which does it, writes what is to be told, and answers the status.
+//! A command makes a store of a graph, runs a script on one, writes its report, turns it over, or draws a graph or a
+//! store (`Obeys`). The program stands on `read_words`, which returns the command that the words ask for, and on `obey`,
+//! which does it, writes the output and the error message, and returns the status.
 #![tactic(auto)]
 
 mod hints;

@@ -1,4 +1,4 @@
-//! Commands, as they are obeyed.
+//! What each command does.
 ghost use Rattle.std.specs.Prelude.{◌≡◌, ◌⊎◌, ◌++◌, false, IfOk, IfErr, IsTrue, codes};
 ghost use Rattle.std.specs.Fmt.{decimal};
 ghost use Rattle.graph.specs.declared.limits.TheConstants.{MOST_TEXT};
@@ -30,24 +30,26 @@ use std::sync::Wait;
 use std::thread::Threads;
 use vault::Refused;
 
-/// Where failures are told.
+/// Where failures are reported.
 pub trait Errors: Write {
-    /// The place in the graph or the script of the fault that was told: its line and its column, from 1; column 0 where the line alone is known. And what
-    /// is wrong there, in a few words.
+    /// Points at the fault that was reported: its line and column in the graph or the script, from 1, with column 0 if
+    /// only the line is known; and what is wrong there, in a few words.
     fn point(&mut self, line: usize, column: usize, hint: &'static str);
 }
 
 impl Errors for Vec<u8> {
-    // The text alone is kept.
+    // Only the text is kept.
     fn point(&mut self, _line: usize, _column: usize, _hint: &'static str) {}
 }
 
-/// Does what a command asks for on a disk, and answers the disk and the status.
+/// Does what a command asks for on a disk, and returns the disk and the status.
 ///
-/// The input is the graph or the script. What the command says goes to `out`, and why it failed to `err`: nothing where the output failed, or a reply ended the
-/// session. A store is opened before its script is read, and its steps are run by the driver. Statuses, the first that holds: 2 where the graph or the script is refused or cannot be read; 5 where
-/// the device failed, memory or a thread was refused, the store is halted, or the output failed; 4 where the store is refused, or a put or a run met that it is full; 3 where
-/// a fault stopped the store; 6 where the last `run` met its limit; 1 where a prescribed instance is not done; else 0.
+/// The input is the graph or the script. The output of the command goes to `out`. If it failed, the reason goes to
+/// `err`; but nothing does if the output failed, or a reply ended the session. A store is opened before its script is
+/// read, and the driver runs its steps. The status is the first that holds: 2 if the graph or the script is refused or
+/// cannot be read; 5 if the device failed, memory or a thread was refused, the store is halted, or the output failed; 4
+/// if the store is refused, or a put or a run found it full; 3 if a fault stopped the store; 6 if the last `run` met its
+/// limit; 1 if a prescribed instance is not done; else 0.
 pub fn obey<D: Disk + Send, R: Read, W: Write, E: Errors, H: Threads + Wait + Sync, P: Probe>(
     alloc: Global,
     command: &Command<'_>,
@@ -88,12 +90,12 @@ fn obeyed<D: Disk + Send, R: Read, W: Write, H: Threads + Wait + Sync, P: Probe>
     }
 }
 
-// Tells why a command failed. Of an output that failed nothing is told.
+// Writes why a command failed. If its output failed, nothing is written.
 fn tell<E: Errors>(failure: &Failure, input: &str, err: &mut E) {
     if let Failure::Output = failure {
         return;
     }
-    // A text that cannot be written has no reader, and the status says as much.
+    // If this text cannot be written, nobody can read it, and the status still says that the command failed.
     let _ = err.writeln(NamedFailure { failure, input });
     match failure {
         Failure::Graph(fault) => err.point(fault.line, fault.column, graph_hint(fault.error)),
@@ -148,7 +150,7 @@ fn drawn<W: Write>(graph: &Graph, out: &mut W) -> Outcome
     }
 }
 
-// The text that a reader gives. No more is read than one byte beyond the greatest graph text.
+// The text that a reader gives. It reads at most one byte more than the longest graph text has.
 fn read_text<R: Read>(alloc: Global, input: &mut R) -> Result<Vec<u8>, Failure>
     ensures read { IfOk result (λ text. IsAllOrTooLarge MOST_TEXT (R.remaining input.old) text.items) }
     ensures fails { IfErr result (λ why. (why ≡ failure.CannotRead) ⊎ (why ≡ failure.NoMemory)) }
@@ -163,7 +165,7 @@ fn read_text<R: Read>(alloc: Global, input: &mut R) -> Result<Vec<u8>, Failure>
     }
 }
 
-// Tells that a store was made.
+// Says that a store was made.
 fn created<W: Write>(out: &mut W) -> Outcome
     ensures { SaysOrFails (W.contents out.old) (W.contents out.new) (codes "created") Created result }
 {
@@ -193,7 +195,7 @@ fn reported<D: Disk>(core: &Core<D>, answer: Result<(), ReportError>) -> Outcome
     }
 }
 
-// What a turnover came to, of which the new generation is told.
+// What a turnover came to. It writes the new generation.
 fn turned<W: Write>(answer: Result<u64, CoreError>, out: &mut W) -> Outcome
     ensures { TellsTurn (W.contents out.old) (W.contents out.new) answer result }
 {
@@ -203,7 +205,7 @@ fn turned<W: Write>(answer: Result<u64, CoreError>, out: &mut W) -> Outcome
     }
 }
 
-// Tells the generation of a store that was turned over.
+// Writes the generation of a store that was turned over.
 fn told_generation<W: Write>(generation: u64, out: &mut W) -> Outcome
     ensures { SaysOrFails (W.contents out.old) (W.contents out.new) (codes "turned, generation " ++ decimal generation) (Turned generation) result }
 {

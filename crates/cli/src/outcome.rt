@@ -14,7 +14,7 @@ use session::{Ending, SessionError};
 use std::fmt;
 use vault::VaultError;
 
-/// What a run or a report left.
+/// The state in which a run or a report leaves the store.
 #[derive(Clone, Copy, Debug, PartialEq, Eq)]
 pub struct Left {
     /// Whether a fault stopped the store.
@@ -43,17 +43,17 @@ pub enum Outcome {
 /// Why a command failed.
 #[derive(Clone, Copy, Debug, PartialEq, Eq)]
 pub enum Failure {
-    /// The text is no graph.
+    /// The text is not a graph.
     Graph(GraphFault),
-    /// The line with this number, counted from 1, is the first of the script at fault.
+    /// The line of the script with this number, counted from 1, is the first at fault.
     Script(usize, ScriptFault),
     /// The graph or the script could not be read.
     CannotRead,
     /// The store was not made, opened or turned over.
     Store(VaultError),
-    /// A growth was refused.
+    /// Memory was refused.
     NoMemory,
-    /// What was to be told could not be written.
+    /// The output could not be written.
     Output,
 }
 
@@ -140,7 +140,7 @@ impl Failure {
         }
     }
 
-    // Why a report was not written whole.
+    // Why the whole report was not written.
     pub(crate) fn of_report(error: ReportError) -> Failure
         ensures { result ≡ failure_of_report error }
     {
@@ -156,7 +156,7 @@ impl Failure {
     {
         match error {
             CoreError::Store(error) => Failure::Store(error),
-            // A turnover has no such cause.
+            // A turnover is never refused for this cause.
             CoreError::Refused(_) => Failure::Store(VaultError::Halted),
         }
     }
@@ -174,7 +174,7 @@ fn store_status(error: &VaultError) -> u8
     }
 }
 
-/// A failure, and the path of the graph or script of the command.
+/// A failure, and the path of the graph or the script of the command.
 #[derive(Clone, Copy)]
 pub(crate) struct NamedFailure<'a> {
     pub(crate) failure: &'a Failure,
@@ -200,7 +200,7 @@ impl<'a> fmt::Display for NamedFailure<'a> {
     }
 }
 
-// Writes what is told of an error of the store.
+// Writes the message for an error of the store.
 fn write_store<W: fmt::Write>(f: &mut fmt::Formatter<W>, error: &VaultError) -> fmt::Result
     ensures { WritesOnOk W.write_str_gives f.old result (store_text error.now) f.new }
 {

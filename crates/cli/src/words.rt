@@ -17,19 +17,19 @@ pub const MOST_LIMIT: u64 = 1_000_000_000;
 /// The most workers.
 pub const MOST_WORKERS: u8 = 64;
 
-// What is told of a graph's file.
+// The help for the file of a graph.
 const GRAPH_HELP: &str = "The file with the text of the graph; - is the standard input";
 
 /// What the program is asked to do.
 #[derive(Clone, Copy, Debug, PartialEq, Eq)]
 pub enum Command<'a> {
-    /// Make a store of the graph in this file in the directory.
+    /// Make a store in the directory, of the graph in this file.
     Create {
         graph: &'a str,
         directory: &'a str,
     },
-    /// Run the script in this file on the store in the directory with so many workers; each of its runs commits as many ends of steps at most as the
-    /// limit says.
+    /// Run the script in this file on the store in the directory with this number of workers. Each of its runs commits
+    /// at most `limit` ends of steps.
     Run {
         directory: &'a str,
         script: &'a str,
@@ -55,7 +55,7 @@ pub enum Command<'a> {
 }
 
 impl<'a> Command<'a> {
-    /// Where the store is, or nothing where none is needed.
+    /// The directory of the store, or the empty text if none is needed.
     pub fn directory(&self) -> &'a str {
         match self {
             Command::Create { directory, .. }
@@ -78,7 +78,7 @@ impl<'a> Command<'a> {
         }
     }
 
-    /// The path of the file that it reads, or nothing where it reads none. `-` is the standard input.
+    /// The path of the file that it reads, or the empty text if it reads none. `-` is the standard input.
     pub fn input(&self) -> &'a str {
         match self {
             Command::Create { graph, .. } | Command::Draw { graph } => graph,
@@ -88,9 +88,9 @@ impl<'a> Command<'a> {
     }
 }
 
-/// Reads what `words` ask for, of which the first is the program's name.
+/// Reads the command that `words` ask for. The first word is the program's name.
 ///
-/// An `Err` is `clap`'s: the help that was asked for, the fault in the words, or that memory was refused.
+/// An `Err` is `clap`'s: the help that was asked for, a fault in the words, or memory that was refused.
 pub fn read_words<'a, S: AsStr>(alloc: Global, words: &'a [S]) -> Result<Command<'a>, Error>
     ensures { IfOk result IsInRange }
 {
@@ -102,9 +102,9 @@ pub fn read_words<'a, S: AsStr>(alloc: Global, words: &'a [S]) -> Result<Command
     }
 }
 
-/// The words that the process was started with, of which the first is the program's name.
+/// The words that the process was started with. The first word is the program's name.
 ///
-/// An `Err` is of kind `Io` where a word is not UTF-8 text, and else memory was refused.
+/// An `Err` is of kind `Io` if a word is not UTF-8 text; else memory was refused.
 pub fn collect_words<R: Env + AllocGlobal>(rt: &R) -> Result<Vec<String>, Error>
     ensures { IfErr result (λ e. (kind_of e ≡ ErrorKind.OutOfMemory) ⊎ (kind_of e ≡ ErrorKind.Io)) }
 {
@@ -118,7 +118,7 @@ pub fn collect_words<R: Env + AllocGlobal>(rt: &R) -> Result<Vec<String>, Error>
     }
 }
 
-/// The exit status of a command line that was not read: 0 where help was asked for, 5 where memory was refused, and else 2.
+/// The exit status of a command line that could not be read: 0 if help was asked for, 5 if memory was refused, else 2.
 pub fn usage_status(error: &Error) -> u8
     ensures { result ≡ usage_status_of (kind_of error.now) }
 {
@@ -129,7 +129,7 @@ pub fn usage_status(error: &Error) -> u8
     }
 }
 
-// The command that the matches make. `clap` has looked at the words before, so that one is there.
+// The command in these matches. `clap` has checked the words before, so there is one.
 fn command_in<'a>(matches: &ArgMatches<'a>) -> Option<Command<'a>>
     ensures { IfSome result IsInRange }
 {
@@ -163,7 +163,7 @@ fn command_in<'a>(matches: &ArgMatches<'a>) -> Option<Command<'a>>
     }
 }
 
-// What is to be drawn: a store, or else a graph.
+// The command to draw a store, or else a graph.
 fn drawing_in<'a>(found: &ArgMatches<'a>) -> Option<Command<'a>>
     ensures { IfSome result IsInRange }
 {
@@ -176,7 +176,7 @@ fn drawing_in<'a>(found: &ArgMatches<'a>) -> Option<Command<'a>>
     }
 }
 
-// What `clap` is to read.
+// The command line as `clap` is to read it.
 fn command_line<'a>(alloc: Global) -> Result<clap::Command<'a>, AllocError> {
     let line = clap::Command::new(alloc, "cnc")
         .about("Runs graphs of Concurrent Collections on stores that survive a crash")
@@ -191,7 +191,8 @@ fn command_line<'a>(alloc: Global) -> Result<clap::Command<'a>, AllocError> {
     with_command(line, draw_line(alloc))
 }
 
-// A line with one more command. It has the exits of both by itself, so that no long line is let go at each of them.
+// A line with one more command. This function alone has the early exits of both, so that a caller does not drop a long
+// line at each of them.
 fn with_command<'a>(
     line: Result<clap::Command<'a>, AllocError>,
     command: Result<clap::Command<'a>, AllocError>,
@@ -201,7 +202,7 @@ fn with_command<'a>(
     line.subcommand(command)
 }
 
-// And with one more argument.
+// A line with one more argument.
 fn with_argument<'a>(
     line: Result<clap::Command<'a>, AllocError>,
     argument: Arg<'a>,
@@ -258,7 +259,7 @@ fn graph<'a>(alloc: Global) -> Arg<'a> {
     wanted(alloc, "GRAPH", GRAPH_HELP)
 }
 
-// The graph that is drawn, unless a store is.
+// The graph that is drawn, if no store is.
 fn drawn<'a>(alloc: Global) -> Result<Arg<'a>, AllocError> {
     Arg::new(alloc, "GRAPH")
         .value_parser(ValueParser::NonEmptyString)
@@ -309,7 +310,7 @@ fn limit<'a>(alloc: Global) -> Arg<'a> {
         .help("How many steps each run of the script may commit, 0 to 1000000000")
 }
 
-// An argument that has to be there.
+// A required argument.
 fn wanted<'a>(alloc: Global, name: &'a str, help: &'a str) -> Arg<'a> {
     Arg::new(alloc, name)
         .required(true)
