@@ -1,14 +1,14 @@
-//! The error output of a person, and the text at which it points.
+//! The error output on a terminal, and the text at which it points.
 use cli::Errors;
 use std::alloc::Global;
 use std::io::{self, Read, Stderr, Write};
 
-// How many characters of a line are shown in front of a caret, and how many at most.
+// How many characters of a line are shown before the caret at most, and how many in all.
 const MOST_BEFORE: usize = 60;
 
 const MOST_SHOWN: usize = 120;
 
-/// Where a fault is, and what is wrong there: the line and the column, from 1; column 0 where the line alone is known.
+/// Where a fault is, and what is wrong there: the line and the column, from 1; column 0 if only the line is known.
 #[derive(Clone, Copy)]
 pub(crate) struct Place {
     line: usize,
@@ -16,7 +16,7 @@ pub(crate) struct Place {
     hint: &'static str,
 }
 
-/// The error output, with the place of the fault that was told on it.
+/// The error output, with the place of the fault that was reported on it.
 #[derive(Drop)]
 pub(crate) struct Console {
     err: Stderr,
@@ -31,7 +31,7 @@ impl Console {
         }
     }
 
-    /// Where the fault is, if one was told.
+    /// Where the fault is, if one was reported.
     pub(crate) fn place(&self) -> Option<Place> {
         self.place
     }
@@ -53,7 +53,7 @@ impl Errors for Console {
     }
 }
 
-/// A reader that keeps what was read.
+/// A reader that keeps what it has read.
 #[derive(Drop)]
 pub(crate) struct Kept<'a, R: Read> {
     inner: &'a mut R,
@@ -68,8 +68,8 @@ impl<'a, R: Read> Kept<'a, R> {
         }
     }
 
-    /// Prints the line of a place, and below it a caret under the column, or under its first character, and what is wrong. Of a long line the part around the
-    /// caret is shown.
+    /// Prints the line of a place, and below it a caret and what is wrong. The caret is under the column or, if that is
+    /// not known, under the first character that is not blank. Of a long line only the part near the caret is printed.
     pub(crate) fn point(&self, rt: &HostRuntime, place: Place) {
         let Place { line, column, hint } = place;
         let text = str::from_utf8(self.text.as_slice()).unwrap_or("");

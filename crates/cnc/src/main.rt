@@ -1,4 +1,4 @@
-//! The program: it does what its words ask for, and ends with the status that says how that went.
+//! The program: it does what its words ask for, and exits with the status of that.
 #![tactic(auto)]
 
 ghost use Rattle.cli.specs.Words.{IsInRange};
@@ -21,12 +21,12 @@ use std::sync::atomic::AtomicU64;
 use std::thread::Threads;
 use std::time::Clock;
 
-/// What workers need of the program: they start, wait, and tell how far they are.
+/// What workers need from the program: threads, waiting, the clock, and the error output for their progress.
 trait Handles: Threads + Wait + Sync + Clock + Eprint {}
 
 impl<H: Threads + Wait + Sync + Clock + Eprint> Handles for H {}
 
-// The statuses of a file that cannot be read, and of a device, a memory or an output that fails.
+// The statuses: a file cannot be read; a device, memory or an output failed.
 const CANNOT_READ: u8 = 2;
 
 const FAILED: u8 = 5;
@@ -37,7 +37,7 @@ fn main(rt: HostRuntime) -> ExitCode {
         Err(error) => {
             let status = usage_status(&error);
             match error.print(&rt) {
-                // The help that was asked for had no reader.
+                // The help that was asked for could not be written.
                 Err(_) if status == 0 => FAILED,
                 _ => status,
             }
@@ -46,16 +46,16 @@ fn main(rt: HostRuntime) -> ExitCode {
     ExitCode::from(status)
 }
 
-/// Does what the words ask for, and answers with the exit status.
+/// Does what the words ask for, and returns the exit status.
 ///
-/// An `Err` says why the words ask for nothing.
+/// An `Err` says why the words ask for no command.
 fn run<H: Handles>(rt: &HostRuntime, threads: &H) -> Result<u8, Error> {
     let words = collect_words(rt)?;
     let command = read_words(rt.alloc(), words.as_slice())?;
     Ok(with_input(rt, threads, &command))
 }
 
-// Opens the input of a command, and does it. A command that reads nothing has an empty one.
+// Opens the input of a command, and does the command. The input of a command that reads nothing is empty.
 fn with_input<H: Handles>(rt: &HostRuntime, threads: &H, command: &Command<'_>) -> u8
     requires { IsInRange command.now }
 {
@@ -73,7 +73,7 @@ fn with_input<H: Handles>(rt: &HostRuntime, threads: &H, command: &Command<'_>) 
     }
 }
 
-// Opens the directory of a command, if it needs one, and does it.
+// Opens the directory of a command, if it needs one, and does the command.
 fn with_disk<R: Read, H: Handles>(
     rt: &HostRuntime,
     threads: &H,
@@ -92,7 +92,8 @@ fn with_disk<R: Read, H: Handles>(
     }
 }
 
-// Does a command on a disk, with a crew for its steps. Where a person looks at the error output, a fault is pointed at, and a long run tells how far it is.
+// Does a command on a disk, with a crew for its steps. If the error output is a terminal, it points at a fault, and
+// shows the progress of a long run.
 fn pointed<D: Disk + Send + Drop, R: Read, H: Handles>(
     rt: &HostRuntime,
     threads: &H,
@@ -122,7 +123,7 @@ fn pointed<D: Disk + Send + Drop, R: Read, H: Handles>(
     status
 }
 
-// Does a command: its status, and the place of its fault, if it has one.
+// Does a command, and returns its status and the place of its fault, if it has one.
 fn done<D: Disk + Send + Drop, R: Read, W: Write, H: Handles, P: Probe>(
     rt: &HostRuntime,
     command: &Command<'_>,
@@ -137,7 +138,7 @@ fn done<D: Disk + Send + Drop, R: Read, W: Write, H: Handles, P: Probe>(
     (flushed(out, status), err.place())
 }
 
-// Tells that a directory could not be opened, and a person why that may be.
+// Says that a directory could not be opened and, on a terminal, why that may be.
 fn no_directory(rt: &HostRuntime, directory: &str) -> u8 {
     let status = refused(rt, "device failed");
     if rt.stderr().is_terminal() {
@@ -149,13 +150,14 @@ fn no_directory(rt: &HostRuntime, directory: &str) -> u8 {
     status
 }
 
-// Tells why a command was not begun.
+// Says why a command was not begun.
 fn refused(rt: &HostRuntime, why: &str) -> u8 {
     let _ = writeln!(rt.stderr(), "{why}");
     FAILED
 }
 
-// The status of a command of which some output may still be held back: where that fails, the output failed, unless something was refused before.
+// Writes the output that a command may still hold back, and returns the status. If that fails, the output failed, unless
+// the graph or the script was refused before.
 fn flushed<W: Write>(out: &mut W, status: u8) -> u8 {
     match out.flush() {
         Ok(()) => status,

@@ -1,4 +1,4 @@
-//! A run that tells how far it is.
+//! The progress of a run, shown on a terminal.
 use pool::{Answer, Probe};
 use std::io::{self, Eprint, Write};
 use std::marker::Sync;
@@ -6,21 +6,22 @@ use std::sync::atomic::{AtomicU64, Ordering};
 use std::time::{Clock, Instant};
 use terms::Inst;
 
-// How many instances are entered between two looks at the clock.
+// How many instances are run between two looks at the clock.
 const BETWEEN: u64 = 64;
 
-/// Counts how often an instance is run. It tells the count, on how many workers, and how many in a second since the first: once a second at most, behind every 64th.
+/// Counts how often an instance is run. It prints the count, the number of workers, and the number in a second since the
+/// first: at most once a second, and only at every 64th.
 #[derive(Drop)]
 pub(crate) struct Telling<'a, R> {
     rt: &'a R,
     workers: u8,
     made: Option<Instant>,
-    // How many milliseconds later the first instance ran.
+    // The milliseconds from `made` to the first instance that ran.
     first: AtomicU64,
     ran: AtomicU64,
-    // The second of the run in which it was told last.
+    // The second of the run in which the progress was printed last.
     told: AtomicU64,
-    // Whether what was told stands on the screen: 0 or 1.
+    // Whether the progress stands on the screen: 0 or 1.
     shown: &'a AtomicU64,
 }
 
@@ -37,7 +38,7 @@ impl<'a, R: Clock + Eprint> Telling<'a, R> {
         }
     }
 
-    // The milliseconds since it was made; 0 where the clock does not tell.
+    // The milliseconds since it was made; 0 if the clock fails.
     fn milliseconds(&self) -> u64 {
         let Some(made) = &self.made else {
             return 0;
@@ -48,7 +49,7 @@ impl<'a, R: Clock + Eprint> Telling<'a, R> {
         }
     }
 
-    // Tells how far the run is, once a second.
+    // Prints the progress of the run, once a second.
     fn tell(&self, ran: u64) {
         let first = self.first.load(Ordering::Relaxed);
         let seconds = self.milliseconds().saturating_sub(first) / 1000;
@@ -80,7 +81,7 @@ impl<'a, R: Clock + Eprint + Sync> Probe for Telling<'a, R> {
     }
 }
 
-/// An output that takes away what was told of a run before it writes.
+/// An output that clears the progress of a run from the screen before it writes.
 #[derive(Drop)]
 pub(crate) struct Cleared<'a, R, W> {
     rt: &'a R,
