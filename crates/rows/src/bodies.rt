@@ -1,13 +1,13 @@
-//! Instances of a graph's steps: `run NAME`, where the graph's text is named so, and below it a line for each instance: its step,
-//! its key and, behind `<-`, the values of the items that it gets. What comes of it is a line: what it needs, what it read and
-//! gave, or its fault, or where it is parked if the values end before it does.
+//! Instances of a graph's steps: `run NAME`, where NAME is the name of the graph's text, and below it a line for each
+//! instance: its step, its key and, after `<-`, the values of the items that it gets. The result of each is a line: what
+//! it needs; and what it read and gave, or its fault, or where it is parked if the values end before it does.
 use crate::telling::{tell_key, told_of};
 use graph::{Graph, parse};
 use std::alloc::{AllocError, Global};
 use steplang::{Checked, Run, Turn};
 use terms::{Addr, Inst, Key, MAX_COMPONENTS, Put, StepCollection};
 
-/// What comes of these instances, a line for each.
+/// The results of these instances, a line for each.
 pub(crate) fn answer(alloc: Global, text: &[u8], lines: &str) -> Result<String, AllocError> {
     let mut out = String::new(alloc);
     match parse(alloc, text) {
@@ -41,7 +41,7 @@ fn tell_runs(
     Ok(())
 }
 
-// The numbers of a text, with blanks between them, if each word is one.
+// The numbers in a text, with blanks between them, if each word is a number.
 fn numbers(alloc: Global, text: &str) -> Result<Option<Vec<i64>>, AllocError> {
     let mut numbers = Vec::new(alloc);
     for word in text.split_whitespace() {
@@ -77,7 +77,7 @@ fn tell_run(
     go_on(graph, run, values, out)
 }
 
-// The values answer what the run needs, and where they end it is parked.
+// Gives the run the values that it needs, in order. If they end before it does, it is parked.
 fn go_on(
     graph: &Graph,
     mut run: Run<'_>,

@@ -1,13 +1,13 @@
 //! How bytes are written, as words:
 //!
-//! - `01ff` are bytes by their digits, and `00*32` the same byte 32 times
+//! - `01ff` are bytes by their digits, and `00*32` is the same byte 32 times
 //! - `u16:5`, `u32:5`, `u64:5` and `i64:-5` are numbers, the lowest byte first
-//! - `NAME` is what the file has named so, and `NAME..10` its first 10 bytes
-//! - `40[ .. ]` are the words within, 40 times; there `turn` is the number of the turn, from 0, as an `i64`
+//! - `NAME` is what the file has given this name, and `NAME..10` its first 10 bytes
+//! - `40[ .. ]` are the words inside, 40 times; there `turn` is the number of the repetition, from 0, as an `i64`
 use cases::Names;
 use std::alloc::{AllocError, Global};
 
-/// The bytes that these words stand for, if each of them is one.
+/// The bytes that these words stand for, if each of them is such a word.
 pub(crate) fn bytes_of(
     alloc: Global,
     names: &Names,
@@ -43,7 +43,7 @@ pub(crate) fn bytes_of(
     }
 }
 
-// Whether each of the words is one.
+// Appends the bytes of these words, and returns whether each of them is such a word.
 fn push_words(
     alloc: Global,
     names: &Names,
@@ -98,7 +98,7 @@ fn push_number(kind: &str, number: &str, bytes: &mut Vec<u8>) -> Result<bool, Al
     Ok(true)
 }
 
-// What is named so, or its first bytes.
+// What has this name, or a prefix of it.
 fn push_named(names: &Names, word: &str, bytes: &mut Vec<u8>) -> Result<bool, AllocError> {
     let (name, end) = word.split_once("..").unwrap_or((word, ""));
     let Some(named) = names.bytes(name) else {

@@ -1,26 +1,27 @@
-//! Which of the ready instances runs next: `first`, `last`, or a list of numbers, as `3,1,4`, taken in turn and over and over.
+//! Which of the ready instances runs next: `first`, `last`, or a list of numbers, such as `3,1,4`, that are taken in
+//! turn, again and again.
 use commit::Choose;
 use std::alloc::{AllocError, Global};
 
-/// Who picks.
+/// What picks the next instance.
 #[derive(Drop)]
 pub(crate) enum Chooser {
     First,
     Last,
-    /// By these numbers, each from 0 again past the last of the ready ones.
+    /// By these numbers, each modulo the number of ready instances.
     Listed(Numbers),
 }
 
-/// Numbers that come in turn, over and over.
+/// Numbers that come in turn, again and again.
 #[derive(Drop)]
 pub(crate) struct Numbers {
     numbers: Vec<usize>,
-    // The place of the one that comes next.
+    // The place of the number that comes next.
     next: usize,
 }
 
 impl Chooser {
-    /// The chooser of this name, if it is one.
+    /// The chooser with this name, if there is one.
     pub(crate) fn named(alloc: Global, name: &str) -> Result<Option<Self>, AllocError> {
         match name {
             "first" => Ok(Some(Chooser::First)),
@@ -41,7 +42,7 @@ impl Choose for Chooser {
 }
 
 impl Numbers {
-    // The numbers of a text, with commas between them, if each is one.
+    // The numbers in a text, with commas between them, if each part is a number.
     fn read(alloc: Global, text: &str) -> Result<Option<Self>, AllocError> {
         let mut numbers = Vec::new(alloc);
         for word in text.split(',') {
@@ -53,7 +54,7 @@ impl Numbers {
         Ok(Some(Numbers { numbers, next: 0 }))
     }
 
-    // The one whose turn it is, and 0 where there are none.
+    // The next number, or 0 if there are none.
     fn take(&mut self) -> usize {
         let number = self.numbers.get(self.next).copied().unwrap_or(0);
         let behind = self.next.saturating_add(1);

@@ -1,10 +1,10 @@
-//! Bytes of events and images: what they are read as, and that it is spelled by the same bytes again.
+//! Bytes of events and images: what they are read as, and whether encoding that gives the same bytes again.
 use crate::telling::{tell_event, tell_image};
 use codec::{CodecError, decode_event, decode_image, encode_event, encode_image};
 use std::alloc::{AllocError, Global};
 use terms::same_event;
 
-/// The event that the bytes spell, or their fault. A clone of it is spelled again.
+/// The event that the bytes spell, or their fault. A clone of it is encoded again.
 pub(crate) fn event(alloc: Global, bytes: &[u8]) -> Result<String, AllocError> {
     let mut out = String::new(alloc);
     let mut again = Vec::new(alloc);
@@ -38,7 +38,7 @@ pub(crate) fn image(alloc: Global, bytes: &[u8]) -> Result<String, AllocError> {
     Ok(out)
 }
 
-// Tells the bytes that something is spelled by, if they are not those that it was read from.
+// Writes the bytes that a value is encoded as, if they are not those that it was read from.
 fn compare(out: &mut String, bytes: &[u8], again: &[u8]) -> Result<(), AllocError> {
     if again != bytes {
         write!(out, ", spelled {again:?}")?;
@@ -46,7 +46,7 @@ fn compare(out: &mut String, bytes: &[u8], again: &[u8]) -> Result<(), AllocErro
     out.push_str("\n")
 }
 
-/// How many beginnings the bytes have, and how many of them are told to be short.
+/// How many proper prefixes the bytes have, and how many of them are refused as short.
 pub(crate) fn beginnings(
     alloc: Global,
     bytes: &[u8],

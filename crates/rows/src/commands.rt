@@ -1,6 +1,6 @@
 //! The commands.
 //!
-//! - `text NAME`, `bytes NAME`: names what stands below it
+//! - `text NAME`, `bytes NAME`: gives the name to what stands below it
 //! - `tokens`, `parse`, `reads`, `graph`, `beginnings`, `refuses BYTES`: a graph text (`graphs`)
 //! - `run NAME`: instances of a graph's steps, with the values of what they get (`bodies`)
 //! - `event`, `image`, `short event`, `short image`: bytes that spell one (`codecs`)
@@ -8,7 +8,8 @@
 //! - `items`: calls on a map of items (`item_calls`)
 //! - `machine NAME CHOOSERS`: a story of a store in memory, once for each chooser (`states`)
 //! - `core NUMBERS`: a story of a store on a memory disk with its steps, once for each number (`cores`)
-//! - `crashes FIRST LAST SIDE`: such a story, cut off at each of these calls of the disk, and told on (`crashes`)
+//! - `crashes FIRST LAST SIDE`: such a story, cut off by a crash at each of these calls of the disk, and continued
+//!   (`crashes`)
 //! - `first`: bytes that begin with a record (`journals`)
 //! - `store NUMBERS`: a story of a store on a memory disk, once for each number (`vault_stories`)
 use crate::{
@@ -18,7 +19,7 @@ use crate::{
 use cases::{Names, texts};
 use std::alloc::{AllocError, Global};
 
-/// What a command answers to its input, with the names that a file has given.
+/// The result of a command with its input, with the names that a file has given.
 pub(crate) fn answer(
     alloc: Global,
     names: &mut Names,
@@ -50,7 +51,7 @@ pub(crate) fn answer(
     }
 }
 
-// Names bytes; it answers nothing where they are some.
+// Gives a name to bytes. The result is empty if the input is bytes.
 fn give_bytes(
     alloc: Global,
     names: &mut Names,

@@ -37,7 +37,7 @@ fn tell_done(done: Result<(), CoreError>, told: &mut String) -> Result<(), Alloc
     }
 }
 
-/// Why a store was not created.
+/// Writes why a store was not created.
 pub(crate) fn tell_creation(error: &CreateError, told: &mut String) -> Result<(), AllocError> {
     match error {
         CreateError::Graph(fault) => write!(told, "{fault}"),
@@ -45,7 +45,7 @@ pub(crate) fn tell_creation(error: &CreateError, told: &mut String) -> Result<()
     }
 }
 
-/// Why a store was not opened.
+/// Writes why a store was not opened.
 pub(crate) fn tell_opening(error: &VaultError, told: &mut String) -> Result<(), AllocError> {
     write!(told, "{error}")
 }
@@ -85,7 +85,7 @@ fn turn(alloc: Global, core: &mut Core<MemDisk>, told: &mut String) -> Result<()
     }
 }
 
-/// Runs the steps, at most so many of them to an end, and tells how that ended.
+/// Runs the steps, at most a limit of them to their end, and writes how that ended.
 pub(crate) fn run(
     alloc: Global,
     core: Core<MemDisk>,
@@ -142,7 +142,7 @@ fn tell_fault(
     tell_named(core.graph(), instance, told)
 }
 
-// What is at each address.
+// Writes what is at each address.
 fn report(
     alloc: Global,
     core: &Core<MemDisk>,
@@ -160,7 +160,7 @@ fn report(
     Ok(())
 }
 
-// What is at an address, as a step reads it, or as the environment gets it.
+// Writes what is at an address, as a step reads it, or as the environment gets it.
 fn tell_at(
     alloc: Global,
     core: &Core<MemDisk>,
@@ -210,7 +210,7 @@ fn tell_counts(core: &Core<MemDisk>, told: &mut String) -> Result<(), AllocError
     )
 }
 
-// The items of the collection with this name.
+// Writes the items of the collection with this name.
 fn tell_items(core: &Core<MemDisk>, name: &str, told: &mut String) -> Result<(), AllocError> {
     let Some(collection) = core.graph().item_number(name) else {
         return told.push_str("no such collection");

@@ -1,8 +1,9 @@
 //! Stories of a store on a memory disk with its steps: `core NUMBERS`, and below it a line for each call (`stories`).
 //!
-//! `create NAME`, `open`; `tag <n: 2>`, `put [fib: 0] = 0`, `get [fib: 1]`; `run CHOOSER LIMIT`, where the chooser is one of `choosers`; `status`,
-//! `report ADDRESS; ADDRESS..`, `items NAME`, `counts`, `turn`. `fail NUMBER`: the call of the disk with this number from now on fails. All other words are calls on the two
-//! files, which close the store (`disks`).
+//! `create NAME`, `open`; `tag <n: 2>`, `put [fib: 0] = 0`, `get [fib: 1]`; `run CHOOSER LIMIT`, with a chooser of
+//! `choosers`; `status`, `report ADDRESS; ADDRESS..`, `items NAME`, `counts`, `turn`. `fail NUMBER`: the call of the
+//! disk with this number, counted from now, fails. All other words are calls on the two files, which first close the
+//! store (`disks`).
 use crate::stories::World;
 use crate::{core_calls as calls, disks};
 use cases::Names;
@@ -93,7 +94,7 @@ fn on_core(
     Ok(Store::Open(core))
 }
 
-// The call of the disk with this number from now on is to fail.
+// Makes the call of the disk with this number, counted from now, fail.
 fn fail(disk: MemDisk, number: &str, told: &mut String) -> Result<Store, AllocError> {
     let mut disk = disk;
     match number.parse::<u64>() {
@@ -123,7 +124,7 @@ fn create(
     }
 }
 
-// A store of the graph with this text, and what is told of it.
+// Makes a store of the graph with this text, and returns what is written of it.
 fn created(alloc: Global, disk: MemDisk, text: &[u8]) -> Result<(Store, String), AllocError> {
     let mut told = String::new(alloc);
     match Core::create(alloc, disk, text) {

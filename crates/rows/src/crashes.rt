@@ -1,10 +1,11 @@
-//! Crashes in the midst of a story of a store with its steps: `crashes FIRST LAST SIDE`, and below it the story, a line `then`, and what is told behind
-//! each crash.
+//! Crashes in the middle of a story of a store with its steps: `crashes FIRST LAST SIDE`, and below it the story, a line
+//! `then`, and the story after each crash.
 //!
-//! Each call of the disk from the first number to the last fails in turn. Behind it a crash leaves what it may leave of that side: what reads give; where the
-//! length may change, as few bytes as may be left near an end, and these with one or two bytes behind them, or with the bytes named `Forged`; else each byte near an
-//! end that may change as 0, as 1 and as 7. Then the story is told on; its last answer counts. What is answered is that one answer, where it is the same behind all
-//! crashes; else each other one with its call, and each call behind which no crash was left.
+//! Each call of the disk from the first number to the last fails in turn. After it a crash leaves what it may leave of
+//! that side: what reads give; if the length may change, as few bytes as may be left near an end, and these followed by
+//! one or two bytes, or by the bytes named `Forged`; else each byte near an end that may change, as 0, as 1 and as 7.
+//! Then the story goes on, and its last result counts. The result of the command is that one result, if it is the same
+//! after all crashes; else also each other one with its call, and each call after which no crash was possible.
 use crate::cores::{Store, closed};
 use crate::disks::bytes_on;
 use crate::stories::{World, tell};
@@ -15,10 +16,10 @@ use std::alloc::{AllocError, Global};
 // What each byte is changed to.
 const CHANGES: [u8; 3] = [0, 1, 7];
 
-// How many bytes at each end of a file are looked at. A record of the stories is shorter.
+// How many bytes at each end of a file are tried. Each record of the stories is shorter.
 const NEAR: usize = 64;
 
-// A story, up to the crash and behind it.
+// A story, before the crash and after it.
 #[derive(Clone, Copy)]
 struct Plan<'a> {
     side: Side,
@@ -26,17 +27,17 @@ struct Plan<'a> {
     behind: &'a str,
 }
 
-// What was answered.
+// The results so far.
 #[derive(Drop)]
 struct Seen {
-    // The first answer, and all others.
+    // The first result, and all others.
     first: String,
     others: String,
-    // How many crashes were left at this call.
+    // How many crashes were possible at this call.
     left: usize,
 }
 
-/// What is told behind each of the crashes.
+/// The results after each of the crashes.
 pub(crate) fn answer(
     alloc: Global,
     names: &Names,
@@ -100,7 +101,7 @@ fn crash_at(
     Ok(())
 }
 
-// The disk of the story, of which the call with this number failed.
+// The disk after the story, in which the call with this number failed.
 fn story(alloc: Global, names: &Names, plan: Plan<'_>, call: u64) -> Result<MemDisk, AllocError> {
     let mut passed = String::new(alloc);
     let mut disk = MemDisk::new(alloc);
@@ -116,7 +117,7 @@ fn story(alloc: Global, names: &Names, plan: Plan<'_>, call: u64) -> Result<MemD
     Ok(closed(world))
 }
 
-// Tells the story on, behind a crash.
+// Continues the story after a crash.
 fn told(
     alloc: Global,
     names: &Names,
@@ -145,7 +146,7 @@ fn told(
     Ok(())
 }
 
-// A crash that leaves the first so many bytes of the side with these behind them, if one may, and what is told behind it.
+// A crash that leaves the first `kept` bytes of the side, followed by the tail, if one may; and the story after it.
 fn leave(
     alloc: Global,
     names: &Names,
@@ -166,7 +167,7 @@ fn leave(
     Ok(())
 }
 
-// A crash that leaves as few bytes of the side as may be left, fewer than reads give; how many these are.
+// A crash that leaves as few bytes of the side as may be left, if fewer than reads give; returns their number.
 fn shortest(alloc: Global, disk: &mut MemDisk, side: Side) -> Result<Option<usize>, AllocError> {
     let bytes = bytes_of_side(alloc, disk, side)?;
     let other = bytes_of_side(alloc, disk, other_side(side))?;
@@ -220,12 +221,13 @@ fn change_each(
     Ok(())
 }
 
-// Whether a place is among the first of so many, or among the last. A write or a cut of a store begins there.
+// Whether a place is among the first `NEAR` of `count` places, or among the last. The writes and cuts of a store begin
+// there.
 fn is_near_an_end(place: usize, count: usize) -> bool {
     place < NEAR || count.saturating_sub(place) <= NEAR
 }
 
-// What reads give of a side; nothing where one fails.
+// What reads give of a side, or nothing if one fails.
 fn bytes_of_side(alloc: Global, disk: &mut MemDisk, side: Side) -> Result<Vec<u8>, AllocError> {
     Ok(bytes_on(alloc, disk, side).unwrap_or(Vec::new(alloc)))
 }

@@ -64,7 +64,7 @@ fn take_at(
     }
 }
 
-// Begins a journal there, and appends a record, where a call fails, or none.
+// Begins a journal there, and appends a record. One call fails meanwhile, or none.
 fn record(
     alloc: Global,
     names: &Names,
@@ -82,12 +82,12 @@ fn record(
     }
 }
 
-// Tells that a call is not written as one is.
+// Says that this is not a call.
 fn no_such(word: &str, told: &mut String) -> Result<(), AllocError> {
     write!(told, "no such call: {word}")
 }
 
-// Tells an error of a call.
+// Writes the error of a call.
 fn tell_call(answer: Result<(), DiskError>, told: &mut String) -> Result<(), AllocError> {
     match answer {
         Ok(()) => Ok(()),
@@ -102,7 +102,7 @@ fn tell_length(disk: &mut MemDisk, side: Side, told: &mut String) -> Result<(), 
     }
 }
 
-// Writes from a place within the file, or from its end on.
+// Writes from a place in the file, or from its end on.
 fn write(
     disk: &mut MemDisk,
     side: Side,
@@ -126,7 +126,7 @@ fn cut(disk: &mut MemDisk, side: Side, length: u64, told: &mut String) -> Result
     }
 }
 
-// Reads what lies within the file.
+// Reads bytes that are in the file.
 fn read(
     alloc: Global,
     disk: &mut MemDisk,
@@ -158,7 +158,7 @@ pub(crate) fn bytes_on(
     Ok(bytes)
 }
 
-// Whether a file has these bytes, or where it differs first.
+// Writes whether a file has these bytes, or where it first differs.
 fn compare(
     alloc: Global,
     disk: &mut MemDisk,
@@ -184,7 +184,7 @@ fn compare(
     }
 }
 
-// A crash that leaves these bytes of both files, where one may leave them.
+// A crash that leaves these bytes of both files, if one may.
 fn crash(
     alloc: Global,
     names: &Names,

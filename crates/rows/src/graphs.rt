@@ -1,18 +1,18 @@
 //! Graph texts.
 //!
-//! - `tokens`: its tokens, each behind its place
-//! - `parse`: its fault, or its graph's canonical text behind the number of its bytes
+//! - `tokens`: its tokens, each after its place
+//! - `parse`: its fault, or the canonical text of its graph after the number of bytes of that text
 //! - `reads`: its fault, or that it is a graph
-//! - `graph`: what its graph tells of its collections, and of one more of each kind
-//! - `beginnings`: the lengths of its beginnings that are graphs
-//! - `refuses BYTES`: at how many places one of these characters can stand in place of what the text has there
+//! - `graph`: what its graph says of its collections, and of one more of each kind
+//! - `beginnings`: the lengths of those prefixes of it that are graphs
+//! - `refuses BYTES`: at how many places one of these characters can replace the one that the text has there
 use cases::Names;
 use graph::{Graph, canonical, parse};
 use std::alloc::{AllocError, Global};
 use syntax::tokens;
 use terms::{Addr, Inst, ItemCollection, Key, MAX_COMPONENTS, StepCollection, Tag, TagCollection};
 
-/// What a command answers to this text.
+/// The result of a command on this text.
 pub(crate) fn answer(
     alloc: Global,
     names: &Names,
@@ -51,7 +51,7 @@ fn tell_tokens(alloc: Global, text: &str, out: &mut String) -> Result<(), AllocE
     Ok(())
 }
 
-// The fault of a text, or that it is a graph.
+// Writes the fault of a text, or that it is a graph.
 fn tell_fault(alloc: Global, text: &[u8], out: &mut String) -> Result<(), AllocError> {
     match parse(alloc, text) {
         Ok(_) => out.push_str("a graph"),
@@ -59,7 +59,7 @@ fn tell_fault(alloc: Global, text: &[u8], out: &mut String) -> Result<(), AllocE
     }
 }
 
-// The canonical text of the graph that a text is, if it is one.
+// The canonical text of the graph that a text reads as, if it reads as one.
 fn canonical_of(alloc: Global, text: &[u8]) -> Result<Option<Vec<u8>>, AllocError> {
     match parse(alloc, text) {
         Ok(graph) => Ok(Some(canonical(alloc, &graph)?)),
@@ -78,7 +78,7 @@ fn tell_canonical(alloc: Global, text: &[u8], out: &mut String) -> Result<(), Al
     }
 }
 
-// Whether a text is a graph, and its canonical text is its own.
+// Whether a text is a graph, and its canonical text has itself as canonical text.
 fn is_graph(alloc: Global, text: &[u8]) -> Result<bool, AllocError> {
     let Some(once) = canonical_of(alloc, text)? else {
         return Ok(false);
@@ -218,7 +218,7 @@ fn components_of(graph: &Graph, address: &Addr) -> Option<usize> {
     }
 }
 
-// How many parameters a step has, if an instance with so many components is of the graph.
+// How many parameters a step has, if an instance with this number of components is of the graph.
 fn parameters_of(graph: &Graph, step: StepCollection) -> Option<usize> {
     let parameters = graph.step_parameters(step);
     let instance = Inst {
@@ -232,7 +232,7 @@ fn parameters_of(graph: &Graph, step: StepCollection) -> Option<usize> {
     }
 }
 
-// A key with so many components, all of them 0.
+// A key with this number of components, all of them 0.
 fn key_of(components: Option<usize>) -> Key {
     let zeros = [0; MAX_COMPONENTS];
     Key::new(&zeros[..components.unwrap_or(0).min(MAX_COMPONENTS)])

@@ -1,8 +1,9 @@
-//! Calls on items of three collections: `items`, and below it a line for each call. Each call answers a line.
+//! Calls on items of three collections: `items`, and below it a line for each call. The result of each call is a line.
 //!
-//! `put ADDRESS VALUE`, by the environment, or `put ADDRESS VALUE INSTANCE NUMBER`, by an instance's put with that number; `get
-//! ADDRESS`; `wait ADDRESS INSTANCE`; `take ADDRESS`, for those that wait there; `walk`; and `room COLLECTION COUNT`, which makes
-//! room. An address or an instance is the number of its collection and the components of its key: `0:`, `0:5`, `0:5,-1`.
+//! `put ADDRESS VALUE`, by the environment, or `put ADDRESS VALUE INSTANCE NUMBER`, by the put of an instance with that
+//! number; `get ADDRESS`; `wait ADDRESS INSTANCE`; `take ADDRESS`, which takes the instances that wait there; `walk`;
+//! and `room COLLECTION COUNT`, which makes room. An address or an instance is the number of its collection and the
+//! components of its key: `0:`, `0:5`, `0:5,-1`.
 ghost use Rattle.std.specs.Prelude.{◌≡◌, length};
 
 use crate::telling::{part, tell_instance, tell_item};
@@ -18,7 +19,7 @@ struct Three {
     ghost collections: { length items.items.room ≡ 3 },
 }
 
-/// What the calls answer.
+/// The results of the calls.
 pub(crate) fn answer(alloc: Global, lines: &str) -> Result<String, AllocError> {
     let mut out = String::new(alloc);
     let mut three = Three {
@@ -152,7 +153,7 @@ fn instance_of(alloc: Global, word: &str) -> Result<Option<Inst>, AllocError> {
     }))
 }
 
-// An instance and the number of its put, or nothing for the environment.
+// An instance and the number of its put; or the environment, for an empty text.
 fn producer_of(alloc: Global, words: &str) -> Result<Option<Producer>, AllocError> {
     if words.is_empty() {
         return Ok(Some(Producer::Env));

@@ -1,5 +1,6 @@
-//! Journals: `first` of bytes, whether they begin with a record or a closed gate; and of a file of a disk, `scan SIDE PLACE` and
-//! `record SIDE PLACE CALL BYTES`, which begins a journal, has that call from then on fail, or none if it is 0, and appends.
+//! Journals: `first` says whether bytes begin with a record or a closed gate. On a file of a disk, `scan SIDE PLACE`
+//! reads a journal, and `record SIDE PLACE CALL BYTES` begins a journal, makes that call of the disk fail, counted from
+//! then, or none if it is 0, and appends.
 ghost use Rattle.std.specs.Prelude.{◌<◌, length};
 ghost use Rattle.disk.specs.MemDisk.{files_of};
 
@@ -37,7 +38,7 @@ pub(crate) fn scan(
     }
 }
 
-/// A journal that is begun at a place, and what it answers to a record.
+/// Begins a journal at a place, and appends a record to it.
 pub(crate) fn record(
     alloc: Global,
     disk: &mut MemDisk,

@@ -1,4 +1,4 @@
-//! The laws of the crates below, each called once: they ask for nothing, and there is nothing to run.
+//! The laws of the crates below, each called once: they require nothing, and there is nothing to run.
 use disk::{MemDisk, laws};
 
 /// Calls each law.

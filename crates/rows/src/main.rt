@@ -1,6 +1,7 @@
-//! Runs cases that are data: each is a command, its input, and what must come. The files of cases are named by the arguments.
+//! Runs cases that are data: each is a command, its input, and the result that must come. The arguments name the files
+//! of cases.
 //!
-//! `cases` tells what a file is, `bytes` how bytes are written, and `commands` lists the commands.
+//! `cases` says how a file is written, `bytes` how bytes are written, and `commands` lists the commands.
 #![tactic(auto)]
 
 mod bodies;

@@ -4,7 +4,8 @@ use graph::Graph;
 use std::alloc::{AllocError, Global};
 use terms::{Addr, Inst, ItemCollection, Key, MAX_COMPONENTS, Tag, TagCollection};
 
-/// The address that a text names, if it is written so. A name that the graph has not stands for the number behind its last.
+/// The address that a text names, if it is written as one. A name that the graph does not have stands for the number
+/// after its last.
 pub(crate) fn address_of(
     alloc: Global,
     graph: &Graph,
@@ -18,7 +19,8 @@ pub(crate) fn address_of(
     Ok(key_of(alloc, inner)?.map(|key| Addr { collection, key }))
 }
 
-/// The tag that a text names, if it is written so. A name that the graph has not stands for the number behind its last.
+/// The tag that a text names, if it is written as one. A name that the graph does not have stands for the number after
+/// its last.
 pub(crate) fn tag_of(alloc: Global, graph: &Graph, text: &str) -> Result<Option<Tag>, AllocError> {
     let Some(inner) = between(text, '<', '>') else {
         return Ok(None);
@@ -28,7 +30,7 @@ pub(crate) fn tag_of(alloc: Global, graph: &Graph, text: &str) -> Result<Option<
     Ok(key_of(alloc, inner)?.map(|key| Tag { collection, key }))
 }
 
-/// An instance by the name of its step.
+/// Writes an instance by the name of its step.
 pub(crate) fn tell_named(
     graph: &Graph,
     instance: &Inst,
@@ -40,7 +42,7 @@ pub(crate) fn tell_named(
     out.push_str(")")
 }
 
-// What stands between two signs at the ends of a text.
+// What is between two characters at the ends of a text.
 fn between(text: &str, open: char, close: char) -> Option<&str> {
     text.strip_prefix(open)?.strip_suffix(close)
 }
@@ -51,7 +53,7 @@ fn name_of(text: &str) -> &str {
     name
 }
 
-// The components behind the name, if they are numbers, and not too many.
+// The components after the name, if they are numbers, and not too many.
 fn key_of(alloc: Global, text: &str) -> Result<Option<Key>, AllocError> {
     let (_, words) = text.split_once(':').unwrap_or((text, ""));
     let mut components = Vec::new(alloc);

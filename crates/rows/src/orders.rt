@@ -1,7 +1,8 @@
-//! Values that rise: each is less than those behind it, and equal to itself alone.
+//! Values that rise: each is less than those after it, and equal only to itself.
 //!
-//! `rising puts` and `rising instances` have the ends of instances by their bytes, a line each, the puts with one put;
-//! `rising addresses` and `rising tags` events of the environment, `rising producers` images of one item.
+//! Each line has the bytes of one value. For `rising puts` and `rising instances` these are ends of instances, which for
+//! puts have one put; for `rising addresses` and `rising tags`, events of the environment; for `rising producers`,
+//! images of one item.
 use crate::bytes::bytes_of;
 use cases::Names;
 use codec::{decode_event, decode_image};
@@ -81,7 +82,7 @@ impl Values {
     }
 }
 
-// Whether any two compare as their places do.
+// Whether any two values compare as their places do.
 fn rise<T: Ord>(values: &[T]) -> bool {
     for (i, a) in values.iter().enumerate() {
         for (j, b) in values.iter().enumerate() {

@@ -7,8 +7,8 @@ use machine::Machine;
 use std::alloc::{AllocError, Global};
 use std::sync::Arc;
 
-/// Lists what a store holds as an image, and makes a store of it, as an opening does: it has the same facts, and those that
-/// waited are ready.
+/// Lists what a store holds as an image, and makes a store from it, as an opening does. The new store has the same
+/// facts, and the instances that waited are ready.
 pub(crate) fn reopened(alloc: Global, machine: &Machine) -> Result<Machine, AllocError>
     ensures { IfOk result (λ opened. (fact : Fact) → facts opened fact ≡ facts machine.now fact) }
 {

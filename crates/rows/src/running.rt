@@ -14,7 +14,8 @@ use std::alloc::{AllocError, Global};
 use std::sync::Arc;
 use terms::{FaultKind, Put};
 
-/// Lets the ready instance with this number run, to its end or to an item that is not there. Where memory is refused it is ready.
+/// Lets the ready instance with this number run, to its end or to an item that is not there. If memory is refused, it is
+/// ready again.
 pub(crate) fn run_ready(alloc: Global, machine: &mut Machine, at: usize) -> Result<(), AllocError> {
     let graph = Arc::clone(machine.graph())?;
     let Some(task) = machine.claim(at) else {
@@ -45,7 +46,7 @@ fn settle(machine: &mut Machine, task: Task, came: Came<'_>) -> Result<(), Alloc
     }
 }
 
-// Ends the instance of a task that gave these puts. Behind a fault it is ready.
+// Ends the instance of a task that gave these puts. If the store already has a fault, the instance is ready again.
 fn end(machine: &mut Machine, task: Task, puts: &[Put]) -> Result<(), AllocError>
     requires running { state_of machine.old task ≡ Some Running }
     requires gives { BodyGives machine.old.graph (facts machine.old) task puts.now }
@@ -63,7 +64,7 @@ fn end(machine: &mut Machine, task: Task, puts: &[Put]) -> Result<(), AllocError
     }
 }
 
-// Takes the end of an instance. Where memory is refused it is ready.
+// Takes the end of an instance. If memory is refused, the instance is ready again.
 fn finish(machine: &mut Machine, task: Task, puts: &[Put]) -> Result<(), AllocError>
     requires running { state_of machine.old task ≡ Some Running }
     requires legal { IsLegal machine.old.graph (facts machine.old) (Done task puts.now) }
@@ -82,7 +83,7 @@ fn finish(machine: &mut Machine, task: Task, puts: &[Put]) -> Result<(), AllocEr
     }
 }
 
-// Takes the fault of an instance. Behind another fault it is ready.
+// Takes the fault of an instance. If the store already has a fault, the instance is ready again.
 fn stop(machine: &mut Machine, task: Task, kind: FaultKind)
     requires running { state_of machine.old task ≡ Some Running }
     requires faults { BodyFaults machine.old.graph (facts machine.old) task kind }

@@ -1,9 +1,10 @@
-//! Stories of a store in memory: `machine NAME CHOOSER CHOOSER..`, where the text of the graph is named so, and below it a line for each
-//! call. The story is told once for each chooser (`choosers`). What is told the same each time is the answer.
+//! Stories of a store in memory: `machine NAME CHOOSER CHOOSER..`, where NAME is the name of the graph's text, and below
+//! it a line for each call. The story is told once for each chooser (`choosers`). The result is that of one telling, if
+//! all are the same.
 //!
-//! Calls of the environment: `tag <n: 2>`, `put [fib: 0] = 0`, `get [fib: 1]`. `run` lets ready instances run, one after another, until
-//! none is ready or there is a fault. `report ADDRESS; ADDRESS..` tells what is at these addresses, and the fault. `reopen` lists the store
-//! as an image and makes it anew from that.
+//! Calls of the environment: `tag <n: 2>`, `put [fib: 0] = 0`, `get [fib: 1]`. `run` lets ready instances run, one after
+//! another, until none is ready or there is a fault. `report ADDRESS; ADDRESS..` writes what is at these addresses, and
+//! the fault. `reopen` lists the store as an image and makes it anew from that.
 ghost use Rattle.std.specs.Prelude.{◌≡◌};
 ghost use Rattle.terms.specs.declared.event.Event.TheVariants.{EnvItem, EnvTag};
 ghost use Rattle.machine.specs.Legal.{IsLegal};
@@ -22,7 +23,7 @@ use std::alloc::{AllocError, Global};
 use std::sync::Arc;
 use terms::{Addr, Inst, Put, Tag};
 
-/// What is told of a story.
+/// The result of a story.
 pub(crate) fn answer(
     alloc: Global,
     names: &Names,
@@ -40,7 +41,7 @@ pub(crate) fn answer(
     joined(alloc, &answers)
 }
 
-// One answer where all are the same, else each of them.
+// One result if all are the same, else each of them.
 fn joined(alloc: Global, answers: &[String]) -> Result<String, AllocError> {
     let Some((first, others)) = answers.split_first() else {
         return String::from_str(alloc, "no chooser\n");
@@ -57,7 +58,7 @@ fn joined(alloc: Global, answers: &[String]) -> Result<String, AllocError> {
     Ok(out)
 }
 
-// What is told with one chooser.
+// The result of a story with one chooser.
 fn story(alloc: Global, text: &[u8], chooser: &str, lines: &str) -> Result<String, AllocError> {
     let Some(mut chooser) = Chooser::named(alloc, chooser)? else {
         return String::from_str(alloc, "no such chooser\n");
@@ -113,7 +114,7 @@ fn run(alloc: Global, machine: &mut Machine, chooser: &mut Chooser) -> Result<()
     Ok(())
 }
 
-// How a run ended.
+// Writes how a run ended.
 fn tell_end(alloc: Global, machine: &Machine, out: &mut String) -> Result<(), AllocError> {
     if machine.fault().is_some() {
         return tell_fault(machine, out);
@@ -236,7 +237,7 @@ fn get(alloc: Global, machine: &Machine, text: &str, out: &mut String) -> Result
     }
 }
 
-// What is at each address, and the fault.
+// Writes what is at each address, and the fault.
 fn report(
     alloc: Global,
     machine: &Machine,

@@ -1,14 +1,14 @@
-//! Stories: a line for each call. A story is told once for each of the numbers, which `$` stands for, or once where there are none. What the calls
-//! answer is a line for each time.
+//! Stories: a line for each call. A story is told once for each of the numbers, which `$` stands for, or once if there
+//! are none. The result has a line for each telling, with the results of its calls.
 use cases::Names;
 use std::alloc::{AllocError, Global};
 
-/// What a story is told of.
+/// What the calls of a story act on.
 pub(crate) trait World: Sized + Drop {
-    /// Where each story begins.
+    /// The world at the beginning of each story.
     fn begin(alloc: Global) -> Self;
 
-    /// One call, and what it answers.
+    /// Does one call, and writes its result.
     fn take(
         self,
         alloc: Global,
@@ -19,7 +19,7 @@ pub(crate) trait World: Sized + Drop {
     ) -> Result<Self, AllocError>;
 }
 
-/// What the calls of a story answer.
+/// The results of the calls of a story.
 pub(crate) fn answer<W: World>(
     alloc: Global,
     names: &Names,
@@ -49,7 +49,7 @@ fn tell_line<W: World>(
     out.push_str("\n")
 }
 
-/// Goes on with a story, and tells what its calls answer.
+/// Continues a story, and writes the results of its calls.
 pub(crate) fn tell<W: World>(
     alloc: Global,
     names: &Names,

@@ -1,12 +1,13 @@
-//! Names, events and images in words, their collections by number. A list of more than eight is told by its length and its last.
+//! Names, events and images in words, with their collections by number. Of a list of more than eight elements only the
+//! length and the last element are written.
 use codec::Image;
 use std::alloc::AllocError;
 use terms::{Addr, Event, Inst, Key, Producer, Put, Tag};
 
-// The greatest number of elements that are told one by one.
+// The greatest number of elements that are written one by one.
 const MOST_TOLD: usize = 8;
 
-/// What is told of a list: all of it, or its last element alone, if they are too many.
+/// What is written of a list: all of it, or only its last element if it is too long.
 pub(crate) fn told_of<T>(list: &[T]) -> &[T] {
     if list.len() > MOST_TOLD {
         &list[list.len() - 1..]
@@ -15,7 +16,7 @@ pub(crate) fn told_of<T>(list: &[T]) -> &[T] {
     }
 }
 
-/// The components of a key behind what stands in front of them.
+/// Writes the components of a key: the first after a colon, each other after a comma.
 pub(crate) fn tell_key(out: &mut String, key: &Key) -> Result<(), AllocError> {
     for (place, component) in key.components().iter().enumerate() {
         out.push_str(if place == 0 { ": " } else { ", " })?;
@@ -101,7 +102,7 @@ pub(crate) fn tell_item(out: &mut String, item: &(Addr, i64, Producer)) -> Resul
     }
 }
 
-/// What stands before an element of a list: nothing, or what parts it from those before.
+/// Writes a comma before an element of a list, unless it is the first.
 pub(crate) fn part(out: &mut String) -> Result<(), AllocError> {
     if !out.is_empty() {
         out.push_str(", ")?;

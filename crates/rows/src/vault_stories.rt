@@ -1,9 +1,9 @@
 //! Stories of a store on a memory disk: `store NUMBERS`, and below it a line for each call (`stories`).
 //!
-//! Calls on the two files, which close a store that is open: `write SIDE PLACE BYTES`, `cut SIDE LENGTH`, `sync SIDE`,
+//! Calls on the two files, which first close an open store: `write SIDE PLACE BYTES`, `cut SIDE LENGTH`, `sync SIDE`,
 //! `length SIDE`, `read SIDE PLACE LENGTH`, `has SIDE BYTES`, `crash BYTES | BYTES`, and those of `journals`.
-//! `fail NUMBER`: the call of the disk with this number from now on fails. Calls of a store: `create NAME`, `open`, `facts`,
-//! `append BYTES`, and `turn`, which writes the image that the last `open` gave.
+//! `fail NUMBER`: the call of the disk with this number, counted from now, fails. Calls of a store: `create NAME`,
+//! `open`, `facts`, `append BYTES`, and `turn`, which writes the image that the last `open` gave.
 use crate::stories::World;
 use crate::{disks, vaults};
 use cases::Names;

@@ -23,7 +23,7 @@ pub(crate) enum World {
     Open(Live),
 }
 
-/// A store that is open, and the bytes that spell the image which its opening gave.
+/// An open store, and the bytes that spell the image that its opening gave.
 #[derive(Drop)]
 pub(crate) struct Live {
     vault: Vault<MemDisk>,
@@ -42,7 +42,7 @@ pub(crate) fn closed(world: World) -> MemDisk {
     }
 }
 
-/// The call of the disk with this number from now on is to fail.
+/// Makes the call of the disk with this number, counted from now, fail.
 pub(crate) fn fail(world: World, number: &str, told: &mut String) -> Result<World, AllocError> {
     let mut disk = closed(world);
     match number.parse::<u64>() {
@@ -52,7 +52,7 @@ pub(crate) fn fail(world: World, number: &str, told: &mut String) -> Result<Worl
     Ok(World::Closed(disk))
 }
 
-// Whether a text is the canonical one of the graph that it reads as.
+// Whether a text is the canonical text of the graph that it reads as.
 fn is_canonical(alloc: Global, text: &[u8]) -> Result<bool, AllocError>
     ensures { IfOk result (λ is. is ≡ true → IsCanonical text.now) }
 {
@@ -79,7 +79,7 @@ pub(crate) fn create_store(
     Ok(world)
 }
 
-// A store, which has the image with these bytes.
+// Makes a store, whose image has these bytes.
 fn created(alloc: Global, disk: MemDisk, text: &[u8], image: Vec<u8>) -> (World, Option<VaultError>)
     requires { IsCanonical text.now }
 {
@@ -94,7 +94,7 @@ fn handed_back(refused: Refused<MemDisk>) -> (World, Option<VaultError>) {
     (World::Closed(disk), Some(error))
 }
 
-/// Opens the store, and tells its generation.
+/// Opens the store, and writes its generation.
 pub(crate) fn open_store(
     alloc: Global,
     world: World,
@@ -127,7 +127,7 @@ fn opened(alloc: Global, disk: MemDisk) -> Result<(World, u64, Option<VaultError
     }
 }
 
-// The bytes that spell an image, none where it is longer than bytes can count.
+// The bytes that spell an image; none if one of its lists is longer than a `u32` can count.
 fn spelled(alloc: Global, image: &Image) -> Result<Vec<u8>, AllocError>
     requires { IsListed image.now }
 {
@@ -144,7 +144,7 @@ fn spelled(alloc: Global, image: &Image) -> Result<Vec<u8>, AllocError>
     Ok(bytes)
 }
 
-/// Tells what the store held when it was opened.
+/// Writes what the store held when it was opened.
 pub(crate) fn tell_facts(
     alloc: Global,
     world: World,
@@ -192,7 +192,7 @@ fn appended(live: Live, event: &Event) -> (Live, Option<VaultError>)
     }
 }
 
-/// Turns the store over, and tells its generation.
+/// Turns the store over, and writes its generation.
 pub(crate) fn turn_over(
     alloc: Global,
     world: World,
@@ -215,7 +215,7 @@ pub(crate) fn turn_over(
     }
 }
 
-// What a turnover answers, where the bytes of the image are read again.
+// The result of a turnover, if the bytes of the image can be read again.
 fn turned(alloc: Global, live: Live) -> (Live, Option<Result<u64, VaultError>>) {
     let Live { mut vault, image } = live;
     let answer = match decode_image(alloc, &image) {
@@ -225,7 +225,7 @@ fn turned(alloc: Global, live: Live) -> (Live, Option<Result<u64, VaultError>>) 
     (Live { vault, image }, answer)
 }
 
-// An answer, and whether the store is halted now.
+// Writes a result, and whether the store is halted now.
 fn tell_answer(
     live: &Live,
     error: Option<VaultError>,

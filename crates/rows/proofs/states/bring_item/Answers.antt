@@ -1,7 +1,7 @@
 use Rattle.terms.specs.declared.event.Event.TheVariants.{EnvItem}
 use Rattle.rows.proofs.states.bring_item.Goals as goal
 
--- whether it is legal does not depend on the value
+-- whether the put is legal does not depend on the value
 pub take_item-requires-clause-legal : goal.take_item-requires-clause-legal
 take_item-requires-clause-legal c =
     let legal = c.make_room.ensures.grows.legal (EnvItem c.args.address _) c.requires in
