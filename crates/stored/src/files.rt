@@ -1,4 +1,4 @@
-//! The calls of a file disk on two real files, in a folder that is made for them and goes with them.
+//! The calls of a file disk on two real files, in a folder that is made for them and removed afterwards.
 use anyhow::Error;
 use disk::{Disk, DiskError, FileDisk, Side};
 use std::fs;
@@ -7,7 +7,7 @@ use std::path::Path;
 
 const FOLDER: &str = "two_files";
 
-/// Prints what the calls answer.
+/// Prints the results of the calls.
 pub(crate) fn tell_calls(rt: &HostRuntime) -> Result<(), Error> {
     println!(rt; "without its folder: {}", opening(rt))?;
     fs::create_dir(rt, FOLDER)?;
@@ -23,7 +23,7 @@ pub(crate) fn tell_calls(rt: &HostRuntime) -> Result<(), Error> {
     Ok(())
 }
 
-// What opening the folder answers.
+// The result of opening the folder.
 fn opening(rt: &HostRuntime) -> &'static str {
     match FileDisk::open(rt.alloc(), rt, FOLDER) {
         Ok(_) => "a disk",
@@ -40,7 +40,7 @@ fn tell_files(rt: &HostRuntime, mut disk: FileDisk) -> Result<FileDisk, Error> {
     Ok(disk)
 }
 
-// The lengths of both files behind a write, a sync, a read and a cut.
+// The lengths of both files after a write, a sync, a read and a cut.
 fn write_and_cut(disk: &mut FileDisk, bytes: &mut [u8]) -> Result<(u64, u64), DiskError> {
     disk.write_at(Side::A, 0, &[1, 2, 3])?;
     disk.sync(Side::A)?;
@@ -51,7 +51,7 @@ fn write_and_cut(disk: &mut FileDisk, bytes: &mut [u8]) -> Result<(u64, u64), Di
     Ok((a, b))
 }
 
-// Reads and writes past what there is, and past what the system counts.
+// Reads and writes past the end of the files, and past the greatest length that the system allows.
 fn tell_refusals(rt: &HostRuntime, mut disk: FileDisk) -> Result<FileDisk, Error> {
     let greatest = i64::MAX as u64;
     let mut bytes = [0; 2];

@@ -1,4 +1,4 @@
-//! A store of Fibonacci numbers, made and filled as two instances would.
+//! A store of Fibonacci numbers, made and filled as the environment and two instances would.
 ghost use Rattle.std.specs.Prelude.{◌≡◌, true, false, IfOk, IsTrue, OnOk};
 ghost use Rattle.codec.specs.Spelling.{HasFewPuts};
 ghost use Rattle.vault.specs.Store.{IsCanonical, IsReady};
@@ -11,7 +11,7 @@ use terms::{
 };
 use vault::{Vault, VaultError, create};
 
-// Step 0 reads and puts items of collection 0, by tags of collection 0.
+// Step 0 reads and puts items of collection 0; tags of collection 0 prescribe it.
 const GRAPH: &str =
     "[fib: i];\n<n: i>;\n<n> :: (add);\n[fib] -> (add);\n(add) -> [fib];\nenv -> [fib];\nenv -> <n>;\n[fib] -> env;\nstep add(i) {\n  var a, b;\n  read {\n    get a = [fib: (i - 1)];\n    get b = [fib: (i - 2)];\n  }\n  write {\n    put [fib: i] = (a + b);\n  }\n}\n";
 
@@ -28,7 +28,7 @@ pub(crate) fn make<D: Disk + Drop>(alloc: Global, disk: D) -> Result<Vault<D>, V
     }
 }
 
-// Whether a text is the canonical one of the graph that it reads as.
+// Whether a text is the canonical text of the graph that it reads as.
 fn is_canonical(alloc: Global, text: &[u8]) -> Result<bool, AllocError>
     ensures { IfOk result (λ is. is ≡ true → IsCanonical text.now) }
 {
@@ -38,7 +38,7 @@ fn is_canonical(alloc: Global, text: &[u8]) -> Result<bool, AllocError>
     }
 }
 
-/// The numbers 0 and 1 and the tags 2 and 3 of the environment, and the ends of both instances.
+/// Appends the numbers 0 and 1 and the tags 2 and 3 of the environment, and the ends of both instances.
 pub(crate) fn fill<D: Disk>(alloc: Global, vault: &mut Vault<D>) -> Result<(), VaultError>
     requires { IsTrue D.is_honest → vault.old.halted ≡ false → IsReady D.files vault.old }
     ensures { IsTrue D.is_honest → OnOk result (IsReady D.files vault.new) }
@@ -65,7 +65,7 @@ fn tag(key: i64) -> Tag {
     }
 }
 
-// The end of the instance with this key, which put one number.
+// The end of the instance with this key, which puts one number.
 fn added(alloc: Global, key: i64, value: i64) -> Result<Event, AllocError>
     ensures { IfOk result HasFewPuts }
 {

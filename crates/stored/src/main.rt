@@ -1,5 +1,6 @@
-//! A store on the files of the folder that this runs in: where there is none it is made, filled, turned over and opened again,
-//! and before that the calls of a disk are tried on two other files. Started again, it tells what the store holds.
+//! A store on the files of the folder that this runs in. If there is none, it tries the calls of a disk on two other
+//! files, and then makes a store, fills it, turns it over and opens it again. When it is started again, it prints what
+//! the store holds.
 #![tactic(auto)]
 
 ghost use Rattle.std.specs.Prelude.{IfOk};
