@@ -1,4 +1,4 @@
-//! How long a store on files takes for its steps, beside the writes and syncs of the same records alone.
+//! How long a store on files takes for its steps, compared with the writes and syncs of the same records alone.
 ghost use Rattle.std.specs.Prelude.{◌≤◌, length, IfOk};
 ghost use Rattle.commit.specs.Runs.{NoneRuns};
 ghost use Rattle.terms.specs.declared.key.TheConstants.{MAX_COMPONENTS};
@@ -17,10 +17,10 @@ use terms::{
     Addr, Event, Inst, ItemCollection, Key, Put, Puts, StepCollection, Tag, TagCollection,
 };
 
-/// More than is committed.
+/// A limit that no run meets.
 pub(crate) const LIMIT: u64 = 1_000_000_000;
 
-// Each step by itself; each needs the one before; each needs two.
+// Three graphs: each step needs nothing; each needs the one before; each needs two.
 const WIDE: &str =
     "[out: i]; <t: i>; <t> :: (one); (one) -> [out]; env -> <t>; env -> [out]; [out] -> env;
 step one(k) { read { } write { put [out: k] = k; } }";
@@ -41,7 +41,7 @@ pub(crate) enum Load {
     Wavefront,
 }
 
-/// All of them.
+/// All loads.
 pub(crate) const LOADS: [Load; 3] = [Load::Wide, Load::Chain, Load::Wavefront];
 
 impl Load {
@@ -61,7 +61,7 @@ impl Load {
         }
     }
 
-    // The keys of the tags of so many steps, which for a wavefront are those of a square.
+    // The keys of the tags of `steps` steps. For a wavefront they are those of a square.
     fn tags(self, alloc: Global, steps: u32) -> Result<Vec<Key>, Error> {
         match self {
             Load::Wide | Load::Chain => line(alloc, steps),
@@ -69,7 +69,7 @@ impl Load {
         }
     }
 
-    // The keys of the items that are there before.
+    // The keys of the items that are put before the run.
     fn items(self, alloc: Global, steps: u32) -> Result<Vec<Key>, Error> {
         match self {
             Load::Wide => Ok(Vec::new(alloc)),
@@ -83,7 +83,7 @@ impl Load {
     }
 }
 
-/// Prints what `report` does of each graph, on the thread that calls.
+/// Prints what `report` prints for each graph, on the calling thread.
 pub(crate) fn measure<R: Handles>(rt: &HostRuntime, _threads: &R, steps: u32) -> Result<(), Error> {
     for load in LOADS {
         report::<R>(rt, load, steps, &Driver::Alone)?;
@@ -91,8 +91,9 @@ pub(crate) fn measure<R: Handles>(rt: &HostRuntime, _threads: &R, steps: u32) ->
     Ok(())
 }
 
-/// Runs so many steps of a graph, of a wavefront those of a square, on the files A and B of the folder that this is run in, which it empties, and
-/// prints the microseconds of one, beside those of a record of as many bytes, which is written behind a closed gate, synced, opened, and synced.
+/// Runs `steps` steps of a graph, or for a wavefront those of a square, on the files A and B of the folder that this is
+/// run in. It empties these files first. It prints the microseconds of a step, and those of a record of as many bytes,
+/// which is written behind a closed gate, synced, opened, and synced.
 pub(crate) fn report<R: Handles>(
     rt: &HostRuntime,
     load: Load,
@@ -110,7 +111,7 @@ pub(crate) fn report<R: Handles>(
     tell(rt, load, tags.len(), seconds, alone)
 }
 
-// The greatest side of a square of so many cells.
+// The side of the greatest square that has at most `steps` cells.
 fn square(steps: u32) -> i64 {
     let mut side = 1u16;
     for next in 2..u16::MAX {
@@ -136,7 +137,7 @@ fn tell(rt: &HostRuntime, load: Load, steps: usize, seconds: f64, alone: f64) ->
     Ok(())
 }
 
-/// Whether nothing was left to do.
+/// Returns an error unless nothing was left to do.
 pub(crate) fn is_complete(verdict: Result<Verdict, RunError>) -> Result<(), Error> {
     match verdict? {
         Verdict::Complete => Ok(()),
@@ -208,7 +209,7 @@ pub(crate) fn idle<D: Disk + Drop>(core: Core<D>) -> Result<Core<D>, Error>
     Ok(core)
 }
 
-// The seconds of as many records, each of the bytes of the end of such a step, with its two syncs.
+// The seconds of a record for each of these steps, each with the bytes of the end of a step, and two syncs.
 fn records(rt: &HostRuntime, tags: &[Key]) -> Result<f64, Error> {
     let mut disk = emptied(rt)?;
     let payload = payload_of(rt.alloc(), key_of(tags))?;
@@ -222,7 +223,7 @@ fn records(rt: &HostRuntime, tags: &[Key]) -> Result<f64, Error> {
     Ok(start.elapsed(rt)?.as_secs_f64())
 }
 
-// One record, and where the next one begins.
+// Writes one record, and returns where the next one begins.
 fn record(disk: &mut FileDisk, end: u64, payload: &[u8]) -> Result<u64, DiskError> {
     disk.write_at(Side::A, end.saturating_add(1), payload)?;
     disk.sync(Side::A)?;
@@ -231,7 +232,8 @@ fn record(disk: &mut FileDisk, end: u64, payload: &[u8]) -> Result<u64, DiskErro
     Ok(end.saturating_add(payload.len() as u64))
 }
 
-// What a record has behind its gate, for the end of an instance with this key that puts one item: the length, the event, and a closed gate.
+// The bytes of a record behind its gate, for the end of an instance with this key that puts one item: the length, the
+// event, and a closed gate.
 fn payload_of(alloc: Global, key: Key) -> Result<Vec<u8>, Error> {
     let instance = Inst {
         collection: StepCollection(0),
@@ -285,7 +287,7 @@ fn cells(alloc: Global, side: i64) -> Result<Vec<Key>, Error> {
     Ok(keys)
 }
 
-// The keys of the cells beside it.
+// The keys of the cells beside the square.
 fn edges(alloc: Global, side: i64) -> Result<Vec<Key>, Error> {
     let mut keys = Vec::new(alloc);
     for number in 0..side {

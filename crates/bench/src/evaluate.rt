@@ -1,4 +1,4 @@
-//! How long the evaluator takes for so many statements.
+//! How long the evaluator takes for a number of statements.
 use anyhow::Error;
 use std::alloc::{AllocError, Global};
 use std::io::Print;
@@ -8,11 +8,12 @@ use steplang::{
 };
 use terms::{Inst, ItemCollection, Key, StepCollection};
 
-/// The turns of an instance: its loop, its turns, an assignment at each and its put are all that one instance may take.
+/// The turns of the loop of an instance. The loop, its turns, an assignment in each and the put are as many as one
+/// instance may take.
 const TURNS: u32 = 499_999;
 
-/// Runs instances of `write { for b in 0 .. k { a = (a + b); } put [0] = a; }` until so many statements and turns are made,
-/// and prints how many they were, how long that took, and what the last instance put.
+/// Runs instances of `write { for b in 0 .. k { a = (a + b); } put [0] = a; }` until at least `statements` statements
+/// and turns are done, and prints their number, the time, and how many puts the last instance made.
 pub(crate) fn measure<R: Clock + Print + AllocGlobal>(
     rt: &R,
     statements: u32,

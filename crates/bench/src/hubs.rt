@@ -1,4 +1,4 @@
-//! How long the calls of a hub take on a disk in memory, beside the same calls of a core under a lock of its own.
+//! How long the calls of a hub take on a disk in memory, compared with the same calls of a core under a lock of its own.
 ghost use Rattle.hub.specs.Whole.{IsNamedFor};
 
 use anyhow::{Error, bail};
@@ -16,18 +16,18 @@ use terms::{Addr, ItemCollection, Key};
 
 const GRAPH: &str = "[out: i]; env -> [out]; [out] -> env;";
 
-// What is needed of the program.
+// What the program has to provide.
 pub(crate) trait Handles: Threads + Wait + Sync + Clock + Print + Alloc<A = Global> {}
 
 impl<R: Threads + Wait + Sync + Clock + Print + Alloc<A = Global>> Handles for R {}
 
-// There is one put for so many gets, since a disk in memory keeps a record of each call.
+// There is one put for this number of gets, since a disk in memory keeps a record of each call.
 const PUTS_ONE_IN: u32 = 2_048;
 
 // How many items the store has.
 const HELD: u32 = 1_000;
 
-// How often each is measured. The shortest time counts.
+// How often each call is measured. The shortest time counts.
 const ROUNDS: u8 = 5;
 
 #[derive(Clone, Copy)]
@@ -36,7 +36,7 @@ enum Call {
     Put,
 }
 
-/// So many calls by each of 1, 2 and 4 threads, and so many of the calls that take no lock.
+/// Measures `count` gets, and fewer puts, by each of 1, 2 and 4 threads, and `count` of the calls that take no lock.
 pub(crate) fn measure<R: Handles>(rt: &R, count: u32) -> Result<(), Error> {
     for threads in [1u8, 2, 4] {
         compare(rt, "get", Call::Get, threads, count)?;
@@ -45,7 +45,7 @@ pub(crate) fn measure<R: Handles>(rt: &R, count: u32) -> Result<(), Error> {
     beside(rt, MemDisk::new(rt.alloc()), count)
 }
 
-// Prints the microseconds of a call, in a hub and alone.
+// Prints the microseconds of a call, in a hub and of a core under a lock.
 fn compare<R: Handles>(
     rt: &R,
     name: &str,
@@ -117,7 +117,7 @@ fn calls_alone<D: Disk, R: Handles>(
     ok
 }
 
-// Whether all calls of each thread were answered.
+// Returns an error unless all calls of each thread were answered.
 fn are_all(answers: &[u32], count: u32) -> Result<(), Error> {
     for answer in answers {
         if *answer != count {
@@ -200,7 +200,7 @@ fn calls_of<J: Naming, D: Disk, R: Handles>(
     ok
 }
 
-// ---- beside the lock
+// ---- without the lock
 
 fn beside<D: Disk + Drop, R: Handles>(rt: &R, disk: D, count: u32) -> Result<(), Error> {
     let blank = Blank::new(rt.alloc(), 1, 0)?;
@@ -273,7 +273,7 @@ fn filled<D: Disk + Drop>(core: Core<D>) -> Result<Core<D>, Error> {
     Ok(core)
 }
 
-// The address of a call by its number: a get is of an item that is there, a put of one that is not.
+// The address of the call with this number. An item is there for a get, and none for a put.
 fn address_of(call: Call, first: i64, number: u32) -> Addr {
     match call {
         Call::Get => out(i64::from(number % HELD)),

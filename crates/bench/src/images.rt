@@ -1,4 +1,4 @@
-//! How fast images are encoded and decoded, beside a copy of the same bytes.
+//! How fast images are encoded and decoded, compared with a copy of the same bytes.
 use anyhow::Error;
 use codec::{decode_image, encode_image};
 use std::alloc::{AllocError, Global};
@@ -6,11 +6,11 @@ use std::io::Print;
 use std::num::nearest_usize_to_f64;
 use std::time::{Clock, Instant};
 
-/// So many items are encoded, decoded and copied each time, over as many rounds as that takes.
+/// At least this number of items is encoded, decoded and copied, over as many rounds as that takes.
 const ITEMS: u32 = 4_000_000;
 
-/// Encodes, decodes and copies an image of so many items, one after another, and prints the megabytes of its bytes that each
-/// takes in a second, and the ratios of the times.
+/// Copies, encodes and decodes an image of `items` items, one after another, and prints how many megabytes of it each
+/// handles in a second, and the ratios of the times.
 pub(crate) fn measure<R: Clock + Print + AllocGlobal>(rt: &R, items: u32) -> Result<(), Error> {
     let rounds = ITEMS / items.max(1) + 1;
     let bytes = image_bytes(rt.alloc(), items)?;
@@ -33,7 +33,7 @@ pub(crate) fn measure<R: Clock + Print + AllocGlobal>(rt: &R, items: u32) -> Res
     Ok(())
 }
 
-/// The seconds that so many copies take, each into room that is there.
+/// The seconds that `rounds` copies take, each into memory that is already there.
 pub(crate) fn copying<R: Clock + AllocGlobal>(
     rt: &R,
     bytes: &[u8],
@@ -48,7 +48,7 @@ pub(crate) fn copying<R: Clock + AllocGlobal>(
     Ok(start.elapsed(rt)?.as_secs_f64())
 }
 
-// The same for the image that the bytes spell, and its spelling.
+// The seconds that `rounds` encodings of the image that the bytes spell take.
 fn encoding<R: Clock + AllocGlobal>(rt: &R, bytes: &[u8], rounds: u32) -> Result<f64, Error> {
     let image = decode_image(rt.alloc(), bytes)?;
     let mut out = Vec::with_capacity(rt.alloc(), bytes.len())?;
@@ -60,7 +60,7 @@ fn encoding<R: Clock + AllocGlobal>(rt: &R, bytes: &[u8], rounds: u32) -> Result
     Ok(start.elapsed(rt)?.as_secs_f64())
 }
 
-// And for the bytes, and what they spell.
+// The seconds that `rounds` decodings of the bytes take.
 fn decoding<R: Clock + AllocGlobal>(rt: &R, bytes: &[u8], rounds: u32) -> Result<f64, Error> {
     let start = Instant::now(rt)?;
     for _ in 0..rounds {
@@ -69,7 +69,7 @@ fn decoding<R: Clock + AllocGlobal>(rt: &R, bytes: &[u8], rounds: u32) -> Result
     Ok(start.elapsed(rt)?.as_secs_f64())
 }
 
-// The spelling of an image without a fault, tags and done instances: item k has key k and value k. The environment put those
+// The bytes of an image without a fault, tags or done instances. Item k has key k and value k. The environment put those
 // with an even key, an instance the others.
 fn image_bytes(alloc: Global, items: u32) -> Result<Vec<u8>, AllocError> {
     let mut bytes = Vec::new(alloc);

@@ -1,4 +1,4 @@
-//! How long the state of a store takes for its steps, beside maps that are put to and looked up as often.
+//! How long the state of a store takes for its steps, compared with as many insertions and look-ups in maps.
 ghost use Rattle.std.specs.Prelude.{◌≡◌, IfOk, IfSome, Some};
 ghost use Rattle.terms.specs.Sets.{Facts};
 ghost use Rattle.instances.specs.declared.state.State.TheVariants.{Running};
@@ -31,10 +31,10 @@ step one(k) { read { } write { put [out: k] = k; } }";
 const WAITING: &str = "[out: i]; <t: i>; <t> :: (one); [out] -> (one); env -> <t>; env -> [out];
 step one(k) { var a; read { get a = [out: 0]; } write { } }";
 
-/// Takes so many steps, each with its tag, its claim and its end with one item, and prints the microseconds of one, with and
-/// without those of its body; and what the same puts and look-ups take in maps. Then it lets a tenth of so many instances, and as
-/// many, wait for one item, and prints what its put takes, an instance. First of all it prints the bytes of memory that an instance
-/// takes, by what the process has.
+/// Takes `steps` steps, each with its tag, its claim and its end with one item, and prints the microseconds of one and
+/// of its body, and what the same puts and look-ups take in maps. Then it lets a tenth as many instances, and as many,
+/// wait for one item, and prints what the put of that item takes for each of them. First of all it prints the bytes of
+/// memory of an instance, measured by the memory of the process.
 pub(crate) fn measure(rt: &HostRuntime, steps: u32) -> Result<(), Error> {
     let graph = graph_of(rt.alloc(), TEXT)?;
     let tagged = held(rt, &graph, steps, false)?;
@@ -79,7 +79,7 @@ fn graph_of(alloc: Global, text: &str) -> Result<Arc<Graph>, Error> {
     Ok(Arc::new(alloc, graph)?)
 }
 
-// The bytes that the process takes for each of so many instances with their tags, and with their items if they are ended.
+// The bytes that the process takes for each of `steps` instances with its tag, and with its item if it is ended.
 fn held(rt: &HostRuntime, graph: &Arc<Graph>, steps: u32, ends: bool) -> Result<u64, Error> {
     let mut machine = Machine::new(rt.alloc(), Arc::clone(graph)?)?;
     let before = resident(rt)?;
@@ -97,7 +97,7 @@ fn held(rt: &HostRuntime, graph: &Arc<Graph>, steps: u32, ends: bool) -> Result<
     Ok(bytes / u64::from(steps.max(1)))
 }
 
-// The bytes of memory that the process has.
+// The bytes of memory that the process has in use.
 fn resident(rt: &HostRuntime) -> Result<u64, Error> {
     let told = fs::read_to_string(rt, "/proc/self/statm")?;
     let pages = told.split_whitespace().nth(1).unwrap_or("0");
@@ -127,7 +127,7 @@ fn running<R: Clock + AllocGlobal>(rt: &R, graph: &Arc<Graph>, steps: u32) -> Re
     Ok(start.elapsed(rt)?.as_secs_f64())
 }
 
-// A tag, and the instance that it prescribes from its claim to its end.
+// Puts a tag, and takes the instance that it prescribes from its claim to its end.
 fn step(alloc: Global, machine: &mut Machine, number: i64) -> Result<(), Error> {
     put_tag(machine, number)?;
     let Some(task) = machine.claim(0) else {
@@ -166,7 +166,7 @@ fn end(alloc: Global, machine: &mut Machine, task: Task) -> Result<(), Error>
     }
 }
 
-// Ends a task with what its body gave, whatever items are there.
+// Ends a task with what its body gives over any items.
 fn take(machine: &mut Machine, task: Task, puts: &[Put]) -> Result<(), Error>
     requires running { state_of machine.old task ≡ Some Running }
     requires gives { (X : Facts) → BodyGives machine.old.graph X task puts.now }
@@ -195,7 +195,7 @@ fn finish(machine: &mut Machine, task: Task, puts: &[Put]) -> Result<(), Error>
     Ok(())
 }
 
-// What the body of an instance gives without a read.
+// What the body of an instance gives, if it reads nothing.
 fn run(alloc: Global, graph: &Graph, instance: Inst) -> Result<Option<Puts>, AllocError>
     ensures { IfOk result (λ puts. IfSome puts (λ list. (X : Facts) → BodyGives graph.now X instance list)) }
 {
@@ -213,7 +213,7 @@ fn run(alloc: Global, graph: &Graph, instance: Inst) -> Result<Option<Puts>, All
     }
 }
 
-// The seconds that a put takes for whose item so many instances wait.
+// The seconds that the put of an item takes for which `waiting` instances wait.
 fn waking<R: Clock + AllocGlobal>(rt: &R, graph: &Arc<Graph>, waiting: u32) -> Result<f64, Error> {
     let mut machine = Machine::new(rt.alloc(), Arc::clone(graph)?)?;
     for number in 0..waiting {
@@ -316,7 +316,7 @@ fn in_tree<R: Clock + AllocGlobal>(rt: &R, steps: u32) -> Result<f64, Error> {
     Ok(start.elapsed(rt)?.as_secs_f64())
 }
 
-// And in maps by hash, of keys that are a number alone.
+// The same in hash maps, with keys that are only a number.
 fn in_hash<R: Clock + AllocGlobal>(rt: &R, steps: u32) -> Result<f64, Error> {
     let mut tags = HashMap::new(rt.alloc());
     let mut instances = HashMap::new(rt.alloc());

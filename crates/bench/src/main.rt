@@ -50,7 +50,7 @@ fn main(rt: HostRuntime) -> Result<ExitCode, Error> {
     Ok(ExitCode::from(0))
 }
 
-// Measured, with status 0.
+// Returns status 0 if the measurement succeeded.
 fn done(measured: Result<(), Error>) -> Result<ExitCode, Error> {
     measured?;
     Ok(ExitCode::from(0))

@@ -16,7 +16,7 @@ pub(crate) struct PlainDisk {
 }
 
 impl PlainDisk {
-    /// Two files without a byte.
+    /// Two empty files.
     pub(crate) fn new(alloc: Global) -> Self {
         PlainDisk {
             a: Vec::new(alloc),
@@ -32,7 +32,7 @@ impl PlainDisk {
         }
     }
 
-    // Answers what was done, or counts that it was refused: where there is no memory, or no such place.
+    // Returns what was done; or counts a refusal, if there was no memory or no such place.
     fn answer<T>(&mut self, done: Option<T>) -> Result<T, DiskError>
         ensures cause { HasCause 0 0 result }
         ensures refused { CountsRefusal self.old.refusals self.new.refusals result }
@@ -47,7 +47,7 @@ impl PlainDisk {
     }
 }
 
-// The bytes from a place on are put into the buffer.
+// Copies the bytes from a place on into the buffer.
 fn copied(file: &[u8], at: u64, buffer: &mut [u8]) -> Option<()> {
     let from = usize::try_from(at).ok()?;
     let to = from.checked_add(buffer.len())?;
@@ -55,7 +55,7 @@ fn copied(file: &[u8], at: u64, buffer: &mut [u8]) -> Option<()> {
     Some(())
 }
 
-// The bytes are written from a place on, and past the end.
+// Writes the bytes from a place on, past the end too.
 fn written(file: &mut Vec<u8>, at: u64, bytes: &[u8]) -> Option<()> {
     let from = usize::try_from(at).ok()?;
     let to = from.checked_add(bytes.len())?;

@@ -1,4 +1,4 @@
-//! How long steps take on several workers, beside the same steps on the thread that calls.
+//! How long steps take on several workers, compared with the same steps on the calling thread.
 ghost use Rattle.std.specs.Prelude.{◌≤◌, IfOk};
 ghost use Rattle.commit.specs.Runs.{NoneRuns};
 
@@ -25,11 +25,12 @@ const HEAVY: &str =
 // On how many workers each is measured.
 const COUNTS: [u8; 3] = [1, 2, 4];
 
-// How many runs by themselves go side by side.
+// How many separate runs go side by side.
 const COPIES: u8 = 4;
 
-/// So many empty steps in memory; a five-hundredth of as many that take a millisecond each; and a fiftieth of as many on the files A and B of the folder that this is
-/// run in, which it empties: by 1, 2 and 4 workers, and in memory by the thread that calls too.
+/// Measures `steps` empty steps in memory; a five-hundredth as many that take a millisecond each; and a fiftieth as many
+/// on the files A and B of the folder that this is run in, which it empties. They are run by 1, 2 and 4 workers, and in
+/// memory by the calling thread too.
 pub(crate) fn measure<R: Handles>(rt: &HostRuntime, threads: &R, steps: u32) -> Result<(), Error> {
     empty(threads, steps)?;
     heavy(threads, steps / 500)?;
@@ -50,7 +51,8 @@ fn empty<R: Handles>(rt: &R, steps: u32) -> Result<(), Error> {
     Ok(())
 }
 
-// Prints the milliseconds of a heavy step, and how much faster several workers are; beside what the machine gives to as many runs side by side.
+// Prints the milliseconds of a heavy step, how much faster several workers are, and how many processors the machine
+// gives to separate runs side by side.
 fn heavy<R: Handles>(rt: &R, steps: u32) -> Result<(), Error> {
     let one = 1e3 / f64::from(steps.max(1));
     let alone = seconds_of(rt, HEAVY, steps, &Driver::Alone)?;
@@ -72,7 +74,7 @@ fn heavy<R: Handles>(rt: &R, steps: u32) -> Result<(), Error> {
     Ok(())
 }
 
-// The seconds of runs of as many steps each, side by side.
+// The seconds of `COPIES` runs side by side, of `steps` steps each.
 fn side_by_side<R: Handles>(rt: &R, steps: u32) -> Result<f64, Error> {
     let mut copies = Vec::new(rt.alloc());
     for copy in 0..COPIES {
@@ -93,7 +95,7 @@ fn side_by_side<R: Handles>(rt: &R, steps: u32) -> Result<f64, Error> {
     Ok(seconds)
 }
 
-// The seconds of a run of so many steps of a graph.
+// The seconds of a run of `steps` steps of a graph.
 fn seconds_of<R: Handles>(
     rt: &R,
     text: &str,
@@ -109,14 +111,14 @@ fn seconds_of<R: Handles>(
     Ok(seconds)
 }
 
-// So many workers.
+// A crew of `workers` workers.
 fn crew<R: Handles>(rt: &R, workers: u8) -> Driver<'_, R, AlwaysGo>
     requires { (1 ≤ workers) × (workers ≤ 64) }
 {
     Driver::Crew(Crew::new(rt, workers, AlwaysGo))
 }
 
-// A new store of a graph, with so many tags.
+// A new store of a graph, with `steps` tags.
 fn created<D: Disk + Drop>(alloc: Global, disk: D, text: &str, steps: u32) -> Result<Core<D>, Error>
     ensures { IfOk result NoneRuns }
 {

@@ -1,4 +1,4 @@
-//! How long it takes to open a store on real files, beside a read of the same bytes.
+//! How long it takes to open a store on real files, compared with a read of the same bytes.
 use anyhow::{Error, bail};
 use codec::{decode_image, encode_event};
 use disk::{Disk, FileDisk, Side};
@@ -10,11 +10,12 @@ use std::time::Instant;
 use terms::{Addr, Event, ItemCollection, Key};
 use vault::{Recovered, Refused, VaultError};
 
-// The environment may put items, and no step does. It is its own canonical text.
+// A graph in which the environment may put items, and that has no steps. The text is canonical.
 const GRAPH: &str = "[cell: i];\nenv -> [cell];\n[cell] -> env;\n";
 
-/// Makes a store of so many records in the folder that it is run in, and one of as many items in its image, and prints the
-/// milliseconds that opening each takes, and a read of its live file. It makes none in a folder whose file A or B is not empty.
+/// Makes a store of `count` records in the folder that it is run in, and one of as many items in its image, and prints
+/// the milliseconds that it takes to open each, and to read its live file. It makes none in a folder whose file A or B
+/// is not empty.
 pub(crate) fn measure(rt: &HostRuntime, count: u32) -> Result<(), Error> {
     if !is_free(rt)? {
         bail!("the files A and B of this folder are not empty");
@@ -33,7 +34,7 @@ fn is_free(rt: &HostRuntime) -> Result<bool, Error> {
     Ok(a == 0 && b == 0)
 }
 
-// The milliseconds of an opening of a store with this file A, and of a read of the file.
+// Prints the milliseconds that it takes to open a store with this file A, and to read the file.
 fn opened(rt: &HostRuntime, told: &str, bytes: &[u8]) -> Result<(), Error> {
     fs::write(rt, "A", bytes)?;
     fs::write(rt, "B", &[0])?;
@@ -53,7 +54,7 @@ fn opened(rt: &HostRuntime, told: &str, bytes: &[u8]) -> Result<(), Error> {
     Ok(())
 }
 
-// How many items a store holds that was opened.
+// How many items an opened store holds.
 fn items_of<D: Disk + Drop>(opened: Result<Recovered<D>, Refused<D>>) -> Result<usize, VaultError> {
     match opened {
         Ok(recovered) => Ok(recovered.image.items.as_slice().len()),
@@ -61,7 +62,7 @@ fn items_of<D: Disk + Drop>(opened: Result<Recovered<D>, Refused<D>>) -> Result<
     }
 }
 
-// A side without records, whose image is this.
+// A side with this image and no records.
 fn side_of(alloc: Global, image: &[u8]) -> Result<Vec<u8>, Error> {
     let image = decode_image(alloc, image)?;
     let mut side = Vec::new(alloc);
@@ -70,7 +71,7 @@ fn side_of(alloc: Global, image: &[u8]) -> Result<Vec<u8>, Error> {
     Ok(side)
 }
 
-// A side with so many records of items.
+// A side with `count` records of items.
 fn with_records(alloc: Global, count: u32) -> Result<Vec<u8>, Error> {
     let mut side = side_of(alloc, &[0; 13])?;
     side.pop();
@@ -89,7 +90,7 @@ fn with_records(alloc: Global, count: u32) -> Result<Vec<u8>, Error> {
     Ok(side)
 }
 
-// A side with so many items in its image.
+// A side with `count` items in its image.
 fn with_image(alloc: Global, count: u32) -> Result<Vec<u8>, Error> {
     let mut image = Vec::new(alloc);
     image.push(0)?;

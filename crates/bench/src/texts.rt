@@ -9,11 +9,11 @@ use std::num::nearest_usize_to_f64;
 use std::process::ExitCode;
 use std::time::Instant;
 
-/// So many bytes are parsed, over as many rounds as that takes.
+/// At least this number of bytes is parsed, over as many rounds as that takes.
 const BYTES: u32 = 20_000_000;
 
-/// Prints the canonical text of the graph text in a file, or why it is refused; that ends with status 2, and 5 for want of
-/// memory.
+/// Prints the canonical text of the graph text in a file, or why it is refused. The status is 2 if it is refused, and 5
+/// if memory is.
 pub(crate) fn print_canonical(rt: &HostRuntime, path: &str) -> Result<ExitCode, Error> {
     let text = fs::read(rt, path)?;
     let (status, told) = told(rt.alloc(), &text)?;
@@ -39,8 +39,8 @@ fn told(alloc: Global, text: &[u8]) -> Result<(u8, Vec<u8>), AllocError> {
     }
 }
 
-/// Parses the text in a file again and again, and copies it as often, and prints the megabytes of the text that each takes in
-/// a second, and the ratio of the times. A text that is refused is parsed up to its fault.
+/// Parses the text in a file again and again, and copies it as often, and prints how many megabytes of the text each
+/// handles in a second, and the ratio of the times. A text that is refused is parsed up to its fault.
 pub(crate) fn measure(rt: &HostRuntime, path: &str) -> Result<(), Error> {
     let text = fs::read(rt, path)?;
     let rounds = BYTES / u32::try_from(text.len())?.max(1) + 1;
@@ -62,7 +62,7 @@ pub(crate) fn measure(rt: &HostRuntime, path: &str) -> Result<(), Error> {
     Ok(())
 }
 
-// The seconds that so many rounds of parsing take.
+// The seconds that `rounds` rounds of parsing take.
 fn parsing(rt: &HostRuntime, text: &[u8], rounds: u32) -> Result<f64, Error> {
     let start = Instant::now(rt)?;
     for _ in 0..rounds {
