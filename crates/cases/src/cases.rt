@@ -1,7 +1,7 @@
-//! What a file of cases is: blocks with blank lines between them.
+//! How a file of cases is written: as blocks with blank lines between them.
 //!
-//! A block is a command and its input, a line `----`, and what must come. Where the line is `---- not` something else must
-//! come: such a case shows that a difference is seen. A line that begins with `# ` is a comment.
+//! A block is a command and its input, a line `----`, and the result that must come. If the line is `---- not`, another
+//! result must come: such a case shows that a difference is found. A line that begins with `# ` is a comment.
 use anyhow::Error;
 use std::alloc::{AllocError, Global};
 use std::fs;
@@ -17,11 +17,11 @@ pub struct Tally {
 // A block as far as it was read.
 #[derive(Drop)]
 struct Block {
-    // The number of the line behind it.
+    // The number of its last line, from 0.
     line: usize,
     asked: String,
     wanted: String,
-    // Whether the line between the two was read, and whether it wants something else.
+    // Whether the line between the two parts was read, and whether it wants another result.
     is_answered: bool,
     is_refuted: bool,
 }
@@ -57,7 +57,8 @@ impl Block {
     }
 }
 
-/// Runs the cases of a file, each of which is answered by this function of its command and its input. Prints those that differ, and how many there are.
+/// Runs the cases of a file. The function gives the result of each, from its command and its input. Prints the cases
+/// that differ, and how many cases there are.
 pub fn run_file<F: FnMut(&str, &str) -> Result<String, AllocError>>(
     rt: &HostRuntime,
     path: &str,
@@ -72,7 +73,7 @@ pub fn run_file<F: FnMut(&str, &str) -> Result<String, AllocError>>(
     Ok(tally)
 }
 
-/// Runs the cases of a file with this text, and tells of those that differ, and how many there are.
+/// Runs the cases of a file with this text, and writes those that differ, and how many there are.
 pub fn run_cases<F: FnMut(&str, &str) -> Result<String, AllocError>>(
     alloc: Global,
     path: &str,
@@ -106,7 +107,7 @@ pub fn run_cases<F: FnMut(&str, &str) -> Result<String, AllocError>>(
     Ok(tally)
 }
 
-// Runs a block, if it has a command, and tells of it if it differs.
+// Runs a block, if it has a command, and writes its difference, if there is one.
 fn run_block<F: FnMut(&str, &str) -> Result<String, AllocError>>(
     path: &str,
     answer: &mut F,
@@ -137,7 +138,7 @@ fn run_block<F: FnMut(&str, &str) -> Result<String, AllocError>>(
     Ok(())
 }
 
-// Tells of a block from which something else came than must.
+// Writes a block that had another result than it must have.
 fn tell_difference(
     path: &str,
     block: &Block,

@@ -1,7 +1,7 @@
-//! Cases that are data: each is a command, its input, and what must come.
+//! Cases that are data: each is a command, its input, and the result that must come.
 //!
-//! A file is made of blocks with blank lines between them: `run_cases` tells what a block is, and `texts` how texts are written. What a command answers is
-//! told by whoever runs the file.
+//! A file is made of blocks with blank lines between them: the module `cases` says what a block is, and `texts` how
+//! texts are written. The program that runs the file gives the result of each command.
 #![tactic(auto)]
 
 mod cases;

@@ -18,14 +18,14 @@ impl Names {
         }
     }
 
-    /// Names these bytes, in place of what the name had.
+    /// Gives these bytes the name, in place of what had it.
     pub fn give(&mut self, name: &str, bytes: Vec<u8>) -> Result<(), AllocError> {
         let name = String::from_str(self.alloc, name)?;
         self.bytes.insert(name, bytes)?;
         Ok(())
     }
 
-    /// What a name stands for, if it is given.
+    /// What has the name, if something does.
     pub fn bytes(&self, name: &str) -> Option<&[u8]> {
         match self.bytes.get(name) {
             Some(bytes) => Some(bytes.as_slice()),

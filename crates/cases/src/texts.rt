@@ -1,5 +1,5 @@
-//! How texts are written: `\n`, `\r`, `\t`, `\f`, `\0` and `\\` are characters, and `~64 +1~` is `+1` 64 times, where `#` is the
-//! number of the turn, from 0.
+//! How texts are written: `\n`, `\r`, `\t`, `\f`, `\0` and `\\` are characters, and `~64 +1~` is `+1` 64 times. In the
+//! repeated part `#` is the number of the repetition, from 0.
 use std::alloc::{AllocError, Global};
 
 /// The text of these lines, without a line feed at its end.
@@ -20,7 +20,7 @@ pub fn lines_of(alloc: Global, lines: &str) -> Result<String, AllocError> {
     Ok(text)
 }
 
-// A number, and what stands there so often. What is no number stays as it is, between its `~`.
+// Writes a part as often as the number before it says. If there is no number, all stays as it is, between its `~`.
 fn push_repeated(text: &mut String, piece: &str) -> Result<(), AllocError> {
     let (count, part) = piece.split_once(' ').unwrap_or((piece, ""));
     match count.parse::<u32>() {
@@ -34,7 +34,7 @@ fn push_repeated(text: &mut String, piece: &str) -> Result<(), AllocError> {
     }
 }
 
-// The part, with the number of the turn.
+// Writes the part, with the number of the repetition.
 fn push_turn(text: &mut String, part: &str, turn: u32) -> Result<(), AllocError> {
     for (place, piece) in part.split('#').enumerate() {
         if place > 0 {
@@ -58,7 +58,7 @@ fn push_escaped(text: &mut String, piece: &str) -> Result<(), AllocError> {
     Ok(())
 }
 
-// What a letter behind a `\` stands for.
+// What a letter after a `\` stands for.
 fn meant(letter: char) -> char {
     match letter {
         'n' => '\n',
