@@ -18,7 +18,7 @@ pub(crate) enum Streams {
     OutputFails,
 }
 
-// A reader and a writer that answer an error to each call.
+// A reader and a writer that return an error from each call.
 #[derive(Drop)]
 struct Failing;
 
@@ -38,7 +38,7 @@ impl Write for Failing {
     }
 }
 
-/// Reads the words, and tells the command that they ask for.
+/// Reads the words, and writes the command that they ask for.
 pub(crate) fn read(alloc: Global, line: &str) -> Result<String, AllocError> {
     let words: Vec<&str> = line.split(' ').collect(alloc)?;
     let mut told = String::new(alloc);
@@ -58,8 +58,8 @@ pub(crate) fn read(alloc: Global, line: &str) -> Result<String, AllocError> {
     Ok(told)
 }
 
-/// Reads the words, does what they ask for on the disk, and tells what was written, and the status where that is not 0. Where the words tell the workers, a crew of
-/// so many runs the steps, and else the thread that calls.
+/// Reads the words, does what they ask for on the disk, and returns what was written, and the status if that is not 0.
+/// If the words give the number of workers, a crew of that number runs the steps; else the calling thread does.
 pub(crate) fn call<R: Threads + Wait + Sync>(
     rt: &R,
     alloc: Global,
@@ -98,7 +98,7 @@ fn crew<'a, R: Threads + Wait + Sync>(rt: &'a R, command: &Command<'_>) -> Drive
     Driver::Crew(Crew::new(rt, command.workers(), AlwaysGo))
 }
 
-// Does a command on the disk, with this driver for its steps. Tells what was written, and the status where that is not 0.
+// Does a command on the disk, with this driver for its steps. Returns what was written, and the status if that is not 0.
 fn obeyed<R: Threads + Wait + Sync>(
     alloc: Global,
     command: &Command<'_>,

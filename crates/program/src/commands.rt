@@ -1,14 +1,15 @@
 //! The commands.
 //!
-//! - `text NAME`: names what stands below it
+//! - `text NAME`: gives the name to what stands below it
 //! - `new`: an empty disk in place of the one that was there
-//! - `cnc WORDS`: the program with these words on the disk. `GRAPH` is the name of a text; `-` reads what stands below. It answers what the program wrote, what it
-//!   wrote on its error output behind `! `, and a line with its status where that is not 0
-//! - `full WORDS`: the same, where each write of the output fails
-//! - `unreadable WORDS`: the same, where each read of the input fails
+//! - `cnc WORDS`: the program with these words on the disk. `GRAPH` is the name of a text; `-` reads what stands below.
+//!   The result is what the program wrote, then after `! ` what it wrote on its error output, and a line with its status
+//!   if that is not 0
+//! - `full WORDS`: the same, but each write of the output fails
+//! - `unreadable WORDS`: the same, but each read of the input fails
 //! - `words WORDS`: the command that these words ask for, with the file that it reads, its directory and its workers
-//! - `fail N`: the call of the disk that comes as the N-th from now fails
-//! - `byte SIDE PLACE VALUE`: this byte is changed
+//! - `fail N`: the N-th call of the disk from now fails
+//! - `byte SIDE PLACE VALUE`: changes this byte
 //! - `sizes`: how many bytes the two files have
 use crate::calls;
 use cases::{Names, texts};
@@ -22,14 +23,14 @@ use std::thread::Threads;
 #[derive(Drop)]
 pub(crate) struct Commands<'a, R> {
     rt: &'a R,
-    // How many workers run the steps where the words do not say it, or nothing.
+    // How many workers run the steps if the words do not say it; empty for the calling thread.
     workers: &'a str,
     names: Names,
     disk: MemDisk,
 }
 
 impl<'a, R: Threads + Wait + Sync> Commands<'a, R> {
-    /// On an empty disk, with no name yet; with so many workers, where the words do not say it.
+    /// An empty disk, and no names yet; with this number of workers if the words do not say it.
     pub(crate) fn new(rt: &'a R, alloc: Global, workers: &'a str) -> Self {
         Commands {
             rt,
@@ -39,7 +40,7 @@ impl<'a, R: Threads + Wait + Sync> Commands<'a, R> {
         }
     }
 
-    /// What a command answers to its input.
+    /// The result of a command with its input.
     pub(crate) fn answer(
         &mut self,
         alloc: Global,
@@ -89,7 +90,7 @@ impl<'a, R: Threads + Wait + Sync> Commands<'a, R> {
         Ok(told)
     }
 
-    // The words of a command, with the workers where they run a script and do not say it.
+    // The words of a command; with the number of workers, if they run a script and do not say it.
     fn with_workers(&self, alloc: Global, words: &str) -> Result<String, AllocError> {
         let mut line = String::from_str(alloc, words)?;
         if words.starts_with("cnc run ")

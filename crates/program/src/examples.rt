@@ -1,5 +1,6 @@
-//! Examples: a folder has a `graph`, a `script`, and in `output` what the program writes where the script is run on a new store of the graph. Where there is a
-//! `script_again`, it is run on the same store behind the first one, and `output_again` is what it writes. It is the same however many workers run the steps.
+//! Examples: a folder has a `graph`, a `script`, and in `output` what the program writes when the script is run on a new
+//! store of the graph. If there is a `script_again`, it is run on the same store after the first one, and `output_again`
+//! is what the program writes then. The output is the same with any number of workers.
 use crate::calls::{Streams, call};
 use anyhow::Error;
 use cases::Names;
@@ -9,7 +10,7 @@ use std::io::Print;
 use std::sync::Wait;
 use std::thread::Threads;
 
-// How a script is run: by the thread that calls, and by crews.
+// How a script is run: by the calling thread, and by crews.
 const RUNS: [&str; 5] = [
     "cnc run . -",
     "cnc run . - --workers 1",
@@ -18,7 +19,7 @@ const RUNS: [&str; 5] = [
     "cnc run . - --workers 8",
 ];
 
-/// Runs an example in each of these ways, and prints whether its outputs are as they must be: how many are not.
+/// Runs an example in each of these ways, prints whether its outputs are as they must be, and returns how many are not.
 pub(crate) fn run<R: Threads + Wait + Sync>(
     rt: &HostRuntime,
     threads: &R,
@@ -51,8 +52,8 @@ pub(crate) fn run<R: Threads + Wait + Sync>(
     Ok(differ)
 }
 
-/// Shows an example: makes a store of its graph, runs its script, prints the report, turns the store over, and runs what is left to run. Each command is
-/// printed, with all that it writes.
+/// Shows an example: makes a store of its graph, runs its script, prints the report, turns the store over, and runs what
+/// is left to run. It prints each command, with all that the command writes.
 pub(crate) fn show<R: Threads + Wait + Sync>(
     rt: &HostRuntime,
     threads: &R,
@@ -75,7 +76,7 @@ pub(crate) fn show<R: Threads + Wait + Sync>(
     Ok(())
 }
 
-// Does a command, and tells all that it wrote.
+// Does a command, and returns all that it wrote.
 fn said<R: Threads + Wait + Sync>(
     rt: &HostRuntime,
     threads: &R,
@@ -95,7 +96,7 @@ fn read(rt: &HostRuntime, folder: &str, name: &str) -> Result<String, Error> {
     Ok(fs::read_to_string(rt, path.as_str())?)
 }
 
-// Prints an output that is not as it must be, but for a line with a status behind it: 0, or 1 where it is not.
+// Prints an output that is not as it must be, without the line of its status. Returns 0, or 1 if it is not.
 fn told(
     rt: &HostRuntime,
     folder: &str,

@@ -1,7 +1,9 @@
-//! Runs the program on memory disks: cases, each the words of a command, what it reads, and what it must write and answer; and the examples, each a folder.
+//! Runs the program on memory disks: cases, each the words of a command, what it reads, what it must write, and its
+//! status; and the examples, each a folder.
 //!
-//! `cases` tells what a file of cases is, `commands` lists the commands, and `examples` tells what a folder has. `--workers=N` has the files behind it run by crews of
-//! N workers, where they say nothing else. `--show=FOLDER` shows an example.
+//! `cases` says how a file of cases is written, `commands` lists the commands, and `examples` says what a folder has.
+//! After `--workers=N` the files are run by crews of N workers, if they do not say otherwise. `--show=FOLDER` shows an
+//! example.
 #![tactic(auto)]
 
 mod calls;
