@@ -1,4 +1,4 @@
-//! What a thread is answered while another one is within the sync of its put.
+//! What the calls of a thread return while another thread is in the sync of its put.
 ghost use Rattle.hub.specs.Whole.{IsNamedFor};
 
 use crate::handles::Handles;
@@ -13,7 +13,7 @@ use std::marker::Brand;
 use std::sync::Arc;
 use std::thread::join;
 
-/// Tries it on a new store.
+/// Tries this on a new store.
 pub(crate) fn try_held<R: Handles>(rt: &R) -> Result<(), Error> {
     let gate = Arc::new(rt.alloc(), Gate::new())?;
     let disk = HeldDisk::new(MemDisk::new(rt.alloc()), Arc::clone(&gate)?);
@@ -70,7 +70,7 @@ struct Answers {
     asked: bool,
 }
 
-// Asks while the other thread is within its sync, and then lets it go on.
+// Makes the calls while the other thread is in its sync, and then lets that go on.
 fn ask<J: Naming, D: Disk>(hub: &Hub<J, D>, mut pass: EnvPass<J>, gate: &Gate) -> Answers {
     gate.wait_for_sync();
     let commits = hub.commits(&mut pass);

@@ -1,22 +1,22 @@
-//! A disk that holds one sync until another thread was answered.
+//! A disk that holds one sync until another thread has its results.
 use disk::{Disk, DiskError, Side};
 use std::sync::Arc;
 use std::sync::atomic::{AtomicU64, Ordering};
 use std::thread::yield_now;
 
-/// How many turns, each of them yielding, one thread waits for the other.
+/// How many times one thread looks for the other, and yields, before it gives up.
 const PATIENCE: u32 = 10_000_000;
 
-/// Where two threads stand: each word is 0, and then 1.
+/// How far two threads are: each word is 0, and then 1.
 #[derive(Drop)]
 pub(crate) struct Gate {
     // The next sync is to be held.
     armed: AtomicU64,
     // A sync is held.
     held: AtomicU64,
-    // It may go on.
+    // The held sync may go on.
     freed: AtomicU64,
-    // Somebody lost patience.
+    // A thread gave up waiting.
     late: AtomicU64,
 }
 
@@ -45,12 +45,12 @@ impl Gate {
         self.freed.store(1, Ordering::SeqCst);
     }
 
-    /// Whether nobody lost patience.
+    /// Whether no thread gave up waiting.
     pub(crate) fn was_in_time(&self) -> bool {
         self.late.load(Ordering::SeqCst) == 0
     }
 
-    // Holds the thread that calls it, if the gate is armed.
+    // Holds the calling thread, if the gate is armed.
     fn hold(&self) {
         if self.armed.swap(0, Ordering::SeqCst) == 1 {
             self.held.store(1, Ordering::SeqCst);

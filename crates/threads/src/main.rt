@@ -1,5 +1,5 @@
-//! A hub on real threads: each line that it prints was derived by hand from what a store and a hub are, and is the same on every schedule,
-//! unless a thread looks for another 10,000,000 times in vain.
+//! A hub on real threads. Each line that it prints was derived by hand from what a store and a hub are. It is the same
+//! on every schedule, unless a thread looks for another 10,000,000 times in vain.
 #![tactic(auto)]
 
 mod handles;

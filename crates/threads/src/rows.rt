@@ -1,4 +1,4 @@
-//! What threads do with a hub of their own: each call opens one round a new store, and tells what came of it.
+//! What threads do with a hub: each call opens a hub round a new store, and prints what came of it.
 ghost use Rattle.hub.specs.Whole.{IsNamedFor};
 
 use crate::handles::Handles;
@@ -15,7 +15,7 @@ use std::io::Print;
 use std::marker::Brand;
 use std::thread;
 
-/// What is tried.
+/// A row: what is tried.
 #[derive(Clone, Copy)]
 pub(crate) enum Row {
     /// One pass puts, gets, counts and asks for a stop.
@@ -30,7 +30,7 @@ pub(crate) enum Row {
     TaskOut,
 }
 
-/// Tries it on a new store in memory.
+/// Tries a row on a new store in memory.
 pub(crate) fn try_row<R: Handles>(rt: &R, row: Row, passes: u8) -> Result<(), Error> {
     try_on(rt, MemDisk::new(rt.alloc()), row, passes)
 }
@@ -121,7 +121,7 @@ struct Job<J: Naming> {
     pass: EnvPass<J>,
 }
 
-// What came of a thread: its pass, how many of its puts were `Ok`, and the value that was there already.
+// The result of a thread: its pass, how many of its puts were `Ok`, and the value that was there already.
 #[derive(Drop)]
 struct Came<J: Naming> {
     pass: EnvPass<J>,

@@ -1,4 +1,4 @@
-//! Stores of the graph that all rows are of.
+//! Stores of the graph that all rows use.
 ghost use Rattle.std.specs.Prelude.{false, IfOk};
 
 use anyhow::{Error, bail};

@@ -16,7 +16,7 @@ use std::io::Print;
 use std::marker::Brand;
 use terms::{Inst, equals_are_one};
 
-/// Tries it with two hubs, of stores with the same facts.
+/// Tries this with two hubs, of stores with the same facts.
 pub(crate) fn try_foreign<R: Handles>(rt: &R) -> Result<(), Error> {
     open_both(rt, filled(rt)?, filled(rt)?)
 }
@@ -67,7 +67,7 @@ fn open_here<J: Naming, D: Disk + Drop, R: Handles>(
     )
 }
 
-// What the instance that is ready comes to. It is ready again.
+// The outcome of the ready instance, which is ready again afterwards.
 fn outcome_here<'a, J: Naming, D: Disk + Drop, R: Handles>(
     rt: &R,
     here: &'a Hub<J, D>,
@@ -135,7 +135,7 @@ fn claimed<K: Naming, D: Disk + Drop, R: Handles>(
     }
 }
 
-// The task, where a finish gives it back.
+// The task, if a finish gives it back.
 fn foreign<J: Naming, D: Disk + Drop, R: Handles>(
     rt: &R,
     here: &Hub<J, D>,

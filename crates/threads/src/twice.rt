@@ -6,7 +6,7 @@ use disk::MemDisk;
 use hub::put_two;
 use std::io::Print;
 
-/// Tries it on a new store: at two addresses, and at one.
+/// Tries this on a new store: at two addresses, and at one.
 pub(crate) fn try_two<R: Handles>(rt: &R) -> Result<(), Error> {
     put_at(rt, 0, 1)?;
     put_at(rt, 0, 0)
