@@ -1,5 +1,5 @@
-//! Workers on real threads: each line that it prints was derived by hand from what a graph means, and is the same on every schedule, unless a
-//! thread looks for another 10,000,000 times in vain.
+//! Workers on real threads. Each line that it prints was derived by hand from what a graph means. It is the same on
+//! every schedule, unless a thread looks for another 10,000,000 times in vain.
 #![tactic(auto)]
 
 mod meeting;
@@ -11,7 +11,7 @@ use anyhow::Error;
 use rows::{Row, try_row};
 use std::io::Print;
 
-// On how many workers each row is run.
+// With how many workers each row is run.
 const COUNTS: [u8; 4] = [1, 2, 8, 64];
 
 fn main(rt: HostRuntime) -> Result<(), Error> {

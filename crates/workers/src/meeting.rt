@@ -1,4 +1,4 @@
-//! Two workers run two instances at one time.
+//! Two workers run two instances at the same time.
 ghost use Rattle.std.specs.Prelude.{IfOk};
 ghost use Rattle.commit.specs.Runs.{NoneRuns};
 
@@ -17,17 +17,17 @@ use terms::Inst;
 const TWO: &str =
     "[out: i]; <t: i>; <t> :: (one); (one) -> [out]; env -> <t>; [out] -> env; step one(k) { read { } write { put [out: k] = k; } }";
 
-// How often an instance looks for the other one.
+// How often an instance looks for the other one before it gives up.
 const TURNS: u64 = 10_000_000;
 
-// More than is committed.
+// A limit that no run meets.
 const LIMIT: u64 = 1_000;
 
-// Holds each of two instances until it has seen the other enter, or has looked for it too often.
+// Holds each of two instances until it has seen the other enter, or has looked `TURNS` times.
 #[derive(Drop)]
 struct Meeting<'a> {
     entered: AtomicU64,
-    // How many have seen the other.
+    // How many instances have seen the other.
     met: &'a AtomicU64,
 }
 
@@ -58,7 +58,7 @@ impl<'a> Probe for Meeting<'a> {
     }
 }
 
-/// Tries it on a new store with two ready instances, by `drive` and by a crew.
+/// Tries this on a new store with two ready instances, with `drive` and with a crew.
 pub(crate) fn try_meeting<R: Threads + Wait + Sync>(
     rt: &HostRuntime,
     threads: &R,

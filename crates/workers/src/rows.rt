@@ -1,4 +1,4 @@
-//! Runs whose verdict and facts are the same on every number of workers.
+//! Runs whose verdict and facts are the same with any number of workers.
 ghost use Rattle.std.specs.Prelude.{◌≤◌};
 
 use crate::stores::{fibonacci, idle, put_tags, tell};
@@ -11,9 +11,9 @@ use std::thread::Threads;
 /// What a row runs.
 #[derive(Clone, Copy, Debug, PartialEq, Eq)]
 pub(crate) enum Row {
-    /// Four numbers from the first two.
+    /// Four numbers, from the first two.
     Complete,
-    /// A number of which one before is wanting.
+    /// A number of which one before is missing.
     Blocked,
     /// All numbers that an `i64` holds, and then one more.
     Overflow,
@@ -21,11 +21,11 @@ pub(crate) enum Row {
     PutTwice,
 }
 
-// More than any of the rows commits.
+// A limit that no row meets.
 const LIMIT: u64 = 1_000;
 
 impl Row {
-    /// What is printed above it.
+    /// The title that is printed above the row.
     pub(crate) fn title(self) -> &'static str {
         match self {
             Row::Complete => "four numbers from the first two",
@@ -36,7 +36,7 @@ impl Row {
     }
 }
 
-/// Runs it on so many workers, and prints the verdict, the report's end and the bytes.
+/// Runs the row on `workers` workers, and prints the verdict, the end of the report, and the number of bytes.
 pub(crate) fn try_row<R: Threads + Wait + Sync>(
     rt: &HostRuntime,
     threads: &R,

@@ -1,4 +1,4 @@
-//! Runs that end before there is nothing left to do.
+//! Runs that end while there is still something to do.
 ghost use Rattle.std.specs.Prelude.{◌≤◌};
 
 use crate::stores::{fibonacci, tell};
@@ -10,7 +10,7 @@ use std::sync::atomic::{AtomicU64, Ordering};
 use std::thread::Threads;
 use terms::Inst;
 
-// More than is committed.
+// A limit that no run meets.
 const LIMIT: u64 = 1_000;
 
 // Answers `Stop` from its second call on.
@@ -33,7 +33,7 @@ impl Probe for SecondStops {
     }
 }
 
-/// Runs a store of which four steps are to be done, with a limit of none.
+/// Runs a store in which four steps are to be done, with a limit of 0.
 pub(crate) fn try_limit<R: Threads + Wait + Sync>(
     rt: &HostRuntime,
     threads: &R,
@@ -46,7 +46,7 @@ pub(crate) fn try_limit<R: Threads + Wait + Sync>(
     tell(rt, workers, core, verdict, 1)
 }
 
-/// Runs the same store on one worker, whose probe stops it at its second call.
+/// Runs the same store on one worker, whose probe stops it at the second call.
 pub(crate) fn try_probe<R: Threads + Wait + Sync>(
     rt: &HostRuntime,
     threads: &R,

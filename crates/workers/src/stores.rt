@@ -1,4 +1,4 @@
-//! Stores of Fibonacci numbers, and what a run came to in one.
+//! Stores of Fibonacci numbers, and the result of a run in one.
 ghost use Rattle.std.specs.Prelude.{IfOk};
 ghost use Rattle.commit.specs.Runs.{NoneRuns};
 
@@ -24,7 +24,7 @@ pub(crate) fn created(alloc: Global, graph: &str) -> Result<Core<MemDisk>, Error
     }
 }
 
-/// A new store with these numbers, and these tags put.
+/// A new store in which these numbers and these tags are put.
 pub(crate) fn fibonacci(
     alloc: Global,
     numbers: &[i64],
@@ -65,7 +65,7 @@ pub(crate) fn put_tags(core: &mut Core<MemDisk>, tags: Range<i64>) -> Result<(),
     Ok(())
 }
 
-// Tells why a put was refused.
+// Turns a refused put into an error that says why.
 fn went(put: Result<(), CoreError>) -> Result<(), Error> {
     match put {
         Ok(()) => Ok(()),
