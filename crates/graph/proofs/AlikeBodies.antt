@@ -15,7 +15,7 @@ use Rattle.steptree.specs.Nameable.{Collection, Nameable}
 use Rattle.syntax.specs.Tree.{AreAll}
 use Rattle.graph.proofs.AlikeTrees.{SameName, Alike, AlikeKey, AlikeBlock}
 
--- one place, twice
+-- two lookups of one name give one place
 same_place : (places : List Text) (one two : Name) (m n : ℕ) → SameName one two → place_of places one.text.now ≡ Some m → place_of places two.text.now ≡ Some n → m ≡ n
 same_place places one two m n same a b = let found : Some m ≡ Some n = sym a ∙ ap (place_of places) same ∙ b in cc
 

@@ -26,7 +26,7 @@ use Rattle.graph.proofs.PrintedSteps.{are_both}
 
 -- ---- names
 
--- the same holds of one text at one place
+-- one name at one position has the same fault in both trees
 module _ (it : Named) (one two : Name) (a : IsName it one) (b : IsName it two) where
   named : text_of one ≡ text_of two
   named = a.0 ∙ sym b.0
@@ -103,7 +103,7 @@ same_told (related.EnvironmentPutsTag p a) _ = refl
 same_told (related.EnvironmentGets p a) (related.EnvironmentGets q b) = refl
 same_told (related.EnvironmentGets p a) _ = refl
 
--- behind the same relations
+-- after the same relations
 module _ (before others : List Relating) (ties : map tie before ≡ map tie others) where
   again_same : (one two : Relating) (p q : ℕ) → tie one ≡ tie two → p ≡ q → again before one p ≡ again others two q
   again_same one two p q same place =

@@ -1,4 +1,4 @@
--- All that trees of one derivation are as graphs is one graph.
+-- All trees of one derivation that are graphs are one graph.
 use Rattle.std.proofs.Common.{◌≡◌, List, [], ◌∷◌, ◌++◌, map, Some, refl, sym, ap, subst, ◌∙◌}
 use Rattle.std.proofs.lemmas.List.{map-append}
 use Rattle.steptree.specs.declared.step.Name.{Name}
@@ -31,7 +31,7 @@ names_are text step is =
     map-append (λ (name : Name). name.text.now) step.parameters.items step.variables.items
     ∙ (λ i. texts_are (all_names text.parameters) step.parameters.items is.parameters i ++ texts_are (all_names text.variables) step.variables.items is.variables i)
 
--- the trees of one derivation, and what they are
+-- two trees of one derivation, and the graphs that they are
 module _ (t u : Tree) (g h : Graph) (same : SharesNames t u) (tags_are_same : g.tags ≡ h.tags) where
   step_same : (text : StepText) (one two : NamedStep) (first second : Step) → IsStep text one → IsStep text two → IsStepOf t g one first → IsStepOf u h two second → first ≡ second
   step_same text one two first second a b c d =

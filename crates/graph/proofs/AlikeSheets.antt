@@ -51,7 +51,7 @@ tags_are (tag_declared it components ∷ texts) (declared.Item name number ∷ t
 
 -- ---- trees
 
--- two trees with the same collections and the same relations, wherever these stand
+-- two trees with the same collections and the same relations, whatever their positions
 pub record SharesNames (t u : Tree) : Type 0 where
   pub items : items_of t.declarations.items ≡ items_of u.declarations.items
   pub tags : tags_of t.declarations.items ≡ tags_of u.declarations.items
@@ -67,7 +67,7 @@ shared graph t u a b = record {
 -- ---- sheets
 
 module _ (t u : Tree) (same : SharesNames t u) where
-  -- what two trees let a step with one name name is the same
+  -- two trees let a step with one name name the same
   pub sheet_same : (one two : NamedStep) → text_of one.name ≡ text_of two.name → sheet_in t one ≡ sheet_in u two
   sheet_same one two named =
       let item_names : names_in (items_of t.declarations.items) ≡ names_in (items_of u.declarations.items) = ap names_in same.items in

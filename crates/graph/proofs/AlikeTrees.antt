@@ -1,4 +1,4 @@
--- Trees of one derivation: they differ in nothing but where their parts lie in memory.
+-- Trees of one derivation: they differ only in where their parts are in memory.
 use Rattle.std.proofs.Common.{◌≡◌, List, [], ◌∷◌, sym, ◌∙◌}
 use Rattle.std.specs.Prelude.{⊤}
 use Rattle.steptree.specs.declared.step.Name.{Name}
@@ -97,7 +97,7 @@ ends_alike End End a b = tt
 ends_alike End _ a b = absurd (cc)
 ends_alike _ two a b = absurd (cc)
 
--- what is known of two rests goes on to the blocks
+-- what is known of the rests of two blocks carries over to the blocks
 module _ {B : Type 0} (IsOwn : B → NamedBlock → (NamedBlock → Type 0) → Type 0)
     (own_alike : (it : B) (one two : NamedBlock) (First Second : NamedBlock → Type 0) → ((rest more : NamedBlock) → First rest → Second more → AlikeBlock rest more) → IsOwn it one First → IsOwn it two Second → AlikeBlock one two) where
   mutual

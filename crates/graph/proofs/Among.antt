@@ -1,4 +1,4 @@
--- What holds of the facts of a list, and of what is in one of two sets.
+-- What holds of the facts of a list, and of the elements of two sets.
 use Rattle.std.proofs.Common.{◌≡◌, ◌⊎◌, Bool, true, false, ◌||◌, List, [], ◌∷◌, inl, inr, refl, subst}
 use Rattle.std.specs.List.{AllByRecursion}
 use Rattle.std.proofs.lemmas.Bool.{false≢true}
@@ -16,7 +16,7 @@ pub or_right : (a b : Bool) → b ≡ true → (a || b) ≡ true
 or_right true b holds = refl
 or_right false b holds = holds
 
--- each of the one set is in the other
+-- each fact of the first set is in the second
 abbrev pub Within : Facts → Facts → Type 0
 Within X Y = (fact : Fact) → X fact ≡ true → Y fact ≡ true
 
@@ -24,7 +24,7 @@ module _ (told : OneFact) where
   pub the_first : (first : Fact) (rest : List Fact) → among (first ∷ rest) first ≡ true
   the_first first rest = or_left (is_fact first first) (among rest first) (told first first).0
 
-  -- what holds of each of a list holds of all that are among them
+  -- what holds of each fact of a list holds of every fact among them
   pub each_among : (P : Fact → Type 0) (list : List Fact) → AllByRecursion P list → (fact : Fact) → among list fact ≡ true → P fact
   each_among P [] all fact there = absurd (false≢true there)
   each_among P (first ∷ rest) all fact there =

@@ -1,4 +1,4 @@
--- A body that is what a step's text says and keeps to its sheet: that text has no fault, and no text that is alike.
+-- If a body is what a step's text says and keeps to its sheet, then this text has no fault, and no text alike has one.
 use Rattle.std.proofs.Common.{◌≡◌, ℕ, suc, Bool, true, not, List, [], ◌∷◌, ◌++◌, length, Option, Some, refl, sym, ap, ◌∙◌}
 use Rattle.std.specs.Prelude.{option_map, is_none}
 use Rattle.std.proofs.lemmas.Bool.{eq-eqb}
@@ -23,7 +23,7 @@ use Rattle.graph.proofs.AlikeTrees.{SameName, Alike, AlikeKey, AlikeBlock}
 
 -- ---- keys of declared collections
 
--- a collection that is there, allowed, and has so many components
+-- a collection that is there and allowed, with this number of components, gives no fault
 known_clear : (collections : List Collection) (allowed : List Bool) (error : CheckError) (key : NamedKey) (number components : ℕ) → number_of collections key.collection ≡ Some number → IsAllowed collections allowed number components
     → length key.components.items ≡ components → known_faults collections allowed error key (number_of collections key.collection) ≡ []
 known_clear collections allowed error key number components found is counted =

@@ -77,7 +77,7 @@ module _ (tree : Tree) where
         (sym (take_more tree.steps.items number step within ∙ ap (λ (s : NamedStep). take number tree.steps.items ++ s ∷ []) (sym is)))
         (one_more_checked (take number tree.steps.items) them step it so checked)
 
-    -- its name is none before
+    -- its name is new
     pub name_is_new : place_of (step_names tree.steps.items) (text_of step.name) ≡ Some number → place_of (names_numbered them) (text_of step.name) ≡ None
     name_is_new place = ap (λ (l : List Text). place_of l (text_of step.name)) (same_names (take number tree.steps.items) them so) ∙ not_before tree.steps.items number place
       where

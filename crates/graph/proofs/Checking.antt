@@ -28,7 +28,7 @@ use Rattle.graph.proofs.Naming.{one_more_named, so_many}
 
 -- ---- components
 
--- the tags with a number have the components that are declared
+-- the tags with a number have the number of components that is declared
 pub looked_up : (tags : List Collection) (tag : Text) (number : ℕ) → place_of (names_in tags) tag ≡ Some number
     → components_of tags tag ≡ option_map (λ declared. declared.components) (slice_get tags number)
 looked_up [] tag number there = absurd (cc)
@@ -76,7 +76,7 @@ arity tags step (Some tag) (Some number) is =
     ap (λ (o : Option ℕ). fault_if (is_other o (length step.parameters.items)) Arity step.name.place) (looked_up tags tag number.0 is ∙ there.1)
     ∙ ap (λ (o : Option ℕ). components_faults o step) (sym there.1)
 
--- ---- steps that stand twice
+-- ---- steps that appear twice
 
 is_next : (place : Option ℕ) (other : ℕ) → is_place (option_map suc place) (suc other) ≡ is_place place other
 is_next None other = refl
@@ -103,7 +103,7 @@ never_first n = by (zero == suc n) refl
         absurd (omega arith)
     by false e = refl
 
--- the place of a name is its own exactly if it does not stand before
+-- the first place of a name is this one exactly if it does not appear before
 own : (names : List Text) (name : Text) (more : List Text) → is_place (place_of (names ++ name ∷ more) name) (length names) ≡ not (is_some (place_of names name))
 own [] name more = ap (λ (b : Bool). is_place (if b then Some zero else option_map suc (place_of more name)) zero) (itself name) ∙ eq-eqb zero zero refl
 own (first ∷ names) name more = by (is_text first name) (own names name more)

@@ -37,7 +37,7 @@ module _ {K V : Type 0} (text : K → Text) where
   name_there (entry ∷ entries) zero = refl
   name_there (entry ∷ entries) (suc number) = name_there entries number
 
-  -- an entry with a number has a name that is nowhere else
+  -- an entry with a number has a name that no other entry has
   pub once : (entries : List (K × V)) (number : ℕ) (entry : K × V) → IsDistinct (λ one two. bytes_eq (text one) (text two)) (keys_of entries) → slice_get entries number ≡ Some entry
       → place_of (names_numbered (seen entries)) (text entry.0) ≡ Some number
   once entries number entry distinct there =
@@ -45,7 +45,7 @@ module _ {K V : Type 0} (text : K → Text) where
       let here : slice_get (names_numbered (seen entries)) number ≡ Some (text entry.0) = name_there entries number ∙ ap (option_map (λ entry. text entry.0)) there in
       own_place (names_numbered (seen entries)) number (text entry.0) (subst (IsDistinct bytes_eq) (sym (names_seen entries)) names) here
 
-  -- a text that is no name is looked up in vain
+  -- the lookup of a text that is no name finds nothing
   pub absent : (entries : List (K × V)) (name : K) → place_of (names_numbered (seen entries)) (text name) ≡ None → lookup (λ key. bytes_eq (text name) (text key)) entries ≡ None
   absent [] name none = refl
   absent (entry ∷ entries) name none = by (is_text (text entry.0) (text name)) refl (absent entries name)
@@ -62,7 +62,7 @@ module _ {K V : Type 0} (text : K → Text) where
           ap (λ (b : Bool). if b then Some zero else option_map suc (place_of (names_numbered (seen entries)) (text name))) same in
           ap (λ (b : Bool). cond b (Some entry.1) (lookup (λ key. bytes_eq (text name) (text key)) entries)) test ∙ others (unmapped _ (sym e ∙ none))
 
-  -- what is looked up is found
+  -- a lookup finds the value with that name
   pub looked_up : (entries : List (K × V)) (name : Text) → lookup (λ key. bytes_eq name (text key)) entries ≡ found (seen entries) name
   looked_up [] name = refl
   looked_up (entry ∷ entries) name = by (is_text (text entry.0) name) refl (looked_up entries name)

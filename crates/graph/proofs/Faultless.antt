@@ -1,4 +1,4 @@
--- What holds of a tree without a fault: its names differ, and its steps have the right number of parameters.
+-- What holds of a tree without a fault: its names differ, and its steps have the right numbers of parameters.
 use Rattle.std.proofs.Common.{◌≡◌, ℕ, zero, suc, Bool, true, false, if◌then◌else◌, List, [], ◌∷◌, ◌++◌, Option, Some, None, map, refl, sym, ap, subst, ◌∙◌, append_assoc, slice_get}
 use Rattle.std.specs.Prelude.{option_map, is_some}
 use Rattle.std.specs.List.{IsDistinct}

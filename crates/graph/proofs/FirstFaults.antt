@@ -9,13 +9,13 @@ use Rattle.graph.specs.Placed.{IsFirst, Reports}
 pub empty_in_front : (xs ys : List At) → xs ≡ [] → xs ++ ys ≡ ys
 empty_in_front xs ys none = ap (λ l. l ++ ys) none
 
--- the first fault of what stands in front is the first of all
+-- if the front part has a fault, its first fault is the first of all
 pub in_front : (front others : List At) (fault : PlacedFault) → IsFirst front fault → IsFirst (front ++ others) fault
 in_front [] others fault (inl memory) = inl memory
 in_front [] others fault (inr first) = absurd (cc)
 in_front (x ∷ front) others fault first = first
 
--- where nothing in front is at fault, the first of the others is the first of all
+-- if the front part has no fault, the first of the others is the first of all
 pub behind_none : (front others : List At) (fault : PlacedFault) → front ≡ [] → IsFirst others fault → IsFirst (front ++ others) fault
 behind_none front others fault none first = subst (λ (l : List At). IsFirst l fault) (sym (empty_in_front front others none)) first
 
@@ -31,7 +31,7 @@ there holds error position is = ap (λ (b : Bool). fault_if b error position) is
 pub nothing : (holds : Bool) (error : GraphError) (position : ℕ) → holds ≡ false → fault_if holds error position ≡ []
 nothing holds error position is = ap (λ (b : Bool). fault_if b error position) is
 
--- the same, whatever else is said of a value
+-- the same, whatever is known of a value
 pub relation_passed_on : {X : Type 0} (P : X → Type 0) (faults : List At) (result : Result X PlacedFault) (fault : PlacedFault) → IsErrAnd result (λ other. other ≡ fault) → IsFirst faults fault
     → MatchResult result P (IsFirst faults)
 relation_passed_on P faults (Ok value) fault is first = absurd is
@@ -41,7 +41,7 @@ pub fault_passed_on : {X : Type 0} (P : X → Type 0) (Q : PlacedFault → Type 
 fault_passed_on P Q (Ok value) fault is it = absurd is
 fault_passed_on P Q (Err other) fault is it = subst Q (sym is) it
 
--- the same, where nothing is said of a value
+-- the same, if nothing is known of a value
 pub err_passed_on : {X : Type 0} (Q : PlacedFault → Type 0) (result : Result X PlacedFault) (fault : PlacedFault) → IsErrAnd result (λ other. other ≡ fault) → Q fault → IfErr result Q
 err_passed_on Q (Ok value) fault is it = absurd is
 err_passed_on Q (Err other) fault is it = subst Q (sym is) it

@@ -1,4 +1,4 @@
--- What events that fit leave fits.
+-- After an event that fits, the state still fits.
 use Rattle.std.proofs.Common.{◌≡◌, ℕ, suc, Bool, true, false, ◌||◌, inl, inr, List, [], ◌∷◌, ◌++◌, refl, sym, subst, ◌∙◌}
 use Rattle.std.specs.List.{AllByRecursion}
 use Rattle.std.proofs.lemmas.Bool.{false≢true}
@@ -24,7 +24,7 @@ IsStated g X event (item address value (By instance number)) = AddressIsOf g add
 IsStated g X event (done instance) = InstanceIsOf g instance × IsPrescribed g X instance
 IsStated g X event (bad instance kind) = MayEnd g X instance × (event ≡ Stopped instance kind)
 
--- and of one that the environment put by it
+-- what the graph says of a fact that the environment put by the event
 abbrev IsGiven : Graph → Event → Fact → Type 0
 IsGiven g event (tag name) = EnvironmentMayPutTag g name × (among (event_facts event) (tag name) ≡ true)
 IsGiven g event (item address value Env) = among (event_facts event) (item address value Env) ≡ true
@@ -91,7 +91,7 @@ one_stop event i j k l one two = (instances, kinds)
 stop_ends_none : (event : Event) (instance : Inst) (kind : FaultKind) → event ≡ Stopped instance kind → among (event_facts event) (done instance) ≡ false
 stop_ends_none event instance kind same = subst (λ (it : Event). among (event_facts it) (done instance) ≡ false) (sym same) refl
 
--- what follows from each of a set and of what comes to it
+-- what follows from each fact of a set and from each fact added to it
 by_each : {A : Type 0} (X : Facts) (more : List Fact) (fact : Fact) → (X fact ≡ true → A) → (among more fact ≡ true → A) → with_facts X more fact ≡ true → A
 by_each {A} X more fact first second there = elim (either (X fact) (among more fact) there) [ inl it ↦ first it | inr it ↦ second it ]
 
@@ -138,7 +138,7 @@ module _ (told : OneFact) (g : Graph) (E X : Facts) (event : Event) (state : Fit
       neither a b no_ none = cc
 
 module _ (told : OneFact) (both : AmongBoth) (g : Graph) where
-  -- the same of lists
+  -- the same for lists
   pub fit_keeps : (given before : List Fact) (event : Event) → FitsState g (among given) (among before) → Fits g (among before) event
       → FitsState g (among (given ++ environment_facts event)) (among (before ++ event_facts event))
   fit_keeps given before event state fits =

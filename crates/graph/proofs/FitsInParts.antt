@@ -1,4 +1,4 @@
--- Events that fit one after another, in parts; and that how facts are listed plays no part in it.
+-- Events that fit one after another, in two parts; how facts are listed does not matter.
 use Rattle.std.proofs.Common.{Bool, ◌||◌, List, [], ◌∷◌, ◌++◌, sym, ap, subst, ◌∙◌}
 use Rattle.std.specs.Prelude.{◌↔◌}
 use Rattle.std.proofs.lemmas.List.{append_assoc, append-nil}

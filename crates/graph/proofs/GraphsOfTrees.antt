@@ -23,7 +23,7 @@ use Rattle.graph.proofs.SmallTrees.{as_many}
 
 -- ---- tags by their number
 
--- the collection with the place of a name has that name's components
+-- the collection whose number is a name's place has that name's components
 found_collection : (tags : List Collection) (tag : Text) (number : ℕ) → place_of (names_in tags) tag ≡ Some number → (it : Collection) × (slice_get tags number ≡ Some it) × (components_of tags tag ≡ Some it.components)
 found_collection [] tag number there = absurd (cc)
 found_collection (first ∷ tags) tag number there = by (is_text first.name tag) number there (found_collection tags tag)

@@ -1,4 +1,4 @@
--- The graph that is made of a tree without a fault: it is kept, and it is the tree's.
+-- The graph that is made of a tree without a fault: it satisfies the invariant, and it is the tree's graph.
 use Rattle.std.proofs.Common.{◌≡◌, ◌<◌, ◌≤◌, ◌^◌, ℕ, zero, suc, Bool, List, [], ◌∷◌, length, map, get_or, Some, refl, sym, ap, ◌∙◌, slice_get, arith}
 use Rattle.std.specs.Prelude.{Vec}
 use Rattle.std.specs.List.{AllByRecursion}
@@ -125,7 +125,7 @@ module _ (tree : Tree) (resolved : Resolved) (steps : List (Text × Prescribed))
   pub is_graph : IsGraph g
   is_graph = graph_is tree g small none is_its_graph
 
-  -- the graph with these rows of the environment, which are its own
+  -- the graph with its environment rows given apart
   abbrev pub rowed : List Bool → List Bool → List Bool → Graph
   rowed item_puts tag_puts gets =
       record { items = g.items; tags = g.tags; steps = g.steps; environment_item_puts = item_puts; environment_tag_puts = tag_puts; environment_gets = gets }
@@ -133,7 +133,7 @@ module _ (tree : Tree) (resolved : Resolved) (steps : List (Text × Prescribed))
   pub with_rows : (item_puts tag_puts gets : List Bool) → item_puts ≡ g.environment_item_puts → tag_puts ≡ g.environment_tag_puts → gets ≡ g.environment_gets → rowed item_puts tag_puts gets ≡ g
   with_rows item_puts tag_puts gets one two three = λ i. rowed (one i) (two i) (three i)
 
-  -- the text that the tree was read from reads as the graph, and so does its canonical text, where that is not too long
+  -- the text of the tree reads as the graph, and so does its canonical text, unless that is too long
   pub canonical_reads_back : CanonicalReads → ReadsTextual → IsOfText tree → length (canonical g) ≤ MOST_TEXT → Reads (canonical g) g
   canonical_reads_back back textual of_text short =
       let reads : Reads of_text.0 g = record { short = of_text.1.0; ascii = of_text.1.1; tree = tree; read = of_text.2; no_fault = none; graph = is_its_graph; canonical = short } in

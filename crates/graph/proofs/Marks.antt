@@ -1,4 +1,4 @@
--- Marks, and the relations that they are.
+-- Marks, and the relations that they stand for.
 use Rattle.std.proofs.Common.{◌≡◌, ◌<◌, ℕ, zero, suc, Bool, true, false, ◌&&◌, ◌||◌, List, [], ◌∷◌, ◌++◌, length, map, get_or, Some, None, Option, if◌then◌else◌, refl, sym, ap, subst, ◌∙◌, arith, slice_get}
 use Rattle.std.specs.Prelude.{option_map, ◌==◌}
 use Rattle.std.specs.List.{list_any, AllByRecursion}
@@ -48,7 +48,7 @@ at_place (first ∷ names) name place there = by (is_text first name) refl place
     by false same zero is deeper = absurd (not_first (place_of names name) (sym (ap (λ (b : Bool). if b then Some zero else option_map suc (place_of names name)) same) ∙ is))
     by false same (suc n) is deeper = deeper n (before_it (place_of names name) n (sym (ap (λ (b : Bool). if b then Some zero else option_map suc (place_of names name)) same) ∙ is))
 
--- a name with a place is another exactly if that has the same place
+-- a name equals another exactly if both have the same place
 pub one_place : (names : List Text) (name other : Text) (place : ℕ) → place_of names name ≡ Some place → is_text name other ≡ is_place (place_of names other) place
 one_place names name other place there = by (is_text name other) refl (place_of names other) refl
   where
@@ -140,7 +140,7 @@ width_at [] row width within wide = absurd (omega arith)
 width_at (first ∷ rows) zero width within wide = wide.0
 width_at (first ∷ rows) (suc row) width within wide = width_at rows row width (omega arith) wide.1
 
--- a mark of one row marks no other
+-- a mark in one row marks no other row
 pub marked_between : (rows : List (List Bool)) (row place : ℕ) (other_row other : Option ℕ) → row < length rows → place < length (get_or rows row [])
     → mark_between (set rows row (set (get_or rows row []) place true)) other_row other ≡ mark_between rows other_row other || (is_place other_row row && is_place other place)
 marked_between rows row place None other within in_row = refl

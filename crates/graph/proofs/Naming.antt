@@ -89,7 +89,7 @@ place_of_both (first ∷ names) name text = by (is_text first text) (place_of_bo
     by true others = refl
     by false others = ap (option_map suc) others ∙ mapped (place_of names text) (is_text name text)
 
--- a name has a number exactly if it is there
+-- a name has a number exactly if it is in the list
 is_found : (numbered : List (Text × ℕ)) (text : Text) → is_some (found numbered text) ≡ is_some (place_of (names_numbered numbered) text)
 is_found [] text = refl
 is_found (entry ∷ numbered) text = by (is_text entry.0 text) (is_found numbered text)

@@ -1,4 +1,4 @@
--- What a text is that a graph was made of.
+-- What is known of a text that a graph was made of.
 use Rattle.std.proofs.Common.{◌≡◌, ◌≤◌, ◌⊎◌, List, [], ℕ, length, inl, inr, refl, sym, subst}
 use Rattle.std.specs.Prelude.{Result, Ok, Err, IfOk, IfErr}
 use Rattle.syntax.specs.declared.tree.Tree.{Tree}

@@ -1,4 +1,4 @@
--- The place of a text among names.
+-- The place of a text in a list of names.
 use Rattle.std.proofs.Common.{◌≡◌, ℕ, zero, suc, ◌+◌, Bool, true, false, List, [], ◌∷◌, map, Some, None, Option, if◌then◌else◌, refl, sym, ap, subst, ◌∙◌, arith, slice_get, cond}
 use Rattle.std.specs.Prelude.{option_map, position}
 use Rattle.std.specs.List.{position_from, AllByRecursion, IsDistinct}
@@ -7,7 +7,7 @@ use Rattle.std.proofs.lemmas.Iterator.Adapters.{position_from-zero}
 use Rattle.steptree.specs.Names.{Text, is_text, place_of}
 use Rattle.graph.proofs.Texts.{texts_are_bytes, same_both_ways, itself}
 
--- so many places further on
+-- an option of a place, moved on by this number of places
 abbrev pub further : ℕ → Option ℕ → Option ℕ
 further count place = option_map (λ k. count + k) place
 
@@ -41,11 +41,11 @@ module _ {X : Type 0} (name : X → Text) (text : Text) where
           ∙ sym (further_one index (place_of (map name keys) text))
           ∙ sym (ap (λ (b : Bool). further index (if b then Some zero else option_map suc (place_of (map name keys) text))) same)
 
-  -- the position at which the bytes stand is the place of the text
+  -- the position at which the bytes are found is the place of the text
   pub position_is_place : (keys : List X) → position (λ key. bytes_eq text (name key)) keys ≡ place_of (map name keys) text
   position_is_place keys = position_from-zero (λ key. bytes_eq text (name key)) keys ∙ from_there keys 0 ∙ further_none (place_of (map name keys) text)
 
--- the name at a place is none before
+-- the name at a place is not the same as any before it
 pub own_place : (names : List Text) (number : ℕ) (text : Text) → IsDistinct bytes_eq names → slice_get names number ≡ Some text → place_of names text ≡ Some number
 unfolding IsDistinct
 own_place [] number text distinct there = absurd (cc)

@@ -7,7 +7,7 @@ use Rattle.std.proofs.lemmas.List.Elements.{Contains-append_left, Contains-appen
 use Rattle.graph.specs.Graph.{Step, IsStep, Prescribes}
 use Rattle.graph.specs.Prescribed.{prescribed_from, prescribed_by, PrescribesListed}
 
--- ---- a list with one more in front, or without it
+-- ---- a list with or without one more element in front
 
 is_first : (there : Bool) (first : ℕ) (list : List ℕ) → there ≡ true → Contains (if there then first ∷ list else list) first
 is_first true first list is = Contains-append_left (first ∷ []) list first (Contains-push [] first)
@@ -24,7 +24,7 @@ first_or_later : (there : Bool) (first : ℕ) (list : List ℕ) (number : ℕ) �
 first_or_later true first list number it = elim (Contains-append_cases (first ∷ []) list number it) [ inl here ↦ inl (refl, one_alone first number here) | inr later ↦ inr later ]
 first_or_later false first list number it = inr it
 
--- ---- steps, the first of which has a number
+-- ---- steps numbered from a start
 
 step_is_listed : (start : ℕ) (steps : List Step) (tag number : ℕ) (step : Step) → slice_get steps number ≡ Some step → step.prescriber ≡ tag → Contains (prescribed_from start steps tag) (start + number)
 step_is_listed start [] tag number step there prescribed = absurd (cc)
@@ -38,7 +38,7 @@ step_is_listed start (first ∷ steps) tag (suc number) step there prescribed =
     is_later (first.prescriber == tag) start (prescribed_from (suc start) steps tag) (start + suc number)
     (subst (Contains (prescribed_from (suc start) steps tag)) next (step_is_listed (suc start) steps tag number step there prescribed))
 
--- a step at this place, counted from there, that these tags prescribe
+-- the tag collection prescribes the step with this number; numbers count from the start
 abbrev IsStepOf : ℕ → List Step → ℕ → ℕ → Type 0
 IsStepOf start steps tag number = (place : ℕ) × (step : Step) × (slice_get steps place ≡ Some step) × (step.prescriber ≡ tag) × (start + place ≡ number)
 

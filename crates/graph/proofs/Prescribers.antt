@@ -56,7 +56,7 @@ module _ (tags steps : List Text) (before : List Relation) where
         subst (λ (tag : Option Text). IsPrescriber tags tag (prescriber_at list (place_of steps step))) (sym same) (are.each step);
   }
 
-  -- a prescription of a step that none prescribes before
+  -- a prescription of a step that is not prescribed yet
   pub one_prescribed : (list : List (Option TagCollection)) (a b : Name) (tag row : ℕ) → place_of tags (text_of a) ≡ Some tag → place_of steps (text_of b) ≡ Some row
       → is_some (prescriber_at list (Some row)) ≡ false → ArePrescribers tags steps before list
       → ArePrescribers tags steps (before ++ related.Prescribes a b ∷ []) (set list row (Some (record { 0 = tag })))

@@ -1,4 +1,4 @@
--- Lists of which no two elements clash, and what is found in them.
+-- Lists in which no two elements clash, and what is found in them.
 use Rattle.std.proofs.Common.{◌≡◌, ◌≢◌, ℕ, zero, suc, ◌<◌, ◌≤◌, Bool, true, false, ◌||◌, ◌&&◌, if◌then◌else◌, List, [], ◌∷◌, ◌++◌, length, get_or, map, Option, Some, None, option_map, refl, sym, ap, ◌∙◌, arith}
 use Rattle.std.specs.Prelude.{⊤}
 use Rattle.std.specs.List.{AllByRecursion, flat_map, list_any, zip}
@@ -75,7 +75,7 @@ pub any_and : {X : Type 0} (test : X → Bool) (b : Bool) (xs : List X) → list
 any_and test true xs = any_agree (λ x. test x && true) test xs (λ x. and_true (test x)) ∙ sym (and_true (list_any test xs))
 any_and test false xs = any_none (λ x. test x && false) xs (each (λ x. (test x && false) ≡ false) (λ x. and_false (test x)) xs) ∙ sym (and_false (list_any test xs))
 
--- ---- lists of which no two clash
+-- ---- lists in which no two elements clash
 
 module _ {X : Type 0} (clash : X → X → Bool) where
   -- no later one clashes with an earlier one
@@ -83,7 +83,7 @@ module _ {X : Type 0} (clash : X → X → Bool) where
   Apart [] = ⊤
   Apart (x ∷ xs) = AllByRecursion (λ y. clash y x ≡ false) xs × Apart xs
 
-  -- none of the second list with one of the first
+  -- no element of the second list clashes with one of the first
   abbrev pub Clear : List X → List X → Type 0
   Clear xs ys = AllByRecursion (λ y. AllByRecursion (λ x. clash y x ≡ false) xs) ys
 
@@ -143,7 +143,7 @@ fewer_marked (first ∷ names) (false ∷ marks) = omega (arith, fewer_marked na
 abbrev pub is_among : List Text → Text → Bool
 is_among texts text = list_any (λ other. is_text other text) texts
 
--- the marks are told by the names that are marked
+-- the marks follow from the names that are marked
 pub marks_back : (names : List Text) (marks : List Bool) → Apart is_text names → length marks ≡ length names → map (is_among (marked (zip names marks))) names ≡ marks
 marks_back [] [] all many = refl
 marks_back [] (mark ∷ marks) all many = absurd (omega (arith, many))

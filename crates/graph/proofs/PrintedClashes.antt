@@ -1,4 +1,4 @@
--- No two of the relations that are printed are one, and each names what there is: so they are without a fault.
+-- No two of the printed relations are equal, and each names what there is: so they are without a fault.
 use Rattle.std.proofs.Common.{◌≡◌, ℕ, Bool, true, false, ◌||◌, ◌&&◌, if◌then◌else◌, List, [], ◌∷◌, ◌++◌, get_or, map, Option, Some, None, refl, sym, ap, subst, ◌∙◌}
 use Rattle.std.specs.Prelude.{is_some, not, ⊤}
 use Rattle.std.specs.List.{AllByRecursion, flat_map, list_any}
@@ -17,7 +17,7 @@ use Rattle.graph.proofs.PrintedRelations.{Shape, a_prescription, a_read, an_item
 use Rattle.graph.proofs.PrintedSets.{tree_relation}
 use Rattle.graph.proofs.PrintedValues.{name_of}
 
--- whether a later relation says again what an earlier one says; of prescriptions, whether they are of one step
+-- whether a later relation repeats an earlier one; for prescriptions, whether they are of one step
 abbrev pub clash : Shape → Shape → Bool
 clash (a_prescription tag step) (a_prescription tag2 step2) = is_text step2 step
 clash (a_read item step) (a_read item2 step2) = is_text item item2 && is_text step step2

@@ -1,4 +1,4 @@
--- The collections that a sheet declares: their names, and how many components they have.
+-- The collections that a sheet declares: their names, and their numbers of components.
 use Rattle.std.proofs.Common.{◌≡◌, ℕ, zero, suc, ◌<◌, ◌≤◌, Bool, List, [], ◌∷◌, length, get_or, Some, refl, ap, arith}
 use Rattle.std.specs.Prelude.{slice_get}
 use Rattle.std.proofs.lemmas.Option.{slice_get_within}
@@ -11,7 +11,7 @@ use Rattle.graph.specs.Tree.{names_in}
 use Rattle.graph.specs.Textual.{IsGraphName, AreNames}
 use Rattle.graph.proofs.PrintedNames.{name_at, found_at}
 
--- what is known of a collection that a step may name: few components, and a name by which it is found
+-- what is known of a collection that a step may name: it has few components, and its name finds it
 pub record Known (collections : List Collection) (index components : ℕ) : Type 0 where
   pub few : components ≤ MAX_COMPONENTS
   pub name : IsGraphName (get_or (names_in collections) index [])

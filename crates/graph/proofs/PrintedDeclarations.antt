@@ -1,4 +1,4 @@
--- The declarations of a graph as they are printed: first those of items, and then those of tags.
+-- The declarations of a graph as they are printed: items first, then tags.
 use Rattle.std.proofs.Common.{◌≡◌, ℕ, ◌+◌, ◌≤◌, List, [], ◌++◌, length, codes, Option, refl, sym, subst, ◌∙◌, arith, append_assoc}
 use Rattle.std.specs.List.{AllByRecursion}
 use Rattle.terms.specs.declared.key.TheConstants.{MAX_COMPONENTS}

@@ -1,4 +1,4 @@
--- The declarations that are printed are those of the graph, within the limits and without a fault.
+-- The printed declarations are those of the graph, within the limits and without a fault.
 use Rattle.std.proofs.Common.{◌≡◌, ℕ, suc, ◌+◌, ◌≤◌, false, List, [], ◌∷◌, ◌++◌, length, map, Option, refl, ap, ◌∙◌, arith}
 use Rattle.std.specs.Prelude.{is_some}
 use Rattle.std.specs.List.{AllByRecursion}
@@ -97,7 +97,7 @@ declarations_within before (c ∷ cs) tags (d ∷ ds) two few few2 all all2 =
 not_there : (before : List Text) (text : Text) (place : ℕ) → AllByRecursion (λ other. is_text text other ≡ false) before → fault_if (has before (name_of (text, place))) Redeclared place ≡ []
 not_there before text place all = ap (λ (o : Option ℕ). fault_if (is_some o) Redeclared place) (nowhere before text all)
 
--- one more in front of names that are apart
+-- one more name in front of names that differ
 pub one_before : (before : List Text) (first : Text) (names : List Text) → Clear is_text before names → AllByRecursion (λ text. is_text text first ≡ false) names → Clear is_text (before ++ first ∷ []) names
 one_before before first names clear all =
     clear_of_both is_text before (first ∷ []) names clear (each_weaker (λ text. is_text text first ≡ false) (λ text. AllByRecursion (λ other. is_text text other ≡ false) (first ∷ [])) (λ text h. (h, tt)) names all)

@@ -1,4 +1,4 @@
--- An expression that is printed: its derivation, the tree that it is, and that it passes no limit.
+-- A printed expression: its derivation, its tree, and that it exceeds no limit.
 use Rattle.std.proofs.Common.{◌≡◌, ℕ, suc, ℤ, pos, ◌+◌, ◌<◌, ◌≤◌, List, [], ◌++◌, length, get_or, codes, refl, sym, ap, subst, ◌∙◌, arith}
 use Rattle.std.specs.Prelude.{max}
 use Rattle.steptree.specs.declared.expression.Operator.{Operator}
@@ -40,7 +40,7 @@ operator_sign operator.LessOrEqual = sign.LessOrEqual
 operator_sign operator.Greater = sign.Greater
 operator_sign operator.GreaterOrEqual = sign.GreaterOrEqual
 
--- two operands, and this between them
+-- two operands with this operator between them
 between : Operator → Unary → Unary → Expr
 between operator.Add left right = sum_alone (added (prod_alone (unary_alone left)) plus (unary_alone right))
 between operator.Subtract left right = sum_alone (added (prod_alone (unary_alone left)) minus (unary_alone right))
@@ -105,7 +105,7 @@ rounded_anywhere {place} {text} one =
 
 -- ---- expressions
 
--- what a printed expression is; its own brackets stand around it
+-- what is known of a printed expression, inside its own brackets
 pub record IsPrinted (g : Graph) (names : List Text) (place : ℕ) (expression : Expression) : Type 0 where
   pub unary : Unary
   pub printed : Printed after_word place (expression_text g names expression) (unary_pieces unary)
@@ -185,7 +185,7 @@ module _ (g : Graph) (names : List Text) (are : AreNames names) where
         resolves = (refl, one.resolves, two.resolves);
       }
 
-  -- an expression that a text can have is printed
+  -- an expression that a text can have can be printed
   pub expression_printed : (expression : Expression) (place : ℕ) → IsSpelled (length names) expression → IsPrinted g names place expression
   expression_printed (Number value) place is = subst (λ (z : ℤ). IsPrinted g names place (Number z)) (sym is.1) (number_printed place is.0 is.2)
   expression_printed (Variable slot) place is = variable_printed place slot is

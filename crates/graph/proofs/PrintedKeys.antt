@@ -1,4 +1,4 @@
--- An item or a tag of a body that is printed: a name, and behind a colon its components.
+-- An item or a tag of a printed body: a name, and after a colon its components.
 use Rattle.std.proofs.Common.{◌≡◌, ℕ, ◌+◌, ◌≤◌, Bool, false, if◌then◌else◌, nat_lt, List, [], ◌∷◌, ◌++◌, length, map, codes, refl, sym, ap, subst, ◌∙◌, arith, append_assoc}
 use Rattle.std.proofs.lemmas.Bool.Decides.{nat_tests}
 use Rattle.terms.specs.declared.key.TheConstants.{MAX_COMPONENTS}
@@ -25,7 +25,7 @@ use Rattle.graph.proofs.PrintedValues.{vec_of, name_of}
 
 -- ---- components
 
--- what a component is
+-- what is known of a component
 pub record IsComponent (names : List Text) (expression : Expression) (sum : Sum) : Type 0 where
   pub limits : sum_limits sum ≡ []
   pub value : NamedExpression
@@ -38,7 +38,7 @@ no_depth depth place h = ap (λ (b : Bool). if b then place ∷ [] else []) (not
     not_less : (depth : ℕ) → depth ≤ MOST_DEPTH → nat_lt MOST_DEPTH depth ≡ false
     not_less depth h = grind (arith, nat_tests)
 
--- limits of a whole expression that is printed
+-- a printed expression as a whole exceeds no limit
 pub no_limits : {g : Graph} {names : List Text} {place : ℕ} {expression : Expression} (it : IsPrinted g names place expression) → depth_of expression ≤ MOST_DEPTH
     → sum_limits (prod_alone (unary_alone it.unary)) ≡ []
 no_limits it small =
@@ -71,7 +71,7 @@ values_of names (expression ∷ expressions) (component ∷ components) all =
 
 -- ---- keys
 
--- what the inside of a printed key is
+-- what is known of the inside of a printed key
 pub record KeyPrinted (g : Graph) (names : List Text) (place : ℕ) (collection : Text) (components : List Expression) : Type 0 where
   pub key : Key
   pub printed : Printed after_word place (with_colon collection (map (expression_text g names) components)) (named key.collection ∷ sums_pieces key.components)
@@ -109,7 +109,7 @@ module _ (g : Graph) (names : List Text) (are : AreNames names) (collection : Te
         resolve = trees.resolve;
       }
 
--- in the brackets of an item, and in those of a tag
+-- a key in the brackets of an item, and in those of a tag
 pub bracketed_key : {place : ℕ} {text : Text} (key : Key) → Printed after_word (place + 1) text (named key.collection ∷ sums_pieces key.components) → Printed never place (in_brackets text) (item_pieces key)
 bracketed_key {place} {text} key one =
     and (closed_sign place 91 sign.OpenBracket _ refl refl refl) (behind one (closed_sign (place + 1 + length text) 93 sign.CloseBracket _ refl refl refl) (λ rest may. refl))

@@ -11,7 +11,7 @@ use Rattle.graph.specs.Canonical.{line}
 use Rattle.graph.proofs.PrintedTokens.{never, Printed, behind, and, and_blanks, blank, space, and_space, sign_and_space, closed_sign, open_sign, double_sign}
 use Rattle.graph.proofs.PrintedNames.{a_word_alone}
 
--- where the text of a line that stands so many levels in begins
+-- where the text of a line indented by this number of levels begins
 abbrev pub inside : ℕ → ℕ → ℕ
 inside zero place = place
 inside (suc level) place = inside level (place + 2)
@@ -55,6 +55,6 @@ colons place = between_blanks place 58 58 sign.DoubleColon refl
 pub among : (place : ℕ) → Printed never place (codes " in ") (a_word kept.In)
 among place = and (space place) (word_first (place + 1) kept.In)
 
--- the end of a block, and of one with another behind it
+-- the end of a block that another block follows
 pub otherwise : (place : ℕ) → Printed never place (codes "} else {") (a_sign sign.CloseBrace ++ a_word kept.Else ++ sign_at (place + 1 + 1 + 4 + 1) sign.OpenBrace)
 otherwise place = and (close_brace place) (and (space (place + 1)) (behind (a_word_alone (place + 1 + 1) kept.Else) (open_brace (place + 1 + 1 + 4)) (λ rest may. refl)))

@@ -1,4 +1,4 @@
--- Lists that are printed, one behind the other, or with a comma between them.
+-- Lists that are printed one element after another, or with commas between them.
 use Rattle.std.proofs.Common.{◌≡◌, ℕ, ◌+◌, Bool, List, [], ◌∷◌, ◌++◌, length, map, codes, refl, sym, ap, subst, ◌∙◌, arith, append_assoc}
 use Rattle.std.specs.List.{AllByRecursion, flat_map}
 use Rattle.syntax.specs.declared.token.Symbol.TheVariants as sign
@@ -9,7 +9,7 @@ use Rattle.steptree.specs.Names.{Text}
 use Rattle.graph.specs.Canonical.{joined}
 use Rattle.graph.proofs.PrintedTokens.{after_word, never, anything, Printed, behind, and, and_blanks, narrowed, nothing, closed_sign}
 
--- one of them at a place, with what is known of it and of its derivation
+-- one element at a place, with what is known of it and of its derivation
 pub record OnePrinted {X D : Type 0} (stop : ℕ → Bool) (text_of : X → Text) (pieces_of : D → List Piece) (Rel : X → D → Type 0) (place : ℕ) (x : X) : Type 0 where
   pub derived : D
   pub printed : Printed stop place (text_of x) (pieces_of derived)
@@ -45,7 +45,7 @@ related_lengths Rel [] (d ∷ ds) all = absurd all
 related_lengths Rel (x ∷ xs) [] all = absurd all
 related_lengths Rel (x ∷ xs) (d ∷ ds) all = omega (arith, related_lengths Rel xs ds all.1)
 
--- no limit is passed where none of them passes one
+-- no limit is exceeded if no element exceeds one
 pub no_all : {X D Y : Type 0} (Rel : X → D → Type 0) (limits : D → List Y) → ((x : X) (d : D) → Rel x d → limits d ≡ []) → (xs : List X) (ds : List D) → AreAll Rel xs ds → flat_map limits ds ≡ []
 no_all Rel limits none [] [] all = refl
 no_all Rel limits none [] (d ∷ ds) all = absurd all
@@ -68,7 +68,7 @@ module _ {X D : Type 0} (text_of : X → Text) (pieces_of : D → List Piece) (R
   abbrev pub comma_pieces : D → List Piece
   comma_pieces d = a_sign sign.Comma ++ pieces_of d
 
-  -- behind the first of them
+  -- the elements after the first
   pub commas_printed : ((x : X) (place : ℕ) → Good x → OnePrinted after_word text_of pieces_of Rel place x) → (xs : List X) (place : ℕ) → AllByRecursion Good xs
       → AllPrinted after_word comma_text comma_pieces Rel place xs
   commas_printed each xs place good =
@@ -79,7 +79,7 @@ module _ {X D : Type 0} (text_of : X → Text) (pieces_of : D → List Piece) (R
   commas_front [] rest may = may
   commas_front (x ∷ xs) rest may = refl
 
-  -- a list with a first one
+  -- a list with at least one element
   pub record JoinedPrinted (place : ℕ) (x : X) (xs : List X) : Type 0 where
     pub first : D
     pub more : List D

@@ -1,4 +1,4 @@
--- What the relations that are printed mark: what each step reads and puts, and what the environment does; and who prescribes.
+-- What the printed relations mark: what each step reads and puts, what the environment does, and what prescribes each step.
 use Rattle.std.proofs.Common.{◌≡◌, ℕ, zero, suc, Bool, false, ◌&&◌, if◌then◌else◌, List, [], ◌∷◌, ◌++◌, length, get_or, map, Option, Some, refl, ap, subst, ◌∙◌, append_assoc}
 use Rattle.std.specs.Prelude.{slice_get}
 use Rattle.std.specs.List.{AllByRecursion, flat_map, list_any}
@@ -15,7 +15,7 @@ use Rattle.graph.proofs.PrintedApart.{each, each_of_both, each_mapped, any_agree
 use Rattle.graph.proofs.PrintedRelations.{Shape, a_prescription, a_read, an_item_put, a_tag_put, an_environment_item, an_environment_tag, an_environment_get, shape_of, Shaped, step_shapes, environment_shapes, shapes}
 use Rattle.graph.proofs.PrintedSets.{tree_relation, bare, shapes_back, told, other_name, only_one, and_comm, first_of_three, second_of_three, third_of_three, no_environment, no_step}
 
--- ---- a test tells a relation by its names
+-- ---- a test depends on the names of a relation only
 
 same_read : (item step : Text) (d : Relation) → is_read item step (tree_relation d) ≡ is_read item step (bare (shape_of d))
 same_read item step (reads position one two) = refl
@@ -44,7 +44,7 @@ same_environment_get item _ = refl
 module _ (g : Graph) (relations : List Relation) (all : AreAll Shaped (shapes g) relations) where
   -- ---- what the environment does
 
-  -- a test that passes the environment's relations of one kind
+  -- a test that only the environment's relations of one kind pass
   environment_told : (test : Text → Related → Bool) → ((text : Text) (d : Relation) → test text (tree_relation d) ≡ test text (bare (shape_of d)))
       → ((text tag step : Text) → test text (bare (a_prescription tag step)) ≡ false) → ((text one two : Text) → test text (bare (a_read one two)) ≡ false)
       → ((text one two : Text) → test text (bare (an_item_put two one)) ≡ false) → ((text one two : Text) → test text (bare (a_tag_put two one)) ≡ false)
@@ -82,7 +82,7 @@ module _ (g : Graph) (relations : List Relation) (all : AreAll Shaped (shapes g)
   -- ---- what a step does
 
   module _ (index : ℕ) (step : Step) (there : slice_get g.steps index ≡ Some step) (steps_apart : Apart is_text (names_of_steps g.steps)) where
-    -- a test that passes the steps' relations of one kind
+    -- a test that only the steps' relations of one kind pass
     step_told : (test : Text → Related → Bool) → ((text : Text) (d : Relation) → test text (tree_relation d) ≡ test text (bare (shape_of d)))
         → ((text other : Text) → test text (bare (an_environment_item other)) ≡ false) → ((text other : Text) → test text (bare (an_environment_tag other)) ≡ false)
         → ((text other : Text) → test text (bare (an_environment_get other)) ≡ false) → (texts : Step → List Text)
@@ -153,7 +153,7 @@ first_prescribes tag step more = ap (λ (b : Bool). if b then Some tag else pres
 passed_over : (tag other step : Text) (more : List Shape) → is_text other step ≡ false → prescriber_of (map bare (a_prescription tag other ∷ more)) step ≡ prescriber_of (map bare more) step
 passed_over tag other step more h = ap (λ (b : Bool). if b then Some tag else prescriber_of (map bare more) step) h
 
--- what a step does, but for its prescription
+-- the relations of a step, without its prescription
 abbrev deeds : Graph → Step → List Shape
 deeds g step = map (λ item. a_read item step.name) (those g.items step.reads) ++ map (λ item. an_item_put step.name item) (those g.items step.item_puts) ++ map (λ tag. a_tag_put step.name tag) (those g.tags step.tag_puts)
 

@@ -19,7 +19,7 @@ use Rattle.graph.proofs.PrintedKeys.{colon}
 use Rattle.graph.proofs.PrintedLines.{inside, lined, word_first, semicolon}
 use Rattle.graph.proofs.PrintedValues.{name_of}
 
--- a name of a derivation with this text, which is good
+-- a name of a derivation that has this text, where the text is a good name
 pub record Bears (text : Text) (it : Named) : Type 0 where
   pub same : it.0 ≡ text
   pub good : IsGraphName text
@@ -61,7 +61,7 @@ names_printed first more place good =
       related = it.related;
     }
 
--- ---- behind a colon, in round brackets and on a line
+-- ---- after a colon, in round brackets and on a line
 
 pub record HeadPrinted (place : ℕ) (collection : Text) (texts : List Text) : Type 0 where
   pub names : Option Names

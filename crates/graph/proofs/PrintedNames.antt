@@ -20,7 +20,7 @@ use Rattle.graph.proofs.PrintedTokens.{after_word, after_sign, Printed, one_toke
 
 -- ---- what a text begins with
 
--- such a text may stand behind a sign
+-- such a text may follow a sign
 abbrev pub Fronts : List ℕ → Type 0
 Fronts text = (rest : List ℕ) → BeginsWithout after_sign (text ++ rest)
 
@@ -148,7 +148,7 @@ other_text one two differ = by_case (is_text one two) refl
     by_case true h = absurd (differ (told_text one two h))
     by_case false h = h
 
--- no two of them are one
+-- no two of them are equal
 abbrev pub AreDistinct : List Text → Type 0
 AreDistinct names = (one two : ℕ) → one < length names → two < length names → get_or names one [] ≡ get_or names two [] → one ≡ two
 

@@ -19,7 +19,7 @@ use Rattle.graph.proofs.PrintedLists.{OnePrinted, AllPrinted, all_printed, flat_
 use Rattle.graph.proofs.PrintedLines.{semicolon, arrow_sign, colons}
 use Rattle.graph.proofs.PrintedDeclarations.{bracketed, angled}
 
--- a relation by its names, at no place
+-- a relation by its names, without a position
 pub data Shape : Type 0 where
   a_prescription : Text → Text → Shape
   a_read : Text → Text → Shape
@@ -143,7 +143,7 @@ flat_of_flat f h k same [] = refl
 flat_of_flat {X} {Y} {Z} f h k same (x ∷ xs) =
     flat_of_both f (h x) (flat_map h xs) ∙ ap (λ (l : List Z). l ++ flat_map f (flat_map h xs)) (same x) ∙ ap (λ (l : List Z). k x ++ l) (flat_of_flat f h k same xs)
 
--- three lists of texts, each by its own lines
+-- three lists of texts, each with its own lines
 three : (a b c : Text → Shape) (xs ys zs : List Text) → flat_map shape_line (map a xs ++ map b ys ++ map c zs)
     ≡ flat_map (λ x. shape_line (a x)) xs ++ flat_map (λ x. shape_line (b x)) ys ++ flat_map (λ x. shape_line (c x)) zs
 three a b c xs ys zs =

@@ -1,4 +1,4 @@
--- The relations that are printed mark what the graph marks, and prescribe its steps.
+-- The printed relations mark what the graph marks, and prescribe its steps.
 use Rattle.std.proofs.Common.{◌≡◌, ℕ, zero, suc, Bool, true, false, ◌||◌, ◌&&◌, List, [], ◌∷◌, ◌++◌, get_or, map, Some, refl, sym, ap, subst, ◌∙◌}
 use Rattle.std.specs.Prelude.{slice_get}
 use Rattle.std.specs.List.{AllByRecursion, flat_map, list_any}
@@ -37,7 +37,7 @@ are_relations (environment_puts_item position item ∷ more) = ((refl, (refl, re
 are_relations (environment_puts_tag position tag ∷ more) = ((refl, (refl, refl)), are_relations more)
 are_relations (environment_gets position item ∷ more) = ((refl, (refl, refl)), are_relations more)
 
--- a tree of this relation, at no place
+-- a tree of this relation, without positions
 abbrev pub bare : Shape → Related
 bare (a_prescription tag step) = tree.Prescribes (name_of (tag, 0)) (name_of (step, 0))
 bare (a_read item step) = tree.Reads 0 (name_of (item, 0)) (name_of (step, 0))
@@ -53,7 +53,7 @@ shapes_back [] (relation ∷ relations) all = absurd all
 shapes_back (shape ∷ those) [] all = absurd all
 shapes_back (shape ∷ those) (relation ∷ relations) all = let heads : shape_of relation ≡ shape = all.0.is in let tails = shapes_back those relations all.1 in cc
 
--- whether one of the relations is this one, told by their names alone
+-- whether the list has this relation depends on names alone
 pub told : (test : Related → Bool) → ((relation : Relation) → test (tree_relation relation) ≡ test (bare (shape_of relation))) → (those : List Shape) (relations : List Relation) → AreAll Shaped those relations
     → list_any test (map tree_relation relations) ≡ list_any (λ shape. test (bare shape)) those
 told test same those relations all =

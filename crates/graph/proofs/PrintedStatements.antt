@@ -26,7 +26,7 @@ use Rattle.graph.proofs.PrintedKeys.{no_limits}
 use Rattle.graph.proofs.PrintedLines.{inside, lined, word_first, semicolon, close_brace, open_brace, equals, dots, among, otherwise}
 use Rattle.graph.proofs.PrintedValues.{boxed, name_of}
 
--- what stands in braces, with the braces in the lines around it
+-- what is inside braces, with the braces belonging to the lines around it
 in_order : (front inner rest : List Piece) (begin end : Piece) → front ++ (begin ∷ []) ++ inner ++ (end ∷ []) ++ rest ≡ front ++ (begin ∷ (inner ++ (end ∷ []))) ++ rest
 in_order front inner rest begin end = simp append_assoc
 
@@ -36,7 +36,7 @@ both_in_order : (front first second rest : List Piece) (begin end other_word oth
 both_in_order front first second rest begin end other_word other_open other_close = simp append_assoc
 
 module _ {B : Type 0} (own_pieces : B → List Piece) (own_limits : B → List Position) (IsOwn : B → NamedBlock → (NamedBlock → Type 0) → Type 0) (g : Graph) (names : List Text) (sheet : Nameable) where
-  -- what a printed block is, with so many braces around it
+  -- what is known of a printed block inside `around` braces
   pub record BlockPrinted (level around place : ℕ) (block : Block) : Type 0 where
     pub statements : Statements B
     pub printed : Printed never place (block_text g names level block) (statements_pieces own_pieces statements)

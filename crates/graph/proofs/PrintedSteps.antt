@@ -99,7 +99,7 @@ pub record IsGood (g : Graph) (step : Step) : Type 0 where
   pub of_graph : IsOfGraph g step
   pub textual : IsTextStep step
 
--- what the derivation of a printed step is
+-- what is known of the derivation of a printed step
 pub record DerivedStep (g : Graph) (step : Step) (text : StepText) : Type 0 where
   pub limits : step_limits text ≡ []
   pub value : NamedStep

@@ -1,4 +1,4 @@
--- A text that is printed token by token: which tokens it is, wherever it stands and whatever is printed behind it.
+-- A text that is printed token by token: which tokens it is, wherever it is and whatever is printed after it.
 use Rattle.std.proofs.Common.{◌≡◌, ◌≢◌, ℕ, ◌+◌, ◌-◌, ◌<◌, ◌≤◌, Bool, true, false, ◌||◌, ◌==◌, List, [], ◌∷◌, ◌++◌, length, codes, refl, sym, ap, subst, ◌∙◌, arith, lit≤, lit<, append_assoc, length-append}
 use Rattle.std.specs.Prelude.{⊤}
 use Rattle.std.specs.List.{AllByRecursion}
@@ -10,17 +10,17 @@ use Rattle.syntax.specs.declared.token.Symbol.TheVariants.{DoubleColon, Arrow, D
 use Rattle.syntax.specs.Tokens.{AreBlank, AreDigits, AreTokens, Begins, BeginsWithout, IsWordText, Lexeme, name, number, word, symbol, unknown, Spot, Stands, is_blank, is_letter, is_digit, symbol_text, word_text}
 use Rattle.syntax.specs.Spelled.{Piece, IsPiece, ArePieces}
 
--- ---- what may not stand behind a token
+-- ---- what may not follow a token
 
--- behind a name, a number or a word no letter or digit
+-- after a name, a number or a word no letter or digit may follow
 abbrev pub after_word : ℕ → Bool
 after_word byte = is_letter byte || is_digit byte
 
--- behind a sign that could be the first half of a longer one no `:`, `=` or `>`
+-- after a sign that could be the first half of a longer one no `:`, `=` or `>` may follow
 abbrev pub after_sign : ℕ → Bool
 after_sign byte = (byte == 58) || ((byte == 61) || (byte == 62))
 
--- behind a blank, and behind a sign that begins no longer one, anything
+-- after a blank, or a sign that begins no longer one, anything may follow
 abbrev pub never : ℕ → Bool
 never byte = false
 
@@ -30,7 +30,7 @@ anything (first ∷ rest) = refl
 
 -- ---- printed texts
 
--- at this place the text is these pieces, where what is behind it does not begin with such a byte
+-- at this place the text is these pieces, unless what follows it begins with a byte of `stop`
 pub record Printed (stop : ℕ → Bool) (place : ℕ) (text : List ℕ) (pieces : List Piece) : Type 0 where
   pub spots : List Spot
   pub lexes : (rest : List ℕ) (more : List Spot) → BeginsWithout stop rest → AreTokens (place + length text) rest more → AreTokens place (text ++ rest) (spots ++ more)
@@ -47,7 +47,7 @@ both_pieces [] q (spot ∷ s) r one two = absurd one
 both_pieces (piece ∷ p) q [] r one two = absurd one
 both_pieces (piece ∷ p) q (spot ∷ s) r one two = (one.0, both_pieces p q s r one.1 two)
 
--- one behind the other
+-- one after the other
 pub behind : {stop other : ℕ → Bool} {place : ℕ} {a b : List ℕ} {p q : List Piece} → Printed stop place a p → Printed other (place + length a) b q
     → ((rest : List ℕ) → BeginsWithout other rest → BeginsWithout stop (b ++ rest)) → Printed other place (a ++ b) (p ++ q)
 behind {stop} {other} {place} {a} {b} {p} {q} one two border = record {
@@ -62,11 +62,11 @@ behind {stop} {other} {place} {a} {b} {p} {q} one two border = record {
   ascii = both_ascii a b one.ascii two.ascii;
 }
 
--- behind what anything may stand behind
+-- after a text that anything may follow
 pub and : {other : ℕ → Bool} {place : ℕ} {a b : List ℕ} {p q : List Piece} → Printed never place a p → Printed other (place + length a) b q → Printed other place (a ++ b) (p ++ q)
 and {other} {place} {a} {b} one two = behind one two (λ rest may. anything (b ++ rest))
 
--- what may stand behind it is less
+-- the same with a `stop` that lets less follow
 pub narrowed : {stop other : ℕ → Bool} {place : ℕ} {a : List ℕ} {p : List Piece} → ((rest : List ℕ) → BeginsWithout other rest → BeginsWithout stop rest) → Printed stop place a p → Printed other place a p
 narrowed border one = record { spots = one.spots; lexes = λ rest more may next. one.lexes rest more (border rest may) next; are = one.are; ascii = one.ascii }
 
@@ -159,7 +159,7 @@ sign_ascii LessOrEqual = (lit< tt, (lit< tt, tt))
 sign_ascii GreaterOrEqual = (lit< tt, (lit< tt, tt))
 sign_ascii _ = (lit< tt, tt)
 
--- not what is none of the tokens
+-- a text that is none of the tokens
 abbrev pub IsProper : Lexeme → Type 0
 IsProper unknown = ⊥
 IsProper lexeme = ⊤
@@ -241,7 +241,7 @@ closed_sign place first sign piece is same h =
       λ other begins. subst (λ (t : List ℕ). length (symbol_text other) ≤ length t) (sym same) (closed_longest first rest h other begins),
     ))
 
--- one that begins a longer one
+-- a sign of one character that begins a longer one
 pub open_sign : (place first : ℕ) (sign : Symbol) (piece : Piece) → IsPiece piece (symbol sign, place) → symbol_text sign ≡ first ∷ [] → first ≢ 46 → Printed after_sign place (first ∷ []) (piece ∷ [])
 open_sign place first sign piece is same dot =
     one_token after_sign place (first ∷ []) (symbol sign) piece tt is (λ rest may. (

@@ -1,4 +1,4 @@
--- The steps of the tree that is printed: their names, limits and faults.
+-- The steps of the printed tree: their names, limits and faults.
 use Rattle.std.proofs.Common.{◌≡◌, ℕ, zero, suc, ◌+◌, ◌≤◌, Bool, true, false, if◌then◌else◌, ◌==◌, List, [], ◌∷◌, ◌++◌, length, get_or, Option, Some, refl, ap, ◌∙◌, arith}
 use Rattle.std.specs.Prelude.{is_some, not, slice_get}
 use Rattle.std.specs.List.{AllByRecursion}
@@ -31,7 +31,7 @@ all_indexed Q (x ∷ xs) it = (it 0 x refl, all_indexed Q xs (λ index y there. 
 
 -- ---- the trees of steps
 
--- a step of the tree, and that of the graph
+-- a step of the tree, and the step of the graph that it is
 pub record Shown (g : Graph) (value : NamedStep) (step : Step) : Type 0 where
   pub name : text_of value.name ≡ step.name
   pub names : step.names ≡ names_of value
@@ -72,7 +72,7 @@ steps_within g before (step ∷ steps) (text ∷ texts) all few =
 
 -- ---- faults
 
--- how many components the tags with this number have
+-- the number of components of the tags with this number
 pub components_found : (tags : List Collection) (index : ℕ) (collection : Collection) → slice_get tags index ≡ Some collection → Apart is_text (names_in tags)
     → components_of tags (get_or (names_in tags) index []) ≡ Some collection.components
 components_found [] index collection there apart = absurd (cc)

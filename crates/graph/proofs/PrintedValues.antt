@@ -1,4 +1,4 @@
--- The values of Rust that a tree is made of, at no place in memory in particular.
+-- The Rust values that a tree is made of, at no particular place in memory.
 use Rattle.std.proofs.Common.{◌^◌, ◌<◌, List, length, refl, arith}
 use Rattle.std.specs.Prelude.{Box, Vec}
 use Rattle.std.specs.declared.alloc.Global.{Global}

@@ -22,7 +22,7 @@ use Rattle.graph.proofs.ReadExpressions.{slot_within, expression_read, component
 use Rattle.graph.proofs.SmallTrees.{room}
 use Rattle.graph.proofs.SoundTokens.{AreSound, front, rear}
 
--- blocks among so many names, with so many braces around them, whatever their own statements are
+-- a kind of block among this number of names and inside these braces, whatever statements of its own it has
 record IsKind (many : ℕ) (Kind : ℕ → Block → Type 0) : Type 0 where
   ends : (around : ℕ) → Kind around tree.End
   assigns : (around slot : ℕ) (value : Expression) (rest : Block) → slot < many → IsTextExpression many value → Kind around rest → Kind around (tree.Assign slot value rest)

@@ -24,7 +24,7 @@ module _ (names : List Text) where
   pub slot_within : (name : Name) (slot : ℕ) → slot_of names name ≡ Some slot → slot < length names
   slot_within name slot found = slice_get_within names slot name.text.now (at_place names name.text.now slot found)
 
-  -- it is spelled so, and as deep as its derivation
+  -- its numbers and variables are good, and it is as deep as its derivation
   abbrev IsRead : Expression → ℕ → Type 0
   IsRead e depth = IsSpelled (length names) e × (depth_of e ≡ depth)
 

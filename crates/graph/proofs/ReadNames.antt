@@ -24,7 +24,7 @@ use Rattle.graph.proofs.SoundTokens.{IsSound, AreSound, front, rear, kept_to}
 pub name_read : (it : Named) → IsSound (name it.0) → name_limits it ≡ [] → IsGraphName it.0
 name_read it sound none = record { word = sound.0; not_reserved = sound.1; short = kept_to MOST_NAME_BYTES (length it.0) it.1 none }
 
--- names that are so, and differ
+-- names that can be written, and differ
 pub are_names : (names : List Text) → AllByRecursion IsGraphName names → IsDistinct bytes_eq names → AreNames names
 are_names names each distinct = record {
   each = each;

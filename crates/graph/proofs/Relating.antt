@@ -1,4 +1,4 @@
--- One more relation.
+-- Adding one relation.
 use Rattle.std.proofs.Common.{◌≡◌, ℕ, Bool, true, false, not, ◌&&◌, ◌||◌, List, [], ◌∷◌, ◌++◌, Some, None, Option, refl, sym, ap, subst, ◌∙◌, is_some}
 use Rattle.std.specs.Prelude.{Result, Ok, Err, OnOk, is_none}
 use Rattle.std.specs.List.{list_any}
@@ -90,7 +90,7 @@ not_there : (place : Option ℕ) → not (is_some place) ≡ is_none place
 not_there None = refl
 not_there (Some place) = refl
 
--- a name that is looked up in vain
+-- a lookup that found nothing
 pub in_vain : (place : Option ℕ) (names : List Text) (name : Name) (error : GraphError) → place ≡ place_of names (text_of name) → fault_if (is_none place) error name.place ≡ fault_if (not (has names name)) error name.place
 in_vain place names name error is = ap (λ (b : Bool). fault_if b error name.place) (sym (not_there place) ∙ ap (λ (p : Option ℕ). not (is_some p)) is)
 
@@ -110,7 +110,7 @@ pub first_none : (first second : List At) → or_else first second ≡ [] → (f
 first_none [] second none = (refl, none)
 first_none (x ∷ first) second none = absurd (cc)
 
--- what is reported of some faults is reported of others that are the same
+-- equal lists of faults are reported alike
 module _ (items tags steps : List Text) (before : List Relation) (relation : Relation) (new : Relations) where
   pub relates : (faults : List At) (result : Result (Unit {0}) PlacedFault) → faults ≡ relation_fault items tags steps before relation → Reports faults result
       → OnOk result (relation_fault items tags steps before relation ≡ [] → AreRelations items tags steps (before ++ relation ∷ []) new)

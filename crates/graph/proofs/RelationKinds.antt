@@ -1,4 +1,4 @@
--- One more relation between a step and items or tags, or with the environment.
+-- Adding a relation between a step and items or tags, or with the environment.
 use Rattle.std.proofs.Common.{◌≡◌, ℕ, Bool, true, List, [], ◌∷◌, ◌++◌, get_or, Some, Option, refl, sym, ap, subst, ◌∙◌, is_some}
 use Rattle.std.specs.Prelude.{Result, OnOk, is_none, Vec}
 use Rattle.std.specs.List.{list_any}

@@ -1,4 +1,4 @@
--- The parts of a tree, one behind another.
+-- The parts of a tree, one after another.
 use Rattle.std.proofs.Common.{◌≡◌, ℕ, suc, List, [], ◌∷◌, ◌++◌, length, map, refl, sym, ap, subst, ◌∙◌}
 use Rattle.steptree.specs.declared.step.Step.{Step as NamedStep}
 use Rattle.steptree.specs.Names.{Text, place_of}
@@ -59,7 +59,7 @@ module _ (tree : Tree) where
     their_tags : declared ≡ tags_of tree.declarations.items
     their_tags = t ∙ are.declared ∙ ap tags_of d
 
-    -- the relations, as the steps are checked by them
+    -- the relations, in the form in which the steps are checked against them
     pub as_checked : AreRelations item_names tag_names its_steps relations them → AreRelations item_names (names_in declared) (step_names steps) relations them
     as_checked them_are =
         subst (λ (l : List NamedStep). AreRelations item_names (names_in declared) (step_names l) relations them) (sym s)

@@ -1,4 +1,4 @@
--- The steps that tags prescribe, one more at a time.
+-- The steps that tags prescribe, adding one step at a time.
 use Rattle.std.proofs.Common.{◌≡◌, ◌<◌, ◌+◌, ℕ, zero, suc, Bool, true, false, if◌then◌else◌, List, [], ◌∷◌, ◌++◌, length, map, get_or, take, Some, None, refl, sym, ap, subst, ◌∙◌, slice_get, arith}
 use Rattle.std.specs.Prelude.{◌==◌, Vec, option_map}
 use Rattle.std.specs.List.{AllByRecursion}
@@ -17,7 +17,7 @@ use Rattle.graph.specs.Prescribed.{prescribed_from, numbers_of, ArePrescriptions
 use Rattle.graph.proofs.Lists.{with_none}
 use Rattle.graph.proofs.Marks.{long_as_before, stood}
 
--- a list with one more, in its place
+-- the lists after a step is appended to the one at a place
 pub one_added : (lists : List (Vec StepCollection Global)) (place : ℕ) (old new : Vec StepCollection Global) (step : StepCollection) → place < length lists → old ≡ get_or lists place old → new.items ≡ old.items ++ step ∷ []
     → numbers_of (set lists place new) ≡ set (numbers_of lists) place (get_or (numbers_of lists) place [] ++ step.0 ∷ [])
 one_added lists place old new step within is more =
@@ -26,7 +26,7 @@ one_added lists place old new step within is more =
     (ap (λ (l : List StepCollection). map (λ step. step.0) l) more ∙ map-append (λ (s : StepCollection). s.0) old.items (step ∷ [])
     ∙ ap (λ (l : List ℕ). l ++ step.0 ∷ []) (stood (λ steps. map (λ step. step.0) steps.items) lists place old [] within is))
 
--- the numbers of one more step
+-- the numbers after one more step
 one_more : (steps : List Step) (step : Step) (number tag : ℕ) → prescribed_from number (steps ++ step ∷ []) tag ≡ prescribed_from number steps tag ++ (if step.prescriber == tag then (number + length steps) ∷ [] else [])
 one_more [] step number tag = by (step.prescriber == tag)
   where
@@ -89,7 +89,7 @@ pub as_many_mapped : {X Y : Type 0} (f : X → Y) (xs : List X) → length (map 
 as_many_mapped f [] = refl
 as_many_mapped f (x ∷ xs) = ap suc (as_many_mapped f xs)
 
--- the prescriptions, once a step of the list is added in its place
+-- the prescriptions after a step of the list is added in its place
 pub step_prescribed : (steps : List (Text × Prescribed)) (number tags : ℕ) (entry : Text × Prescribed) (lists : List (List ℕ)) → number < length steps → slice_get steps number ≡ Some entry → AllByRecursion (λ entry. entry.1.prescriber.0 < tags) steps
     → ArePrescriptions (map step_seen (take number steps)) tags lists
     → ArePrescriptions (map step_seen (take (number + 1) steps)) tags (set lists entry.1.prescriber.0 (get_or lists entry.1.prescriber.0 [] ++ number ∷ []))

@@ -1,4 +1,4 @@
--- What a graph is seen as.
+-- The values that contracts see parts of a graph as.
 use Rattle.std.proofs.Common.{◌≡◌, ℕ, zero, suc, Bool, true, false, List, [], ◌∷◌, map, Some, None, if◌then◌else◌, refl, sym, ap, ◌∙◌, slice_get, length, ◌≤◌, arith}
 use Rattle.std.specs.Prelude.{◌==◌, option_map}
 use Rattle.std.proofs.Common.{eqb-true}
@@ -27,7 +27,7 @@ none_of tag number (step ∷ steps) other =
     ap (λ (b : Bool). if b then number ∷ prescribed_from (suc number) steps tag else prescribed_from (suc number) steps tag) (other 0 step refl)
     ∙ none_of tag (suc number) steps (λ place it there. other (suc place) it there)
 
--- tags that are not of the graph prescribe nothing
+-- tags that are not in the graph prescribe nothing
 pub none_prescribed : (g : Graph) (tag : ℕ) → IsGraph g → slice_get g.tags tag ≡ None → prescribed_by g tag ≡ []
 none_prescribed g tag graph none = none_of tag 0 g.steps (λ place step there. by place step there (step.prescriber == tag) refl)
   where

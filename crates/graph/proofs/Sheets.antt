@@ -1,4 +1,4 @@
--- What a tree without a fault lets its steps name, by its tables.
+-- What a tree without a fault lets its steps name, as its tables say.
 use Rattle.std.proofs.Common.{◌≡◌, ◌<◌, ℕ, zero, suc, Bool, false, List, [], ◌∷◌, length, map, get_or, Option, Some, None, refl, sym, ap, subst, ◌∙◌, slice_get, arith}
 use Rattle.std.specs.Prelude.{Vec, IsSome}
 use Rattle.std.specs.List.{AllByRecursion, IsDistinct, list_any}
@@ -128,7 +128,7 @@ module _ (tree : Tree) (resolved : Resolved) (small : IsSmall tree) (none : tree
       is_within its_place (tags_apart tree none) are.relations.tag_puts tabled.tag_puts_there in
       λ i. record { items = same_items i; tags = same_tags i; reads = same_reads i; item_puts = same_item_puts i; tag_puts = same_tag_puts i }
 
-  -- a row that is looked up again, and copied
+  -- a row that is looked up again and copied
   pub copied_row : (is : Text → Text → Relation → Bool) (names : List Text) (rows : List (Vec Bool Global)) (one two : Vec Bool Global) (copy row : List Bool)
       → AreRows is (step_names tree.steps.items) names tree.relations.items (map (λ row. row.items) rows) → one ≡ get_or rows number one → two ≡ get_or rows number two → copy ≡ two.items → row ≡ one.items → copy ≡ row
   copied_row is names rows one two copy row them here again copied same =

@@ -26,7 +26,7 @@ stands_sound (word kept) bytes rest stands = tt
 stands_sound (symbol sign) bytes rest stands = tt
 stands_sound unknown bytes rest stands = tt
 
--- so is each piece of what the tokens are derived from
+-- each piece that the tokens are derived from is sound too
 pub pieces_sound : (from : ℕ) (bytes : List ℕ) (spots : List Spot) (pieces : List Piece) → AreTokens from bytes spots → ArePieces pieces spots → AreSound pieces
 pieces_sound from bytes [] [] tokens are = tt
 pieces_sound from bytes [] (piece ∷ pieces) tokens are = absurd are
@@ -43,7 +43,7 @@ pieces_sound from bytes (spot ∷ spots) (piece ∷ pieces) tokens are =
 
 -- ---- parts
 
--- pieces in front of others, and those behind
+-- the pieces in front, and the pieces after them
 pub front : (xs ys : List Piece) → AreSound (xs ++ ys) → AreSound xs
 front [] ys all = tt
 front (x ∷ xs) ys all = (all.0, front xs ys all.1)
@@ -52,7 +52,7 @@ pub rear : (xs ys : List Piece) → AreSound (xs ++ ys) → AreSound ys
 rear [] ys all = all
 rear (x ∷ xs) ys all = rear xs ys all.1
 
--- a limit that is not passed
+-- a limit that is not exceeded
 pub kept_to : (most it : ℕ) (place : Position) → (if nat_lt most it then place ∷ [] else []) ≡ [] → it ≤ most
 kept_to most it place none = by (nat_lt most it) refl none
   where

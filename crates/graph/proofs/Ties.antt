@@ -58,7 +58,7 @@ ties_are [] (it ∷ them) are = absurd are
 ties_are (text ∷ texts) [] are = absurd are
 ties_are (text ∷ texts) (it ∷ them) are = λ i. tie_is text it are.0 i ∷ ties_are texts them are.1 i
 
--- what is told of a relation by its texts is told of its tie
+-- what holds of a relation by its texts holds of its tie
 pub any_tie : (is : Relating → Bool) (also : Tie → Bool) → ((it : Relating) → is it ≡ also (tie it)) → (them : List Relating) → list_any is them ≡ list_any also (map tie them)
 any_tie is also same [] = refl
 any_tie is also same (it ∷ them) = λ i. same it i || any_tie is also same them i
@@ -126,7 +126,7 @@ prescriber_told (related.EnvironmentPutsItem place one ∷ more) step = prescrib
 prescriber_told (related.EnvironmentPutsTag place one ∷ more) step = prescriber_told more step
 prescriber_told (related.EnvironmentGets place one ∷ more) step = prescriber_told more step
 
--- of two lists with the same ties the same is told of each name
+-- for two lists with the same ties, the test gives the same for each name
 pub each_same : (is : Text → Relating → Bool) (also : Text → Tie → Bool) → ((name : Text) (it : Relating) → is name it ≡ also name (tie it)) → (ones twos : List Relating) → map tie ones ≡ map tie twos → (names : List Text)
     → each_of is ones names ≡ each_of is twos names
 each_same is also told ones twos same names =

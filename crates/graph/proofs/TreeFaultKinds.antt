@@ -1,4 +1,4 @@
--- The faults of a tree are of names, relations and bodies: none is one of the text's letters, tokens or sizes.
+-- The faults of a tree are of names, relations and bodies: none is about letters, tokens or sizes of the text.
 use Rattle.std.proofs.Common.{◌≡◌, ◌⊎◌, inl, inr, ℕ, Bool, true, false, List, [], ◌∷◌, ◌++◌, map, Option, Some, None, slice_get, subst}
 use Rattle.std.specs.Prelude.{⊤}
 use Rattle.std.specs.List.{AllByRecursion}

@@ -1,4 +1,4 @@
--- Where nothing is marked there are no relations; and relations one after another.
+-- Where nothing is marked there are no relations; and adding relations one after another.
 use Rattle.std.proofs.Common.{◌≡◌, ◌<◌, ℕ, zero, suc, Bool, false, List, [], ◌∷◌, ◌++◌, length, get_or, take, drop, Some, None, Option, refl, sym, ap, subst, ◌∙◌, ◌+◌}
 use Rattle.std.specs.Prelude.{replicate}
 use Rattle.std.specs.List.{AllByRecursion}
@@ -107,7 +107,7 @@ names_long : {V : Type 0} (numbered : List (Text × V)) → length (names_number
 names_long [] = refl
 names_long (entry ∷ numbered) = ap suc (names_long numbered)
 
--- where nothing is marked, no relation is taken so far
+-- where nothing is marked, no relation has been added yet
 pub begun : (items tags steps : List Text) (all : List Relation) (numbers : Numbers) (i t s : ℕ) (them : Relations) → AreNumbers items tags steps numbers → i ≡ length numbers.items.now → t ≡ length numbers.tags.now
     → length steps ≡ s → IsUnmarked i t s them → RelatedSoFar items tags steps all 0 them
 begun items tags steps all numbers i t s them are of_items of_tags of_steps none =

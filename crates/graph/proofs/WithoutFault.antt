@@ -1,4 +1,4 @@
--- A text that reads as a graph has no fault but want of memory.
+-- A text that reads as a graph has no fault but `NoMemory`.
 use Rattle.std.proofs.Common.{◌≡◌, ◌≤◌, ◌<◌, inl, inr, ℕ, zero, suc, List, [], ◌∷◌, ◌++◌, length, map, Some, slice_get, refl, sym, ap, subst, ◌∙◌, arith}
 use Rattle.std.specs.List.{AllByRecursion}
 use Rattle.steptree.specs.declared.step.Step.{Step as NamedStep}

@@ -1,4 +1,4 @@
--- The canonical text, one part behind another.
+-- The canonical text, one part after another.
 use Rattle.std.proofs.Common.{◌≡◌, ◌+◌, ◌-◌, ◌<◌, ℕ, zero, suc, Bool, true, false, List, [], ◌∷◌, ◌++◌, length, map, get_or, drop, take, Option, Some, None, refl, sym, ap, ◌∙◌, slice_get, arith, append_assoc, length-append, length-drop}
 use Rattle.std.specs.Prelude.{codes, unwrap_or}
 use Rattle.std.proofs.lemmas.Option.{unwrap_or-slice_get}
@@ -9,7 +9,7 @@ use Rattle.graph.specs.Collected.{collections_numbered}
 use Rattle.graph.specs.Pieces.{indentation, where_marked, after_colon, declaration_at, where_there}
 use Rattle.graph.proofs.Lists.{with_none}
 
--- what is written, with what is still to come, stays as it is
+-- what is written, with what is still to come, stays the same
 pub goes_on : (text piece left more whole new : Text) → new ≡ text ++ piece → left ≡ piece ++ more → text ++ left ≡ whole → new ++ more ≡ whole
 goes_on text piece left more whole new is parts so = ap (λ (t : Text). t ++ more) is ∙ append_assoc text piece more ∙ sym (ap (λ (t : Text). text ++ t) parts) ∙ so
 
@@ -23,7 +23,7 @@ longer_than_its_level zero [] = omega arith
 longer_than_its_level zero (byte ∷ text) = omega arith
 longer_than_its_level (suc level) text = let shorter : level < length (line level text) = longer_than_its_level level text in omega (arith, shorter)
 
--- and so has a text that it was appended to
+-- and so has a text that ends in such a line
 pub longer_behind : {level : ℕ} (text before : Text) {after : Text} → after ≡ before ++ line level text → level < length after
 longer_behind {level} text before {after} is =
     let shorter : level < length (line level text) = longer_than_its_level level text in
@@ -41,7 +41,7 @@ one_level_more level =
 
 -- ---- marks
 
--- what there is of the first of the names that are left, and of those behind it
+-- the text of the names that are left: that of the first of them, and that of those after it
 pub marked_left : (text : Text → Text) (names : List Text) (marks : List Bool) (number : ℕ)
     → flat_map text (marked (zip (drop number names) (drop number marks)))
     ≡ where_marked text (slice_get names number) (get_or marks number false) ++ flat_map text (marked (zip (drop (number + 1) names) (drop (number + 1) marks)))
@@ -84,13 +84,13 @@ marked_left text names marks number =
     at (name ∷ names) (mark ∷ marks) zero = head name mark names marks
     at (name ∷ names) (mark ∷ marks) (suc number) = at names marks number
 
--- ---- names with what stands behind them
+-- ---- names and what follows them
 
 pub colon_behind : (name : Text) (texts : List Text) → with_colon name texts ≡ name ++ after_colon texts
 colon_behind name [] = sym (with_none name)
 colon_behind name (first ∷ more) = append_assoc name (codes ": ") (joined (first ∷ more))
 
--- nothing is written where there is no name
+-- nothing is written if there is no name
 pub no_name : (text : Text) (names : List Text) (number : ℕ) → None ≡ slice_get names number → text ≡ text ++ get_or names number []
 no_name text names number none =
     sym (ap (λ (t : Text). text ++ t) (sym (unwrap_or-slice_get names number []) ∙ ap (λ (o : Option Text). unwrap_or o []) (sym none)) ∙ with_none text)
@@ -133,7 +133,7 @@ module _ {X : Type 0} (text_of : X → Text) where
       at [] = refl
       at (name ∷ names) = ap (λ l. name ∷ l) (at names)
 
-  -- the first so many names are the parameters
+  -- the first `count` names are the parameters
   pub heading : (text one two name : Text) (names : List X) (count : ℕ) → one ≡ text ++ line 0 (codes "step " ++ name ++ in_rounds (joined (map text_of (take count names))) ++ codes " {")
       → two ≡ one ++ variables_line (map text_of (take (length names - count) (drop count names)))
       → two ≡ text ++ (line 0 (codes "step " ++ name ++ in_rounds (joined (take count (map text_of names))) ++ codes " {") ++ variables_line (drop count (map text_of names)))
@@ -146,7 +146,7 @@ module _ {X : Type 0} (text_of : X → Text) where
 
 -- ---- lists of which each element is written
 
--- what there is of the first of those that are left, and of those behind it
+-- the text of the elements that are left: that of the first of them, and that of those after it
 pub steps_left : {X : Type 0} (text : X → Text) (steps : List X) (number : ℕ) → flat_map text (drop number steps) ≡ where_there text (slice_get steps number) ++ flat_map text (drop (number + 1) steps)
 steps_left text steps number =
     let e : suc number ≡ number + 1 = omega arith in

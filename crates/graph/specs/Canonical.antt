@@ -12,17 +12,17 @@ use Rattle.steptree.specs.Nameable.{Collection}
 use Rattle.graph.specs.Graph.{Step, Graph}
 use Rattle.graph.specs.Tree.{names_in}
 
--- these, with ", " between them
+-- these texts, with ", " between them
 abbrev pub joined : List Text → Text
 joined [] = []
 joined (first ∷ more) = first ++ flat_map (λ text. codes ", " ++ text) more
 
--- a line, so many levels in
+-- a line, indented by this number of levels
 abbrev pub line : ℕ → Text → Text
 line zero text = text ++ codes "\n"
 line (suc level) text = codes "  " ++ line level text
 
--- a name, and behind a colon what there is
+-- a name, and after a colon these texts if there are any
 abbrev pub with_colon : Text → List Text → Text
 with_colon name [] = name
 with_colon name (first ∷ more) = name ++ codes ": " ++ joined (first ∷ more)
@@ -38,7 +38,7 @@ in_rounds text = codes "(" ++ text ++ codes ")"
 
 -- ---- declarations and relations
 
--- the names of so many components
+-- the names of this number of components
 abbrev pub component_names : ℕ → List Text
 component_names components = take components (codes "i" ∷ codes "j" ∷ codes "k" ∷ codes "l" ∷ [])
 
@@ -85,7 +85,7 @@ operator_text operator.LessOrEqual = codes "<="
 operator_text operator.Greater = codes ">"
 operator_text operator.GreaterOrEqual = codes ">="
 
--- a number of a text is never below 0
+-- a text's numbers are never below 0
 abbrev pub number_text : ℤ → Text
 number_text (pos number) = decimal number
 number_text (negsuc number) = codes "-" ++ decimal (suc number)
@@ -106,7 +106,7 @@ module _ (g : Graph) (names : List Text) where
   abbrev pub tag_text : ℕ → List Expression → Text
   tag_text number components = in_angles (with_colon (get_or (names_in g.tags) number []) (map expression_text components))
 
-  -- a block, one statement a line, so many levels in
+  -- a block, one statement a line, indented by `level` levels
   abbrev pub block_text : ℕ → Block → Text
   block_text level End = []
   block_text level (Assign slot value rest) = line level (variable_text slot ++ codes " = " ++ expression_text value ++ codes ";") ++ block_text level rest
@@ -122,7 +122,7 @@ module _ (g : Graph) (names : List Text) where
       line level (codes "put " ++ item_text collection.0 components ++ codes " = " ++ expression_text value ++ codes ";") ++ block_text level rest
   block_text level (PutTag collection components rest) = line level (codes "put " ++ tag_text collection.0 components ++ codes ";") ++ block_text level rest
 
--- the line of the variables, where there are some
+-- the line of the variables, if there are any
 abbrev pub variables_line : List Text → Text
 variables_line [] = []
 variables_line (first ∷ more) = line 1 (codes "var " ++ joined (first ∷ more) ++ codes ";")

@@ -1,4 +1,4 @@
--- The steps of a tree with their bodies checked, each by what the tree lets it name.
+-- The steps of a tree after their bodies were checked against what the tree lets each step name.
 use Rattle.std.specs.Prelude.{◌≡◌, ℕ, List, [], map, Some}
 use Rattle.steptree.specs.declared.step.Step.{Step as NamedStep}
 use Rattle.steptree.specs.CheckFaults.{faults_of}
@@ -13,13 +13,13 @@ use Rattle.graph.specs.Faults.{body_fault}
 use Rattle.graph.specs.Placed.{IsFirst}
 use Rattle.graph.specs.Tree.{text_of, names_in, tags_of, prescriber_of, sheet_in}
 
--- the number is that of the tags that prescribe the step
+-- this is the number of the tag collection that prescribes the step
 pub record IsPrescribedBy (tree : Tree) (step : NamedStep) (number : ℕ) : Type 0 where
   pub tag : Text
   pub first : prescriber_of tree.relations.items (text_of step.name) ≡ Some tag
   pub place : place_of (names_in (tags_of tree.declarations.items)) tag ≡ Some number
 
--- it is the step: what prescribes it, what it may read and put, and its body, which has no fault
+-- the step, after the check: what prescribes it, what it may read and put, and its body, which has no fault
 pub record IsCheckedStep (tree : Tree) (step : NamedStep) (it : Prescribed) : Type 0 where
   pub prescriber : IsPrescribedBy tree step it.prescriber.0
   pub reads : it.reads.items ≡ (sheet_in tree step).reads

@@ -1,4 +1,4 @@
--- Collections as they are declared, and by their numbers.
+-- Collections: as they are declared, and by their numbers.
 use Rattle.std.specs.Prelude.{◌≡◌, ℕ, List, map}
 use Rattle.steptree.specs.declared.step.Name.{Name}
 use Rattle.steptree.specs.Names.{Text}
@@ -9,7 +9,7 @@ use Rattle.graph.specs.Faults.{At, fault_if, has}
 use Rattle.graph.specs.Seen.{collection_seen}
 use Rattle.graph.specs.Tree.{text_of}
 
--- a name that stands before
+-- the fault of a name that appeared before
 abbrev pub again : List Text → Name → List At
 again names name = fault_if (has names name) Redeclared name.place
 

@@ -29,7 +29,7 @@ check_number check.UndeclaredRead = 3
 check_number check.UndeclaredPut = 4
 check_number check.NoMemory = 5
 
--- the number; a fault of a body has its own behind a dot
+-- the number; a fault of a body has its own number after a dot
 abbrev pub error_text : GraphError → Text
 error_text (error.Check kind) = codes "11." ++ decimal (check_number kind)
 error_text other = decimal (error_number other)

@@ -1,5 +1,5 @@
--- What is at fault in a tree, in the order of the places: the declarations, the relations, the steps. Of those one fault at a
--- place. The faults of the bodies come behind them.
+-- The faults of a tree, by position: of the declarations, the relations, the steps. Where several faults share a position, only
+-- one of them counts. The faults of the bodies come after these.
 use Rattle.std.specs.Prelude.{ℕ, Bool, true, false, not, ◌&&◌, ◌==◌, is_some, if◌then◌else◌, List, [], ◌∷◌, ◌++◌, length, Option, Some, None}
 use Rattle.std.specs.List.{list_any}
 use Rattle.steptree.specs.declared.checker.CheckFault.{CheckFault}
@@ -23,7 +23,7 @@ At = GraphError × ℕ
 abbrev pub fault_if : Bool → GraphError → ℕ → List At
 fault_if holds error position = if holds then (error, position) ∷ [] else []
 
--- the first of two faults at one place
+-- of two faults at one position, the first that is there
 abbrev pub or_else : List At → List At → List At
 or_else [] other = other
 or_else (first ∷ more) other = first ∷ more
@@ -31,14 +31,14 @@ or_else (first ∷ more) other = first ∷ more
 abbrev pub has : List Text → Name → Bool
 has names name = is_some (place_of names (text_of name))
 
--- names that stand before, of those of a list in order
+-- in a list of names, those that appeared before
 abbrev pub repeated : List Text → List Name → List At
 repeated before [] = []
 repeated before (name ∷ more) = fault_if (has before name) Redeclared name.place ++ repeated (before ++ text_of name ∷ []) more
 
 -- ---- declarations
 
--- a name that its kind has before
+-- a name that its kind already has
 abbrev pub declaration_faults : List Text → List Text → List Declaration → List At
 declaration_faults items tags [] = []
 declaration_faults items tags (declared.Item name components ∷ more) = fault_if (has items name) Redeclared name.place ++ declaration_faults (items ++ text_of name ∷ []) tags more
@@ -49,7 +49,7 @@ declaration_faults items tags (declared.Tag name components ∷ more) = fault_if
 abbrev pub same_name : Name → Name → Bool
 same_name one two = is_text (text_of one) (text_of two)
 
--- whether two relations are the same, their positions aside
+-- whether two relations are the same, leaving aside their positions
 abbrev pub same_relation : Relation → Relation → Bool
 same_relation (related.Reads p a b) (related.Reads q c d) = same_name a c && same_name b d
 same_relation (related.PutsItem p a b) (related.PutsItem q c d) = same_name a c && same_name b d
@@ -59,18 +59,18 @@ same_relation (related.EnvironmentPutsTag p a) (related.EnvironmentPutsTag q b) 
 same_relation (related.EnvironmentGets p a) (related.EnvironmentGets q b) = same_name a b
 same_relation one two = false
 
--- a relation that stands before, at its first token
+-- a relation that appeared before; the fault is at its first token
 abbrev pub again : List Relation → Relation → ℕ → List At
 again before relation position = fault_if (list_any (same_relation relation) before) Redeclared position
 
--- an item or a tag that is not declared, and a step that has no text
+-- an item or a tag that is not declared; a step that has no text
 abbrev pub unknown : List Text → Name → List At
 unknown names name = fault_if (not (has names name)) UnknownName name.place
 
 abbrev pub missing : List Text → Name → List At
 missing steps name = fault_if (not (has steps name)) StepMissing name.place
 
--- a step that is prescribed before
+-- a step that is already prescribed
 abbrev pub prescribed_before : List Relation → Name → List At
 prescribed_before before step = fault_if (is_some (prescriber_of before (text_of step))) TwoPrescribers step.place
 
@@ -90,7 +90,7 @@ module _ (items tags steps : List Text) where
 
 -- ---- steps
 
--- the tags of this collection have so many components
+-- the number of components of this collection's tags
 abbrev pub components_of : List Collection → Text → Option ℕ
 components_of [] name = None
 components_of (collection ∷ more) name = if is_text collection.name name then Some collection.components else components_of more name
@@ -99,7 +99,7 @@ abbrev pub is_other : Option ℕ → ℕ → Bool
 is_other None number = false
 is_other (Some it) number = not (it == number)
 
--- the step's parameters are not as many as the components of the tags that prescribe it
+-- nothing prescribes the step, or the number of its parameters is not the number of components of the tags that prescribe it
 abbrev pub arity_faults : List Collection → Option Text → NamedStep → List At
 arity_faults tags None step = fault_if true NoPrescriber step.name.place
 arity_faults tags (Some tag) step = fault_if (is_other (components_of tags tag) (length step.parameters.items)) Arity step.name.place
@@ -113,7 +113,7 @@ step_faults tags relations before (step ∷ more) =
 
 -- ---- all of them
 
--- those of names and relations
+-- the faults of names and relations
 abbrev pub tree_faults : Tree → List At
 tree_faults tree = declaration_faults [] [] tree.declarations.items
     ++ relation_faults (names_in (items_of tree.declarations.items)) (names_in (tags_of tree.declarations.items)) (step_names tree.steps.items) [] tree.relations.items

@@ -1,5 +1,5 @@
--- Which events fit a graph and facts, and which facts fit a graph. The bodies of steps play no part, nor does what a step
--- may put; and that a number is one of 64 bits stands elsewhere.
+-- Which events fit a graph and facts, and which facts fit a graph. The bodies of steps do not matter here, nor does what a step
+-- may put. The 64-bit range of numbers is stated elsewhere.
 use Rattle.std.specs.Prelude.{◌≡◌, ⊤, ℕ, ℤ, true, false, List, [], ◌∷◌, ◌++◌, length}
 use Rattle.std.specs.List.{AllByRecursion}
 use Rattle.terms.specs.declared.name.Addr.{Addr}
@@ -42,11 +42,11 @@ addresses (put.Tag name ∷ puts) = addresses puts
 abbrev pub IsIn : Addr → List Addr → Type 0
 IsIn address list = (before behind : List Addr) × (list ≡ before ++ address ∷ behind)
 
--- the address is two of these
+-- the address appears at least twice among these
 abbrev pub IsTwiceIn : Addr → List Addr → Type 0
 IsTwiceIn address list = (before between behind : List Addr) × (list ≡ before ++ address ∷ between ++ address ∷ behind)
 
--- the items of these puts are absent, and no two are at one address
+-- no item of these puts is present yet, and no two of them are at one address
 pub record AreNew (X : Facts) (puts : List Put) : Type 0 where
   pub absent : (address : Addr) → IsIn address (addresses puts) → IsAbsent X address
   pub distinct : (address : Addr) → IsTwiceIn address (addresses puts) → ⊥
@@ -68,14 +68,14 @@ PutIsOf g (put.Tag name) = TagIsOf g name
 
 -- ---- events
 
--- the environment may put the item, or the tag, and it is absent
+-- the environment may put the item, or the tag, and it is not present yet
 abbrev pub ItemMayCome : Graph → Facts → Addr → Type 0
 ItemMayCome g X address = EnvironmentMayPutItem g address × IsAbsent X address
 
 abbrev pub TagMayCome : Graph → Facts → Tag → Type 0
 TagMayCome g X name = EnvironmentMayPutTag g name × (X (tag name) ≡ false)
 
--- the instance can be ended: it is of the graph, prescribed, and not done
+-- the instance can end now: it belongs to the graph, is prescribed, and is not done
 pub record MayEnd (g : Graph) (X : Facts) (instance : Inst) : Type 0 where
   pub of_graph : InstanceIsOf g instance
   pub prescribed : IsPrescribed g X instance
@@ -87,12 +87,12 @@ FitsAs g X (EnvTag name) = TagMayCome g X name
 FitsAs g X (Done instance puts) = MayEnd g X instance × AllByRecursion (PutIsOf g) puts × AreNew X puts
 FitsAs g X (Stopped instance kind) = MayEnd g X instance
 
--- the event fits the graph and the facts before it; behind a fault none does
+-- the event fits the graph and the facts before it; after a fault no event fits
 pub record Fits (g : Graph) (X : Facts) (event : Event) : Type 0 where
   pub working : HasNoFault X
   pub event_fits : FitsAs g X event
 
--- each event of the list fits behind these facts and those of the events before it
+-- each event of the list fits the given facts together with those of the events before it
 abbrev pub AllFit : Graph → List Fact → List Event → Type 0
 AllFit g before [] = ⊤
 AllFit g before (event ∷ events) = Fits g (among before) event × AllFit g (before ++ event_facts event) events
@@ -106,14 +106,14 @@ FactIsOf g (item address value by) = AddressIsOf g address
 FactIsOf g (done instance) = InstanceIsOf g instance
 FactIsOf g (bad instance kind) = InstanceIsOf g instance
 
--- what an environment can put: tags, and items of its own
+-- what the environment can put: tags, and items that it produced itself
 abbrev pub IsOfEnvironment : Fact → Type 0
 IsOfEnvironment (tag name) = ⊤
 IsOfEnvironment (item address value Env) = ⊤
 IsOfEnvironment fact = ⊥
 
--- The facts X, of which the environment put E, fit the graph. An item tells itself who put it, a tag does not: of a tag only
--- E tells. That no two items are at one address stands beside it.
+-- The facts X, of which the environment put E, fit the graph. An item says who put it; a tag does not, so only E says which tags
+-- the environment put. No two items at one address: this is not part of it, but of `HasOneItemEach`.
 pub record FitsState (g : Graph) (E X : Facts) : Type 0 where
   pub part : (fact : Fact) → E fact ≡ true → X fact ≡ true
   pub of_environment : (fact : Fact) → E fact ≡ true → IsOfEnvironment fact

@@ -1,4 +1,4 @@
--- A graph: its collections by their numbers, and what stands between them.
+-- A graph: its collections by their numbers, and the relations between them.
 use Rattle.std.specs.Prelude.{◌≡◌, ◌≤◌, ℕ, ℤ, Bool, true, false, List, length, get_or, slice_get, Some}
 use Rattle.terms.specs.declared.name.Addr.{Addr}
 use Rattle.terms.specs.declared.name.Tag.{Tag}
@@ -12,7 +12,7 @@ use Rattle.steptree.specs.Nameable.{Collection, Nameable}
 use Rattle.steptree.specs.Sheet.{BodyKeepsTo}
 
 -- a step collection: its name, the number of the tag collection that prescribes it, the names of its parameters and then of its
--- variables, what it may read and what it may put, each by the numbers of the collections, and its body
+-- variables, what it may read and what it may put (a mark for each collection, by number), and its body
 pub record Step : Type 0 where
   pub name : List ℕ
   pub prescriber : ℕ
@@ -38,7 +38,7 @@ pub record Graph : Type 0 where
 abbrev pub IsStep : Graph → ℕ → Step → Type 0
 IsStep g number step = slice_get g.steps number ≡ Some step
 
--- a collection with this number, whose keys have so many components
+-- there is a collection with this number, and its keys have this number of components
 abbrev pub IsOf : List Collection → ℕ → ℕ → Type 0
 IsOf collections number components = (collection : Collection) × (slice_get collections number ≡ Some collection) × (collection.components ≡ components)
 
@@ -49,13 +49,13 @@ pub record Prescribes (g : Graph) (tag : Tag) (instance : Inst) : Type 0 where
   pub prescriber : step.prescriber ≡ tag.collection.0
   pub key : tag.key ≡ instance.key
 
--- the body of an instance's step ends so with the instance's key, over these pairs
+-- the body of the instance's step ends like this, with the instance's key, when the items hold these values
 pub record BodyMeans (g : Graph) (instance : Inst) (pairs : Addr → ℤ → Type 0) (ending : Ending) : Type 0 where
   pub step : Step
   pub is_step : IsStep g instance.collection.0 step
   pub means : Means step.body instance.key pairs ending
 
--- the environment may put the item, put the tag, or get the item
+-- the environment may put the item; put the tag; get the item
 abbrev pub EnvironmentMayPutItem : Graph → Addr → Type 0
 EnvironmentMayPutItem g address = IsOf g.items address.collection.0 (length address.key) × (get_or g.environment_item_puts address.collection.0 false ≡ true)
 
@@ -65,13 +65,13 @@ EnvironmentMayPutTag g tag = IsOf g.tags tag.collection.0 (length tag.key) × (g
 abbrev pub EnvironmentMayGet : Graph → Addr → Type 0
 EnvironmentMayGet g address = IsOf g.items address.collection.0 (length address.key) × (get_or g.environment_gets address.collection.0 false ≡ true)
 
--- ---- what is kept of a graph
+-- ---- what each graph satisfies
 
 -- what the graph lets the step name
 abbrev pub sheet_of : Graph → Step → Nameable
 sheet_of g step = record { items = g.items; tags = g.tags; reads = step.reads; item_puts = step.item_puts; tag_puts = step.tag_puts }
 
--- the step has as many parameters as the tags that prescribe it have components, and keeps to what the graph lets it name
+-- the step has as many parameters as the tags that prescribe it have components, and its body names only what the graph lets it name
 pub record IsOfGraph (g : Graph) (step : Step) : Type 0 where
   pub prescribed : IsOf g.tags step.prescriber step.parameters
   pub parameters : step.parameters ≤ length step.names

@@ -1,4 +1,4 @@
--- What a graph is seen as, and what is kept of it.
+-- The value that contracts see a graph as, and what each graph satisfies.
 use Rattle.std.specs.Prelude.{◌≡◌, ℕ, map, length, Some, slice_get, Vec}
 use Rattle.std.specs.declared.alloc.Global.{Global}
 use Rattle.terms.specs.declared.name.StepCollection.{StepCollection}
@@ -19,7 +19,7 @@ graph_seen g = record {
   environment_gets = g.environment_gets.items;
 }
 
--- it is a graph, its canonical text reads as it, and each collection of tags has the numbers of the steps that it prescribes
+-- it is a graph, its canonical text reads as it, and for each tag collection it stores the numbers of the steps that this prescribes
 pub record IsKept (g : Inside) : Type 0 where
   pub graph : IsGraph (graph_seen g)
   pub reads : Reads (canonical (graph_seen g)) (graph_seen g)

@@ -1,4 +1,4 @@
--- What the parts of a graph are seen as.
+-- The graph that contracts see the parts of a graph as.
 use Rattle.std.specs.Prelude.{map}
 use Rattle.graph.specs.declared.parts.Parts.TheInside.{Inside}
 use Rattle.graph.specs.Graph.{Graph}

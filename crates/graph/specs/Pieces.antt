@@ -8,7 +8,7 @@ use Rattle.graph.specs.declared.canonical_text.relations.Kind.TheVariants as kin
 use Rattle.graph.specs.declared.canonical_text.words.Words.{Words}
 use Rattle.graph.specs.Canonical.{arrow, joined, in_brackets, in_angles, in_rounds, line, with_colon, component_names}
 
--- the blanks in front of a line, so many levels in
+-- the indentation of a line at a level
 abbrev pub indentation : ℕ → Text
 indentation zero = []
 indentation (suc level) = codes "  " ++ indentation level
@@ -22,18 +22,18 @@ relation_line kind.EnvironmentPutsItem name = arrow (codes "env") (in_brackets n
 relation_line kind.EnvironmentPutsTag name = arrow (codes "env") (in_angles name)
 relation_line kind.EnvironmentGets name = arrow (in_brackets name) (codes "env")
 
--- what there is of a name, where there is one and it is marked
+-- the text of a name, if there is a name and it is marked
 abbrev pub where_marked : (Text → Text) → Option Text → Bool → Text
 where_marked text None mark = []
 where_marked text (Some name) true = text name
 where_marked text (Some name) false = []
 
--- the declaration of a collection, where there is one
+-- the declaration of a collection, if there is one
 abbrev pub declaration_at : (Text → Text) → Option (Text × ℕ) → Text
 declaration_at brackets None = []
 declaration_at brackets (Some entry) = line 0 (brackets (with_colon entry.0 (component_names entry.1)) ++ codes ";")
 
--- what there is behind a name: behind a colon, with ", " between them
+-- what follows a name: nothing, or a colon and these texts with ", " between them
 abbrev pub after_colon : List Text → Text
 after_colon [] = []
 after_colon (first ∷ more) = codes ": " ++ joined (first ∷ more)
@@ -42,7 +42,7 @@ after_colon (first ∷ more) = codes ": " ++ joined (first ∷ more)
 abbrev pub names_of_words : Words → List Text
 names_of_words words = map (λ name. name.bytes.items) words.names.now
 
--- the statements behind the first
+-- the statements after the first
 abbrev pub behind : Block → Block
 behind End = End
 behind (Assign slot value rest) = rest
@@ -52,7 +52,7 @@ behind (Get slot collection components rest) = rest
 behind (PutItem collection components value rest) = rest
 behind (PutTag collection components rest) = rest
 
--- what there is of an element, where there is one
+-- the text of an element, if there is one
 abbrev pub where_there : {X : Type 0} → (X → Text) → Option X → Text
 where_there text None = []
 where_there text (Some it) = text it

@@ -1,4 +1,4 @@
--- Faults at positions, the first of which is answered.
+-- Faults at positions, of which the first is reported.
 use Rattle.std.specs.Prelude.{◌≡◌, ◌⊎◌, List, [], Some, Result, MatchResult, slice_get}
 use Rattle.syntax.specs.declared.fault.TreeError.{TreeError}
 use Rattle.syntax.specs.declared.fault.TreeError.TheVariants as tree
@@ -8,7 +8,7 @@ use Rattle.graph.specs.declared.fault.GraphError.TheVariants as error
 use Rattle.graph.specs.declared.fault.PlacedFault.{PlacedFault}
 use Rattle.graph.specs.Faults.{At}
 
--- memory was refused, at no place
+-- memory was refused; this has no position
 abbrev pub no_memory : PlacedFault
 no_memory = record { error = error.NoMemory; position = 0 }
 
@@ -20,11 +20,11 @@ too_large = record { error = error.TooLarge; position = 0 }
 abbrev pub IsFirst : List At → PlacedFault → Type 0
 IsFirst faults fault = (fault ≡ no_memory) ⊎ (slice_get faults 0 ≡ Some (fault.error, fault.position))
 
--- where there is a value there is none of these faults, else the first of them is answered
+-- a value is returned only if there is none of these faults; otherwise the first of them is reported, or that memory was refused
 abbrev pub Reports : {X : Type 0} → List At → Result X PlacedFault → Type 0
 Reports faults result = MatchResult result (λ value. faults ≡ []) (IsFirst faults)
 
--- a fault of the tree of a text
+-- a fault of a text's tree
 abbrev pub of_tree : TreeError → GraphError
 of_tree tree.Syntax = error.Syntax
 of_tree tree.TooLarge = error.TooLarge

@@ -27,12 +27,12 @@ pub record Reads (text : List ℕ) (g : Graph) : Type 0 where
 
 -- ---- faults
 
--- the line and the column behind these bytes, from this place on; a line feed alone begins a line
+-- the line and the column after these bytes, beginning at this line and column; only a line feed begins a line
 abbrev pub walked : ℕ → ℕ → List ℕ → ℕ × ℕ
 walked line column [] = (line, column)
 walked line column (byte ∷ bytes) = if byte == 10 then walked (suc line) 1 bytes else walked line (suc column) bytes
 
--- a byte of 128 or more, and none before it
+-- a byte of 128 or more, and none such before it
 pub record IsNotAscii (text : List ℕ) (position : ℕ) : Type 0 where
   pub short : length text ≤ MOST_TEXT
   pub before : AllByRecursion (λ byte. byte < 128) (take position text)
@@ -45,7 +45,7 @@ abbrev pub body_faults : Tree → List NamedStep → List CheckFault
 body_faults tree [] = []
 body_faults tree (step ∷ steps) = faults_of (sheet_in tree step) step ++ body_faults tree steps
 
--- the first fault of a tree: of its names and relations, and behind them of its bodies
+-- the first fault of a tree: first those of its names and relations, then those of its bodies
 abbrev pub IsTreeFault : Tree → GraphError → ℕ → Type 0
 IsTreeFault tree error position = slice_get (tree_faults tree ++ map body_fault (body_faults tree tree.steps.items)) 0 ≡ Some (error, position)
 
@@ -64,15 +64,15 @@ pub record HasLongText (text : List ℕ) : Type 0 where
   pub graph : IsGraphOf tree g
   pub long : MOST_TEXT < length (canonical g)
 
--- a text that is looked at token by token
+-- a text that passes the checks of length and ASCII, and so is read token by token
 abbrev pub IsPlain : List ℕ → Type 0
 IsPlain text = (length text ≤ MOST_TEXT) × AllByRecursion (λ byte. byte < 128) text
 
--- some such text is read as the tree
+-- some such text reads as the tree
 abbrev pub IsOfText : Tree → Type 0
 IsOfText tree = (text : List ℕ) × IsPlain text × IsRead text tree
 
--- the tree has no fault but that its graph's canonical text is too long
+-- the tree has no fault in names and relations, but its graph's canonical text is too long
 pub record IsLong (tree : Tree) : Type 0 where
   pub no_fault : tree_faults tree ≡ []
   pub g : Graph
@@ -90,6 +90,6 @@ IsCause text other position = IsPlain text × IsFirstFault text other position
 abbrev pub no_memory : GraphFault
 no_memory = record { error = error.NoMemory; line = 0; column = 0 }
 
--- the fault has its cause at its place; want of memory has none
+-- the fault has its cause at its position; `NoMemory` has none
 abbrev pub HasCause : List ℕ → GraphFault → Type 0
 HasCause text fault = (fault ≡ no_memory) ⊎ ((position : ℕ) × (walked 1 1 (take position text) ≡ (fault.line, fault.column)) × IsCause text fault.error position)

@@ -11,7 +11,7 @@ use Rattle.graph.specs.Numbered.{names_numbered, found}
 use Rattle.graph.specs.Placed.{IsFirst}
 use Rattle.graph.specs.Tree.{is_read, is_item_put, is_tag_put, is_environment_item_put, is_environment_tag_put, is_environment_get}
 
--- nothing is marked, of so many collections of each kind
+-- nothing is marked, for these numbers of item, tag and step collections
 pub record IsUnmarked (items tags steps : ℕ) (them : Relations) : Type 0 where
   pub prescribers : them.prescribers.items ≡ replicate steps None
   pub reads : bits them.reads ≡ replicate steps (replicate items false)
@@ -22,13 +22,13 @@ pub record IsUnmarked (items tags steps : ℕ) (them : Relations) : Type 0 where
   pub environment_gets : them.environment_gets.items ≡ replicate items false
 
 module _ (items tags steps : List Text) where
-  -- the numbers are the places of these names
+  -- the numbers are the indexes of these names
   pub record AreNumbers (numbers : Numbers) : Type 0 where
     pub items_are : names_numbered numbers.items.now ≡ items
     pub tags_are : names_numbered numbers.tags.now ≡ tags
     pub steps_are : (text : Text) → found numbers.steps.now text ≡ place_of steps text
 
-  -- what is marked are these relations
+  -- the marks are exactly these relations
   pub record AreRelations (before : List Relation) (them : Relations) : Type 0 where
     pub prescribers : ArePrescribers tags steps before them.prescribers.items
     pub reads : AreRows (λ step item. is_read item step) steps items before (bits them.reads)
@@ -38,11 +38,11 @@ module _ (items tags steps : List Text) where
     pub environment_tag_puts : AreMarks is_environment_tag_put tags before them.environment_tag_puts.items
     pub environment_gets : AreMarks is_environment_get items before them.environment_gets.items
 
-  -- one more relation is marked, if it has no fault
+  -- the relation is marked if it has no fault; otherwise its first fault is reported, or that memory was refused
   abbrev pub Relates : List Relation → Relation → Relations → Result (Unit {0}) PlacedFault → Type 0
   Relates before relation them result =
       MatchResult result (λ _. (relation_fault items tags steps before relation ≡ []) × AreRelations (before ++ relation ∷ []) them) (IsFirst (relation_fault items tags steps before relation))
 
-  -- all of them are marked, if none has a fault
+  -- all of them are marked if none has a fault; otherwise the first fault is reported, or that memory was refused
   abbrev pub RelatesAll : List Relation → Result Relations PlacedFault → Type 0
   RelatesAll relations result = MatchResult result (λ them. (relation_faults items tags steps [] relations ≡ []) × AreRelations relations them) (IsFirst (relation_faults items tags steps [] relations))

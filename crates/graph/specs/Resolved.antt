@@ -1,4 +1,4 @@
--- A tree whose names have numbers.
+-- A tree after its names were replaced by numbers.
 use Rattle.syntax.specs.declared.tree.Tree.{Tree}
 use Rattle.graph.specs.declared.resolved.Resolved.{Resolved}
 use Rattle.graph.specs.Collected.{AreCollected}

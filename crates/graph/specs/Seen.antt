@@ -1,4 +1,4 @@
--- What the collections and the steps of a graph are seen as.
+-- The values that contracts see collections and steps of a graph as.
 use Rattle.std.specs.Prelude.{ℕ, List, map}
 use Rattle.steptree.specs.Nameable.{Collection}
 use Rattle.graph.specs.declared.graph.Prescribed.{Prescribed}

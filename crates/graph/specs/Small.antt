@@ -1,4 +1,4 @@
--- The limits within which a tree lies.
+-- The limits on a tree.
 use Rattle.std.specs.Prelude.{◌≤◌, length}
 use Rattle.std.specs.List.{AllByRecursion}
 use Rattle.terms.specs.declared.key.TheConstants.{MAX_COMPONENTS}

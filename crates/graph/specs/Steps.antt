@@ -1,4 +1,4 @@
--- What is at fault at a step, by the number of the components of the tags that prescribe it.
+-- The faults at a step, by the number of components of the tags that prescribe it.
 use Rattle.std.specs.Prelude.{◌≡◌, ℕ, true, not, List, length, Option, None, Some, option_map, slice_get, ◌==◌}
 use Rattle.terms.specs.declared.name.TagCollection.{TagCollection}
 use Rattle.steptree.specs.Names.{Text, place_of}
@@ -16,6 +16,6 @@ abbrev pub components_by : List Collection → Option TagCollection → Option �
 components_by tags None = None
 components_by tags (Some tag) = option_map (λ declared. declared.components) (slice_get tags tag.0)
 
--- the number of each name is its place
+-- the number of each name is its first index in the list
 abbrev pub ArePlaces : List (Text × ℕ) → List Text → Type 0
 ArePlaces numbered names = (text : Text) → found numbered text ≡ place_of names text

@@ -27,21 +27,21 @@ pub record IsGraphName (text : Text) : Type 0 where
   pub not_reserved : (kept : Word) → text ≢ word_text kept
   pub short : length text ≤ MOST_NAME_BYTES
 
--- names, no two of them one
+-- names, no two of them equal
 pub record AreNames (names : List Text) : Type 0 where
   pub each : AllByRecursion IsGraphName names
   pub distinct : (one two : ℕ) → one < length names → two < length names → get_or names one [] ≡ get_or names two [] → one ≡ two
 
 -- ---- bodies
 
--- a number or a variable has the depth 1
+-- the depth of an expression; a number or a variable has depth 1
 abbrev pub depth_of : Expression → ℕ
 depth_of (Number number) = 1
 depth_of (Variable slot) = 1
 depth_of (Negation operand) = suc (depth_of operand)
 depth_of (Operation between left right) = suc (max (depth_of left) (depth_of right))
 
--- numbers that a text can have, and variables among so many names
+-- each number is one that a text can have, and each variable is one of `names` names
 abbrev pub IsSpelled : ℕ → Expression → Type 0
 IsSpelled names (Number number) = (value : ℕ) × (number ≡ pos value) × (value ≤ GREATEST)
 IsSpelled names (Variable slot) = slot < names
@@ -54,7 +54,7 @@ IsTextExpression names expression = IsSpelled names expression × (depth_of expr
 abbrev pub AreComponents : ℕ → List Expression → Type 0
 AreComponents names components = AllByRecursion (IsTextExpression names) components
 
--- a read block, with so many braces around it
+-- a read block, inside `around` braces
 abbrev pub IsReadBlock : ℕ → ℕ → Block → Type 0
 IsReadBlock names around End = ⊤
 IsReadBlock names around (Assign slot value rest) = (slot < names) × IsTextExpression names value × IsReadBlock names around rest
@@ -66,7 +66,7 @@ IsReadBlock names around (Get slot collection components rest) = (slot < names) 
 IsReadBlock names around (PutItem collection components value rest) = ⊥
 IsReadBlock names around (PutTag collection components rest) = ⊥
 
--- a write block
+-- a write block, inside `around` braces
 abbrev pub IsWriteBlock : ℕ → ℕ → Block → Type 0
 IsWriteBlock names around End = ⊤
 IsWriteBlock names around (Assign slot value rest) = (slot < names) × IsTextExpression names value × IsWriteBlock names around rest
@@ -87,7 +87,7 @@ pub record IsTextStep (step : Step) : Type 0 where
   pub read : IsReadBlock (length step.names) 0 step.body.read
   pub write : IsWriteBlock (length step.names) 0 step.body.write
 
--- a graph that a text can give, but for the text's length
+-- a graph that a text can give, leaving aside the length of the text
 pub record IsTextual (g : Graph) : Type 0 where
   pub graph : IsGraph g
   pub items : AreNames (names_in g.items)
@@ -97,17 +97,17 @@ pub record IsTextual (g : Graph) : Type 0 where
 
 -- ---- laws
 
--- what a text reads as can be written
+-- if a text reads as a graph, then the graph is one that can be written as a text
 abbrev pub ReadsTextual : Type 0
 ReadsTextual = (text : List ℕ) (g : Graph) → Reads text g → IsTextual g
 
--- the canonical text of a graph that a text can give reads as that graph, where it is not too long
+-- if a text can give a graph, then its canonical text reads as that graph, unless the canonical text is too long
 abbrev pub CanonicalReads : Type 0
 CanonicalReads = (g : Graph) → IsTextual g → length (canonical g) ≤ MOST_TEXT → Reads (canonical g) g
 
 -- ---- one text, one graph
 
--- all that one text is as a graph is one graph
+-- if two trees of one text are graphs, the graphs are equal
 abbrev pub OneGraph : Type 0
 OneGraph = (text : List ℕ) (t u : Tree) (g h : Graph) → IsRead text t → IsRead text u → IsGraphOf t g → IsGraphOf u h → g ≡ h
 
@@ -115,6 +115,6 @@ OneGraph = (text : List ℕ) (t u : Tree) (g h : Graph) → IsRead text t → Is
 abbrev pub OneReading : Type 0
 OneReading = (text : List ℕ) (g h : Graph) → Reads text g → Reads text h → g ≡ h
 
--- a text that reads as a graph has no fault but want of memory
+-- a text that reads as a graph has no fault but `NoMemory`
 abbrev pub ReadsWithoutFault : Type 0
 ReadsWithoutFault = (text : List ℕ) (g : Graph) (fault : GraphFault) → Reads text g → HasCause text fault → fault ≡ no_memory

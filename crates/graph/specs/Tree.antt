@@ -1,4 +1,4 @@
--- The graph that a tree is: its names by their numbers, its relations as sets.
+-- The graph of a tree: its names by their numbers, its relations as marks.
 use Rattle.std.specs.Prelude.{◌≡◌, Bool, false, ◌&&◌, if◌then◌else◌, List, [], ◌∷◌, map, length, Option, Some, None}
 use Rattle.std.specs.List.{list_any}
 use Rattle.steptree.specs.declared.step.Name.{Name}
@@ -41,7 +41,7 @@ step_names steps = map (λ step. text_of step.name) steps
 abbrev pub is_name : Name → Text → Bool
 is_name name text = is_text (text_of name) text
 
--- whether the relation is this one
+-- each test says whether the relation is the one between these names
 abbrev pub is_prescription : Text → Text → Relation → Bool
 is_prescription tag step (related.Prescribes one two) = is_name one tag && is_name two step
 is_prescription tag step relation = false
@@ -70,7 +70,7 @@ abbrev pub is_environment_get : Text → Relation → Bool
 is_environment_get item (related.EnvironmentGets place one) = is_name one item
 is_environment_get item relation = false
 
--- of each of these names whether one of the relations is that of it
+-- for each of these names, whether the list has the relation with that name
 abbrev pub each_of : (Text → Relation → Bool) → List Relation → List Text → List Bool
 each_of is relations names = map (λ name. list_any (is name) relations) names
 
@@ -92,7 +92,7 @@ sheet_in tree step = record {
   tag_puts = each_of (is_tag_put (text_of step.name)) tree.relations.items (names_in (tags_of tree.declarations.items));
 }
 
--- the step of a graph is this one of the tree
+-- the step of the graph is this step of the tree
 pub record IsStepOf (tree : Tree) (g : Graph) (text : NamedStep) (step : Step) : Type 0 where
   pub name : step.name ≡ text_of text.name
   pub prescriber : (tag : Text) × (prescriber_of tree.relations.items step.name ≡ Some tag) × (place_of (names_in g.tags) tag ≡ Some step.prescriber)

@@ -19,7 +19,7 @@ use std::alloc::{AllocError, Global};
 use steptree::{CheckError, Checked, Sheet, Step, check};
 use syntax::Tree;
 
-/// The body of a step by its sheet, or its first fault.
+/// The body of a step, checked by its sheet (what the step may name); or its first fault.
 fn check_body(alloc: Global, step: &Step<'_>, sheet: &Sheet<'_>) -> Result<Checked, PlacedFault>
     requires { IsWithinLimits sheet.now step.now }
     ensures resolves { IfOk result (λ checked. Resolves sheet.now step.now checked) }
@@ -42,7 +42,7 @@ fn check_body(alloc: Global, step: &Step<'_>, sheet: &Sheet<'_>) -> Result<Check
     }
 }
 
-/// A row of marks anew.
+/// A copy of a row of marks.
 fn copied(row: &Vec<bool>) -> Result<Vec<bool>, AllocError>
     ensures { IfOk result (λ copy. copy.items ≡ row.now.items) }
 {

@@ -18,8 +18,8 @@ use crate::{MOST_TEXT, canonical_reads, reads_textual};
 use std::alloc::Global;
 use syntax::Tree;
 
-/// The graph of a text's tree, and its canonical text; or the first fault: of the names and relations in the order of places,
-/// behind them of the bodies, and last that the canonical text is too long.
+/// The graph of a text's tree, and its canonical text; or the first fault: those of names and relations come first, by
+/// position, then those of bodies, and last a canonical text that is too long.
 pub(crate) fn graph_of(alloc: Global, tree: &Tree<'_>) -> Result<(Graph, Vec<u8>), PlacedFault>
     requires small { IsSmall tree.now }
     requires text { IsOfText tree.now }

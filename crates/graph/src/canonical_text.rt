@@ -87,8 +87,8 @@ fn put_steps(text: &mut Vec<u8>, graph: &Parts<'_>) -> Result<(), AllocError>
     Ok(())
 }
 
-/// The canonical text, as it is spelled: the declarations, the relations of the steps and of the environment, and the texts of the
-/// steps, each in the order of the numbers, one to a line.
+/// The canonical text: the declarations, the relations of the steps and of the environment, and the texts of the steps. Each
+/// part is in the order of the numbers; each declaration and relation has its own line.
 #[tactic(auto, using(std::proofs::Common::append_assoc))]
 pub(crate) fn written(alloc: Global, graph: &Parts<'_>) -> Result<Vec<u8>, AllocError>
     ensures { IfOk result (λ text. text.items ≡ canonical graph.now) }
@@ -101,9 +101,9 @@ pub(crate) fn written(alloc: Global, graph: &Parts<'_>) -> Result<Vec<u8>, Alloc
     Ok(text)
 }
 
-/// The canonical text of a graph. It reads as that graph, and as nothing else.
+/// The canonical text of a graph. It reads as that graph, and as no other.
 ///
-/// The error is that memory was refused; the graph is read alone.
+/// It returns an error only when memory was refused. It only reads the graph.
 pub fn canonical(alloc: Global, graph: &Graph) -> Result<Vec<u8>, AllocError>
     ensures spelled { IfOk result (λ text. text.items ≡ canonical graph.now) }
     ensures reads { IfOk result (λ text. Reads text.items graph.now) }

@@ -1,6 +1,7 @@
-//! That a graph may go from thread to thread, and be shared by threads.
+//! Graphs may be sent between threads, and shared by threads.
 //!
-//! Each function here is a law, with nothing to run. By itself the prover does not go through all statements of a body, so the laws go part by part.
+//! Each function here is a law, with nothing to run. The prover does not work through all the statements of a step's body
+//! by itself, so there is a law for each part.
 
 ghost use denote.Param.Send.{IsSend, IsSync};
 ghost use Rattle.graph.specs.contracts.graph.Graph as of_graph;
@@ -12,12 +13,12 @@ use indexmap::IndexMap;
 use steptree::{Block, Checked, Components, Expression, Statement};
 use terms::{StepCollection, TagCollection};
 
-/// Its caller has the clause of a type that the search finds.
+/// Gives its caller the clause that trait search finds for a type.
 fn goes<T: Send>()
     ensures { IsSend T.row }
 {}
 
-/// The same, of what threads may share.
+/// The same for sharing between threads.
 fn is_shared<T: Sync>()
     ensures { IsSync T.row }
 {}
@@ -30,7 +31,7 @@ fn names_go<V: Send>()
     goes::<IndexMap<String, V>>();
 }
 
-/// The same, of what threads may share.
+/// The same for sharing between threads.
 fn names_are_shared<V: Sync>()
     ensures { IsSync (of_names.the_row V.row) }
 {
@@ -51,7 +52,7 @@ fn steps_go()
     goes::<TagCollection>();
 }
 
-/// The same, of what threads may share.
+/// The same for sharing between threads.
 fn steps_are_shared()
     ensures { IsSync of_step.the_row }
 {
@@ -64,7 +65,7 @@ fn steps_are_shared()
     is_shared::<TagCollection>();
 }
 
-/// That a graph may go from thread to thread, and be shared by threads.
+/// A graph may be sent between threads, and shared by threads.
 pub fn graphs_cross()
     ensures sent { IsSend of_graph.the_row }
     ensures shared { IsSync of_graph.the_row }

@@ -11,7 +11,7 @@ use std::alloc::Global;
 use steptree::{Declared, Name};
 use syntax::Declaration;
 
-/// The collections of one kind: as they are declared, and by their names.
+/// The collections of one kind: as they are declared, and by their numbers and names.
 #[derive(Drop)]
 pub(crate) struct Collections<'a> {
     pub(crate) declared: Vec<Declared<'a>>,
@@ -30,7 +30,7 @@ impl<'a> Collections<'a> {
         }
     }
 
-    /// One more, unless its name is there.
+    /// Adds a collection; it is a fault if its name is already there.
     fn declare(&mut self, name: Name<'a>, components: usize) -> Result<(), PlacedFault>
         ensures faults { Reports (again (names_numbered self.old.numbered) name.entry) result }
         ensures declared { OnOk result (self.new.declared.items ≡ self.old.declared.items ++ of_name name.entry components ∷ []) }
@@ -52,7 +52,7 @@ impl<'a> Collections<'a> {
     }
 }
 
-/// The items and the tags of these declarations, each kind by its numbers, or the first name that its kind has before.
+/// The items and the tags of these declarations, each kind by its numbers; or the first name that its kind already has.
 pub(crate) fn declare_all<'a>(
     alloc: Global,
     declarations: &[Declaration<'a>],

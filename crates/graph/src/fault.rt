@@ -9,28 +9,28 @@ use steptree::CheckError;
 use syntax::{TreeError, TreeFault};
 use thiserror::Error;
 
-/// Why a text is no graph. Each but `NoMemory` has a place.
+/// Why a text is not a graph. Each fault but `NoMemory` has a position.
 #[derive(Clone, Copy, Debug, PartialEq, Eq, Error)]
 pub enum GraphError {
     /// A byte of 128 or more.
     #[error("not ASCII")]
     NotAscii,
-    /// No graph text goes on so, or it ends too early.
+    /// No graph text continues like this, or the text ends too early.
     #[error("syntax")]
     Syntax,
-    /// A name, or a relation, that stands before.
+    /// A name or a relation that appeared before.
     #[error("redeclared")]
     Redeclared,
     /// An item or a tag that is not declared.
     #[error("unknown name")]
     UnknownName,
-    /// A step with another number of parameters than its tags have components.
+    /// A step whose number of parameters is not the number of components of its tags.
     #[error("another number of components")]
     Arity,
     /// A step that nothing prescribes.
     #[error("no prescriber")]
     NoPrescriber,
-    /// A step that is prescribed before.
+    /// A step that is already prescribed.
     #[error("two prescribers")]
     TwoPrescribers,
     /// A relation with a step that has no text.
@@ -39,13 +39,13 @@ pub enum GraphError {
     /// A second text of one step.
     #[error("step twice")]
     StepTwice,
-    /// A limit is passed.
+    /// A limit is exceeded.
     #[error("too large")]
     TooLarge,
     /// A fault of a step's body.
     #[error("check")]
     Check(CheckError),
-    /// A growth was refused.
+    /// Memory was refused.
     #[error("no memory")]
     NoMemory,
 }
@@ -85,7 +85,7 @@ fn check_number(error: CheckError) -> u8
     }
 }
 
-/// A fault of a text, and where: lines and columns from 1, a column for each byte; 0 and 0 where memory was refused.
+/// A fault of a text, with its line and column: both from 1, one column for each byte; 0 and 0 if memory was refused.
 #[derive(Clone, Copy, Debug, PartialEq, Eq)]
 pub struct GraphFault {
     pub error: GraphError,
@@ -96,7 +96,7 @@ pub struct GraphFault {
 impl fmt::Display for GraphFault {
     ghost output = { λ fault. Some (fault_text fault) };
 
-    // Its number, its line and its column, as `2 at 1:3`; a fault of a body has its own number behind a dot, as `11.3 at 11:14`.
+    // Number, line and column, as in `2 at 1:3`; a fault of a body has its own number after a dot, as in `11.3 at 11:14`.
     fn fmt<W: fmt::Write>(&self, f: &mut fmt::Formatter<W>) -> fmt::Result {
         let line = self.line;
         let column = self.column;
@@ -109,7 +109,7 @@ impl fmt::Display for GraphFault {
     }
 }
 
-/// A fault, and the position of the byte at which it stands; 0 where memory was refused.
+/// A fault, and the position of the byte where it is; 0 if memory was refused.
 #[derive(Clone, Copy, Debug)]
 pub(crate) struct PlacedFault {
     pub(crate) error: GraphError,

@@ -24,7 +24,7 @@ pub(crate) struct Prescribed {
 }
 
 impl Drop for Prescribed {
-    // By hand, so that it is one call wherever a step goes.
+    // Written by hand, so that it is one call wherever a step is dropped.
     fn drop(self) {
         let Prescribed {
             prescriber: _,
@@ -37,13 +37,13 @@ impl Drop for Prescribed {
 }
 
 /// A graph: its collections by their numbers, what each step may read and put, what the environment may put and get, and the
-/// bodies of the steps. It is made by parsing a text, and its canonical text reads as it.
+/// bodies of the steps. It is made by parsing a text, and its canonical text reads as the same graph.
 ///
-/// No reader takes memory.
+/// The methods that read a graph allocate no memory.
 pub struct Graph {
     pub(crate) items: Numbered<usize>,
     pub(crate) tags: Numbered<usize>,
-    // by the numbers of the tag collections, the steps that each prescribes
+    // for each tag collection, by its number, the steps that it prescribes
     pub(crate) prescribes: Vec<Vec<StepCollection>>,
     pub(crate) steps: Numbered<Prescribed>,
     pub(crate) environment_item_puts: Vec<bool>,
@@ -52,7 +52,7 @@ pub struct Graph {
 }
 
 impl Drop for Graph {
-    // By hand, so that it is one call wherever a graph goes.
+    // Written by hand, so that it is one call wherever a graph is dropped.
     fn drop(self) {
         let Graph {
             items: _,
@@ -122,21 +122,21 @@ impl Graph {
         self.steps.len()
     }
 
-    /// How many components the keys of an item collection have, if it is of the graph.
+    /// The number of components of the keys of an item collection, if the collection is in the graph.
     pub fn item_components(&self, item: ItemCollection) -> Option<usize>
         ensures { result ≡ option_map (λ collection. collection.components) (slice_get self.now.items item.0) }
     {
         self.items.value(item.0 as usize).copied()
     }
 
-    /// How many components the keys of a tag collection have, if it is of the graph.
+    /// The number of components of the keys of a tag collection, if the collection is in the graph.
     pub fn tag_components(&self, tag: TagCollection) -> Option<usize>
         ensures { result ≡ option_map (λ collection. collection.components) (slice_get self.now.tags tag.0) }
     {
         self.tags.value(tag.0 as usize).copied()
     }
 
-    /// How many parameters a step has, if it is of the graph.
+    /// The number of parameters of a step, if the step is in the graph.
     pub fn step_parameters(&self, step: StepCollection) -> Option<usize>
         ensures { result ≡ option_map (λ step. step.parameters) (slice_get self.now.steps step.0) }
     {
@@ -146,7 +146,7 @@ impl Graph {
         }
     }
 
-    /// The name of an item collection, which no other has.
+    /// The name of an item collection; no other item collection has this name.
     pub fn item_name(&self, item: ItemCollection) -> Option<&str>
         ensures name { option_map (λ name. name.now) result ≡ slice_get (names_in self.now.items) item.0 }
         ensures once { IfSome result (λ name. place_of (names_in self.now.items) name.now ≡ Some item.0) }
@@ -154,7 +154,7 @@ impl Graph {
         self.items.name(item.0 as usize)
     }
 
-    /// The name of a tag collection, which no other has.
+    /// The name of a tag collection; no other tag collection has this name.
     pub fn tag_name(&self, tag: TagCollection) -> Option<&str>
         ensures name { option_map (λ name. name.now) result ≡ slice_get (names_in self.now.tags) tag.0 }
         ensures once { IfSome result (λ name. place_of (names_in self.now.tags) name.now ≡ Some tag.0) }
@@ -162,7 +162,7 @@ impl Graph {
         self.tags.name(tag.0 as usize)
     }
 
-    /// The name of a step, which no other has.
+    /// The name of a step; no other step has this name.
     pub fn step_name(&self, step: StepCollection) -> Option<&str>
         ensures name { option_map (λ name. name.now) result ≡ slice_get (names_of_steps self.now.steps) step.0 }
         ensures once { IfSome result (λ name. place_of (names_of_steps self.now.steps) name.now ≡ Some step.0) }
@@ -210,7 +210,7 @@ impl Graph {
         }
     }
 
-    /// The steps that a tag collection prescribes, rising; none where it is not of the graph.
+    /// The steps that a tag collection prescribes, in ascending order; none if the collection is not in the graph.
     pub fn prescribed_by(&self, tag: TagCollection) -> &[StepCollection]
         ensures { map (λ step. step.0) result.now ≡ prescribed_by self.now tag.0 }
     {
@@ -222,7 +222,7 @@ impl Graph {
         }
     }
 
-    /// Whether a step may read an item collection; false where one of them is not of the graph.
+    /// Whether a step may read an item collection; false if one of them is not in the graph.
     pub fn may_read(&self, step: StepCollection, item: ItemCollection) -> bool
         ensures { result ≡ mark_of (λ step. step.reads) self.now step.0 item.0 }
     {
@@ -232,7 +232,7 @@ impl Graph {
         }
     }
 
-    /// Whether a step may put items of a collection; false where one of them is not of the graph.
+    /// Whether a step may put items of a collection; false if one of them is not in the graph.
     pub fn may_put_item(&self, step: StepCollection, item: ItemCollection) -> bool
         ensures { result ≡ mark_of (λ step. step.item_puts) self.now step.0 item.0 }
     {
@@ -242,7 +242,7 @@ impl Graph {
         }
     }
 
-    /// Whether a step may put tags of a collection; false where one of them is not of the graph.
+    /// Whether a step may put tags of a collection; false if one of them is not in the graph.
     pub fn may_put_tag(&self, step: StepCollection, tag: TagCollection) -> bool
         ensures { result ≡ mark_of (λ step. step.tag_puts) self.now step.0 tag.0 }
     {
@@ -252,70 +252,70 @@ impl Graph {
         }
     }
 
-    /// Whether the environment may put items of a collection; false where it is not of the graph.
+    /// Whether the environment may put items of a collection; false if it is not in the graph.
     pub fn environment_may_put_item(&self, item: ItemCollection) -> bool
         ensures { result ≡ get_or self.now.environment_item_puts item.0 false }
     {
         is_marked(&self.environment_item_puts, item.0)
     }
 
-    /// Whether the environment may put tags of a collection; false where it is not of the graph.
+    /// Whether the environment may put tags of a collection; false if it is not in the graph.
     pub fn environment_may_put_tag(&self, tag: TagCollection) -> bool
         ensures { result ≡ get_or self.now.environment_tag_puts tag.0 false }
     {
         is_marked(&self.environment_tag_puts, tag.0)
     }
 
-    /// Whether the environment may get items of a collection; false where it is not of the graph.
+    /// Whether the environment may get items of a collection; false if it is not in the graph.
     pub fn environment_may_get(&self, item: ItemCollection) -> bool
         ensures { result ≡ get_or self.now.environment_gets item.0 false }
     {
         is_marked(&self.environment_gets, item.0)
     }
 
-    /// Whether an address is of the graph: its collection is, and its key has as many components.
+    /// Whether an address belongs to the graph: its collection does, and its key has the number of components declared there.
     pub fn is_address(&self, address: &Addr) -> bool
         ensures { (result ≡ true) ↔ AddressIsOf self.now address.now }
     {
         has_components(self.item_components(address.collection), &address.key)
     }
 
-    /// Whether a tag is of the graph: its collection is, and its key has as many components.
+    /// Whether a tag belongs to the graph: its collection does, and its key has the number of components declared there.
     pub fn is_tag(&self, tag: &Tag) -> bool
         ensures { (result ≡ true) ↔ TagIsOf self.now tag.now }
     {
         has_components(self.tag_components(tag.collection), &tag.key)
     }
 
-    /// Whether an instance is of the graph: its step is, and its key has as many components as the step has parameters.
+    /// Whether an instance belongs to the graph: its step does, and its key has as many components as the step has parameters.
     pub fn is_instance(&self, instance: &Inst) -> bool
         ensures { (result ≡ true) ↔ InstanceIsOf self.now instance.now }
     {
         has_components(self.step_parameters(instance.collection), &instance.key)
     }
 
-    /// Whether the environment may put an item: its address is of the graph, and its collection one of those.
+    /// Whether the environment may put an item: its address belongs to the graph, and the environment may put its collection.
     pub fn environment_puts_item(&self, address: &Addr) -> bool
         ensures { (result ≡ true) ↔ EnvironmentMayPutItem self.now address.now }
     {
         self.is_address(address) && self.environment_may_put_item(address.collection)
     }
 
-    /// Whether the environment may put a tag: it is of the graph, and its collection one of those.
+    /// Whether the environment may put a tag: it belongs to the graph, and the environment may put its collection.
     pub fn environment_puts_tag(&self, tag: &Tag) -> bool
         ensures { (result ≡ true) ↔ EnvironmentMayPutTag self.now tag.now }
     {
         self.is_tag(tag) && self.environment_may_put_tag(tag.collection)
     }
 
-    /// Whether the environment may get an item: its address is of the graph, and its collection one of those.
+    /// Whether the environment may get an item: its address belongs to the graph, and the environment may get its collection.
     pub fn environment_gets(&self, address: &Addr) -> bool
         ensures { (result ≡ true) ↔ EnvironmentMayGet self.now address.now }
     {
         self.is_address(address) && self.environment_may_get(address.collection)
     }
 
-    /// The names and the body of a step, if it is of the graph.
+    /// The names and the body of a step, if it is in the graph.
     pub fn body(&self, step: StepCollection) -> Option<&Checked>
         ensures body { option_map (λ checked. checked.now.body) result ≡ option_map (λ step. step.body) (slice_get self.now.steps step.0) }
         ensures names { option_map (λ checked. map (λ name. name.bytes.items) checked.now.names.items) result ≡ option_map (λ step. step.names) (slice_get self.now.steps step.0) }
@@ -329,7 +329,7 @@ impl Graph {
     }
 }
 
-/// The mark at a number, and false past the last.
+/// The mark at an index, or false past the end.
 fn is_marked(marks: &[bool], number: u16) -> bool
     ensures { result ≡ get_or marks.now number false }
 {
@@ -337,7 +337,7 @@ fn is_marked(marks: &[bool], number: u16) -> bool
     number < marks.len() && marks[number]
 }
 
-/// There are as many as the key has.
+/// Whether the number of components is that of the key.
 fn has_components(components: Option<usize>, key: &Key) -> bool
     ensures { (result ≡ true) ↔ (components ≡ Some (length key.now)) }
 {

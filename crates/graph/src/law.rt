@@ -1,4 +1,4 @@
-//! The laws between texts and graphs, and of what fits a graph. Each is a contract, with nothing to run.
+//! The laws about texts, graphs, and the events that fit a graph. Each is a contract, with nothing to run.
 ghost use Rattle.graph.specs.FitLaws.{StateKeeps, FitKeeps, AllFitKeep, AllFitInParts, StateAsSet, EventAsSet, EventsAsSet};
 ghost use Rattle.std.specs.Prelude.{◌≡◌};
 ghost use Rattle.graph.specs.Prescribed.{PrescribesListed};
@@ -13,12 +13,12 @@ pub fn text_limit()
     ensures { MOST_TEXT ≡ 65536 }
 {}
 
-/// The canonical text of a graph that a text can give reads as that graph, where it is not too long.
+/// If a text can give a graph, then the graph's canonical text reads as that graph, unless the canonical text is too long.
 pub fn canonical_reads()
     ensures { CanonicalReads }
 {}
 
-/// All that one text is as a graph is one graph.
+/// All trees that a text is read as, if they are graphs, are one graph.
 pub fn one_graph()
     ensures { OneGraph }
 {
@@ -33,8 +33,8 @@ pub fn one_reading()
     one_graph();
 }
 
-/// What events that fit leave fits, and events fit one after another where those of each part do. How facts are listed plays no
-/// part in it.
+/// After an event that fits, the state still fits. A list of events fits exactly if its first part fits and then its second
+/// part does. How facts are listed does not matter.
 pub fn fitting()
     ensures state_keeps { StateKeeps }
     ensures keeps { FitKeeps }
@@ -47,12 +47,12 @@ pub fn fitting()
     facts_are_told_apart();
 }
 
-/// What a text reads as can be written.
+/// If a text reads as a graph, then the graph is one that can be written as a text.
 pub fn reads_textual()
     ensures { ReadsTextual }
 {}
 
-/// A text that reads as a graph has no fault but want of memory: so `parse` answers the graph of such a text, memory aside.
+/// If a text reads as a graph, its only possible fault is `NoMemory`: so `parse` returns the graph, unless memory is refused.
 pub fn reads_without_fault()
     ensures { ReadsWithoutFault }
 {
@@ -62,7 +62,7 @@ pub fn reads_without_fault()
     one_graph();
 }
 
-/// A tag prescribes an instance exactly where `Graph::prescribed_by` lists its step and the keys are equal.
+/// A tag prescribes an instance exactly if `Graph::prescribed_by` lists its step and the keys are equal.
 pub fn prescribing()
     ensures { PrescribesListed }
 {}

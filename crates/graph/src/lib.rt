@@ -1,9 +1,12 @@
-//! Graphs: their collections by numbers, and what stands between them.
+//! Graphs: collections by their numbers, and the relations between them.
 //!
-//! A `Graph` is seen as the `Graph` of `specs/Graph.antt`: what a text says of its collections. The layers above stand on
-//! `parse` and `parse_spelled`, which answer the graph that a text reads as (`Reads`) or a fault with its cause, on `canonical`,
-//! on the readers of `Graph`, each exact, on the laws of texts and graphs (`law`), and on `Fits`, the rule by which an event
-//! fits a graph and facts, without a look at the bodies of steps (`fitting`).
+//! Contracts see a `Graph` as the `Graph` of `specs/Graph.antt`: what a text says of its collections. The layers above use:
+//!
+//! - `parse` and `parse_spelled`, which return the graph that a text reads as (`Reads`) or a fault with its cause;
+//! - `canonical`;
+//! - the methods of `Graph`, each with an exact contract;
+//! - the laws of texts and graphs (`law`);
+//! - `Fits`, the rule that says when an event fits a graph and facts. It does not look at the bodies of steps (`fitting`).
 #![tactic(auto)]
 
 mod bodies;

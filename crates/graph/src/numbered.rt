@@ -7,13 +7,13 @@ use indexmap::IndexMap;
 use std::alloc::{AllocError, Global};
 use std::marker::Model;
 
-/// Names by their numbers, each once, and with each a value.
+/// Names in the order of their numbers, no name twice, each with a value.
 pub(crate) struct Numbered<V> {
     entries: IndexMap<String, V>,
 }
 
 impl<V: Drop> Drop for Numbered<V> {
-    // By hand, so that it is one call wherever names go.
+    // Written by hand, so that it is one call wherever names are dropped.
     fn drop(self) {
         let Numbered { entries: _ } = self;
     }
@@ -85,7 +85,7 @@ impl<V> Numbered<V> {
 }
 
 impl<V: Drop> Numbered<V> {
-    /// Gives a name that is not there the next number.
+    /// Adds a name that is not yet there, under the next number.
     pub(crate) fn push(&mut self, name: &str, value: V) -> Result<(), AllocError>
         requires { place_of (names_numbered self.old) name.now ≡ None }
         ensures { OnOk result (self.new ≡ self.old ++ (name.now, value) ∷ []) }

@@ -1,4 +1,4 @@
-//! Texts: the graph that one is, or its first fault.
+//! Parsing: the graph of a text, or the first fault of the text.
 ghost use Rattle.std.specs.Prelude.{◌≡◌, ◌≤◌, ◌<◌, ◌⊎◌, length, take, MatchResult, IfOk, IfErr};
 ghost use Rattle.std.specs.List.{AllByRecursion};
 ghost use Rattle.graph.specs.Canonical.{canonical};
@@ -13,14 +13,19 @@ use crate::place::place;
 use std::alloc::Global;
 use syntax::read_tree;
 
-/// The graph that a text is.
+/// The graph of a text.
 ///
-/// The first fault of the text is answered, at its line and column. First the whole text is looked at: one of more than
-/// `MOST_TEXT` bytes is too large at 1:1, and the first byte of 128 or more is not ASCII. Then comes the first token at
-/// fault from the left: one with which no graph text goes on (a text that ends too early has its fault at the place behind
-/// its last byte), or at which a limit is passed. Then the names and relations in the order of their places, then the
-/// bodies from the left. Last comes a graph whose canonical text has more than `MOST_TEXT` bytes, too large at 1:1.
-/// `NoMemory` may come anywhere, where a growth was refused.
+/// A text with a fault is rejected with the line and column of its first fault, in this order:
+///
+/// 1. a text of more than `MOST_TEXT` bytes: too large, at 1:1;
+/// 2. the first byte of 128 or more: not ASCII;
+/// 3. the first token, from the left, with which no graph text continues, or which exceeds a limit. A text that ends too
+///    early has its fault at the place after its last byte;
+/// 4. the names and relations, by position;
+/// 5. the bodies, from the left;
+/// 6. a canonical text of more than `MOST_TEXT` bytes: too large, at 1:1.
+///
+/// `NoMemory` may come at any point, when memory was refused.
 pub fn parse(alloc: Global, text: &[u8]) -> Result<Graph, GraphFault>
     ensures reads { IfOk result (λ graph. Reads text.now graph) }
     ensures cause { IfErr result (λ fault. HasCause text.now fault) }
@@ -29,7 +34,7 @@ pub fn parse(alloc: Global, text: &[u8]) -> Result<Graph, GraphFault>
     Ok(graph)
 }
 
-/// The graph that a text is, with its canonical text, by which it is measured. `parse` is this without the text.
+/// The graph of a text, with its canonical text, whose length is checked. `parse` is this without the canonical text.
 pub fn parse_spelled(alloc: Global, text: &[u8]) -> Result<(Graph, Vec<u8>), GraphFault>
     ensures reads { IfOk result (λ both. Reads text.now both.0) }
     ensures spelled { IfOk result (λ both. both.1.items ≡ canonical both.0) }
@@ -41,7 +46,7 @@ pub fn parse_spelled(alloc: Global, text: &[u8]) -> Result<(Graph, Vec<u8>), Gra
     }
 }
 
-// The fault at its line and column.
+// The fault with its line and column.
 fn located(text: &[u8], fault: PlacedFault) -> GraphFault
     requires cause { (fault ≡ refused) ⊎ IsCause text.now fault.error fault.position }
     ensures { HasCause text.now result }

@@ -7,7 +7,7 @@ use crate::numbered::Numbered;
 use std::marker::Model;
 use terms::{ItemCollection, TagCollection};
 
-/// A graph by its parts: what its canonical text is written from, before the graph is made and after.
+/// The parts of a graph that its canonical text is written from. They exist before the graph is made and after.
 #[derive(Drop)]
 pub(crate) struct Parts<'a> {
     pub(crate) items: &'a Numbered<usize>,

@@ -1,7 +1,7 @@
 ghost use Rattle.std.specs.Prelude.{◌≡◌, ◌≤◌, ◌<◌, ◌+◌, ◌^◌, length, take};
 ghost use Rattle.graph.specs.Reads.{walked};
 
-/// The line and the column of the byte at a position, or behind the last one, both from 1; only a line feed begins a line.
+/// The line and the column, both from 1, of the byte at a position, or after the last byte. Only a line feed begins a line.
 pub(crate) fn place(text: &[u8], position: usize) -> (usize, usize)
     ensures { walked 1 1 (take position text.now) ≡ result }
 {

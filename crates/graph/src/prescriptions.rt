@@ -9,7 +9,7 @@ use crate::numbered::Numbered;
 use std::alloc::{AllocError, Global};
 use terms::{StepCollection, TagCollection};
 
-/// So many empty lists.
+/// `count` empty lists.
 fn empty_lists(alloc: Global, count: usize) -> Result<Vec<Vec<StepCollection>>, AllocError>
     ensures { IfOk result (λ lists. numbers_of lists.items ≡ replicate count []) }
 {
@@ -20,7 +20,7 @@ fn empty_lists(alloc: Global, count: usize) -> Result<Vec<Vec<StepCollection>>, 
     Ok(lists)
 }
 
-/// Adds a step to those that a collection of tags prescribes.
+/// Adds a step to those that a tag collection prescribes.
 fn add_step(
     lists: &mut Vec<Vec<StepCollection>>,
     tag: TagCollection,
@@ -33,7 +33,7 @@ fn add_step(
     Ok(())
 }
 
-/// The steps that each of so many collections of tags prescribes, rising.
+/// For each of `tags` tag collections, the steps that it prescribes, in ascending order.
 pub(crate) fn prescriptions(
     alloc: Global,
     tags: usize,

@@ -15,7 +15,7 @@ use steptree::Name;
 use syntax::Relation;
 use terms::TagCollection;
 
-/// The numbers of the collections by their names. Of two equal names of steps the first counts.
+/// The numbers of the collections by their names. Of two steps with one name the first counts.
 #[derive(Clone, Copy)]
 pub(crate) struct Numbers<'b> {
     pub(crate) items: &'b Numbered<usize>,
@@ -35,7 +35,7 @@ pub(crate) struct Relations {
     pub(crate) environment_gets: Vec<bool>,
 }
 
-/// A prescription, by the places of its tags and its step.
+/// A prescription, by the numbers of its tag collection and its step.
 fn prescribe(
     prescribers: &mut Vec<Option<TagCollection>>,
     tag: Option<usize>,
@@ -66,7 +66,7 @@ fn prescribe(
 }
 
 impl Relations {
-    /// One more relation, or the first of its faults.
+    /// Adds one relation, or returns the first of its faults.
     fn relate(&mut self, numbers: &Numbers<'_>, relation: &Relation<'_>) -> Result<(), PlacedFault>
         requires { length numbers.now.tags.now < 2 ^ 16 }
         ensures { (items tags steps : List Text) (before : List Tied) → AreNumbers items tags steps numbers.now → AreRelations items tags steps before self.old → Relates items tags steps before relation.now self.new result }
@@ -125,7 +125,7 @@ impl Relations {
     }
 }
 
-/// No relations, of so many collections of each kind.
+/// No relations, for these numbers of item, tag and step collections.
 fn none(alloc: Global, items: usize, tags: usize, steps: usize) -> Result<Relations, AllocError>
     ensures { IfOk result (λ them. IsUnmarked items tags steps them) }
 {

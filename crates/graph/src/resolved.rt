@@ -19,7 +19,7 @@ pub(crate) struct Resolved<'a> {
     pub(crate) relations: Relations,
 }
 
-/// The collections and the relations of a tree, or its first fault in the order of places, the bodies of its steps aside.
+/// The collections and the relations of a tree; or its first fault by position, leaving aside the bodies of its steps.
 pub(crate) fn resolve<'a>(alloc: Global, tree: &Tree<'a>) -> Result<Resolved<'a>, PlacedFault>
     requires { IsSmall tree.now }
     ensures { MatchResult result (λ resolved. (tree_faults tree.now ≡ []) × IsResolved tree.now resolved) (IsFirst (tree_faults tree.now)) }

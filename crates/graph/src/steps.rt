@@ -18,7 +18,7 @@ use std::alloc::{AllocError, Global};
 use steptree::{Declared, Name, Step};
 use terms::TagCollection;
 
-/// The steps by their names, each with its number; of two equal names the first counts.
+/// The steps by their names, each with its number; of two steps with one name the first counts.
 pub(crate) fn number_steps(alloc: Global, steps: &[Step<'_>]) -> Result<Numbered<usize>, AllocError>
     ensures { IfOk result (λ numbered. ArePlaces numbered (step_names steps.now)) }
 {
@@ -31,7 +31,7 @@ pub(crate) fn number_steps(alloc: Global, steps: &[Step<'_>]) -> Result<Numbered
     Ok(numbered)
 }
 
-/// A fault at a name, if it is there.
+/// A fault at a name, if the condition holds.
 fn refuse_if(holds: bool, error: GraphError, name: &Name<'_>) -> Result<(), PlacedFault>
     ensures { Reports (fault_if holds error name.now.place) result }
 {
@@ -44,7 +44,7 @@ fn refuse_if(holds: bool, error: GraphError, name: &Name<'_>) -> Result<(), Plac
     Ok(())
 }
 
-/// Adds names of a step, none of which may be there.
+/// Adds names of a step; a name that is already there is a fault.
 fn add_names(names: &mut Numbered<()>, more: &[Name<'_>]) -> Result<(), PlacedFault>
     ensures faults { Reports (repeated (names_numbered names.old) more.now) result }
     ensures added { OnOk result (names_numbered names.new ≡ names_numbered names.old ++ texts more.now) }
@@ -60,7 +60,7 @@ fn add_names(names: &mut Numbered<()>, more: &[Name<'_>]) -> Result<(), PlacedFa
     Ok(())
 }
 
-/// Whether the names of a step differ, or the first that stands before.
+/// Whether the names of a step differ; the fault is at the first name that repeats an earlier one.
 fn names_differ(alloc: Global, step: &Step<'_>) -> Result<(), PlacedFault>
     ensures { Reports (repeated [] (step.now.parameters.items ++ step.now.variables.items)) result }
 {
@@ -69,7 +69,7 @@ fn names_differ(alloc: Global, step: &Step<'_>) -> Result<(), PlacedFault>
     add_names(&mut names, &step.variables)
 }
 
-/// Whether a step stands once, and has as many parameters as the tags that prescribe it have components.
+/// Whether a step has one text only, is prescribed, and has as many parameters as its tags have components.
 fn is_prescribed(step: &Step<'_>, twice: bool, components: Option<usize>) -> Result<(), PlacedFault>
     ensures { Reports (or_else (fault_if twice StepTwice step.now.name.place) (components_faults components step.now)) result }
 {
@@ -84,7 +84,7 @@ fn is_prescribed(step: &Step<'_>, twice: bool, components: Option<usize>) -> Res
     }
 }
 
-/// The number of the components of the tags that prescribe a step.
+/// The number of components of the tags that prescribe a step.
 fn components(tags: &[Declared<'_>], prescriber: Option<TagCollection>) -> Option<usize>
     ensures { result ≡ components_by tags.now prescriber }
 {
@@ -97,8 +97,8 @@ fn components(tags: &[Declared<'_>], prescriber: Option<TagCollection>) -> Optio
     }
 }
 
-/// Whether each step stands once, is prescribed, has as many parameters as its tags have components, and names that differ;
-/// or the first that is not so.
+/// Whether each step has one text only, is prescribed, has as many parameters as its tags have components, and has names that
+/// differ; or the first fault.
 pub(crate) fn check_steps(
     alloc: Global,
     tags: &[Declared<'_>],

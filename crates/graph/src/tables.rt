@@ -8,7 +8,7 @@ use crate::fault::{GraphError, PlacedFault};
 use std::alloc::{AllocError, Global};
 use steptree::Name;
 
-/// Marks a place of a row; a mark that is there is at fault.
+/// Marks a place of a row; it is a fault if the place is already marked.
 fn mark(row: &mut Vec<bool>, place: Option<usize>, position: usize) -> Result<(), PlacedFault>
     ensures faults { Reports (fault_if (mark_at row.old.items place) Redeclared position) result }
     ensures marked { OnOk result (row.new.items ≡ with_mark row.old.items place) }
@@ -45,7 +45,7 @@ fn mark_in(
     Ok(())
 }
 
-/// A name that is looked up in vain is at fault.
+/// It is a fault if the lookup of a name found nothing.
 pub(crate) fn known(
     place: Option<usize>,
     error: GraphError,
@@ -62,7 +62,7 @@ pub(crate) fn known(
     }
 }
 
-/// A read, by the places of its item and its step.
+/// A read, by the numbers of its item collection and its step.
 pub(crate) fn read(
     rows: &mut Vec<Vec<bool>>,
     position: usize,
@@ -79,7 +79,7 @@ pub(crate) fn read(
     known(step, GraphError::StepMissing, step_name)
 }
 
-/// A put, by the places of its step and of what it puts.
+/// A put, by the numbers of its step and of the collection that it puts.
 pub(crate) fn put(
     rows: &mut Vec<Vec<bool>>,
     position: usize,
@@ -96,7 +96,7 @@ pub(crate) fn put(
     known(other, GraphError::UnknownName, other_name)
 }
 
-/// A relation of the environment, by the place of its collection.
+/// A relation of the environment, by the number of its collection.
 pub(crate) fn environment(
     row: &mut Vec<bool>,
     position: usize,
@@ -110,7 +110,7 @@ pub(crate) fn environment(
     known(place, GraphError::UnknownName, name)
 }
 
-/// So many rows of so many places, none marked.
+/// `rows` rows of `width` places, none marked.
 pub(crate) fn no_marks(
     alloc: Global,
     rows: usize,

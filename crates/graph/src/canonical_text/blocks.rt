@@ -78,7 +78,7 @@ fn put_range(
     put(text, &[" {\n"])
 }
 
-/// A line that stands alone.
+/// A line with these words, indented by `level` levels.
 #[tactic(auto, using(crate::proofs::Written::is_line, std::proofs::Common::append_assoc))]
 pub(crate) fn put_line(text: &mut Vec<u8>, level: usize, words: &str) -> Result<(), AllocError>
     ensures { OnOk result (text.new.items ≡ text.old.items ++ line level words.now) }
@@ -144,7 +144,7 @@ fn put_tag_put(
     put(text, &[";\n"])
 }
 
-/// One level more than that of a line in the text, whose blanks are as many bytes at least.
+/// One level more than that of a line in the text; the indentation of that line has at least `level` bytes.
 fn deeper(text: &[u8], level: usize) -> usize
     requires { level < length text.now }
     ensures { result ≡ suc level }
@@ -193,7 +193,7 @@ fn put_loop(
     put_line(text, level, "}")
 }
 
-/// The first statement of a block, with the blocks inside of it.
+/// The first statement of a block, with the blocks inside it.
 #[cycle(blocks)]
 #[tactic(auto, using(std::proofs::Common::append_assoc))]
 fn put_first(
@@ -244,9 +244,9 @@ fn put_first(
     }
 }
 
-/// A block, one statement a line, so many levels in.
+/// A block, one statement a line, indented by `level` levels.
 ///
-/// It goes along the statements in a loop, and calls itself for the blocks inside of them.
+/// It loops over the statements, and calls itself for the blocks inside them.
 #[cycle(blocks)]
 pub(crate) fn put_block(
     text: &mut Vec<u8>,

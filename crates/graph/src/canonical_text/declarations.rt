@@ -7,7 +7,7 @@ use super::pieces::put;
 use crate::numbered::Numbered;
 use std::alloc::AllocError;
 
-/// The names of so many components, behind a colon where there are some.
+/// The names of `components` components, after a colon if there are any.
 fn names_of_components(components: usize) -> &'static str
     ensures { result.now ≡ after_colon (component_names components) }
 {
@@ -20,7 +20,7 @@ fn names_of_components(components: usize) -> &'static str
     }
 }
 
-/// A name, and behind a colon the names of so many components.
+/// A name, and after a colon the names of its components.
 #[tactic(auto, using(crate::proofs::Written::colon_behind, std::proofs::Common::append_assoc))]
 fn put_name(text: &mut Vec<u8>, name: &str, components: usize) -> Result<(), AllocError>
     ensures { OnOk result (text.new.items ≡ text.old.items ++ with_colon name.now (component_names components)) }

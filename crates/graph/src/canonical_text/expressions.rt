@@ -9,7 +9,7 @@ use std::alloc::AllocError;
 use steptree::{Components, Expression, Node, Operator};
 use terms::{ItemCollection, TagCollection};
 
-/// What spells an operator.
+/// The text of an operator.
 fn sign(operator: Operator) -> &'static str
     ensures { result.now ≡ operator_text operator }
 {
@@ -56,7 +56,7 @@ pub(crate) fn put_expression(
     }
 }
 
-/// Expressions, each behind a comma.
+/// Expressions, each after a comma.
 #[tactic(auto, using(std::proofs::Common::append_assoc))]
 fn put_more(
     text: &mut Vec<u8>,
@@ -72,7 +72,7 @@ fn put_more(
     Ok(())
 }
 
-/// The components of a key, behind a colon where there are some.
+/// The components of a key, after a colon if there are any.
 #[tactic(auto, using(std::proofs::Common::append_assoc))]
 fn put_components(
     text: &mut Vec<u8>,

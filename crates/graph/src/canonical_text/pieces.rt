@@ -6,7 +6,7 @@ ghost use Rattle.graph.specs.Pieces.{indentation};
 use itoa::Buffer;
 use std::alloc::AllocError;
 
-/// Appends these texts, one behind another.
+/// Appends these texts, one after another.
 pub(crate) fn put(text: &mut Vec<u8>, pieces: &[&str]) -> Result<(), AllocError>
     ensures { OnOk result (text.new.items ≡ text.old.items ++ flat_map (λ piece. piece.now) pieces.now) }
 {
@@ -16,7 +16,7 @@ pub(crate) fn put(text: &mut Vec<u8>, pieces: &[&str]) -> Result<(), AllocError>
     Ok(())
 }
 
-/// Appends the blanks in front of a line, so many levels in.
+/// Appends the indentation of a line at `level`.
 pub(crate) fn put_indentation(text: &mut Vec<u8>, level: usize) -> Result<(), AllocError>
     ensures { OnOk result (text.new.items ≡ text.old.items ++ indentation level) }
 {

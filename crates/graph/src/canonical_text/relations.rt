@@ -8,7 +8,7 @@ use super::pieces::put;
 use crate::numbered::Numbered;
 use std::alloc::AllocError;
 
-/// A relation but for the collection of items or tags at one of its ends; of a step by its name.
+/// A relation without the item or tag collection at one of its ends; a step is given by its name.
 #[derive(Clone, Copy)]
 pub(crate) enum Kind<'a> {
     Reads(&'a str),
@@ -34,7 +34,7 @@ fn put_relation(text: &mut Vec<u8>, kind: Kind<'_>, name: &str) -> Result<(), Al
     }
 }
 
-/// The line of a relation with the collection with a number, where it is marked.
+/// The line of a relation with the collection of this number, if that collection is marked.
 fn put_relation_at(
     text: &mut Vec<u8>,
     kind: Kind<'_>,
@@ -56,7 +56,7 @@ fn put_relation_at(
     }
 }
 
-/// The lines of the relations with those collections that are marked.
+/// The lines of the relations with the marked collections.
 pub(crate) fn put_relations(
     text: &mut Vec<u8>,
     kind: Kind<'_>,

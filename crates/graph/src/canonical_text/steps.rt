@@ -12,7 +12,7 @@ use crate::parts::Parts;
 use std::alloc::AllocError;
 use steptree::Block;
 
-/// Names, each behind a comma.
+/// Names, each after a comma.
 #[tactic(auto, using(std::proofs::Common::append_assoc))]
 fn put_more_names(text: &mut Vec<u8>, names: &[String]) -> Result<(), AllocError>
     ensures { OnOk result (text.new.items ≡ text.old.items ++ flat_map (λ text. codes ", " ++ text) (map (λ name. name.bytes.items) names.now)) }
@@ -37,7 +37,7 @@ fn put_names(text: &mut Vec<u8>, names: &[String]) -> Result<(), AllocError>
     }
 }
 
-/// The line of the variables, where there are some.
+/// The line of the variables, if there are any.
 #[tactic(auto, using(std::proofs::Common::append_assoc))]
 fn put_variables(text: &mut Vec<u8>, names: &[String]) -> Result<(), AllocError>
     ensures { OnOk result (text.new.items ≡ text.old.items ++ variables_line (map (λ name. name.bytes.items) names.now)) }
@@ -77,7 +77,7 @@ fn put_section(
     put_line(text, 1, "}")
 }
 
-/// The first line of a step, and the line of its variables; the first so many names are the parameters.
+/// The first line of a step, and the line of its variables; the first `parameters` names are the parameters.
 fn put_heading(
     text: &mut Vec<u8>,
     name: &str,

@@ -13,7 +13,7 @@ use crate::parts::Parts;
 use std::alloc::AllocError;
 use terms::TagCollection;
 
-/// The lines of the relations with those collections of items that are marked.
+/// The lines of the relations with the marked item collections.
 fn put_item_relations(
     text: &mut Vec<u8>,
     graph: &Parts<'_>,
@@ -26,7 +26,7 @@ fn put_item_relations(
     Ok(())
 }
 
-/// The lines of the relations with those collections of tags that are marked.
+/// The lines of the relations with the marked tag collections.
 fn put_tag_relations(
     text: &mut Vec<u8>,
     graph: &Parts<'_>,

@@ -29,7 +29,7 @@ impl Words<'_> {
         }
     }
 
-    /// The name of a collection of items.
+    /// The name of an item collection.
     pub(crate) fn put_item_name(
         &self,
         text: &mut Vec<u8>,
@@ -43,7 +43,7 @@ impl Words<'_> {
         }
     }
 
-    /// The name of a collection of tags.
+    /// The name of a tag collection.
     pub(crate) fn put_tag_name(
         &self,
         text: &mut Vec<u8>,

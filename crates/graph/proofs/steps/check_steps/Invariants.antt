@@ -7,7 +7,7 @@ use Rattle.graph.specs.Tree.{names_in, step_names}
 use Rattle.graph.proofs.Checking.{IsLeft}
 use Rattle.graph.proofs.steps.check_steps.Given as goal
 
--- what is left of the faults, where the relations and the numbers are those of the tree
+-- the faults that are left to find, if the relations and the numbers are those of the tree
 abbrev pub invariant-loop-number : goal.invariant-loop-number
 invariant-loop-number l =
     (items : List Text) (all : List Relation) (are : AreRelations items (names_in l.tags) (step_names l.steps) all l.relations) → ArePlaces l.numbered (step_names l.steps)

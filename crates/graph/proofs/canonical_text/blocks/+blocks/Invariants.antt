@@ -4,7 +4,7 @@ use Rattle.graph.specs.Canonical.{block_text}
 use Rattle.graph.specs.Pieces.{names_of_words}
 use Rattle.graph.proofs.canonical_text.blocks.+blocks.Given as goal
 
--- what is written, with what is left of the block, is what the block was; and that is no deeper than the block
+-- what is written, with what is left of the block, gives the whole; and what is left is no larger than the block
 abbrev pub invariant-put_block-loop-rest : goal.invariant-put_block-loop-rest
 invariant-put_block-loop-rest l =
     (l.text.items ++ block_text l.words.graph.now (names_of_words l.words) l.level l.left ≡ l.fn.text.items ++ block_text l.words.graph.now (names_of_words l.words) l.level l.block)
