@@ -1,4 +1,4 @@
--- The bytes of a line that is a form are below 128.
+-- The bytes of a line that has a form are below 128.
 use Rattle.std.proofs.Common.{◌≡◌, ℕ, ℤ, ◌<◌, true, ◌||◌, List, [], ◌∷◌, ◌++◌, inl, inr, sym, subst, arith, lit<}
 use Rattle.std.specs.List.{AllByRecursion}
 use Rattle.std.specs.Str.{IsAscii}

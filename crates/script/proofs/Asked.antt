@@ -1,4 +1,4 @@
--- What a line asks for by its tokens, or its fault.
+-- What a line asks for according to its tokens, or its fault.
 use Rattle.std.proofs.Common.{◌≡◌, ◌≢◌, ℕ, true, false, nat_eq, eq-eqb, length, List, [], ◌∷◌, Some, refl, sym, ap, subst, ◌∙◌}
 use Rattle.graph.specs.Graph.{Graph}
 use Rattle.script.specs.Faults.{IsFault, IsFormFault}

@@ -9,7 +9,7 @@ use Rattle.script.specs.Tokens.{AreSpaces, AreTokens, Lexeme, Stands, is_space}
 use Rattle.script.specs.declared.token.Token.{Token}
 use Rattle.syntax.proofs.Runs.{passes, stops}
 
--- whatever is read from this place on goes on with what was read before it
+-- what is read from this place on continues what was read before it
 abbrev pub SoFar : List ℕ → ℕ → List Lexeme → Type 0
 SoFar text place done = (later : List Lexeme) → AreTokens (drop place text) later → AreTokens text (done ++ later)
 
@@ -43,7 +43,7 @@ pub finished : (text : List ℕ) (place spaces : ℕ) (done : List Lexeme) → s
 finished text place spaces done e all so_far =
     subst (AreTokens text) (append-nil done) (so_far [] (all_spaces (drop place text) spaces e (omega (arith, length-drop place text))))
 
--- ---- behind the spaces
+-- ---- after the spaces
 
 pub spaces_within : (text : List ℕ) (place spaces : ℕ) → spaces ≡ prefix_len is_space (drop place text) → place ≤ length text → place + spaces ≤ length text
 spaces_within text place spaces e within = omega (arith, prefix_len-le-length is_space (drop place text), length-drop place text)
@@ -59,7 +59,7 @@ not_space text here place spaces e is some =
     let without : BeginsWithout is_space (drop spaces (drop place text)) = subst (λ k. BeginsWithout is_space (drop k (drop place text))) (sym e) ends in
     first_is_none here some (subst (BeginsWithout is_space) (sym from) without)
 
--- ---- one token more
+-- ---- one more token
 
 pub SoFar-pushed : (text : List ℕ) (place : ℕ) (old new : List Token) (token : Token) → new ≡ old ++ token ∷ [] → SoFar text place (lexemes_of old ++ lexeme_of token ∷ [])
     → SoFar text place (lexemes_of new)

@@ -17,7 +17,7 @@ twenty = (codes "20", 20, (λ none. cc, (refl, (refl, tt)), refl, refl), inr (re
 a_sign : (byte : ℕ) (rest : List ℕ) → is_sign byte ≡ true → Stands (sign byte) (byte ∷ rest) rest
 a_sign byte rest h = (refl, h)
 
--- a token behind no space, and one behind one
+-- a token with no space before it, and a token with one
 next : (token : Lexeme) (bytes rest : List ℕ) (more : List Lexeme) → Stands token bytes rest → AreTokens rest more → AreTokens bytes (token ∷ more)
 next token bytes rest more stands behind = ([], bytes, rest, refl, tt, stands, behind)
 

@@ -1,4 +1,4 @@
--- The form that tokens are, and the tokens of a form.
+-- From tokens to their form, and from a form to its tokens.
 use Rattle.std.proofs.Common.{◌≡◌, ℕ, ℤ, Bool, true, false, if◌then◌else◌, nat_eq, List, [], ◌∷◌, ◌++◌, Option, Some, None, codes, refl, sym, ap, subst, ◌∙◌, eq-eqb, inl, inr, ◌⊎◌}
 use Rattle.std.proofs.lemmas.Bool.{and_parts, eqb-true}
 use Rattle.std.proofs.lemmas.List.{append-nil}
@@ -27,7 +27,7 @@ key_read : (close : ℕ) (key : List ℤ) (behind : List Lexeme) → nat_eq 44 c
 key_read close [] behind comma colon = key_ends 58 close behind
 key_read close (component ∷ key) behind comma colon = rw colon (ap (with_component component) (more_read close key behind comma))
 
--- the tokens of a form are that form
+-- the tokens of a form are read as that form
 pub read_back : (form : Form) → form_of (tokens_of form) ≡ Some form
 read_back (put name key value) = ap (λ found. put_named (with_name name found)) (key_read 93 key (sign 61 ∷ number value ∷ []) refl refl)
 read_back (tag name key) =
@@ -62,7 +62,7 @@ same_text (x ∷ xs) (y ∷ ys) e =
 abbrev Found : Type 0
 Found = List ℤ × List Lexeme
 
--- components with this mark before the first of them, and the bracket behind them
+-- components with this mark before the first, and the bracket after them
 abbrev marked : ℕ → List ℤ → ℕ → List Lexeme
 marked mark [] close = sign close ∷ []
 marked mark (component ∷ key) close = sign mark ∷ number component ∷ more_tokens key close
@@ -186,7 +186,7 @@ put_form name key tokens (Some more) form is e =
     let ends = value_form name key more (number_of more) form refl e in
     (ends.0, sign_back 61 tokens more is ∙ ap (λ rest. sign 61 ∷ rest) ends.1, ends.2)
 
--- behind the first word
+-- after the first word
 put_front : (tokens : List Lexeme) (front : Option Named) (form : Form) → named_of 91 93 tokens ≡ front → put_named front ≡ Some form → tokens_of form ≡ word (codes "put") ∷ tokens
 put_front tokens None form is e = absurd (cc)
 put_front tokens (Some named) form is e =
@@ -252,7 +252,7 @@ verb_put verb more form e = elim (if_some {A = Form} (is_text verb (codes "put")
   | inr not ↦ verb_tag verb more form not.1
 ]
 
--- tokens that are a form are the form's
+-- tokens that are read as a form are the tokens of that form
 pub spelled_back : (tokens : List Lexeme) (form : Form) → form_of tokens ≡ Some form → tokens_of form ≡ tokens
 spelled_back [] form e = absurd (cc)
 spelled_back (word verb ∷ more) form e = verb_put verb more form e

@@ -1,4 +1,4 @@
--- What stands in front of a text that begins with a digit or a hyphen.
+-- The first token of a text that begins with a digit or a hyphen.
 use Rattle.std.proofs.Common.{◌≡◌, ◌≢◌, ℕ, zero, suc, ◌+◌, ◌-◌, ◌<◌, ◌≤◌, true, List, [], ◌∷◌, length, get_or, take, drop, inl, inr, refl, sym, ap, subst, ◌∙◌, arith, add-one, length-drop, take-append-drop}
 use Rattle.std.specs.List.{prefix_len}
 use Rattle.std.proofs.lemmas.List.{take_all}
@@ -33,9 +33,9 @@ pub number_sound : (text : List ℕ) (n : ℕ) → n ≡ prefix_len is_digit tex
 number_sound text n e more some =
     subst (IsDigits 10) (sym (plain_text (take n text) (has_digits text n e))) (all_digits (take n text) (some_front text n more some) (has_digits text n e))
 
--- ---- behind a hyphen
+-- ---- after a hyphen
 
--- the digits of the text behind its first byte
+-- the digits of the text after its first byte
 pub behind_first : (bytes : List ℕ) (n : ℕ) → n ≡ prefix_len is_digit (take (length bytes - 1) (drop 1 bytes)) → n ≡ prefix_len is_digit (drop 1 bytes)
 behind_first bytes n e =
     let whole : take (length bytes - 1) (drop 1 bytes) ≡ drop 1 bytes = take_all (length bytes - 1) (drop 1 bytes) (omega (arith, length-drop 1 bytes)) in

@@ -1,4 +1,4 @@
--- The components of a key that were read, and those that are still to come; and the form behind them.
+-- The components of a key that were read, and those that are still to come; and the form after them.
 use Rattle.std.proofs.Common.{◌≡◌, ◌≢◌, ℕ, ℤ, Bool, true, false, nat_eq, if◌then◌else◌, List, [], ◌∷◌, ◌++◌, Option, Some, None, codes, refl, sym, ap, subst, ◌∙◌, append_assoc}
 use Rattle.steptree.specs.Names.{is_text}
 use Rattle.script.specs.Forms.{Form, put, tag, get}

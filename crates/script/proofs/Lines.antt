@@ -13,7 +13,7 @@ use Rattle.script.specs.declared.error.ScriptFault.{ScriptFault}
 use Rattle.script.specs.declared.error.ScriptFault.TheVariants.{Syntax, Number, UnknownName, Arity, TooLarge}
 use Rattle.script.specs.declared.parser.TheConstants.{MOST_BYTES}
 
--- these lines were read, with these commands; the next has this number, and begins what is left
+-- these lines were read, and gave these commands; the next line has this number, and begins what is left
 pub record SoFar (g : Graph) (text left : List ℕ) (number : ℕ) (commands : List Command) : Type 0 where
   pub before : List (List ℕ)
   pub goes_on : (later : List (List ℕ)) → AreLines left later → AreLines text (before ++ later)
@@ -24,7 +24,7 @@ pub record SoFar (g : Graph) (text left : List ℕ) (number : ℕ) (commands : L
 pub begins : (g : Graph) (text : List ℕ) → SoFar g text text 1 []
 begins g text = record { before = []; goes_on = λ later are. are; asked = refl; counted = refl; within = omega arith }
 
--- ---- one line more
+-- ---- one more line
 
 added : (g : Graph) (before : List (List ℕ)) (line : List ℕ) (old new : List Command) → AreAsked g before old → IsAdded g line old new → AreAsked g (before ++ line ∷ []) new
 added g [] line old new asked (inl spaces) = inl (spaces.0, spaces.1 ∙ asked)
@@ -59,7 +59,7 @@ finished g text left line number old new small so_far none is more = record {
 
 -- ---- a fault
 
--- each text is some lines
+-- each text consists of lines
 abbrev HasLines : List ℕ → Type 0
 HasLines text = (line : List ℕ) × (more : List (List ℕ)) × AreLines text (line ∷ more)
 
@@ -75,7 +75,7 @@ some_lines : (text : List ℕ) → HasLines text
 some_lines [] = ([], [], (refl, tt))
 some_lines (byte ∷ rest) = feed_or_not byte rest (nat_eq byte 10) refl (some_lines rest)
 
--- the first line of what is left, whatever stands behind it
+-- the first line of what is left, whatever follows it
 behind_line : (left line : List ℕ) (behind : Option (Bor (List ℕ))) → HasNoFeed line → MatchOption behind (left ≡ line) (λ (rest : Bor (List ℕ)). left ≡ line ++ 10 ∷ rest.now)
     → (more : List (List ℕ)) × AreLines left (line ∷ more)
 behind_line left line None none is = ([], (is, none))
@@ -110,7 +110,7 @@ refused g text left line number commands behind (At other Arity) small so_far no
 refused g text left line number commands behind (At other TooLarge) small so_far none is h = absurd h.1.2
 refused g text left line number commands behind NoMemory small so_far none is h = tt
 
--- ---- what stands behind a line
+-- ---- what follows a line
 
 abbrev IsBehind : List ℕ → List ℕ → Option (Bor (List ℕ)) → Type 0
 IsBehind left line behind = MatchOption behind (left ≡ line) (λ (rest : Bor (List ℕ)). left ≡ line ++ 10 ∷ rest.now)

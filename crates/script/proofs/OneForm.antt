@@ -1,4 +1,4 @@
--- A line is one form at most, and asks for one command at most.
+-- A line has at most one form, and asks for at most one command.
 use Rattle.std.proofs.Common.{◌≡◌, ◌≢◌, ℕ, ℤ, List, [], Some, None, length, refl, sym, ap, subst, ◌∙◌}
 use Rattle.graph.specs.Graph.{Graph, IsOf}
 use Rattle.steptree.specs.Nameable.{Collection}
@@ -90,7 +90,7 @@ same_command g run (command.Get a) two x y = absurd x
 pub one_command : (g : Graph) (line : List ℕ) (one two : Command) → Asks g line one → Asks g line two → one ≡ two
 one_command g line one two x y = same_command g x.0 one two x.3 (subst (λ (form : Form). Names g form two) (one_form line y.0 x.0 y.1 x.1) y.3)
 
--- ---- what names a command has no fault
+-- ---- a form that names a command has no fault
 
 named_once : (collections : List Collection) (name : List ℕ) (number : ℕ) → HasNumber collections name number → IsUnknown collections name → ⊥
 named_once collections name number is none =

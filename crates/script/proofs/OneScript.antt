@@ -1,4 +1,4 @@
--- A text that is a script has one list of commands, and no fault.
+-- A text that is a script has one list of commands, and no fault but `NoMemory`.
 use Rattle.std.proofs.Common.{◌≡◌, ℕ, ◌⊎◌, List, [], ◌∷◌, ◌++◌, inl, inr, refl, sym, ap, subst, ◌∙◌, arith}
 use Rattle.graph.specs.Graph.{Graph}
 use Rattle.script.specs.Faults.{Asks, IsFault}
@@ -13,7 +13,7 @@ use Rattle.script.proofs.OneForm.{asked_without_fault, no_form, one_command, spa
 
 -- ---- the lines of a text
 
--- a line without a line feed is not one with more behind it
+-- a text without a line feed is not a line with more lines after it
 no_feed : (line other rest : List ℕ) → HasNoFeed line → line ≡ other ++ 10 ∷ rest → ⊥
 no_feed [] [] rest none e = absurd (cc)
 no_feed [] (c ∷ other) rest none e = absurd (cc)

@@ -1,4 +1,4 @@
--- A request to put is answered as its name, its key and its value are.
+-- The result for a request to put follows from those for its name, its key and its value.
 use denote.Bor.{Bor}
 use Rattle.std.proofs.Common.{◌≡◌, ℕ, ℤ, List, Option, Result, MatchResult, subst}
 use Rattle.graph.specs.Graph.{Graph}

@@ -1,4 +1,4 @@
--- The values of whole numbers, as they are written.
+-- The values of written integers.
 use Rattle.std.proofs.Common.{◌≡◌, ◌≢◌, ℕ, ℤ, pos, ◌<◌, List, [], ◌∷◌, length, Result, Ok, Err, refl, arith}
 use Rattle.std.specs.Int.{w64}
 use Rattle.std.specs.Result.{result_ok}
@@ -25,7 +25,7 @@ some_length (first ∷ rest) some = omega arith
 pub all_digits : (digits : List ℕ) → digits ≢ [] → AreDigits digits → IsDigits 10 digits
 all_digits digits some are = (some_length digits some, own.to digits are)
 
--- where no sign stands in front
+-- if there is no sign in front
 pub plain_text : (digits : List ℕ) → AreDigits digits → without_leading_sign digits ≡ digits
 plain_text [] h = refl
 plain_text (first ∷ rest) h = grind (arith, nat_tests, h.0)
@@ -34,7 +34,7 @@ pub plain_value : (digits : List ℕ) → AreDigits digits → signed_digits_val
 plain_value [] h = refl
 plain_value (first ∷ rest) h = grind (arith, nat_tests, h.0)
 
--- ---- what `parse` answers
+-- ---- what `parse` returns
 
 pub value_read : {E : Type 0} (text : List ℕ) (r : Result ℤ E) → ParsesSigned w64 10 text r → IsDigits 10 (without_leading_sign text) → HasValue (result_ok r) (signed_digits_value 10 text)
 value_read text (Ok found) h digits = (h.1, h.0.1)

@@ -1,4 +1,4 @@
--- What the program answers of a name with a key, of a line and of the lines up to a place.
+-- What the program returns for a name with a key, for a line, and for the lines up to a place.
 use Rattle.std.specs.Prelude.{◌≡◌, ◌⊎◌, ⊤, ℕ, ℤ, List, [], ◌∷◌, ◌++◌}
 use Rattle.steptree.specs.Nameable.{Collection}
 use Rattle.graph.specs.Graph.{Graph}
@@ -13,11 +13,11 @@ use Rattle.script.specs.declared.error.ScriptFault.{ScriptFault}
 abbrev pub IsKeyFault : List Collection → List ℕ → List ℤ → ScriptFault → Type 0
 IsKeyFault collections name key fault = IsFirstOf (AreFitting key) (IsUnknown collections name) (HasOtherArity collections name key) fault
 
--- why the line with this number is refused
+-- why the line with this number is rejected
 abbrev pub IsLineError : Graph → List ℕ → ℕ → ScriptError → Type 0
 IsLineError g line number (At other fault) = (other ≡ number) × IsFault g line fault
 IsLineError g line number NoMemory = ⊤
 
--- a line was read: it has no token, or asks for the command that is new
+-- a line was read: it has no token, or asks for the command that was added
 abbrev pub IsAdded : Graph → List ℕ → List Command → List Command → Type 0
 IsAdded g line old new = (AreSpaces line × (new ≡ old)) ⊎ ((command : Command) × (new ≡ old ++ command ∷ []) × Asks g line command)

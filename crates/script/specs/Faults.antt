@@ -20,11 +20,11 @@ numbers_of (tag name key) = key
 numbers_of (get name key) = key
 numbers_of run = []
 
--- each of these is a number of 64 bits
+-- each of these numbers fits in 64 bits
 abbrev pub AreFitting : List ℤ → Type 0
 AreFitting numbers = AllByRecursion (FitsSigned w64) numbers
 
--- each number of the form is one of 64 bits
+-- each number of the form fits in 64 bits
 abbrev pub AreInRange : Form → Type 0
 AreInRange form = AreFitting (numbers_of form)
 
@@ -32,7 +32,7 @@ AreInRange form = AreFitting (numbers_of form)
 abbrev pub HasNumber : List Collection → List ℕ → ℕ → Type 0
 HasNumber collections name number = place_of (names_in collections) name ≡ Some number
 
--- it has this number, and its keys have as many components as this key
+-- the collection has this number, and its keys have as many components as this key
 abbrev pub Finds : List Collection → List ℕ → List ℤ → ℕ → Type 0
 Finds collections name key number = HasNumber collections name number × IsOf collections number (length key)
 
@@ -50,7 +50,7 @@ Asks g line asked = (form : Form) × Spells line form × AreInRange form × Name
 
 -- ---- faults
 
--- no collection has this name; it has one, but its keys have another number of components
+-- no collection has this name; there is one, but its keys have another number of components
 abbrev pub IsUnknown : List Collection → List ℕ → Type 0
 IsUnknown collections name = place_of (names_in collections) name ≡ None
 
@@ -69,8 +69,8 @@ NamesOther g (tag name key) = HasOtherArity g.tags name key
 NamesOther g (get name key) = HasOtherArity g.items name key
 NamesOther g run = ⊥
 
--- The order of the faults of a form. `Number` is told where a number is not one of 64 bits; `UnknownName` where all of them are, and no collection has that name;
--- `Arity` where all of them are, and a collection has that name, but its keys have another number of components. A form has no other fault.
+-- The first fault of a form. `Number`: a number does not fit in 64 bits. `UnknownName`: all numbers fit, and no collection has the name.
+-- `Arity`: all numbers fit, and a collection has the name, but its keys have another number of components. A form has no other fault.
 abbrev pub IsFirstOf : (fitting unknown other_arity : Type 0) → ScriptFault → Type 0
 IsFirstOf fitting unknown other_arity Number = fitting → ⊥
 IsFirstOf fitting unknown other_arity UnknownName = fitting × unknown
@@ -82,7 +82,7 @@ IsFirstOf fitting unknown other_arity TooLarge = ⊥
 abbrev pub IsFormFault : Graph → Form → ScriptFault → Type 0
 IsFormFault g form fault = IsFirstOf (AreInRange form) (NamesNone g form) (NamesOther g form) fault
 
--- The fault of a line. `Syntax` is told where it has a token and is no form, and else the fault of its form. That a script is too large is no line's fault.
+-- The fault of a line. `Syntax`: it has a token and is no form. Otherwise: the fault of its form. `TooLarge` is never the fault of a line.
 abbrev pub IsFault : Graph → List ℕ → ScriptFault → Type 0
 IsFault g line Syntax = (AreSpaces line → ⊥) × ((form : Form) → Spells line form → ⊥)
 IsFault g line fault = (form : Form) × Spells line form × IsFormFault g form fault

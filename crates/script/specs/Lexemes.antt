@@ -1,4 +1,4 @@
--- The tokens of the program, as those of a line.
+-- The lexemes of the program's tokens.
 use Rattle.std.specs.Prelude.{⊤, List, map}
 use Rattle.std.specs.List.{AllByRecursion}
 use Rattle.std.specs.Str.Parse.{IsNumeral, signed_digits_value, without_leading_sign}
@@ -16,7 +16,7 @@ lexeme_of token.Unknown = unknown
 abbrev pub lexemes_of : List Token → List Lexeme
 lexemes_of tokens = map lexeme_of tokens
 
--- the text of a number is digits, behind a sign or not
+-- the text of a number is digits, with or without a sign in front
 abbrev pub IsSound : Token → Type 0
 IsSound (token.Word text) = ⊤
 IsSound (token.Number text) = IsNumeral 10 (without_leading_sign text.now)

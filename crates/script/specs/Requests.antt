@@ -1,4 +1,4 @@
--- What the tokens of a line ask for: the form that they are, and what the program keeps of it. Signs are written by the numbers that `Forms` lists.
+-- What the tokens of a line ask for: their form, and what the program keeps of it. Signs are given by the codes that `Forms` lists.
 use Rattle.std.specs.Prelude.{◌≡◌, ⊤, ◌<◌, ℕ, ℤ, ◌==◌, List, [], ◌∷◌, ◌++◌, length, Option, Some, None, FitsSigned, if◌then◌else◌, codes}
 use Rattle.std.specs.Int.{w64}
 use Rattle.std.specs.List.{AllByRecursion}
@@ -12,9 +12,9 @@ use Rattle.script.specs.declared.request.NamedKey.{NamedKey}
 use Rattle.script.specs.declared.request.Request.{Request}
 use Rattle.script.specs.declared.request.Request.TheVariants as request
 
--- ---- the form that tokens are
+-- ---- the form of the tokens
 
--- a key, and the tokens behind its bracket
+-- a key, and the tokens after its bracket
 abbrev pub KeyAndMore : Type 0
 KeyAndMore = Option (List ℤ × List Lexeme)
 
@@ -26,7 +26,7 @@ abbrev pub with_components : List ℤ → KeyAndMore → KeyAndMore
 with_components components None = None
 with_components components (Some found) = Some (components ++ found.0, found.1)
 
--- the tokens behind this sign, where it stands in front; and so behind a word, and behind a number
+-- the tokens after this sign, if it is the first token; in the same way after a word, and after a number
 abbrev pub sign_of : ℕ → List Lexeme → Option (List Lexeme)
 sign_of mark [] = None
 sign_of mark (word text ∷ more) = None
@@ -48,7 +48,7 @@ number_of (number value ∷ more) = Some (value, more)
 number_of (sign byte ∷ more) = None
 number_of (unknown ∷ more) = None
 
--- components with this mark before the first of them and a comma before each other, and then the bracket
+-- components, with this mark before the first and a comma before each of the others, and then the bracket
 abbrev pub key_of : ℕ → ℕ → List Lexeme → KeyAndMore
 key_of mark close [] = None
 key_of mark close (word text ∷ more) = None
@@ -61,7 +61,7 @@ key_of mark close (sign byte ∷ unknown ∷ more) = if byte == close then Some 
 key_of mark close (sign byte ∷ number value ∷ more) =
     if byte == close then Some ([], number value ∷ more) else (if byte == mark then with_component value (key_of 44 close more) else None)
 
--- a name and a key in brackets, and the tokens behind them
+-- a name and a key in brackets, and the tokens after them
 abbrev pub Named : Type 0
 Named = List ℕ × List ℤ × List Lexeme
 
@@ -80,12 +80,12 @@ named_behind close (Some more) = named_word close (word_of more)
 abbrev pub named_of : ℕ → ℕ → List Lexeme → Option Named
 named_of open' close tokens = named_behind close (sign_of open' tokens)
 
--- the form, where no token is left
+-- the form, if no token is left
 abbrev pub ended : Form → List Lexeme → Option Form
 ended form [] = Some form
 ended form (first ∷ more) = None
 
--- the form of a put behind its key
+-- the form of a put, after its key
 abbrev pub put_value : List ℕ → List ℤ → Option (ℤ × List Lexeme) → Option Form
 put_value name key None = None
 put_value name key (Some found) = ended (put name key found.0) found.1
@@ -94,7 +94,7 @@ abbrev pub put_behind : List ℕ → List ℤ → Option (List Lexeme) → Optio
 put_behind name key None = None
 put_behind name key (Some more) = put_value name key (number_of more)
 
--- the form of a put, of a tag and of a get by its name and key
+-- the form of a put, of a tag and of a get, from its name and key
 abbrev pub put_named : Option Named → Option Form
 put_named None = None
 put_named (Some named) = put_behind named.0 named.1 (sign_of 61 named.2)
@@ -107,7 +107,7 @@ abbrev pub get_named : Option Named → Option Form
 get_named None = None
 get_named (Some named) = ended (get named.0 named.1) named.2
 
--- the form behind its first word
+-- the form, from the tokens after its first word
 abbrev pub put_of : List Lexeme → Option Form
 put_of tokens = put_named (named_of 91 93 tokens)
 
@@ -132,18 +132,18 @@ form_of (unknown ∷ more) = None
 
 -- ---- what the program keeps of it
 
--- these components are read
+-- what was read stands for these components
 abbrev pub HasRead : WrittenKey → List ℤ → Type 0
 HasRead (Whole key) components = (key ≡ components) × AllByRecursion (FitsSigned w64) components
 HasRead TooLong components = (MAX_COMPONENTS < length components) × AllByRecursion (FitsSigned w64) components
 HasRead OutOfRange components = AllByRecursion (FitsSigned w64) components → ⊥
 
--- this number is read, or nothing where it is not one of 64 bits
+-- what was read stands for this number; it is `None` if the number does not fit in 64 bits
 abbrev pub HasValue : Option ℤ → ℤ → Type 0
 HasValue None value = FitsSigned w64 value → ⊥
 HasValue (Some found) value = (found ≡ value) × FitsSigned w64 value
 
--- what is asked for by this form
+-- the request is this form
 abbrev pub IsRequest : Request → Form → Type 0
 IsRequest (request.Put name key value) (put n k v) = (name.now ≡ n) × HasRead key k × HasValue value v
 IsRequest (request.Tag name key) (tag n k) = (name.now ≡ n) × HasRead key k
@@ -151,17 +151,17 @@ IsRequest (request.Get name key) (get n k) = (name.now ≡ n) × HasRead key k
 IsRequest request.Run run = ⊤
 IsRequest request form = ⊥
 
--- what is asked for, where the tokens are a form with a name
+-- the request for the tokens' form, if they have one whose name is not reserved; otherwise `None`
 abbrev pub Answers : Option Request → Option Form → Type 0
 Answers None found = (form : Form) → found ≡ Some form → HasName form → ⊥
 Answers (Some request) found = (form : Form) × (found ≡ Some form) × HasName form × IsRequest request form
 
--- what is kept of a key, where the tokens before begin with it, and those behind it
+-- what was read of the key that the tokens begin with, and the tokens after it
 abbrev pub AnswersKey : Option WrittenKey → KeyAndMore → List Lexeme → Type 0
 AnswersKey None found after = found ≡ None
 AnswersKey (Some read) found after = (key : List ℤ) × (found ≡ Some (key, after)) × HasRead read key
 
--- what is kept of a name with a key
+-- what was read of a name with a key, and the tokens after them
 abbrev pub AnswersNamed : Option NamedKey → Option Named → List Lexeme → Type 0
 AnswersNamed None found after = (named : Named) → found ≡ Some named → IsName named.0 → ⊥
 AnswersNamed (Some read) found after = (key : List ℤ) × (found ≡ Some (read.name.now, key, after)) × IsName read.name.now × HasRead read.key key

@@ -1,4 +1,4 @@
--- A script: lines, of which each that has a token asks for a command.
+-- A script: lines, each of which has no token or asks for a command.
 use Rattle.std.specs.Prelude.{◌≡◌, ◌≢◌, ◌⊎◌, ⊤, ◌≤◌, ◌<◌, ◌+◌, ℕ, List, [], ◌∷◌, ◌++◌, length}
 use Rattle.std.specs.List.{AllByRecursion}
 use Rattle.graph.specs.Graph.{Graph}
@@ -11,17 +11,17 @@ use Rattle.script.specs.declared.error.ScriptFault.{ScriptFault}
 use Rattle.script.specs.declared.error.ScriptFault.TheVariants.{Syntax, Number, UnknownName, Arity, TooLarge}
 use Rattle.script.specs.declared.parser.TheConstants.{MOST_BYTES}
 
--- no line feed, 10, is among these bytes
+-- no line feed (10) is among these bytes
 abbrev pub HasNoFeed : List ℕ → Type 0
 HasNoFeed line = AllByRecursion (λ byte. byte ≢ 10) line
 
--- the text is these lines, with a line feed between each two
+-- the text is these lines, with one line feed between any two neighbours
 abbrev pub AreLines : List ℕ → List (List ℕ) → Type 0
 AreLines text [] = ⊥
 AreLines text (line ∷ []) = (text ≡ line) × HasNoFeed line
 AreLines text (line ∷ next ∷ more) = (rest : List ℕ) × (text ≡ line ++ 10 ∷ rest) × HasNoFeed line × AreLines rest (next ∷ more)
 
--- each of the lines is without a token, or asks for a command; these are the commands, in order
+-- each of the lines has no token, or asks for a command; these are the commands, in order
 abbrev pub AreAsked : Graph → List (List ℕ) → List Command → Type 0
 AreAsked g [] commands = commands ≡ []
 AreAsked g (line ∷ more) commands = (AreSpaces line × AreAsked g more commands)
@@ -34,7 +34,7 @@ pub record IsScript (g : Graph) (text : List ℕ) (commands : List Command) : Ty
   pub split : AreLines text lines
   pub asked : AreAsked g lines commands
 
--- the line with this number, counted from 1, is the first with a fault, which is this one
+-- the line with this number, counted from 1, is the first with a fault, and this is its fault
 pub record IsFirstFault (g : Graph) (text : List ℕ) (number : ℕ) (fault : ScriptFault) : Type 0 where
   pub small : length text ≤ MOST_BYTES
   pub before : List (List ℕ)
@@ -46,7 +46,7 @@ pub record IsFirstFault (g : Graph) (text : List ℕ) (number : ℕ) (fault : Sc
   pub counted : number ≡ length before + 1
   pub is_fault : IsFault g line fault
 
--- why a text is refused: it is too large, which is told of line 1, or a line is at fault; and want of memory
+-- why a text is rejected: it is too large, reported with line 1; or a line has a fault; or memory was refused
 abbrev pub IsRefused : Graph → List ℕ → ScriptError → Type 0
 IsRefused g text (At number TooLarge) = (MOST_BYTES < length text) × (number ≡ 1)
 IsRefused g text (At number Syntax) = IsFirstFault g text number Syntax
@@ -55,7 +55,7 @@ IsRefused g text (At number UnknownName) = IsFirstFault g text number UnknownNam
 IsRefused g text (At number Arity) = IsFirstFault g text number Arity
 IsRefused g text NoMemory = ⊤
 
--- a text that is a script has no fault, and at most one list of commands
+-- a text that is a script has no fault but `NoMemory`, and at most one list of commands
 abbrev pub ScriptsOnce : Type 0
 ScriptsOnce = (g : Graph) (text : List ℕ) (commands : List Command) → IsScript g text commands
     → ((other : List Command) → IsScript g text other → commands ≡ other) × ((error : ScriptError) → IsRefused g text error → error ≡ NoMemory)

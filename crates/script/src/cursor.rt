@@ -1,4 +1,4 @@
-//! The tokens of a line that are left, and the takes of single ones.
+//! The tokens of a line that are left, and methods that take one token.
 use crate::key::number;
 use crate::token::Token;
 
@@ -13,7 +13,7 @@ impl<'t, 'a> Cursor<'t, 'a> {
     ghost use Rattle.script.specs.Lexemes.{IsSoundCursor, left};
     ghost use Rattle.script.specs.Requests.{HasValue, number_of, sign_of, word_of};
 
-    /// Takes this sign, if it stands in front.
+    /// Takes this sign, if it is the next token.
     pub(crate) fn takes(&mut self, sign: u8) -> bool
         requires { IsSoundCursor self.old }
         ensures taken { MatchBool result (sign_of sign (left self.old) ≡ Some (left self.new)) ((sign_of sign (left self.old) ≡ None) × (left self.new ≡ left self.old)) }
@@ -32,7 +32,7 @@ impl<'t, 'a> Cursor<'t, 'a> {
         }
     }
 
-    /// Takes a word, if one stands in front.
+    /// Takes a word, if it is the next token.
     pub(crate) fn word(&mut self) -> Option<&'a str>
         requires { IsSoundCursor self.old }
         ensures taken { MatchOption result (word_of (left self.old) ≡ None) (λ word. word_of (left self.old) ≡ Some (word.now, left self.new)) }
@@ -47,7 +47,7 @@ impl<'t, 'a> Cursor<'t, 'a> {
         }
     }
 
-    /// Takes a number, if one stands in front; nothing where it is not one of 64 bits.
+    /// Takes a number, if it is the next token; the inner `None` means that the number does not fit in 64 bits.
     pub(crate) fn number(&mut self) -> Option<Option<i64>>
         requires { IsSoundCursor self.old }
         ensures taken { MatchOption result (number_of (left self.old) ≡ None) (λ read. (value : ℤ) × (number_of (left self.old) ≡ Some (value, left self.new)) × HasValue read value) }

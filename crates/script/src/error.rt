@@ -4,19 +4,19 @@ ghost use Rattle.script.specs.declared.error.ScriptError.TheVariants.{NoMemory};
 use std::alloc::{AllocError, AllocFailed};
 use thiserror::Error;
 
-/// What is wrong with a line of a script, in the order in which faults are told: where a line has several of the first four, the first of them is told.
-/// `TooLarge` is told before any of them.
+/// What is wrong with a line of a script, in the order in which faults are reported: if a line has several of the first
+/// four, the first of them is reported. `TooLarge` is reported before any of them.
 #[derive(Clone, Copy, Debug, PartialEq, Eq)]
 pub enum ScriptFault {
     /// The line has none of the forms.
     Syntax,
-    /// A number is not one of 64 bits with a sign.
+    /// A number does not fit in a signed 64-bit integer.
     Number,
     /// No collection of the graph has this name.
     UnknownName,
-    /// The key has another number of components than those of its collection.
+    /// The number of components of the key is not that of its collection.
     Arity,
-    /// The script has more than 1,048,576 bytes. It is told with line 1, whatever its lines are, also where one of them is at fault.
+    /// The script has more than 1,048,576 bytes. It is reported with line 1, whatever the lines are, even if one has a fault.
     TooLarge,
 }
 
@@ -38,14 +38,14 @@ impl ScriptFault {
     }
 }
 
-/// Why a text is no script of a graph.
+/// Why a text is not a script of a graph.
 #[derive(Clone, Copy, Debug, PartialEq, Eq, Error)]
 pub enum ScriptError {
-    /// The line with this number is the first at fault, and this is its fault. Lines are counted from 1, and lines without a token count too. With
-    /// `TooLarge` the number is 1, and no line was looked at.
+    /// The line with this number is the first with a fault, and this is its fault. Lines count from 1, and lines without a
+    /// token count too. With `TooLarge` the number is 1, and no line was read.
     #[error("line {0} of the script is at fault")]
     At(usize, ScriptFault),
-    /// A growth was refused.
+    /// Memory was refused.
     #[error("no memory")]
     NoMemory,
 }

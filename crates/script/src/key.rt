@@ -1,4 +1,4 @@
-//! Keys, as they are written.
+//! Keys as they are written.
 ghost use Rattle.std.specs.Prelude.{◌≡◌, ◌≤◌, ◌∷◌, ◌++◌, [], ℤ, List, length, IfSome, Some};
 ghost use Rattle.std.specs.Str.Parse.{IsNumeral, signed_digits_value, without_leading_sign};
 ghost use Rattle.terms.specs.declared.key.TheConstants.{MAX_COMPONENTS};
@@ -8,19 +8,19 @@ ghost use Rattle.script.specs.Requests.{AnswersKey, HasRead, HasValue, key_of};
 use crate::cursor::Cursor;
 use terms::{Key, MAX_COMPONENTS};
 
-/// What is read of the components of a key.
+/// What was read of the components of a key.
 #[derive(Clone, Copy)]
 pub(crate) enum WrittenKey {
-    /// All of them are numbers of 64 bits, and this is the key.
+    /// All of them fit in 64 bits, and this is the key.
     Whole(Key),
-    /// All of them are numbers of 64 bits, and no key has so many.
+    /// All of them fit in 64 bits, but there are more than a key can have.
     TooLong,
-    /// One of them is not a number of 64 bits.
+    /// One of them does not fit in 64 bits.
     OutOfRange,
 }
 
 impl WrittenKey {
-    // The same with one component more.
+    // The same with one more component.
     fn with(self, component: Option<i64>) -> WrittenKey
         ensures { (components : List ℤ) → (value : ℤ) → HasRead self components → HasValue component value → HasRead result (components ++ value ∷ []) }
     {
@@ -35,7 +35,7 @@ impl WrittenKey {
     }
 }
 
-// The key with one component more.
+// The key with one more component.
 fn longer(key: Key, component: i64) -> WrittenKey
     ensures { (components : List ℤ) → (value : ℤ) → HasRead (WrittenKey.Whole key) components → HasValue (Some component) value → HasRead result (components ++ value ∷ []) }
 {
@@ -50,7 +50,7 @@ fn longer(key: Key, component: i64) -> WrittenKey
     WrittenKey::Whole(Key::new(&components[..count + 1]))
 }
 
-/// The number that is written so, or nothing where it is not one of 64 bits.
+/// The number that is written here, or `None` if it does not fit in 64 bits.
 pub(crate) fn number(text: &str) -> Option<i64>
     requires { IsNumeral 10 (without_leading_sign text.now) }
     ensures { HasValue result (signed_digits_value 10 text.now) }
@@ -58,7 +58,7 @@ pub(crate) fn number(text: &str) -> Option<i64>
     text.parse::<i64>().ok()
 }
 
-/// The key behind a name: the components behind a colon, where there are some, up to a bracket.
+/// The key after a name: a colon and components, if there are any, up to the closing bracket.
 pub(crate) fn written_key(cursor: &mut Cursor<'_, '_>, close: u8) -> Option<WrittenKey>
     requires { IsSoundCursor cursor.old }
     ensures key { AnswersKey result (key_of 58 close (left cursor.old)) (left cursor.new) }

@@ -9,20 +9,20 @@ pub fn script_limit()
     ensures { MOST_BYTES ≡ 1048576 }
 {}
 
-/// A line is one list of tokens at most; and worked examples.
+/// A line has at most one list of tokens; and worked examples.
 pub fn tokens_once()
     ensures once { TokensOnce }
     ensures example { TokensExample }
 {}
 
-/// A line is one form at most.
+/// A line has at most one form.
 pub fn forms_once()
     ensures { FormsOnce }
 {
     tokens_once();
 }
 
-/// A text that is a script has no fault, and one list of commands.
+/// A text that is a script has no fault but `NoMemory`, and only one list of commands.
 pub fn scripts_once()
     ensures { ScriptsOnce }
 {

@@ -10,7 +10,7 @@ use crate::token::Token;
 use std::alloc::AllocError;
 use syntax::{is_digit, is_letter, leading_digits, leading_word};
 
-/// Puts the tokens of a line, which is ASCII, in the place of those that were there, up to the first that is unknown.
+/// Replaces `tokens` by the tokens of a line, which is ASCII, up to the first unknown one.
 pub(crate) fn tokenize<'a>(tokens: &mut Vec<Token<'a>>, line: &'a str) -> Result<(), AllocError>
     requires ascii { IsAscii line.now }
     ensures tokens { OnOk result (AreTokens line.now (lexemes_of tokens.new.items)) }
@@ -29,7 +29,7 @@ pub(crate) fn tokenize<'a>(tokens: &mut Vec<Token<'a>>, line: &'a str) -> Result
     }
 }
 
-// The token in front of a text, and how many bytes it has. An unknown one has all.
+// The first token of a text, and its number of bytes. An unknown token takes all bytes.
 fn first_token<'a>(text: &'a str) -> (Token<'a>, usize)
     requires ascii { IsAscii text.now }
     requires some { 0 < length text.now }
@@ -54,7 +54,7 @@ fn first_token<'a>(text: &'a str) -> (Token<'a>, usize)
     }
 }
 
-// The number in front, below 0, and how many bytes it has. An unknown token has all.
+// The negative number at the front, and its number of bytes. An unknown token takes all bytes.
 fn negative_or_unknown<'a>(text: &'a str) -> (Token<'a>, usize)
     requires ascii { IsAscii text.now }
     requires some { 0 < length text.now }

@@ -1,7 +1,7 @@
-//! Scripts: what the environment asks of a store, a line for each put, get and run.
+//! Scripts: what the environment asks of a store, one line for each command.
 //!
-//! A text is a script where each line is without a token or asks for a command of the graph (`IsScript`). The layer above stands on `parse_script`, which
-//! answers the commands, or the first line at fault with its fault, and on the laws `scripts_once` and `script_limit`.
+//! A text is a script if each line has no token or asks for a command of the graph (`IsScript`). The layer above uses
+//! `parse_script`, which returns the commands or the first line with a fault, and the laws `scripts_once` and `script_limit`.
 #![tactic(auto)]
 
 mod characters;

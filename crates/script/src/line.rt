@@ -13,7 +13,7 @@ use crate::token::Token;
 use crate::{Command, ScriptError, ScriptFault};
 use graph::Graph;
 
-/// The first line of a text, and what stands behind its line feed, if it has one.
+/// The first line of a text, and what follows its line feed, if it has one.
 pub(crate) fn first_line(text: &[u8]) -> (&[u8], Option<&[u8]>)
     ensures line { HasNoFeed result.0.now }
     ensures behind { MatchOption result.1 (text.now ≡ result.0.now) (λ behind. text.now ≡ result.0.now ++ 10 ∷ behind.now) }
@@ -24,7 +24,7 @@ pub(crate) fn first_line(text: &[u8]) -> (&[u8], Option<&[u8]>)
     }
 }
 
-// What the line with this number asks for, or nothing where it has no token. Its tokens take the place of those that were there.
+// What the line with this number asks for, or `None` if it has no token. The tokens of the line replace those in `tokens`.
 fn asked<'a>(
     graph: &Graph,
     tokens: &mut Vec<Token<'a>>,
@@ -70,7 +70,7 @@ pub(crate) fn read_line<'a>(
     }
 }
 
-// The line, if all its bytes are below 128.
+// The line as text, if all its bytes are below 128.
 fn ascii(line: &[u8]) -> Option<&str>
     ensures { MatchOption result (IsAscii line.now → ⊥) (λ text. (text.now ≡ line.now) × IsAscii line.now) }
 {

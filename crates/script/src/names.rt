@@ -11,7 +11,7 @@ use crate::{Command, ScriptFault};
 use graph::Graph;
 use terms::{Addr, Tag};
 
-/// The command that a request names, or the first of its faults.
+/// The command of a request, or its first fault.
 pub(crate) fn command_of(graph: &Graph, request: &Request<'_>) -> Result<Command, ScriptFault>
     ensures { (form : Form) → IsRequest request.now form
         → MatchResult result (λ command. AreInRange form × Names graph.now form command) (IsFormFault graph.now form) }
@@ -48,7 +48,7 @@ fn address(graph: &Graph, name: &str, key: WrittenKey) -> Result<Addr, ScriptFau
             None => Err(ScriptFault::UnknownName),
         },
         WrittenKey::TooLong => {
-            // No collection of a graph has keys of so many components.
+            // No collection of a graph has keys with this many components.
             graph.item_count();
             match graph.item_number(name) {
                 Some(_) => Err(ScriptFault::Arity),
@@ -77,7 +77,7 @@ fn tag(graph: &Graph, name: &str, key: WrittenKey) -> Result<Tag, ScriptFault>
             None => Err(ScriptFault::UnknownName),
         },
         WrittenKey::TooLong => {
-            // No collection of a graph has keys of so many components.
+            // No collection of a graph has keys with this many components.
             graph.tag_count();
             match graph.tag_number(name) {
                 Some(_) => Err(ScriptFault::Arity),
@@ -88,7 +88,7 @@ fn tag(graph: &Graph, name: &str, key: WrittenKey) -> Result<Tag, ScriptFault>
     }
 }
 
-// A put of an item; nothing stands for a value that is not a number of 64 bits.
+// A put of an item; `None` is a value that does not fit in 64 bits.
 fn put_item(
     graph: &Graph,
     name: &str,

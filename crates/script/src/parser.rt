@@ -1,4 +1,4 @@
-//! The commands of a script.
+//! Parsing a script into its commands.
 ghost use Rattle.std.specs.Prelude.{IfErr, IfOk};
 ghost use Rattle.script.specs.Script.{IsRefused, IsScript};
 
@@ -10,17 +10,19 @@ use std::alloc::Global;
 /// The greatest number of bytes of a script.
 pub const MOST_BYTES: usize = 1_048_576;
 
-/// The commands of a script for a graph, in their order.
+/// The commands of a script for a graph, in order.
 ///
-/// A script is lines, each ended by a line feed, the last perhaps without one. Any spaces may stand between tokens, and a line without a token asks for
-/// nothing. The forms are `put [c: k, ..] = v`, `tag <t: k, ..>`, `get [c: k, ..]` and `run`.
+/// A script consists of lines, each ended by a line feed; the last may have none. Spaces may be anywhere between tokens, and
+/// a line without a token asks for nothing. The forms are `put [c: k, ..] = v`, `tag <t: k, ..>`, `get [c: k, ..]` and
+/// `run`.
 ///
 /// # Errors
 ///
-/// - `At(1, TooLarge)`: the script has more than 1,048,576 bytes. This comes before any other fault, also where a line is at fault.
-/// - `At(n, fault)`: line `n`, counted from 1, is the first at fault. Of several faults of that line the first in this order is told: `Syntax`, `Number`,
-///   `UnknownName`, `Arity`.
-/// - `NoMemory`: a growth was refused.
+/// - `At(1, TooLarge)`: the script has more than 1,048,576 bytes. This is reported before any other fault, even if a line
+///   has one.
+/// - `At(n, fault)`: line `n`, counted from 1, is the first with a fault. If it has several, the first in this order is
+///   reported: `Syntax`, `Number`, `UnknownName`, `Arity`.
+/// - `NoMemory`: memory was refused.
 pub fn parse_script(alloc: Global, graph: &Graph, text: &[u8]) -> Result<Vec<Command>, ScriptError>
     ensures commands { IfOk result (λ commands. IsScript graph.now text.now commands.items) }
     ensures refused { IfErr result (IsRefused graph.now text.now) }

@@ -1,4 +1,4 @@
-//! What a line asks for, by the names and numbers that stand there.
+//! What a line asks for, by the names and numbers that are written there.
 ghost use Rattle.std.specs.Prelude.{ℤ, List};
 ghost use Rattle.script.specs.Forms.{IsName, run};
 ghost use Rattle.script.specs.Lexemes.{AreSound, IsSoundCursor, left, lexemes_of};
@@ -12,7 +12,7 @@ use syntax::reserved_word;
 /// What a line asks for.
 #[derive(Clone, Copy)]
 pub(crate) enum Request<'a> {
-    /// To put an item: the name of its collection, its key and its value, nothing where that is not a number of 64 bits.
+    /// To put an item: the name of its collection, its key and its value, or `None` if the value does not fit in 64 bits.
     Put(&'a str, WrittenKey, Option<i64>),
     /// To put a tag.
     Tag(&'a str, WrittenKey),
@@ -41,7 +41,7 @@ pub(crate) fn requested<'a>(tokens: &[Token<'a>]) -> Option<Request<'a>>
     }
 }
 
-// What is asked for behind the first word.
+// The request, by the first word and the tokens after it.
 fn by_verb<'a>(verb: &str, cursor: &mut Cursor<'_, 'a>) -> Option<Request<'a>>
     requires { IsSoundCursor cursor.old }
     ensures { Answers result (form_by verb.now (left cursor.old)) }
@@ -65,7 +65,7 @@ fn put<'a>(cursor: &mut Cursor<'_, 'a>) -> Option<Request<'a>>
     }
 }
 
-// The put behind its name and key.
+// A put, after its name and key were read.
 fn put_named<'a>(named: NamedKey<'a>, cursor: &mut Cursor<'_, 'a>) -> Option<Request<'a>>
     requires sound { IsSoundCursor cursor.old }
     requires kept { IsName named.name.now }

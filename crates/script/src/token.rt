@@ -7,6 +7,6 @@ pub(crate) enum Token<'a> {
     Number(&'a str),
     /// One of `[ ] < > : , =`.
     Sign(u8),
-    /// What begins no token. It is the last token, whatever stands behind it.
+    /// Anything that begins no token. It is the last token, whatever follows it.
     Unknown,
 }
