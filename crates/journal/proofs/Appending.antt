@@ -1,4 +1,4 @@
--- What a file stands for while a record is appended: behind the closed gate first, and then by opening the gate.
+-- What a file stands for while a record is appended: it is written behind the closed gate first, and then the gate is opened.
 use Rattle.std.proofs.Common.{◌≡◌, ◌≢◌, ◌⊎◌, inl, inr, ℕ, ◌+◌, ◌≤◌, ◌<◌, List, [], ◌∷◌, ◌++◌, length, take, drop, get_or, All, sym, ap, subst, ◌∙◌, arith, append_assoc, length-append, length-take, length-drop, take-append-drop}
 use Rattle.std.proofs.lemmas.List.{take_at, drop_at, drop_more, drop-drop, flat_map_more}
 use Rattle.std.proofs.lemmas.List.Elements.{All-append, All-cons, All-nil}
@@ -11,7 +11,7 @@ use Rattle.disk.specs.Moments.{joined, other_before}
 use Rattle.journal.specs.Records.{record_of, records, IsShort, StandsFor}
 use Rattle.journal.specs.Journal.{BeforeOrAfter}
 
--- what stands behind the gate of a record
+-- what follows the gate of a record
 abbrev pub body_of : List ℕ → List ℕ
 body_of payload = little_bytes 4 (length payload) ++ payload
 
@@ -21,7 +21,7 @@ records-push payloads payload = sym (flat_map_more record_of [] payloads payload
 pub short-push : (payloads : List (List ℕ)) (payload : List ℕ) → All IsShort payloads → IsShort payload → All IsShort (payloads ++ payload ∷ [])
 short-push payloads payload short last = All-append IsShort payloads (payload ∷ []) short (All-cons IsShort payload [] last (All-nil IsShort))
 
--- ---- a file in parts: what stands in front of the journal, the records, a gate, and what stands behind it
+-- ---- a file in parts: what is in front of the journal, the records, a gate, and what is behind it
 
 module _ (front recs : List ℕ) (start end : ℕ) (long : length front ≡ start) (ends : end ≡ start + length recs) where
   abbrev pub parts : ℕ → List ℕ → List ℕ
@@ -42,14 +42,14 @@ module _ (front recs : List ℕ) (start end : ℕ) (long : length front ≡ star
   pub length-parts : (gate : ℕ) (behind : List ℕ) → length (parts gate behind) ≡ end + 1 + length behind
   length-parts gate behind = ap length (past_gate gate behind) ∙ omega (arith, length_past_gate gate, length-append (front ++ recs ++ gate ∷ []) behind)
 
-  -- what keeps everything up to the gate and the gate itself
+  -- a file that keeps everything up to the gate, and the gate itself
   pub gate_kept : (gate : ℕ) (behind c : List ℕ) → take (end + 1) c ≡ take (end + 1) (parts gate behind) → c ≡ parts gate (drop (end + 1) c)
   gate_kept gate behind c same =
       sym (take-append-drop (end + 1) c)
       ∙ ap (λ (l : List ℕ). l ++ drop (end + 1) c) (same ∙ ap (take (end + 1)) (past_gate gate behind) ∙ take_at (front ++ recs ++ gate ∷ []) behind (end + 1) (length_past_gate gate))
       ∙ sym (past_gate gate (drop (end + 1) c))
 
-  -- what keeps everything but the gate
+  -- a file that keeps everything but the gate
   pub gate_open : (gate : ℕ) (behind c : List ℕ) → WriteLeaves (parts gate behind) end 1 c → c ≡ parts (get_or c end 0) behind
   gate_open gate behind c left =
       let within : end + 1 ≤ length (parts gate behind) = omega (arith, length-parts gate behind) in
@@ -117,7 +117,7 @@ module _ (start : ℕ) (content : List ℕ) (payloads : List (List ℕ)) (end : 
   front_kept gate behind c is = front_of front (records payloads) start end long ends gate behind c is
 
   module _ (payload : List ℕ) (short : IsShort payload) where
-    -- what stands behind the gate once the record is written there
+    -- what is behind the gate once the record is written there
     abbrev pub staged : List ℕ
     staged = (body_of payload ++ 0 ∷ []) ++ drop (length (body_of payload ++ 0 ∷ [])) stands.rest
 
@@ -185,7 +185,7 @@ module _ {D : Type 0} (moment : D → ℕ) (left_at : D → ℕ → Contents →
       (λ contents leaves. (crash_behind start content payloads end stands ends payload short count (contents side) leaves.0, leaves.1))
       (λ contents leaves. (crash_at_gate start content payloads end stands ends payload short (contents side) leaves.0, other_before side before between stays contents leaves.1))
 
-  -- of the other file
+  -- the other file
   pub other_moments : (P Q : Contents → Type 0) → LeavesOnly moment left_at old mid (λ contents. P contents × OtherMayBe side before contents)
       → LeavesOnly moment left_at mid new (λ contents. Q contents × OtherMayBe side between contents) → LeavesOnly moment left_at old new (OtherMayBe side before)
   other_moments P Q first second =
@@ -202,7 +202,7 @@ unwritten content at count le c is = record {
   back = λ within. ap (drop (at + count)) is;
 }
 
--- behind a closed gate there is no payload yet
+-- behind the first closed gate there is no payload yet
 pub stands_for_none : (content : List ℕ) (at : ℕ) → at ≤ length content → StandsFor (drop at (overwritten content at (0 ∷ []))) []
 stands_for_none content at le = record {
   short = All-nil IsShort;

@@ -1,4 +1,4 @@
--- How the bytes of a record are read: each record by its length, and none in two ways.
+-- How the bytes of a record are read: each record by its length, and no record in two ways.
 use Rattle.std.proofs.Common.{◌≡◌, ◌≤◌, ◌<◌, ◌+◌, ◌-◌, ◌^◌, ℕ, zero, suc, List, [], ◌∷◌, ◌++◌, length, take, drop, get_or, sym, ◌∙◌, ap, refl, arith}
 use Rattle.std.specs.Prelude.{slice_range}
 use Rattle.std.proofs.lemmas.List.{append_assoc, length-take-le, length-drop, take-append-drop, take_at, drop_at, drop_more, drop-drop}
@@ -9,24 +9,24 @@ use Rattle.byteorder.specs.Numbers.{little_number-reads_back}
 use Rattle.journal.specs.Records.{record_of, records, IsShort, StandsFor}
 use Rattle.journal.specs.WholeRecords.{BeginsWith, IsRecordAt}
 
--- two lists whose fronts are as long have one front and one rest
+-- if two lists are equal and their front parts are equally long, then the front parts are equal, and so are the rests
 same_front : (a b xs ys : List ℕ) → length a ≡ length b → a ++ xs ≡ b ++ ys → (a ≡ b) × (xs ≡ ys)
 same_front a b xs ys long same = (
   sym (take_at a xs (length b) long) ∙ ap (take (length b)) same ∙ take_at b ys (length b) refl,
   sym (drop_at a xs (length b) long) ∙ ap (drop (length b)) same ∙ drop_at b ys (length b) refl,
 )
 
--- behind its gate a record reads as the length of its payload
+-- the bytes after a record's gate are read as the length of its payload
 pub length_read : (payload rest : List ℕ) → IsShort payload → little_number 4 (drop 1 (record_of payload ++ rest)) ≡ length payload
 length_read payload rest short = little_number-reads_back 4 (length payload) (payload ++ rest) (omega arith)
 
--- no record is another one, nor begins with it
+-- no record equals another, nor begins with another
 pub one_record : (a b xs ys : List ℕ) → IsShort a → IsShort b → record_of a ++ xs ≡ record_of b ++ ys → (a ≡ b) × (xs ≡ ys)
 one_record a b xs ys short_a short_b same =
     let count = λ (bytes : List ℕ). little_number 4 (drop 1 bytes) in
     same_front a b xs ys (sym (length_read a xs short_a) ∙ ap count same ∙ length_read b ys short_b) (ap (drop 5) same)
 
--- bytes stand for one list of payloads
+-- bytes stand for only one list of payloads
 pub one_meaning : (one two : List (List ℕ)) (bytes : List ℕ) → StandsFor bytes one → StandsFor bytes two → one ≡ two
 one_meaning [] [] bytes a b = refl
 one_meaning [] (y ∷ ys) bytes a b = absurd (a.closed (ap (λ (bytes : List ℕ). get_or bytes 0 0) (sym a.spelled ∙ b.spelled)))
@@ -47,7 +47,7 @@ four_bytes a b c d la lb lc ld (suc (suc zero)) = lc
 four_bytes a b c d la lb lc ld (suc (suc (suc zero))) = ld
 four_bytes a b c d la lb lc ld (suc (suc (suc (suc k)))) = omega arith
 
--- bytes begin with the record whose length they spell behind an open gate
+-- bytes with an open gate begin with the record of the length that follows the gate
 spells_record : (bytes : List ℕ) (count : ℕ) → ((k : ℕ) → get_or bytes k 0 < 256) → 5 + count ≤ length bytes → get_or bytes 0 0 ≡ 1 → count ≡ little_number 4 (drop 1 bytes)
     → bytes ≡ record_of (take count (drop 5 bytes)) ++ drop count (drop 5 bytes)
 spells_record [] count low fits begins is = absurd (omega arith)
@@ -62,7 +62,7 @@ spells_record (gate ∷ a ∷ b ∷ c ∷ d ∷ rest) count low fits begins is =
     ∙ ap (λ (front : List ℕ). 1 ∷ front ++ (take count rest ++ drop count rest)) (sym spelled)
     ∙ ap (λ (n : ℕ). 1 ∷ little_bytes 4 n ++ (take count rest ++ drop count rest)) (sym long)
 
--- and with the gate of a next one, where they are longer
+-- and the gate of a next record follows, if there are more bytes
 pub first_stands : (bytes : List ℕ) (count : ℕ) → ((k : ℕ) → get_or bytes k 0 < 256) → 5 + count < length bytes → count < 2 ^ 32 → get_or bytes 0 0 ≡ 1 → count ≡ little_number 4 (drop 1 bytes)
     → BeginsWith (take count (drop 5 bytes)) bytes
 first_stands bytes count low fits short begins is =
@@ -75,7 +75,7 @@ first_stands bytes count low fits short begins is =
       spelled = spells_record bytes count low room begins is ∙ ap (λ (back : List ℕ). record_of (take count behind) ++ back) (drop_more behind count 0 (rw length-drop (omega arith)));
     }
 
--- the record with which the bytes from a gate on begin stands there
+-- the record that the bytes from a gate on begin with is at that gate
 pub record_stands : (bytes payload : List ℕ) (gate : ℕ) → gate ≤ length bytes → BeginsWith payload (drop gate bytes) → IsRecordAt bytes gate (record { start = gate + 5; end = gate + 5 + length payload })
 record_stands bytes payload gate within begins =
     let behind : drop (gate + 5) bytes ≡ payload ++ begins.gate ∷ begins.rest = sym (drop-drop 5 gate bytes) ∙ ap (drop 5) begins.spelled in

@@ -1,4 +1,4 @@
--- Payloads that lie in one string of bytes.
+-- Payloads inside one string of bytes.
 use Rattle.std.specs.Prelude.{◌≤◌, ℕ, List, length, map, All, slice_range}
 use Rattle.journal.specs.declared.payloads.Place.{Place}
 

@@ -3,7 +3,7 @@ use Rattle.std.specs.Prelude.{◌≡◌, ◌≢◌, ◌<◌, ◌^◌, ℕ, List,
 use Rattle.std.specs.List.{flat_map}
 use Rattle.byteorder.specs.Endian.{little_bytes}
 
--- a record: an open gate, the length of the payload in four bytes, the lowest first, and the payload
+-- a record: an open gate, the length of the payload as four little-endian bytes, and the payload
 abbrev pub record_of : List ℕ → List ℕ
 record_of payload = 1 ∷ little_bytes 4 (length payload) ++ payload
 
@@ -11,7 +11,7 @@ record_of payload = 1 ∷ little_bytes 4 (length payload) ++ payload
 abbrev pub records : List (List ℕ) → List ℕ
 records payloads = flat_map record_of payloads
 
--- a payload whose length four bytes can spell
+-- a payload whose length fits in four bytes
 abbrev pub IsShort : List ℕ → Type 0
 IsShort payload = length payload < 2 ^ 32
 

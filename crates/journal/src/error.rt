@@ -14,24 +14,24 @@ pub enum JournalError {
     /// The device failed.
     #[error("the device failed")]
     Device,
-    /// A growth was refused.
+    /// Memory was refused.
     #[error("no memory")]
     NoMemory,
-    /// From this position on the file has no record, nor a closed gate.
+    /// At this position the file has neither a whole record nor a closed gate.
     #[error("damaged at {0}")]
     Damaged(u64),
-    /// The new closed gate would not lie below the limit.
+    /// The position of the new closed gate would not be below the limit.
     #[error("full")]
     Full,
 }
 
-/// Where an append was refused.
+/// At which point an append was refused.
 #[derive(Clone, Copy, Debug, PartialEq, Eq, Error)]
 pub enum AppendError {
-    /// Before any call of the disk: nothing of it changed, and the journal ends where it did. It is `Full` or `NoMemory`.
+    /// Before any call of the disk: nothing on it changed, and the journal ends where it did. The cause is `Full` or `NoMemory`.
     #[error("{0}")]
     Before(JournalError),
-    /// By a call of the disk: the payload may be there or not.
+    /// During a call of the disk: the payload may or may not be there.
     #[error("{0}")]
     Within(DiskError),
 }

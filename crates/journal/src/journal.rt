@@ -15,15 +15,15 @@ use byteorder::{ByteOrder, LittleEndian};
 use disk::{Disk, Side, write_synced};
 use std::alloc::{AllocError, Global};
 
-/// The position of the closed gate that ends a journal lies below this.
+/// The position of the closed gate that ends a journal is below this limit.
 pub const LIMIT: u64 = 1 << 30;
 
-/// Where the records of a journal end.
+/// A journal: its file, and where its records end.
 #[derive(Drop)]
 pub struct Journal {
-    /// The file that the journal stands on.
+    /// The file of the journal.
     pub side: Side,
-    /// The position of the closed gate that ends it.
+    /// The position of the closed gate that ends the journal.
     pub end: u64,
     // Holds a record while it is written.
     buffer: Vec<u8>,
@@ -32,7 +32,7 @@ pub struct Journal {
 impl Journal {
     ghost use Rattle.journal.specs.Journal.{IsAt, BeforeOrAfter};
 
-    /// The journal whose closed gate is at a position of a file: for a layer that has read its records itself.
+    /// The journal whose closed gate is at this position of a file: for a layer that has read the records itself.
     pub fn ending(alloc: Global, side: Side, end: u64) -> Self
         ensures side { result.side ≡ side }
         ensures end { result.end ≡ end }
@@ -46,7 +46,7 @@ impl Journal {
 
     /// Begins a journal without records at a position: writes a closed gate there, and syncs.
     ///
-    /// After an error of the disk what the file holds from there on is open.
+    /// After an error of the disk, what the file holds from that position on is unspecified.
     pub fn start<D: Disk>(
         alloc: Global,
         disk: &mut D,
@@ -60,12 +60,13 @@ impl Journal {
         ensures file { IsTrue D.is_honest → OnOk result (D.files disk.new side ≡ at_rest (overwritten (D.files disk.old side).content at (0 ∷ []))) }
         ensures other { IsTrue D.is_honest → OtherStays side (D.files disk.old) (D.files disk.new) }
 
-        // A crash at any moment of the call, on a file of which all is on the disk, leaves what the one byte's write may leave.
+        // If all of the file is on the disk, a crash at any moment of the call leaves what the write of the one byte may leave.
         ensures any_moment { IsTrue D.is_honest → (content : List ℕ) → D.files disk.old side ≡ at_rest content
             → LeavesOnly D.moment D.left_at disk.old disk.new (λ contents. WriteLeaves content at 1 (contents side) × OtherMayBe side (D.files disk.old) contents) }
         ensures other_moments { IsTrue D.is_honest → LeavesOnly D.moment D.left_at disk.old disk.new (OtherMayBe side (D.files disk.old)) }
 
-        // Nothing of the journal is settled until it was begun, and after an error it was not.
+        // Up to some moment of the call, a crash may leave all that it might have left before the call; from then on, only
+        // what it may leave after the call. After an error the former holds at every moment.
         ensures at_once { IsTrue D.is_honest → AtOnce D.files D.moment D.left_at disk.old disk.new }
         ensures err { IsTrue D.is_honest → OnErr result ((contents : Contents) → MayLeaveNow (D.files disk.old) contents → MayLeaveNow (D.files disk.new) contents) }
         ensures err_moments { IsTrue D.is_honest → OnErr result (KeepsAll D.files D.moment D.left_at disk.old disk.new) }
@@ -82,10 +83,10 @@ impl Journal {
         Ok(Journal::ending(alloc, side, at))
     }
 
-    /// Adds a record of this payload behind the others. From `Ok` on it is acknowledged: each crash leaves it.
+    /// Appends a record of this payload. Once `Ok` is returned it is acknowledged: every crash leaves it.
     ///
-    /// `Full` comes before any call of the disk, and so does `NoMemory` where the buffer cannot grow. After another
-    /// error the payload may be there or not: scan the file again before the next append.
+    /// `Full` is returned before any call of the disk, and so is `NoMemory` when the buffer cannot grow. After any other
+    /// error the payload may or may not be there: scan the file again before the next append.
     pub fn append<D: Disk>(&mut self, disk: &mut D, payload: &[u8]) -> Result<(), JournalError>
         requires { IsTrue D.is_honest → self.old.end < length (D.files disk.old self.old.side).content }
 
@@ -97,7 +98,7 @@ impl Journal {
         ensures end { OnErr result (self.new.end ≡ self.old.end) }
         ensures moved { OnOk result (self.new.end ≡ self.old.end + length (record_of payload.now)) }
 
-        // A crash at any moment of the call, on a file of which all is on the disk, leaves the payloads before it or after it.
+        // If all of the file is on the disk, a crash at any moment of the call leaves the payloads before it or those after it.
         ensures any_moment { IsTrue D.is_honest → (start : ℕ) (payloads : List (List ℕ)) (content : List ℕ) → D.files disk.old self.old.side ≡ at_rest content → IsAt self.old start content payloads
             → LeavesOnly D.moment D.left_at disk.old disk.new (λ contents. BeforeOrAfter start content payloads payload.now (contents self.old.side) × OtherMayBe self.old.side (D.files disk.old) contents) }
         ensures other_moments { IsTrue D.is_honest → LeavesOnly D.moment D.left_at disk.old disk.new (OtherMayBe self.old.side (D.files disk.old)) }
@@ -111,9 +112,9 @@ impl Journal {
         Ok(())
     }
 
-    /// `append`, which tells whether an error came before any call of the disk.
+    /// `append`, with an error that says whether it came before any call of the disk.
     ///
-    /// After `Before` the next append may follow, after `Within` scan the file again first.
+    /// After `Before` the next append may follow; after `Within` scan the file again first.
     pub fn try_append<D: Disk>(&mut self, disk: &mut D, payload: &[u8]) -> Result<(), AppendError>
         requires { IsTrue D.is_honest → self.old.end < length (D.files disk.old self.old.side).content }
 
@@ -125,7 +126,7 @@ impl Journal {
         ensures end { OnErr result (self.new.end ≡ self.old.end) }
         ensures moved { OnOk result (self.new.end ≡ self.old.end + length (record_of payload.now)) }
 
-        // A crash at any moment of the call, on a file of which all is on the disk, leaves the payloads before it or after it.
+        // If all of the file is on the disk, a crash at any moment of the call leaves the payloads before it or those after it.
         ensures any_moment { IsTrue D.is_honest → (start : ℕ) (payloads : List (List ℕ)) (content : List ℕ) → D.files disk.old self.old.side ≡ at_rest content → IsAt self.old start content payloads
             → LeavesOnly D.moment D.left_at disk.old disk.new (λ contents. BeforeOrAfter start content payloads payload.now (contents self.old.side) × OtherMayBe self.old.side (D.files disk.old) contents) }
         ensures other_moments { IsTrue D.is_honest → LeavesOnly D.moment D.left_at disk.old disk.new (OtherMayBe self.old.side (D.files disk.old)) }
@@ -147,7 +148,7 @@ impl Journal {
     }
 }
 
-// Whether the closed gate behind a record of such a payload would lie below the limit.
+// Whether the closed gate after a record of this payload length would be below the limit.
 fn fits(end: u64, count: usize) -> bool
     ensures { IsTrue result ↔ (end + 5 + count < LIMIT) }
 {
@@ -155,7 +156,7 @@ fn fits(end: u64, count: usize) -> bool
     (count as u64) < room && count as u64 + (HEAD as u64) < room
 }
 
-// Puts into the buffer what stands behind the gate of a record: the length, the payload, and the closed gate of the next.
+// Puts what follows the gate of a record into the buffer: the length, the payload, and the closed gate of the next record.
 fn spell(buffer: &mut Vec<u8>, payload: &[u8]) -> Result<(), AllocError>
     requires { length payload.now < 2 ^ 32 }
     ensures { OnOk result (buffer.new.items ≡ little_bytes 4 (length payload.now) ++ payload.now ++ 0 ∷ []) }

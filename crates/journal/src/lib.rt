@@ -1,9 +1,9 @@
-//! A journal of records behind gates, from any position of a file on.
+//! A journal of records behind gates, which may begin at any position of a file.
 //!
-//! A record is a gate byte, the payload's length as a u32, the lowest byte first, and the payload. A gate that is 1 is
-//! open, and every other byte is closed. The journal ends at a closed gate, behind which anything may stand.
-//! The layer above stands on `Journal::append`: a crash leaves the payloads before it or after it, and from `Ok` on
-//! those after it.
+//! A record is a gate byte, the payload's length as a little-endian u32, and the payload. A gate that is 1 is open; any
+//! other byte is a closed gate. The journal ends at a closed gate; anything may be behind it.
+//! The layer above uses `Journal::append`: a crash leaves the payloads before the call or those after it, and once `Ok` is
+//! returned it leaves those after it.
 #![tactic(auto)]
 
 mod error;

@@ -2,7 +2,7 @@ ghost use Rattle.std.specs.Prelude.{◌≡◌, ◌<◌, ◌↔◌, Some, [], len
 
 use std::marker::Model;
 
-// Where a payload stands among the bytes.
+// Where a payload is among the bytes.
 #[derive(Clone, Copy)]
 pub(crate) struct Place {
     pub(crate) start: usize,
@@ -31,7 +31,7 @@ impl Model for Payloads {
 impl Payloads {
     ghost use Rattle.journal.specs.Places.{payloads_at, AreWithin};
 
-    /// The payloads that stand at these places among the bytes.
+    /// The payloads at these places among the bytes.
     pub(crate) fn at(bytes: Vec<u8>, places: Vec<Place>) -> Self
         requires { AreWithin bytes.items places.items }
         ensures { result ≡ payloads_at bytes.items places.items }

@@ -7,10 +7,10 @@ use crate::payloads::Place;
 use byteorder::{ByteOrder, LittleEndian};
 use std::alloc::{AllocError, Global};
 
-// The gate of a record that counts. Every other byte is a closed gate.
+// The gate of a record that counts. Any other byte is a closed gate.
 const OPEN: u8 = 1;
 
-/// The bytes of a record in front of its payload: the gate and the length.
+/// The number of bytes of a record before its payload: the gate and the length.
 pub(crate) const HEAD: usize = 5;
 
 /// The number of bytes of a payload's record.
@@ -20,7 +20,7 @@ pub fn record_length(payload: &[u8]) -> u64
     HEAD as u64 + payload.len() as u64
 }
 
-/// The payload of the record that stands whole at the front of the bytes, with a next gate behind it.
+/// The payload of the record at the front of the bytes, if all of the record and the gate after it are there.
 pub fn first_payload(bytes: &[u8]) -> Option<&[u8]>
     ensures { MatchOption result (BeginsWithNone bytes.now) (λ payload. BeginsWith payload.now bytes.now) }
 {
@@ -41,16 +41,16 @@ pub fn begins_closed(bytes: &[u8]) -> bool
     !bytes.is_empty() && bytes[0] != OPEN
 }
 
-/// The records that stand whole at the front of some bytes.
+/// The whole records at the front of some bytes.
 #[derive(Drop)]
 pub(crate) struct Records {
-    /// Where their payloads stand.
+    /// Where their payloads are.
     pub(crate) places: Vec<Place>,
-    /// The offset behind the last of them.
+    /// The offset after the last of them.
     pub(crate) end: usize,
 }
 
-/// Finds the records that stand whole at the front of the bytes, each with a next gate behind it.
+/// Finds the whole records at the front of the bytes; the gate after each of them must be there too.
 pub(crate) fn find_records(alloc: Global, bytes: &[u8]) -> Result<Records, AllocError>
     ensures within { IfOk result (λ found. AreWithin bytes.now found.places.items) }
     ensures leads { IfOk result (λ found. LeadsTo bytes.now found.end (payloads_at bytes.now found.places.items)) }
@@ -65,7 +65,7 @@ pub(crate) fn find_records(alloc: Global, bytes: &[u8]) -> Result<Records, Alloc
     Ok(Records { places, end })
 }
 
-// Where the payload of the record at a gate stands, if the gate is open, and the record and a next gate are there.
+// Where the payload of the record at a gate is, if the gate is open, and all of the record and the gate after it are there.
 fn find_payload(bytes: &[u8], gate: usize) -> Option<Place>
     requires { gate ≤ length bytes.now }
     ensures { MatchOption result (BeginsWithNone (drop gate bytes.now)) (IsRecordAt bytes.now gate) }

@@ -15,9 +15,9 @@ impl Journal {
 
     /// Reads the journal that begins at a position of a file, and the payloads of its records.
     ///
-    /// `Damaged` tells the position from which on no record stands whole, nor a closed gate: the file may end there.
-    /// `NoMemory` comes where the file from the position on, or the list of its payloads, does not fit in memory.
-    /// Nothing is written, whatever it answers.
+    /// `Damaged` holds a position where there is neither a whole record nor a closed gate: the file may end there.
+    /// `NoMemory` is returned when the file from the position on, or the list of its payloads, does not fit in memory.
+    /// Nothing is written, whatever is returned.
     pub fn scan<D: Disk>(
         alloc: Global,
         disk: &mut D,
@@ -28,7 +28,7 @@ impl Journal {
         ensures only { IsTrue D.is_honest → (payloads : List (List ℕ)) → StandsFor (drop at (D.files disk.old side).content) payloads → IfOk result (λ r. r.1 ≡ payloads) }
         ensures side { IfOk result (λ r. r.0.side ≡ side) }
 
-        // It is damaged exactly where the bytes stand for no payloads.
+        // It returns `Damaged` exactly if the bytes stand for no payloads.
         ensures damaged { IsTrue D.is_honest → (place : ℕ) → IsErrOf result (Damaged place) → BreaksAt at (D.files disk.old side).content place }
         ensures nothing { IsTrue D.is_honest → (place : ℕ) → IsErrOf result (Damaged place) → (payloads : List (List ℕ)) → StandsFor (drop at (D.files disk.old side).content) payloads → ⊥ }
         ensures full { IsErrOf result Full → ⊥ }
@@ -50,7 +50,7 @@ impl Journal {
     }
 }
 
-// What a file has from a position on: nothing, where it ends in front of it.
+// What a file has from a position on: nothing if the file ends before it.
 fn read_from<D: Disk>(
     alloc: Global,
     disk: &mut D,

@@ -48,7 +48,7 @@ returns-clause-any_moment g c honest start payloads content is at =
     moments_of_both g.D.Disk.moment g.D.Disk.left_at c.args.disk.now c.write_synced.new.disk c.write_synced-2.new.disk side (g.D.Disk.files c.args.disk.now) (g.D.Disk.files c.write_synced.new.disk) (c.write_synced.ensures.other honest)
     start content payloads c.args.payload.now c.args.self.now.end _ at.stands at.end short (c.write_synced.ensures.any_moment honest content is) (c.write_synced-2.ensures.any_moment honest _ staged)
 
--- and then the file stands for one payload more
+-- and then the file stands for one more payload
 pub returns-clause-added : goal.returns-clause-added
 returns-clause-added g c honest start payloads at =
     let side = c.args.self.now.side in
@@ -64,7 +64,7 @@ returns-clause-added g c honest start payloads at =
       end = omega (arith, end_after start content payloads c.args.self.now.end at.stands at.end c.args.payload.now short);
     }
 
--- of the other file, whatever this one is like
+-- the other file, whatever this one is like
 pub returns-then-not-fits-clause-other_moments : goal.returns-then-not-fits-clause-other_moments
 returns-then-not-fits-clause-other_moments g c honest =
     begun g.D.Disk.moment g.D.Disk.left_at c.args.disk.now _ (λ contents left. let now = (g.met.D.Disk.at_now honest c.args.disk.now contents).0 left in λ other differs. now other)
