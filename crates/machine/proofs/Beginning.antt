@@ -24,7 +24,7 @@ use Rattle.machine.specs.Memory.{is_done, is_item, facts_of, environment_of, pre
 use Rattle.machine.specs.Waking.{is_one_of}
 use Rattle.machine.specs.Creation.{HoldsNothing}
 
--- no items, of so many collections
+-- no items, for this number of collections
 abbrev pub no_items : ℕ → Held
 no_items count = record { items = record { items = empty; room = replicate count 0 }; waiting = empty }
 
@@ -112,7 +112,7 @@ module _ (g : Graph) (prescribers : List TagCollection) where
 
 -- ---- the prescribers of the steps
 
--- the prescriber of the next step stands behind those of the steps before
+-- the prescriber of the next step comes after those of the steps before
 pub one_more :
     (list : List TagCollection) (steps : List Step) (n : ℕ) (o : Option TagCollection) (it : TagCollection) → o ≡ Some it →
     option_map (λ (t : TagCollection). t.0) o ≡ option_map (λ (step : Step). step.prescriber) (slice_get steps n) →

@@ -1,4 +1,4 @@
--- What one item, or one tag, makes of the facts of a store.
+-- What one item, or one tag, does to the facts of a store.
 use Rattle.std.proofs.Common.{◌≡◌, ◌⊎◌, ◌∙◌, ap, sym, refl, subst, inl, inr, ℕ, ℤ, ◌+◌, ◌==◌, ◌<◌, ◌≤◌, Bool, true, false, cond, ◌&&◌, ◌||◌, List, [], ◌∷◌, length, Option, Some, None, IsSome, is_some, arith}
 use Rattle.std.proofs.lemmas.Bool.{false≢true}
 use Rattle.std.specs.Cmp.{unsigned_Decides}
@@ -58,7 +58,7 @@ module _ (told : OneFact) where
   pub is_itself : (address : Addr) (value : ℤ) (by : Producer) → is_item (Some (value, by)) value by ≡ true
   is_itself address value by = and_right (is_same address address) (is_item (Some (value, by)) value by) (told (item address value by) (item address value by)).0
 
-  -- an item that is told is there
+  -- an item that passes the test is there
   pub the_item : (address : Addr) (o : Option (ℤ × Producer)) (value : ℤ) (by : Producer) → is_item o value by ≡ true → o ≡ Some (value, by)
   the_item address None value by is = absurd (false≢true is)
   the_item address (Some there) value by is =
@@ -73,16 +73,16 @@ module _ (told : OneFact) where
       same : item address there.0 there.1 ≡ item address value by → Some there ≡ Some (value, by)
       same is i = Some (value_is there.0 there.1 is i, by_is there.0 there.1 is i)
 
-  -- one that is there is told
+  -- an item that is there passes the test
   pub item_is_there : (address : Addr) (o : Option (ℤ × Producer)) (value : ℤ) (by : Producer) → o ≡ Some (value, by) → is_item o value by ≡ true
   item_is_there address o value by is = ap (λ (p : Option (ℤ × Producer)). is_item p value by) is ∙ is_itself address value by
 
-  -- where none is told, none is there
+  -- if no item passes the test, none is there
   pub none_there : (address : Addr) (o : Option (ℤ × Producer)) → ((value : ℤ) (by : Producer) → is_item o value by ≡ false) → o ≡ None
   none_there address None absent = refl
   none_there address (Some there) absent = absurd (false≢true (sym (absent there.0 there.1) ∙ is_itself address there.0 there.1))
 
-  -- an item that comes where there was none
+  -- an item is put where there was none
   pub item_told :
       (a b : Addr) (v w : ℤ) (p q : Producer) (old : Addr → Option (ℤ × Producer)) → old a ≡ None →
       is_item (cond (is_same b a) (Some (v, p)) (old b)) w q ≡ (is_item (old b) w q || is_fact (item a v p) (item b w q))
@@ -99,12 +99,12 @@ module _ (told : OneFact) where
           ap (λ s. is_item (cond s (Some (v, p)) (old b)) w q) is
           ∙ sym (ap (λ s. is_item (old b) w q || (s && it)) (same_back a b is) ∙ or_false (is_item (old b) w q))
 
--- what is at an address behind a put
+-- what is at an address after a put
 pub put_at : (old new : Held) (address : Addr) (value : ℤ) (by : Producer) → AddsAt old.items new.items (place address) (value, by)
     → (b : Addr) → item_at new b ≡ cond (is_same b address) (Some (value, by)) (item_at old b)
 put_at old new address value by adds b = ap (λ m. get m (place b)) adds.items ∙ get-insert places_total old.items.items (place address) (value, by) (place b)
 
--- who waits at an address behind it
+-- who waits at an address after a put
 pub taken_at : (old new : Held) (address : Addr) → new.waiting ≡ remove old.waiting (place address) → (b : Addr) → waiters_at new b ≡ cond (is_same b address) [] (waiters_at old b)
 taken_at old new address taken b =
     ap (λ m. unwrap_or (get m (place b)) []) taken ∙ ap (λ (o : Option (List Inst)). unwrap_or o []) (get-remove places_total old.waiting (place address) (place b)) ∙ at (is_same b address)
@@ -115,7 +115,7 @@ taken_at old new address taken b =
 
 -- ---- states
 
--- one that waits still has waited, and the item is not there
+-- an instance that still waits waited before, and the item is not there
 pub still_waits : (new : Memory) (from to : Option State) (address : Addr) → MovesOn new from to → to ≡ Some (Waiting address) → (from ≡ Some (Waiting address)) × (item_at new.items address ≡ None)
 still_waits new None to address (inl none) is = absurd (cc)
 still_waits new None to address (inr ready) is = absurd (cc)
@@ -134,7 +134,7 @@ still_waits new (Some (Waiting other)) to address (inr wakes) is = absurd (ready
     ready one two = cc
 
 module _ (a : Addr) where
-  -- what becomes of a state where those wake that wait there
+  -- the state after the instances that wait there are woken
   abbrev pub woken : Option State → Option State
   woken state = cond (waits_at a state) (Some Ready) state
 
@@ -171,7 +171,7 @@ module _ (a : Addr) where
   nothing true = refl
   nothing false = refl
 
-  -- who waits at another address, and who at this
+  -- who waits at another address, and who at this one
   pub waits_after : (c : Addr) (state : Option State) → waits_at c (woken state) ≡ cond (is_same c a) false (waits_at c state)
   waits_after c None = nothing (is_same c a)
   waits_after c (Some Ready) = nothing (is_same c a)

@@ -1,4 +1,4 @@
--- How often an address stands in a list: twice or more where it is two of the list's, and as often in any other order.
+-- How often a list has an address: at least twice if the address is twice in the list, and as often in any other order.
 use Rattle.std.proofs.Common.{◌≡◌, ◌+◌, ◌≤◌, ap, ap₂, sym, refl, ℕ, Bool, true, false, cond, List, [], ◌∷◌, ◌++◌, sum_by, IsPermutation, arith}
 use Rattle.std.proofs.lemmas.List.Sums.{sum_by-append}
 use Rattle.std.proofs.lemmas.List.Sorted.{IsPermutation-sym, sum_by-IsPermutation}
@@ -10,7 +10,7 @@ use Rattle.graph.specs.Fits.{IsIn, IsTwiceIn}
 abbrev pub number : Bool → ℕ
 number b = cond b 1 0
 
--- 1 of the address itself, and 0 of another one
+-- 1 for the address itself, and 0 for another one
 abbrev pub one_if_same : Addr → Addr → ℕ
 one_if_same address one = cond (is_same address one) 1 0
 
@@ -55,16 +55,16 @@ two_are_in address (one ∷ rest) counts = by_cases (two_are_in address rest) (i
         let there = behind (omega (arith, counts, first_counts address one rest, ap number is)) in
         (one ∷ there.0, there.1, there.2, ap (λ (xs : List Addr). one ∷ xs) there.3)
 
--- two of a list are two of it in any order
+-- an address that is twice in a list is twice in it in any order
 pub still_twice : (address : Addr) (one other : List Addr) → IsPermutation one other → IsTwiceIn address other → IsTwiceIn address one
 still_twice address one other moved twice =
     two_are_in address one (omega (arith, twice_counts address other twice, sum_by-IsPermutation (one_if_same address) one other moved))
 
--- what the answer tells of a list: at true no address stands twice in it, and at false one does
+-- what the result says about a list: for true no address is twice in it, for false one is
 abbrev pub Tells : Bool → List Addr → Type 0
 Tells answer list = MatchBool answer ((address : Addr) → IsTwiceIn address list → ⊥) ((address : Addr) × IsTwiceIn address list)
 
--- and it tells this of the list in any order
+-- and it says the same about the list in any order
 pub told_of : (answer : Bool) (one other : List Addr) → IsPermutation one other → Tells answer other → Tells answer one
 told_of true one other moved none = λ address twice. none address (still_twice address other one (IsPermutation-sym one other moved) twice)
 told_of false one other moved found = (found.0, still_twice found.0 one other moved found.1)

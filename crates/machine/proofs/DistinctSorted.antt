@@ -1,4 +1,4 @@
--- In a list in order an address stands twice just where it is the one before it.
+-- A sorted list has some address twice exactly if some address equals the one before it.
 use Rattle.std.proofs.Common.{◌≡◌, ◌∙◌, ◌+◌, ◌-◌, ◌≤◌, ◌<◌, ap, subst, sym, refl, ℕ, zero, suc, Bool, true, false, List, [], ◌∷◌, length, get_or, IsSorted, Ordering, Less, Equal, Greater, is_eq, is_lt, arith}
 use Rattle.std.specs.Cmp.{IsTotalOrder}
 use Rattle.std.specs.Ordering.{ordering_reverse}
@@ -12,7 +12,7 @@ use Rattle.terms.specs.Same.{is_same, same_address}
 use Rattle.graph.specs.Fits.{IsTwiceIn}
 use Rattle.machine.proofs.DistinctCounted.{number, times, first_counts, twice_counts}
 
--- the address at this place is another one than the next
+-- the address at this place differs from the next
 abbrev pub Differs : List Addr → ℕ → Type 0
 Differs list place = (default : Addr) → is_same (get_or list place default) (get_or list (place + 1) default) ≡ false
 
@@ -47,7 +47,7 @@ at_most_once address (one ∷ rest) sorted = by_cases (at_most_once address rest
         omega (arith, first_counts address one rest, ap number is, none, same)
     by_cases behind false is = omega (arith, first_counts address one rest, ap number is, behind)
 
--- where no address is the one before it, none stands twice
+-- if no address equals the one before it, none appears twice
 pub each_once : (list : List Addr) → IsSorted addr_cmp list → ((place : ℕ) → place + 1 < length list → Differs list place) → (address : Addr) → IsTwiceIn address list → ⊥
 each_once list sorted differ address twice =
     omega (arith, twice_counts address list twice, at_most_once address list (rises list address sorted differ))
@@ -61,7 +61,7 @@ twice_at (one ∷ next ∷ rest) (suc place) before this within is next_is same 
     let there = twice_at (next ∷ rest) place before this (omega (arith, within)) is next_is same in
     (there.0, (one ∷ there.1.0, there.1.1, there.1.2, ap (λ (xs : List Addr). one ∷ xs) there.1.3))
 
--- an address that is the one before it stands twice
+-- an address that equals the one before it appears twice
 pub same_twice : (list : List Addr) (later : ℕ) (before this : Addr) → 1 ≤ later → later < length list → before ≡ get_or list (later - 1) before → this ≡ get_or list later this → is_same before this ≡ true → (address : Addr) × IsTwiceIn address list
 same_twice list later before this positive within is next_is same =
     let next : later ≡ suc (later - 1) = omega arith in

@@ -1,4 +1,4 @@
--- Puts that are new, and for which there is room, can be taken.
+-- Puts that are new can be taken if there is room for them.
 use Rattle.std.proofs.Common.{◌≡◌, ap, sym, refl, subst, ℕ, zero, suc, ◌<◌, ◌≤◌, List, [], ◌∷◌, ◌++◌, length, slice_get, Some, arith}
 use Rattle.std.specs.List.{AllByRecursion}
 use Rattle.terms.specs.declared.name.Addr.{Addr}
@@ -16,7 +16,7 @@ use Rattle.machine.specs.Coming.{CanTake, CanTakeAll}
 use Rattle.machine.specs.Machine.{HasRoomFor}
 use Rattle.machine.proofs.Growing.{in_later}
 
--- the collection of the put has room for so many
+-- the collection of the put has room for `count` more
 abbrev pub RoomFor : Memory → ℕ → Put → Type 0
 RoomFor m count (put.Item address value) = count ≤ items.room_for m.items address.collection
 RoomFor m count (put.Tag name) = count ≤ instances.room_for m.instances name.collection
@@ -84,7 +84,7 @@ module _ (g : Graph) (m : Memory) (rooms : length m.items.items.room ≡ length 
           nowhere [] none = cc
           nowhere (x ∷ before) none = cc
 
-  -- room stays where the items are the same, and the room of tags
+  -- the room stays if the items and the room of tags stay
   pub with_room : (old : Memory) (count : ℕ) → m.items ≡ old.items → ((c : TagCollection) → instances.room_for m.instances c ≡ instances.room_for old.instances c)
       → (puts : List Put) → AllByRecursion (HasRoomFor (record { graph = g; memory = old }) count) puts → AllByRecursion (RoomFor m count) puts
   with_room old count items_same tags [] room = tt

@@ -1,4 +1,4 @@
--- Legal events fit, and what an event that fits leaves has one item at an address.
+-- Legal events fit, and an event that fits adds no second item at an address.
 use Rattle.std.proofs.Common.{◌≡◌, ℕ, true, List, [], ◌∷◌, ◌++◌, length, Some, slice_get, sym, ap, ◌∙◌}
 use Rattle.std.specs.List.{AllByRecursion}
 use Rattle.terms.specs.declared.name.Tag.{Tag}
@@ -23,7 +23,7 @@ use Rattle.machine.proofs.Kept.{AddsItems, one_item_more, adds_no_item, adds_ite
 
 -- ---- legal events fit
 
--- the tags of a set are of the graph
+-- the tags of a set belong to the graph
 abbrev TagsAreOf : Graph → Facts → Type 0
 TagsAreOf g X = (name : Tag) → X (tag name) ≡ true → TagIsOf g name
 
@@ -71,7 +71,7 @@ module _ (keeps : KeepsAtAnyReads) (g : Graph) (is_graph : IsGraph g) where
       let fits = event_fits (among before) event (λ name there. state.of_graph (tag name) there) legal.0 in
       (fits, legal_fits kept (given ++ environment_facts event) (before ++ event_facts event) events (kept g given before event state fits) legal.1)
 
--- ---- the same of sets
+-- ---- the same for sets
 
 few_puts : FewPuts → (g : Graph) (X : Facts) (event : Event) → IsLegal g X event → HasFewPuts event
 few_puts few g X (EnvItem address value) legal = tt
@@ -84,7 +84,7 @@ few_puts few g X (Stopped instance kind) legal = tt
 pub legal_fits_state : KeepsAtAnyReads → FewPuts → (g : Graph) → IsGraph g → (E X : Facts) (event : Event) → FitsState g E X → IsLegal g X event → Fits g X event × HasFewPuts event
 legal_fits_state keeps few g is_graph E X event state legal = (event_fits keeps g is_graph X event (λ name there. state.of_graph (tag name) there) legal, few_puts few g X event legal)
 
--- ---- one item at an address
+-- ---- no two items at one address
 
 module _ (told : OneFact) (both : AmongBoth) (g : Graph) where
   adds : (X : Facts) (event : Event) → Fits g X event → AddsItems X (event_facts event)

@@ -1,4 +1,4 @@
--- What may come next: each instance that is not done is blocked, or can be ended.
+-- What may come next: each instance that is not done is blocked, or can end.
 use Rattle.std.proofs.Common.{◌≡◌, ◌⊎◌, ℤ, Bool, true, false, ◌&&◌, ◌||◌, List, [], ◌∷◌, ◌++◌, inl, inr, refl, sym, ap, subst, ◌∙◌}
 use Rattle.terms.specs.declared.name.Addr.{Addr}
 use Rattle.terms.specs.declared.name.Inst.{Inst}
@@ -26,7 +26,7 @@ tells : (b : Bool) → (b ≡ true) ⊎ (b ≡ false)
 tells true = inl refl
 tells false = inr refl
 
--- an address among others, or not
+-- an address is in a list, or not
 in_or_not : (address : Addr) (list : List Addr) → IsIn address list ⊎ (IsIn address list → ⊥)
 in_or_not address [] = inr (λ it. nothing it.0 it.1 it.2)
   where
@@ -163,7 +163,7 @@ fits_and_meant g X (Done instance puts) fits meant =
     record { working = fits.working; event_is_legal = (fits.event_fits.0.prescribed, fits.event_fits.0.not_done, meant, fits.event_fits.2) }
 fits_and_meant g X (Stopped instance kind) fits meant = record { working = fits.working; event_is_legal = (fits.event_fits.prescribed, fits.event_fits.not_done, meant) }
 
--- what is legal is told by the set alone
+-- only the set of facts decides what is legal
 pub one_state : AmongBoth → (g : Graph) (before other : List Fact) (events : List Event) → ((fact : Fact) → among before fact ≡ among other fact) → AreLegal g before events → AreLegal g other events
 one_state both g before other [] same legal = tt
 one_state both g before other (event ∷ events) same legal = (

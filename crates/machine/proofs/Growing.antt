@@ -1,4 +1,4 @@
--- What comes to a store, and then more.
+-- Facts are added to a store, and then more.
 use Rattle.std.proofs.Common.{◌≡◌, ◌∙◌, ap, sym, refl, subst, inl, inr, ℕ, suc, ℤ, ◌<◌, Bool, true, false, ◌||◌, List, [], ◌∷◌, ◌++◌, Option, Some, None, IsSome, arith}
 use Rattle.std.proofs.lemmas.Bool.{false≢true}
 use Rattle.std.proofs.lemmas.List.{append_assoc}
@@ -21,7 +21,7 @@ use Rattle.machine.specs.Coming.{fact_of, CanTake, CanTakeAll}
 use Rattle.machine.proofs.Coming.{or_false, is_itself, the_item}
 use Rattle.machine.proofs.Tagging.{unmoved}
 
--- nothing comes
+-- nothing is added
 pub grows_none : (m : Memory) → AreListed m → Grows m m [] [] 0
 grows_none m listed = record {
   facts = λ fact. sym (or_false (facts_of m fact));
@@ -59,7 +59,7 @@ module _ (told : OneFact) (old mid new : Memory) where
   goes_both kept (Some (Waiting a)) through to (inl waits) more = subst (λ s. MovesOn new s to) waits.1 more
   goes_both kept (Some (Waiting a)) through to (inr wakes) more = inr (kept a wakes.0, subst (λ s. MovesOn new s to) wakes.1 more)
 
-  -- one fact comes, and then others that the environment did not put
+  -- one fact is added, and then others that the environment did not put
   pub grows_more : (first : Fact) (more given : List Fact) (n : ℕ) → Grows old mid (first ∷ []) given 1 → Grows mid new more [] n → Grows old new (first ∷ more) given (suc n)
   grows_more first more given n one rest = record {
     facts = λ fact. rest.facts fact ∙ ap (λ b. b || among more fact) (one.facts fact) ∙ either_way (facts_of old fact) (is_fact first fact) (among more fact);
@@ -78,7 +78,7 @@ module _ (told : OneFact) (old mid new : Memory) where
       or_left true b is = refl
       or_left false b is = absurd (false≢true is)
 
--- ---- what can be taken still
+-- ---- what can still be taken
 
 pub in_later : (a : Addr) (first : Put) (others : List Put) → IsIn a (addresses others) → IsIn a (addresses (first ∷ others))
 in_later a (put.Item b value) others is = (b ∷ is.0, is.1, ap (λ (list : List Addr). b ∷ list) is.2)
@@ -115,7 +115,7 @@ module _ (told : OneFact) (old new : Memory) (by : Producer) (one : Put) (given 
   )
   one_stays n (put.Tag name) apart can = omega (arith, can, grows.tag_room name.collection)
 
-  -- behind one put the others can be taken as before, with room for one less
+  -- after one put the others can be taken as before, with room for one less
   pub all_stay : (n : ℕ) (puts : List Put) → ((address : Addr) → IsIn address (addresses (one ∷ [])) → IsIn address (addresses puts) → ⊥) → CanTakeAll old (suc n) puts → CanTakeAll new n puts
   all_stay n [] apart can = tt
   all_stay n (next ∷ puts) apart can = (
@@ -132,12 +132,12 @@ module _ (told : OneFact) (old new : Memory) (by : Producer) (one : Put) (given 
           nowhere [] none = cc
           nowhere (b ∷ before) none = cc
 
--- what a put states is what it states by its instance
+-- what a numbered put states is what a put by its instance states
 pub fact_is : (i : Inst) (n : ℕ) (one : Put) → put_fact i n one ≡ fact_of (By i n) one
 fact_is i n (put.Item address value) = refl
 fact_is i n (put.Tag name) = refl
 
--- with room for more there is room for one
+-- if there is room for more, there is room for one
 pub can_take_one : (m : Memory) (n : ℕ) (one : Put) → CanTake m (suc n) one → CanTake m 1 one
 can_take_one m n (put.Item address value) can = (can.0, can.1, omega (arith, can.2))
 can_take_one m n (put.Tag name) can = omega (arith, can)

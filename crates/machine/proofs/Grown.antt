@@ -1,4 +1,4 @@
--- Bodies over more items, and over items of which each address has one.
+-- Bodies over more items, and over items of which each address has at most one.
 use Rattle.std.proofs.Common.{◌≡◌, ◌≢◌, ◌⊎◌, ℤ, Bool, true, false, List, [], ◌∷◌, Option, Some, None, if◌then◌else◌, inl, inr, refl, sym, subst, ◌∙◌}
 use Rattle.std.proofs.lemmas.Bool.{false≢true}
 use Rattle.std.specs.List.{AllByRecursion}
@@ -25,7 +25,7 @@ prescribed_within g X Y within instance prescribed = (prescribed.0, within (tag 
 items_within : (X Y : Facts) → Within X Y → (address : Addr) (value : ℤ) → items X address value → items Y address value
 items_within X Y within address value there = (there.0, within (item address value there.0) there.1)
 
--- what a body gives over a set, and its faults, stay over a larger one
+-- what a body gives over a set, and its faults, stay the same over a larger set
 pub means_within : (g : Graph) (X Y : Facts) → Within X Y → (instance : Inst) (ending : Ending) → ((address : Addr) → ending ≢ Asks address)
     → BodyMeans g instance (items X) ending → BodyMeans g instance (items Y) ending
 means_within g X Y within instance ending final means = record {
@@ -40,7 +40,7 @@ gives_within g X Y within instance puts = means_within g X Y within instance (Gi
 pub faults_within : (g : Graph) (X Y : Facts) → Within X Y → (instance : Inst) (kind : FaultKind) → BodyFaults g X instance kind → BodyFaults g Y instance kind
 faults_within g X Y within instance kind = means_within g X Y within instance (Faults kind) (λ address same. cc)
 
--- ---- where each address has one item
+-- ---- at most one item at each address
 
 -- the value of the first item at an address
 abbrev value_at : Addr → Fact → Option ℤ → Option ℤ
@@ -60,7 +60,7 @@ choose : {X : Type 0} (b : Bool) (x y z : X) → (if b then x else y) ≡ z → 
 choose true x y z same = inl (refl, same)
 choose false x y z same = inr same
 
--- what is looked up is an item
+-- what the lookup finds is an item
 module _ (told : OneFact) where
   pub found_is_item : (list : List Fact) (address : Addr) (value : ℤ) → Found (look list) address value → items (among list) address value
   found_is_item [] address value found = absurd (cc)
@@ -139,7 +139,7 @@ module _ (told : OneFact) where
           needs = λ address asks value found. means.needs address asks value (found_is_item list address value found);
         }
 
-    -- and in some way
+    -- and it ends in some way
     pub some_ending : LookUpEnds → (g : Graph) (instance : Inst) (step : Step) → IsStep g instance.collection.0 step → (ending : Ending) × BodyMeans g instance (items (among list)) ending
     some_ending ends g instance step is_step =
         let it = ends step.body instance.key (look list) in (

@@ -1,4 +1,4 @@
--- The items of one collection and how much there is, from what a store keeps.
+-- The items of one collection and the counts, from what a store holds.
 use Rattle.std.proofs.Common.{◌≡◌, ◌∙◌, ap, sym, refl, ℕ, ℤ, ◌-◌, ◌^◌, ◌==◌, min, Bool, true, false, List, map, length, Option, Some, None, is_some}
 use Rattle.std.proofs.lemmas.Bool.{false≢true}
 use Rattle.std.proofs.lemmas.List.{length-map}
@@ -33,7 +33,7 @@ use Rattle.machine.proofs.Told.{kept, prescribed}
 abbrev Entry : Type 0
 Entry = ℤ × Producer
 
--- a value that is told is the one of an entry, which is of the collection
+-- a value that is found is that of an entry, which is of the collection
 value_told : (b : Bool) (o : Option Entry) (value : ℤ) → value_of b o ≡ Some value → (b ≡ true) × (by : Producer) × (o ≡ Some (value, by))
 value_told false o value is = absurd (cc)
 value_told true None value is = absurd (cc)

@@ -1,4 +1,4 @@
--- What an image says of a fact, by the kind of the fact.
+-- What an image says about a fact, by the kind of the fact.
 use Rattle.std.proofs.Common.{◌≡◌, ◌∙◌, ap, refl, ℕ, ℤ, Bool, true, false, ◌&&◌, ◌||◌, List, [], ◌∷◌, ◌++◌, map, Option, Some, None}
 use Rattle.std.specs.List.{flat_map}
 use Rattle.std.specs.Ordering.{int_eq}
@@ -26,7 +26,7 @@ tag_fact marked = tag marked.0
 abbrev pub given_item : Item → List Fact
 given_item it = environment_item it.0 it.1 it.2
 
--- where no element states the fact, the list does not
+-- if no element states the fact, the list does not
 none_of : {X : Type 0} (f : X → Fact) (fact : Fact) → ((x : X) → is_fact (f x) fact ≡ false) → (xs : List X) → among (map f xs) fact ≡ false
 none_of f fact none [] = refl
 none_of f fact none (x ∷ xs) = ap (λ b. b || among (map f xs) fact) (none x) ∙ none_of f fact none xs
@@ -64,12 +64,12 @@ never true true = refl
 never true false = refl
 never false b = refl
 
--- what one item says of one that an instance put: nothing
+-- one item says nothing about an item that an instance put
 not_by : (it : Item) (a : Addr) (v : ℤ) (i : Inst) (n : ℕ) → among (given_item it) (item a v (By i n)) ≡ false
 not_by (b, w, Env) a v i n = or_false _ ∙ never (is_same b a) (int_eq w v)
 not_by (b, w, By j m) a v i n = refl
 
--- and of one of the environment: whether it is the one
+-- about an item of the environment it says whether it is that item
 its_own : (it : Item) (a : Addr) (v : ℤ) → among (given_item it) (item a v Env) ≡ is_fact (item_fact it) (item a v Env)
 its_own (b, w, Env) a v = or_false _
 its_own (b, w, By j m) a v = never_back (is_same b a) (int_eq w v)

@@ -1,4 +1,4 @@
--- What a store holds is what its lists say, and they rise.
+-- What a store holds is what its lists say, and these rise.
 use Rattle.std.proofs.Common.{◌≡◌, ◌∙◌, ap, sym, refl, subst, ℤ, T, Bool, true, false, cond, ◌&&◌, ◌||◌, List, [], ◌∷◌, map, Option, Some, None, is_some}
 use Rattle.std.proofs.lemmas.Bool.{false≢true}
 use Rattle.std.specs.List.{flat_map, list_any, AllByRecursion}
@@ -39,13 +39,13 @@ use Rattle.machine.proofs.Sets.{same_truth, the_first, behind_first}
 abbrev Entry : Type 0
 Entry = ℤ × Producer
 
--- what is below all is not among them
+-- a place below all others is not among them
 not_among : {X : Type 0} (k : Place) (es : List (Place × X)) → T (below_all place_cmp k es) → find place_cmp k es ≡ None
 not_among k [] below = refl
 not_among k (e ∷ es) below =
     ap (λ o. cond (is_eq o) (Some e.1) (find place_cmp k es)) (less (place_cmp k e.0) (first _ _ below)) ∙ not_among k es (second (is_lt (place_cmp k e.0)) _ below)
 
--- behind the entry of this place there is no other
+-- after the entry of this place there is no other one
 only_here : {X : Type 0} (k : Place) (e : Place × X) (es : List (Place × X)) → T (is_sorted place_cmp (e ∷ es)) → eq_by_cmp place_cmp k e.0 ≡ true → find place_cmp k es ≡ None
 only_here k e es sorted is =
     ap (λ (q : Place). find place_cmp q es) (same_places k e.0 ((Equal-is (place_cmp k e.0)).0 is)) ∙ not_among e.0 es (first _ _ sorted)
@@ -87,7 +87,7 @@ tag_found (e ∷ es) name =
     ap (λ b. b || among (map tag_fact (tags_of es)) (tag name)) (turned e.0 (tag_place name))
     ∙ ap (λ b. eq_by_cmp place_cmp (tag_place name) e.0 || b) (tag_found es name) ∙ some_either (eq_by_cmp place_cmp (tag_place name) e.0) e.1 (find place_cmp (tag_place name) es)
 
--- what one tag says of another: whether it is the one, and marked
+-- one tag says that the environment put another exactly if they are equal and the first is marked
 pub mark_told : (there : Tag) (mark : Bool) (name : Tag) → among (environment_tag (there, mark)) (tag name) ≡ (is_eq (tag_cmp there name) && mark)
 mark_told there true name = at (is_eq (tag_cmp there name))
   where

@@ -1,4 +1,4 @@
--- A list in the order of its places: what is found in those of one collection, and the names of all of them.
+-- A list in the order of its places: what is found among the entries of one collection, and the names of all entries.
 use Rattle.std.proofs.Common.{◌≡◌, ◌∙◌, ap, sym, refl, ℕ, ◌==◌, ℤ, T, Bool, true, false, cond, ◌&&◌, ◌||◌, List, [], ◌∷◌, map, Option, Some, None, option_map, is_some}
 use Rattle.std.specs.declared.cmp.Ordering.{Ordering}
 use Rattle.std.specs.declared.cmp.Ordering.TheVariants.{Less, Equal, Greater}
@@ -35,7 +35,7 @@ less Less p = refl
 less Equal p = absurd p
 less Greater p = absurd p
 
--- ---- those of one collection, each address with its value
+-- ---- the entries of one collection, each address with its value
 
 abbrev pub told_of : List (Place × Entry) → List (Addr × ℤ)
 told_of list = map (λ (entry : Addr × Entry). (entry.0, entry.1.0)) (map (λ entry. (address_at entry.0, entry.1)) list)
@@ -88,12 +88,12 @@ module _ (number : ℕ) where
         ap (λ (q : Place). with_first (q.0 == number)) (sym (same_places (place a) e.0 ((Equal-is (place_cmp (place a) e.0)).0 same))) ∙ here same (a.collection.0 == number) refl
     at false apart = elsewhere apart (e.0.0 == number) ∙ others
 
-  -- an address of the collection has the value that it has among all, and another none
+  -- an address of the collection has the value that it has among all entries, and any other address has none
   pub its_found : (es : List (Place × Entry)) (a : Addr) → find addr_cmp a (told_of (of_number number es)) ≡ value_of (a.collection.0 == number) (find place_cmp (place a) es)
   its_found [] a = no_value (a.collection.0 == number)
   its_found (e ∷ es) a = at e es a (its_found es a) (eq_by_cmp place_cmp (place a) e.0) refl
 
--- ---- the names of all
+-- ---- the names of all entries
 
 module _ {N X : Type 0} (cmp : N → N → Ordering) (name : Place → N) (place_of : N → Place) (same : (n : N) (q : Place) → cmp n (name q) ≡ place_cmp (place_of n) q) (back : (q : Place) → place_of (name q) ≡ q) where
   abbrev names : List (Place × X) → List N

@@ -1,4 +1,4 @@
--- What holds of the facts behind a legal list, event after event.
+-- What holds of the facts after a legal list, one event after another.
 use Rattle.std.proofs.Common.{◌≡◌, ℕ, ℤ, true, List, [], ◌∷◌, ◌++◌, inl, inr, sym, subst, ◌∙◌}
 use Rattle.std.proofs.lemmas.Bool.{false≢true}
 use Rattle.std.proofs.lemmas.List.{append_assoc, append-nil}
@@ -49,7 +49,7 @@ gave_within g X Y within instance it = record {
   distinct = it.distinct;
 }
 
--- the items of these facts are at addresses that have none in the set, and no two of them are at one
+-- the items of these facts are at addresses where the set has none, and no two of them are at one address
 pub record AddsItems (X : Facts) (more : List Fact) : Type 0 where
   pub new : (address : Addr) (value : ℤ) (by : Producer) → among more (item address value by) ≡ true → IsAbsent X address
   pub each : HasOneItemEach (among more)
@@ -105,7 +105,7 @@ module _ (told : OneFact) (both : AmongBoth) where
     abbrev its : List Fact
     its = done instance ∷ put_facts instance 0 puts
 
-    -- an item of these is one of the puts
+    -- an item of these facts is one of the puts
     pub of_puts : (address : Addr) (value : ℤ) (by : Producer) → among its (item address value by) ≡ true → among (put_facts instance 0 puts) (item address value by) ≡ true
     of_puts address value by there =
         elim (of_list told (done instance) (put_facts instance 0 puts) (item address value by) there) [ inl same ↦ absurd (cc) | inr one ↦ one ]
@@ -116,7 +116,7 @@ module _ (told : OneFact) (both : AmongBoth) where
       each = λ address v w p q one two. one_item_each told instance 0 puts new.distinct address v w p q (of_puts address v p one) (of_puts address w q two);
     }
 
-    -- who put one of them is done
+    -- the instance that put one of them is done
     pub its_producers : ProducersAreDone (among its)
     its_producers address value other number there =
         let one = item_is_put told instance 0 puts address value (By other number) (of_puts address value (By other number) there) in
@@ -126,7 +126,7 @@ module _ (told : OneFact) (both : AmongBoth) where
         one_instance : (other : Inst) (m n : ℕ) → By other m ≡ By instance n → other ≡ instance
         one_instance other m n same = cc
 
-  -- what is stated beside them keeps all three
+  -- facts like these, added to others, keep all three
   module _ (g : Graph) (before more : List Fact) (kept : Kept g (among before)) (adds : AddsItems (among before) more) (producers : ProducersAreDone (among more))
       (gave : (instance : Inst) → among more (done instance) ≡ true → Gave g (among (before ++ more)) instance) where
     producers_more : ProducersAreDone (among (before ++ more))
@@ -198,7 +198,7 @@ module _ (told : OneFact) (both : AmongBoth) where
   kept_event g before (Done instance puts) kept legal = kept_done g before instance puts kept legal.event_is_legal.2 legal.event_is_legal.3
   kept_event g before (Stopped instance kind) kept legal = kept_other g before (bad instance kind) kept (λ address value by same. cc) (λ other same. cc)
 
-  -- and so behind a whole list
+  -- and the same after a whole list
   pub kept_list : (g : Graph) (before : List Fact) (events : List Event) → Kept g (among before) → AreLegal g before events → Kept g (among (before ++ facts events))
   kept_list g before [] kept legal = subst (λ (list : List Fact). Kept g (among list)) (sym (append-nil before)) kept
   kept_list g before (event ∷ events) kept legal =

@@ -1,4 +1,4 @@
--- Where nothing is left to do, the instances that wait are those that the meaning leaves unfinished.
+-- If nothing is left to do, the waiting instances are those that the meaning leaves unfinished.
 use Rattle.std.proofs.Common.{◌≡◌, ◌∙◌, ap, sym, refl, List, Option, Some, None, is_some}
 use Rattle.std.proofs.lemmas.Bool.{false≢true}
 use Rattle.std.specs.Cmp.{IsTotalOrder}
@@ -26,7 +26,7 @@ use Rattle.machine.proofs.Told.{blocked, kept, quiet}
 module _ (told : OneFact) (both : AmongBoth) (once : LookUpEndsOnce) (waits : QuietWaits) (total : IsTotalOrder key_cmp) (tie : IsAntisymmetric key_cmp) (g : Graph) (m : Memory)
     (is : IsOf g m) (there : AreThereTogether m.instances) where
   module _ (idle : NoneIsActive (record { graph = g; memory = m })) (reached : IsReached g (environment_of m) (facts_of m)) where
-    -- what is prescribed, not done and needs an item waits for it
+    -- an instance that is prescribed, not done and needs an item waits for it
     waits_here : (i : Inst) (address : Addr) → Waits g (facts_of m) i address → state_at m.instances i ≡ Some (Waiting address)
     waits_here i address it = at (state_at m.instances i) refl
       where

@@ -1,4 +1,4 @@
--- One instance comes into another state.
+-- One instance moves into another state.
 use Rattle.std.proofs.Common.{◌≡◌, ◌≢◌, ◌∙◌, ap, sym, refl, subst, Bool, true, false, ◌||◌, [], ◌∷◌, Option, Some, None, is_some}
 use Rattle.std.proofs.lemmas.Bool.{false≢true}
 use Rattle.std.specs.Option.{unwrap_or}
@@ -30,7 +30,7 @@ IsAwake state = (address : Addr) → waits_at address (Some state) ≡ false
 
 module _ (total : IsTotalOrder inst_cmp) (tie : IsAntisymmetric inst_cmp) (old new : Memory) (i : Inst) (from to : State)
     (was : state_at old.instances i ≡ Some from) (moves : MovesOne old.instances new.instances i to) where
-  -- what holds of the state that it comes into, and of the states of others, holds of all
+  -- what holds of its new state, and of the states of the others, holds of all
   pub by_instance : (j : Inst) (P : Option State → Type 0) → (j ≡ i → P (Some to)) → (j ≢ i → P (state_at old.instances j)) → P (state_at new.instances j)
   by_instance j P here elsewhere = at (eq_by_cmp inst_cmp j i) refl
     where
@@ -46,7 +46,7 @@ module _ (total : IsTotalOrder inst_cmp) (tie : IsAntisymmetric inst_cmp) (old n
   marks name = ap (λ (t : Numbered Bool). get t.items (name.collection.0, name.key)) moves.tags
 
   module _ (items : (a : Addr) → item_at new.items a ≡ item_at old.items a) (fault : new.fault ≡ old.fault) where
-    -- no fact changes where it is done neither before nor after
+    -- no fact changes if the move does not change whether the instance is done
     pub facts_stay : is_done (Some from) ≡ is_done (Some to) → (fact : Fact) → facts_of new fact ≡ facts_of old fact
     facts_stay as_done (tag name) = ap is_some (marks name)
     facts_stay as_done (item a v by) = ap (λ o. is_item o v by) (items a)
@@ -61,7 +61,7 @@ module _ (total : IsTotalOrder inst_cmp) (tie : IsAntisymmetric inst_cmp) (old n
     environment_stays (done j) = refl
     environment_stays (bad j kind) = refl
 
-    -- where it ends, that it is done is the one fact that comes
+    -- if it ends, the one fact that is added is that it is done
     pub done_comes : to ≡ Done → (fact : Fact) → facts_of new fact ≡ with_facts (facts_of old) (done i ∷ []) fact
     done_comes ends (tag name) = ap is_some (marks name) ∙ sym (or_false _)
     done_comes ends (item a v by) = ap (λ o. is_item o v by) (items a) ∙ sym (or_false _)
@@ -80,7 +80,7 @@ module _ (total : IsTotalOrder inst_cmp) (tie : IsAntisymmetric inst_cmp) (old n
             ∙ sym (ap (λ b. is_done (state_at old.instances j) || (b || false)) is ∙ or_false _)
     done_comes ends (bad j kind) = ap (λ f. is_fault f j kind) fault ∙ sym (or_false _)
 
-  -- where it waited neither before nor after, the lists of those that wait stay right
+  -- if it waits neither before nor after, the lists of waiting instances stay right
   pub still_listed : new.items ≡ old.items → IsAwake from → IsAwake to → AreListed old → AreListed new
   still_listed items awake wakes listed = record {
     listed = λ j a. ap (λ (h : Held). is_one_of j (waiters_at h a)) items ∙ by_instance j (λ s. is_one_of j (waiters_at old.items a) ≡ waits_at a s)

@@ -1,4 +1,4 @@
--- An instance that runs comes to wait, or one that is ready runs.
+-- A running instance begins to wait, or a ready one runs.
 use Rattle.std.proofs.Common.{◌≡◌, ◌≢◌, ◌∙◌, ap, sym, refl, subst, inl, inr, ℕ, ◌<◌, ◌≤◌, Bool, true, false, cond, ◌||◌, List, [], ◌∷◌, ◌++◌, length, Option, Some, None, IsSome, IfSome, is_some, ℤ}
 use Rattle.std.proofs.lemmas.Bool.{false≢true, cases_lt}
 use Rattle.std.proofs.lemmas.List.Folds.{list_any-append}
@@ -29,7 +29,7 @@ use Rattle.machine.specs.Machine.{Moves}
 use Rattle.graph.specs.Fits.{HasNoFault}
 use Rattle.machine.proofs.Worked.{moved_is_of, moves_of, same_is_of}
 
--- who waits at an address where one more came to wait
+-- who waits at an address after one more instance began to wait
 waiters_after : (held : Held) (a : Addr) (i : Inst) (b : Addr) → waiters_at (with_waiter held a i) b ≡ cond (is_same b a) (waiters_at held a ++ i ∷ []) (waiters_at held b)
 waiters_after held a i b =
     ap (λ (o : Option (List Inst)). unwrap_or o []) (get-insert places_total held.waiting (place a) (waiters_at held a ++ i ∷ []) (place b)) ∙ at (is_same b a)
@@ -129,7 +129,7 @@ module _ (total : IsTotalOrder inst_cmp) (tie : IsAntisymmetric inst_cmp) (old n
       its_address : {b : Addr} → Some (Waiting a) ≡ Some (Waiting b) → a ≡ b
       its_address is = cc
 
--- a claim leaves what a store holds
+-- after a claim a store still holds what a store of the graph may hold
 pub claimed_is_of : (total : IsTotalOrder inst_cmp) (tie : IsAntisymmetric inst_cmp) (g : Graph) (old new : Memory) (ready at : ℕ) (result : Option Inst) → new.items ≡ old.items → new.fault ≡ old.fault
     → (at < ready → IsSome result) → (ready ≤ at → (result ≡ None) × (new.instances ≡ old.instances))
     → IfSome result (λ task. (state_at old.instances task ≡ Some Ready) × MovesOne old.instances new.instances task Running) → IsOf g old → IsOf g new
@@ -147,7 +147,7 @@ pub without_fault : (fault : Option (Inst × FaultKind)) → is_some fault ≡ f
 without_fault None is i kind = refl
 without_fault (Some there) is i kind = absurd (false≢true (sym is))
 
--- what a claim tells
+-- what the result of a claim says
 pub claim_tells : (total : IsTotalOrder inst_cmp) (tie : IsAntisymmetric inst_cmp) (g : Graph) (old new : Memory) (result : Option Inst) → new.items ≡ old.items → new.fault ≡ old.fault → HasNoFault (facts_of old)
     → IfSome result (λ task. (state_at old.instances task ≡ Some Ready) × MovesOne old.instances new.instances task Running)
     → IfSome result (λ task. HasNoFault (facts_of old) × (state_at old.instances task ≡ Some Ready) × Moves (record { graph = g; memory = old }) (record { graph = g; memory = new }) task Running)

@@ -1,4 +1,4 @@
--- What a machine keeps.
+-- The invariant of a machine.
 use Rattle.std.proofs.Common.{◌≡◌, ◌∙◌, ap, sym, refl, ℤ, true, Option, Some, None, is_some}
 use Rattle.std.proofs.lemmas.Bool.{false≢true}
 use Rattle.std.specs.FinMap.{IsAntisymmetric}

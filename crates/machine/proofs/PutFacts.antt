@@ -24,7 +24,7 @@ twice_first address rest it = ([], it.0, it.1, ap (λ xs. address ∷ xs) it.2)
 pub twice_rest : (first : Addr) (rest : List Addr) (address : Addr) → IsTwiceIn address rest → IsTwiceIn address (first ∷ rest)
 twice_rest first rest address it = (first ∷ it.0, it.1, it.2, ap (λ xs. first ∷ xs) it.3)
 
--- the parts of an item
+-- equal items have equal parts
 same_address : (a b : Addr) (v w : ℤ) (p q : Producer) → item a v p ≡ item b w q → a ≡ b
 same_address a b v w p q same = cc
 
@@ -78,7 +78,7 @@ module _ (told : OneFact) where
   put_has_item instance number (put.Tag name ∷ puts) address it =
       item_behind instance (tag name) (put_facts instance (suc number) puts) address (put_has_item instance (suc number) puts address it)
 
-  -- where no two of the puts are at one address, neither are two of the items
+  -- if no two of the puts are at one address, no two of the items are
   pub one_item_each : (instance : Inst) (number : ℕ) (puts : List Put) → ((address : Addr) → IsTwiceIn address (addresses puts) → ⊥) → (address : Addr) (v w : ℤ) (p q : Producer)
       → among (put_facts instance number puts) (item address v p) ≡ true → among (put_facts instance number puts) (item address w q) ≡ true → (v ≡ w) × (p ≡ q)
   one_item_each instance number [] distinct address v w p q one two = absurd (false≢true one)
@@ -108,7 +108,7 @@ module _ (told : OneFact) where
         ]
       ]
 
-  -- puts state no end of an instance
+  -- puts do not state that an instance is done
   pub no_done : (instance : Inst) (number : ℕ) (puts : List Put) (other : Inst) → among (put_facts instance number puts) (done other) ≡ true → ⊥
   no_done instance number [] other holds = false≢true holds
   no_done instance number (put.Item a w ∷ puts) other holds =

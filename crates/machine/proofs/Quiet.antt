@@ -1,4 +1,4 @@
--- Where nothing is left to do the facts are closed.
+-- If nothing is left to do, the facts are closed.
 use Rattle.std.proofs.Common.{◌≡◌, ℕ, true, List, [], ◌∷◌, ◌++◌, inl, inr, sym, subst}
 use Rattle.terms.specs.declared.name.Addr.{Addr}
 use Rattle.terms.specs.declared.name.Inst.{Inst}
@@ -101,7 +101,7 @@ module _ (told : OneFact) (both : AmongBoth) (once : LookUpEndsOnce) (g : Graph)
           (quiet_is_meaning (item address v p) one) (quiet_is_meaning (item address w q) two);
     }
 
-  -- a meaning is within each quiet set that has its environment
+  -- a meaning is within each quiet set that contains its environment
   within_quiet : (one two : List Event) → AreLegal g [] two → IsQuiet g (stated two) → IsThere one two → (fact : Fact) → Meaning g (put_by_environment one) fact → stated two fact ≡ true
   within_quiet one two legal quiet there fact meant =
       let closed = is_closed two legal quiet in

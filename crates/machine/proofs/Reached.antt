@@ -1,4 +1,4 @@
--- The laws of states, from those of lists.
+-- The laws of states, derived from those of lists.
 use Rattle.std.proofs.Common.{◌≡◌, ◌⊎◌, ◌↔◌, ℤ, Bool, true, false, ◌||◌, List, [], ◌∷◌, ◌++◌, refl, sym, ap, subst, ◌∙◌}
 use Rattle.std.specs.List.{AllByRecursion}
 use Rattle.std.proofs.lemmas.List.{append-nil}
@@ -36,7 +36,7 @@ environment_is g E X it = λ i fact. it.environment fact i
 pub nothing_is_reached : (g : Graph) → IsReached g (among []) (among [])
 nothing_is_reached g = record { events = []; legal = tt; facts = λ fact. refl; environment = λ fact. refl }
 
--- ---- bodies over pairs that are told in another way
+-- ---- bodies over other pairs
 
 each_read : (some more : Addr → ℤ → Type 0) → ((address : Addr) (value : ℤ) → some address value → more address value)
     → (reads : List Read) → AllByRecursion (λ (read : Read). some read.0 read.1) reads → AllByRecursion (λ (read : Read). more read.0 read.1) reads
@@ -130,13 +130,13 @@ module _ (told : OneFact) (both : AmongBoth) where
     reached_stopped_or_quiet g E X Y instance kind one fault two quiet =
         not_both (Y (bad instance kind)) (((reached_is_meaning g E Y two quiet).0 (bad instance kind)).1 (reached_is_within g E X one (bad instance kind) fault)) (quiet.no_fault instance kind)
 
-    -- over the items of what is reached a body ends in one way
+    -- over the items of a reached state a body ends in one way
     pub reached_one_ending : (g : Graph) (E X : Facts) → IsReached g E X → (instance : Inst) (one two : Ending) → BodyMeans g instance (items X) one → BodyMeans g instance (items X) two → one ≡ two
     reached_one_ending g E X it instance one two =
         subst (λ (F : Facts). BodyMeans g instance (items F) one → BodyMeans g instance (items F) two → one ≡ two) (stated_is g E X it)
         (one_ending told (facts it.events) (kept_from_nothing told both g it.events it.legal).one_item once g instance one two)
 
-    -- ---- what waits
+    -- ---- waiting instances
 
     pub quiet_waits : (g : Graph) (E X : Facts) → IsReached g E X → IsQuiet g X → (instance : Inst) (address : Addr) → Waits g X instance address ↔ IsUnfinished g E instance address
     quiet_waits g E X it quiet instance address = (

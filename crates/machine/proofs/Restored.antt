@@ -1,4 +1,4 @@
--- A store that is restored holds what the image lists.
+-- A restored store holds what the image lists.
 use Rattle.std.proofs.Common.{◌≡◌, ◌⊎◌, ◌∙◌, ap, sym, refl, subst, inl, inr, ℕ, zero, suc, ℤ, ◌+◌, ◌==◌, ◌<◌, Bool, true, false, cond, ◌&&◌, ◌||◌, List, [], ◌∷◌, map, get_or, Option, Some, None, is_some, IsSorted, arith}
 use Rattle.std.proofs.lemmas.Bool.{false≢true}
 use Rattle.std.proofs.lemmas.Cmp.{tied_itself}
@@ -41,7 +41,7 @@ use Rattle.machine.proofs.ImageFacts.{item_fact, tag_fact, facts_tag, facts_item
 use Rattle.machine.proofs.Sets.{same_truth, of_list, the_first, behind_first}
 use Rattle.machine.proofs.Tagging.{no_mark}
 
--- a list that rises is in order
+-- a list that rises is sorted
 pub in_order : {X : Type 0} (cmp : X → X → Ordering) → IsTotalOrder cmp → (list : List X) → Rises cmp list → IsSorted cmp list
 in_order cmp total [] rises k d low within = absurd (omega (arith, within))
 in_order cmp total (x ∷ []) rises k d low within = absurd (omega (arith, within))
@@ -117,7 +117,7 @@ module _ (told : OneFact) (both : AmongBoth) (g : Graph) (image : Image) (fits :
     items : (a : Addr) (v : ℤ) (p : Producer) → facts_of m (item a v p) ≡ among (map item_fact image.items) (item a v p)
     items a v p = puts.items a v p ∙ ap (λ b. b || among (map item_fact image.items) (item a v p)) (nothing.facts (item a v p))
 
-    -- an instance is not there, or in its first state
+    -- an instance has no state, or its first one
     state : (i : Inst) → (state_at m.instances i ≡ None) ⊎ (state_at m.instances i ≡ Some (first_state image.done i))
     state i = elim (names.states i) [ inl same ↦ inl (same ∙ nothing.instances i) | inr first ↦ inr first ]
 

@@ -1,4 +1,4 @@
--- Items that come one after another, in the order of their addresses.
+-- Items that are added one after another, in the order of their addresses.
 use Rattle.std.proofs.Common.{◌≡◌, ◌∙◌, ap, sym, refl, subst, ℕ, ℤ, ◌<◌, Bool, true, false, cond, ◌&&◌, ◌||◌, List, [], ◌∷◌, map, Option, Some, None}
 use Rattle.std.specs.declared.cmp.Ordering.{Ordering}
 use Rattle.std.specs.declared.cmp.Ordering.TheVariants.{Less}
@@ -23,7 +23,7 @@ regroup true b c = refl
 regroup false true c = refl
 regroup false false c = refl
 
--- ---- what rises
+-- ---- lists that rise
 
 module _ {X : Type 0} (cmp : X → X → Ordering) (trans : (x y z : X) → cmp x y ≡ Less → cmp y z ≡ Less → cmp x z ≡ Less) where
   further : (x y : X) → cmp x y ≡ Less → (list : List X) → AllByRecursion (λ z. cmp y z ≡ Less) list → AllByRecursion (λ z. cmp x z ≡ Less) list

@@ -1,4 +1,4 @@
--- What a store holds where only room comes.
+-- What a store holds if only room is added.
 use Rattle.std.proofs.Common.{◌≡◌, ◌≢◌, ◌∙◌, ap, sym, refl, subst, ℕ, zero, suc, ℤ, ◌==◌, ◌<◌, ◌≤◌, Bool, true, false, List, [], ◌∷◌, length, get_or, Option, is_some, arith}
 use Rattle.std.proofs.lemmas.Bool.{false≢true}
 use Rattle.std.specs.Cmp.{unsigned_Decides}
@@ -67,7 +67,7 @@ module _ (old new : Memory) (same_items : (a : Addr) → item_at new.items a ≡
   still_is_of g is waiters item_rooms tag_rooms prescribers =
       same_is_of g old new is same_facts same_environment item_rooms tag_rooms prescribers (λ i a here. is.needs i a (sym (states i) ∙ here)) (same_listed waiters is.listed)
 
--- where there is not less at one number, and as much at the others
+-- if one number has no less and the others have as much, none has less
 not_less_at : (k n : ℕ) (old new : ℕ → ℕ) → old n ≤ new n → (k ≢ n → new k ≡ old k) → old k ≤ new k
 not_less_at k n old new here others = at (k == n) refl
   where
@@ -112,7 +112,7 @@ module _ (old : Memory) (known : Known) (collection : TagCollection) (grows : in
       (λ c. omega arith)
       (λ c. not_less_at c.0 collection.0 (λ (k : ℕ). instances.room_for old.instances (record { 0 = k })) (λ (k : ℕ). instances.room_for known (record { 0 = k })) grows.not_less (grows.other_room c))
 
--- ---- one behind the other
+-- ---- one after the other
 
 pub no_room : (m : Machine) → GivesRoom m m
 no_room m = record {
@@ -136,12 +136,12 @@ more_room old mid new first then_more = record {
   tag_room = λ c. (let one = first.tag_room c in let two = then_more.tag_room c in omega (arith, one, two));
 }
 
--- what had room has it still
+-- what had room still has it
 pub room_stays : (old new : Machine) → GivesRoom old new → (count : ℕ) (one : Put) → HasRoomFor old count one → HasRoomFor new count one
 room_stays old new gives count (put.Item address value) has = (let more = gives.item_room address.collection in omega (arith, has, more))
 room_stays old new gives count (put.Tag name) has = (let more = gives.tag_room name.collection in omega (arith, has, more))
 
--- what holds of each holds at a number
+-- what holds of each put holds of the one at an index
 pub all_at : (P : Put → Type 0) (n : ℕ) (puts : List Put) (one : Put) → AllByRecursion P puts → n < length puts → one ≡ get_or puts n one → P one
 all_at P n [] one all within is = absurd (omega (arith, within))
 all_at P zero (first ∷ rest) one all within is = subst P (sym is) all.0

@@ -50,7 +50,7 @@ new_one X address value absent = record { absent = λ other it. here other it.0 
     no other (x ∷ []) between behind same = cc
     no other (x ∷ y ∷ xs) between behind same = cc
 
--- the only step of a graph with one
+-- the only step of a graph with one step
 only_step : (step other : Step) (number : ℕ) → slice_get (step ∷ []) number ≡ Some other → 0 ≡ number
 only_step step other zero same = refl
 only_step step other (suc number) same = absurd (cc)
@@ -61,14 +61,14 @@ same_tag one two same = cc
 same_instance : (number : ℕ) (key other_key : List ℤ) (instance : Inst) → instance.collection.0 ≡ number → instance.key ≡ key → record { collection = record { 0 = number }; key = key } ≡ instance
 same_instance number key other_key instance one two = λ i. record { collection = record { 0 = sym one i }; key = sym two i }
 
--- of a graph with one step an instance that a tag prescribes
+-- in a graph with one step, an instance that a tag prescribes
 module _ (g : Graph) (step : Step) (only : g.steps ≡ step ∷ []) where
   of_tag : (number : ℕ) (instance : Inst) → Prescribes g (n number) instance → add number ≡ instance
   of_tag number instance it =
       same_instance 0 (pos number ∷ []) [] instance
       (sym (only_step step it.step instance.collection.0 (ap (λ (steps : List Step). slice_get steps instance.collection.0) (sym only) ∙ it.is_step))) (sym it.key)
 
--- where each of a list is in a set, all among the list are
+-- if each fact of a list is in a set, all facts among the list are
 pub all_in : OneFact → (list : List Fact) (Y : Facts) → AllByRecursion (λ fact. Y fact ≡ true) list → Within (among list) Y
 all_in told [] Y all fact there = absurd (false≢true there)
 all_in told (first ∷ rest) Y all fact there =
@@ -304,7 +304,7 @@ module _ (told : OneFact) where
       never_quiet = λ other legal there quiet. stopped_or_quiet told both once G conflict other (add 2) DoublePut conflict_legal legal there quiet;
     }
 
--- ---- what is refused
+-- ---- what is rejected
 
 module _ (told : OneFact) (both : AmongBoth) (once : LookUpEndsOnce) where
   added_two : BodyGives G (stated enabled) (add 2) (put.Item (fib 2) (pos 1) ∷ [])

@@ -20,18 +20,18 @@ or_right false b holds = holds
 pub not_both : {A : Type 0} (a : Bool) → a ≡ true → a ≡ false → A
 not_both a yes_ no_ = absurd (false≢true (sym no_ ∙ yes_))
 
--- of two truths each of which follows from the other
+-- two truth values that imply each other are equal
 pub same_truth : (a b : Bool) → (a ≡ true → b ≡ true) → (b ≡ true → a ≡ true) → a ≡ b
 same_truth true b there back = sym (there refl)
 same_truth false true there back = back refl
 same_truth false false there back = refl
 
--- each of the one set is in the other
+-- each fact of the first set is in the second
 abbrev pub Within : Facts → Facts → Type 0
 Within X Y = (fact : Fact) → X fact ≡ true → Y fact ≡ true
 
 module _ (told : OneFact) where
-  -- the first of a list, or one of the rest
+  -- a fact of a list is the first, or one of the rest
   pub of_list : (first : Fact) (rest : List Fact) (fact : Fact) → among (first ∷ rest) fact ≡ true → (first ≡ fact) ⊎ (among rest fact ≡ true)
   of_list first rest fact holds = elim (either (is_fact first fact) (among rest fact) holds) [ inl one ↦ inl ((told first fact).1 one) | inr other ↦ inr other ]
 

@@ -1,4 +1,4 @@
--- What a tag makes of the facts of a store.
+-- What a tag does to the facts of a store.
 use Rattle.std.proofs.Common.{◌≡◌, ◌∙◌, ap, sym, refl, subst, inl, inr, ℕ, ◌+◌, ◌==◌, ◌≤◌, Bool, true, false, cond, ◌||◌, [], ◌∷◌, length, Option, Some, None, is_some, arith}
 use Rattle.std.proofs.lemmas.Bool.{false≢true}
 use Rattle.std.specs.Option.{unwrap_or}
@@ -27,7 +27,7 @@ use Rattle.machine.specs.Coming.{IsNewTo, given_by}
 use Rattle.machine.specs.Waking.{is_one_of}
 use Rattle.machine.proofs.Coming.{or_false, same_number, itself_number, still_waits}
 
--- whether two tags are one
+-- whether two tags are equal
 abbrev same_tag : Tag → Tag → Bool
 same_tag a b = is_eq (tag_cmp a b)
 
@@ -39,7 +39,7 @@ one_tag a b is =
     let places = same_places (tag_place a) (tag_place b) ((Equal-is (tag_cmp a b)).0 is) in
     λ i. record { collection = record { 0 = (places i).0 }; key = (places i).1 }
 
--- where the tag is there, putting it again states nothing new
+-- if the tag is there, putting it again states nothing new
 there_already : (X : Tag → Bool) (name other : Tag) → X name ≡ true → X other ≡ (X other || (same_tag name other || false))
 there_already X name other there = at (same_tag name other) refl
   where
@@ -96,7 +96,7 @@ module _ (old new : Memory) (name : Tag) (mark : Bool) (listed : AreListed old) 
       none None is = refl
       none (Some state) is = absurd (false≢true (sym is))
 
-  -- what holds of the state before, and of a ready one where there was none, holds of the state behind it
+  -- what holds of the state before, and of a ready one if there was none, holds of the state after
   after : (i : Inst) (P : Option State → Type 0) → P (state_at old.instances i) → (state_at old.instances i ≡ None → P (Some Ready)) → P (state_at new.instances i)
   after i P same fresh = subst P (sym (comes.states i)) (at (is_prescribed_by old.instances name i) refl)
     where
@@ -178,7 +178,7 @@ module _ (old new : Memory) (name : Tag) (mark : Bool) (listed : AreListed old) 
     tag_room = λ c. tag_room_of c (c.0 == name.collection.0) refl;
   }
 
--- a tag that is there comes again from an instance, and never from the environment
+-- a tag that is there may come again from an instance, and never from the environment
 pub tag_again : (m : Memory) (name : Tag) (producer : Producer) → AreListed m → IsNewTo m producer (put.Tag name) → is_some (mark_of m.instances name) ≡ true → Grows m m (tag name ∷ []) (given_by producer (put.Tag name)) 1
 tag_again m name Env listed new there = absurd (false≢true (sym new ∙ there))
 tag_again m name (By i n) listed new there = tag_stays m name listed there

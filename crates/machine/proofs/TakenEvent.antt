@@ -1,4 +1,4 @@
--- An event is taken, in the words of what a store holds.
+-- An event is taken, in terms of what a store holds.
 use Rattle.std.proofs.Common.{◌≡◌, ◌∙◌, ap, refl, inl, inr, ℤ, ◌+◌, ◌≤◌, List, Option, Some, None, IsSome}
 use Rattle.std.proofs.lemmas.Bool.{false≢true}
 use Rattle.terms.specs.declared.name.Addr.{Addr}
@@ -44,7 +44,7 @@ module _ (told : OneFact) where
   goes_on new (Some (Waiting a)) to (inr wakes) = inr (there_of new a wakes.0, wakes.1)
   goes_on new (Some Done) to same = same
 
-  -- an instance whose end came is done
+  -- an instance that the event ended is done
   pub is_ended : (old new : Memory) (i : Inst) (puts : List Put) → Comes old new (Ended i puts) → state_at new.instances i ≡ Some Done
   is_ended old new i puts comes = ended (state_at new.instances i) (comes.facts (done i)
       ∙ or_right (facts_of old (done i)) (among (event_facts (Ended i puts)) (done i)) (or_left (is_fact (done i) (done i)) (among (put_facts i 0 puts) (done i)) (told (done i) (done i)).0))

@@ -1,4 +1,4 @@
--- What a store tells of itself, from what it keeps.
+-- What a store reports about itself follows from its invariant.
 use Rattle.std.proofs.Common.{Result, Ok, Err, IfOk, ◌≡◌, ◌↔◌, ◌⊎◌, ◌∙◌, ap, sym, refl, subst, inl, inr, ℕ, ℤ, ◌==◌, Bool, true, false, ◌&&◌, List, Option, Some, None, is_some}
 use Rattle.std.proofs.lemmas.Bool.{false≢true}
 use Rattle.std.specs.Cmp.{IsTotalOrder, unsigned_Decides}
@@ -31,7 +31,7 @@ use Rattle.machine.proofs.Unfinished.{by_graph}
 -- ---- faults
 
 module _ (told : OneFact) where
-  -- the fault that there is is this one, and no other
+  -- the fault that is there is this one, and no other
   pub tells_fault : (fault : Option (Inst × FaultKind)) (i : Inst) (kind : FaultKind) → (is_fault fault i kind ≡ true) ↔ (fault ≡ Some (i, kind))
   tells_fault None i kind = (λ is. absurd (false≢true is), λ same. absurd (cc))
   tells_fault (Some there) i kind = (λ is. one ((told (bad there.0 there.1) (bad i kind)).1 is), λ same. subst (λ (p : Inst × FaultKind). is_fault (Some there) p.0 p.1 ≡ true) (inside same) (told (bad there.0 there.1) (bad there.0 there.1)).0)
@@ -45,14 +45,14 @@ module _ (told : OneFact) where
       inside : Some there ≡ Some (i, kind) → there ≡ (i, kind)
       inside same = cc
 
--- ---- what prescribes
+-- ---- which tags prescribe
 
 and_both : (a b : Bool) → a ≡ true → b ≡ true → (a && b) ≡ true
 and_both true b one two = two
 and_both false b one two = one
 
 module _ (total : IsTotalOrder key_cmp) (tie : IsAntisymmetric key_cmp) (g : Graph) (m : Memory) (is : IsOf g m) where
-  -- a tag prescribes an instance by the graph where it does so by what the store keeps
+  -- if a tag prescribes an instance by the graph, it does so by what the store holds
   pub kept : (name : Tag) (i : Inst) → Prescribes g name i → is_prescribed_by m.instances name i ≡ true
   kept name i it =
       ap (λ (o : Option ℕ). prescribed_in o name i.key) (is.prescribers i.collection.0 ∙ ap (option_map (λ (s : Step). s.prescriber)) it.is_step)
@@ -66,7 +66,7 @@ module _ (total : IsTotalOrder key_cmp) (tie : IsAntisymmetric key_cmp) (g : Gra
         let by = there.prescribed i (ap is_some here) in
         (by.0, sym (there.together by.0 i by.1) ∙ ap is_some here, by_graph g m is by.0 i by.1)
 
-    -- where no instance is ready, none runs and none is at fault, the store is quiet
+    -- if no instance is ready, running or at fault, the store is quiet
     pub quiet : HasNoFault (facts_of m) → NoneIsActive (record { graph = g; memory = m }) → IsQuiet g (facts_of m)
     quiet working idle = record { no_fault = working; done_or_blocked = λ i it. at i (state_at m.instances i) refl (there.together it.0 i (kept it.0 i it.2) ∙ it.1) }
       where
@@ -77,7 +77,7 @@ module _ (total : IsTotalOrder key_cmp) (tie : IsAntisymmetric key_cmp) (g : Gra
         at i (Some (Waiting address)) here some = inr (address, is.needs i address here)
         at i (Some Done) here some = inl (ap is_done here)
 
-    -- those that wait are blocked
+    -- waiting instances are blocked
     pub blocked : (list : List (Inst × Addr)) → AreTheWaiting m.instances list → AreBlocked (record { graph = g; memory = m }) list
     blocked list waiting = record {
       rises = waiting.rises;
@@ -97,7 +97,7 @@ module _ (total : IsTotalOrder key_cmp) (tie : IsAntisymmetric key_cmp) (g : Gra
 
 -- ---- who is active
 
--- none is ready and none runs, in the words of instances and in those of a store
+-- no instance is ready or running, for the instances alone and for a store
 pub idle_of : (g : Graph) (m : Memory) → instances.NoneIsActive m.instances → NoneIsActive (record { graph = g; memory = m })
 idle_of g m none i = (λ ready. absurd (false≢true (sym (none i Ready ready).0)), λ running. absurd (false≢true (sym (none i Running running).1)))
 
@@ -107,7 +107,7 @@ none_of g m idle i Running here = absurd ((idle i).1 here)
 none_of g m idle i (Waiting address) here = (refl, refl)
 none_of g m idle i Done here = (refl, refl)
 
--- what follows of a value that is there
+-- what follows from a value that is there
 pub if_ok : {X E : Type 0} (P Q : X → Type 0) (result : Result X E) → ((x : X) → P x → Q x) → IfOk result P → IfOk result Q
 if_ok P Q (Ok x) follows is = follows x is
 if_ok P Q (Err error) follows is = tt

@@ -26,7 +26,7 @@ both true b is = (refl, is)
 both false b is = absurd (false≢true is)
 
 module _ (g : Graph) (m : Memory) (is : IsOf g m) where
-  -- a tag that prescribes an instance here prescribes it by the graph
+  -- if a tag prescribes an instance here, it does so by the graph
   pub by_graph : (name : Tag) (i : Inst) → is_prescribed_by m.instances name i ≡ true → Prescribes g name i
   by_graph name i prescribed = at (slice_get g.steps i.collection.0) refl (ap (λ o. prescribed_in o name i.key) (sym (is.prescribers i.collection.0)) ∙ prescribed)
     where

@@ -20,7 +20,7 @@ use Rattle.machine.proofs.Grown.{prescribed_within, gives_within, faults_within}
 use Rattle.machine.proofs.Kept.{Kept, ProducersAreDone, kept_nothing, kept_event, kept_list, only}
 
 module _ (told : OneFact) (both : AmongBoth) (g : Graph) (E Y : Facts) (closed : IsClosed g E Y) where
-  -- who put an item is another than an instance that is not done
+  -- an item was put by another than an instance that is not done
   another : (X : Facts) → ProducersAreDone X → (instance : Inst) → X (done instance) ≡ false → (address : Addr) (value : ℤ) (by : Producer) → X (item address value by) ≡ true → IsAnother instance by
   another X producers instance not_done address value Env there = tt
   another X producers instance not_done address value (By other number) there =
@@ -78,7 +78,7 @@ module _ (told : OneFact) (both : AmongBoth) (g : Graph) where
   pub kept_from_nothing : (events : List Event) → AreLegal g [] events → Kept g (stated events)
   kept_from_nothing events legal = kept_list told both g [] events (kept_nothing g) legal
 
-  -- after a legal list from nothing the facts are within the meaning
+  -- after a legal list from the empty store, the facts are within the meaning
   pub stays_within : (events : List Event) → AreLegal g [] events → (fact : Fact) → stated events fact ≡ true → Meaning g (put_by_environment events) fact
   stays_within events legal fact there Y closed =
       list_within told both g (put_by_environment events) Y closed [] events (kept_nothing g) (λ f none. absurd (false≢true none)) legal (λ f it. it) fact there

@@ -1,4 +1,4 @@
--- Those that wait become ready one after another.
+-- Waiting instances become ready one after another.
 use Rattle.std.proofs.Common.{◌≡◌, ◌≢◌, ◌∙◌, ap, sym, refl, subst, ℕ, zero, suc, ◌<◌, ◌≤◌, Bool, true, false, cond, ◌||◌, List, [], ◌∷◌, ◌+◌, take, drop, length, get_or, Option, Some, arith}
 use Rattle.std.proofs.lemmas.Bool.{false≢true}
 use Rattle.std.proofs.lemmas.List.Folds.{list_any_more}
@@ -14,7 +14,7 @@ use Rattle.instances.specs.OfStep.{IsWaiting}
 use Rattle.instances.specs.Known.{Known, state_at, MovesOne}
 use Rattle.machine.specs.Waking.{is_one_of, EachWaits, Wakes}
 
--- what is left of a list at a number, with the element there
+-- what is left of a list at an index begins with the element there
 pub left_at : {X : Type 0} (n : ℕ) (xs : List X) (x : X) → n < length xs → x ≡ get_or xs n x → drop n xs ≡ x ∷ drop (suc n) xs
 left_at n [] x within is = absurd (omega (arith, within))
 left_at zero (first ∷ xs) x within is = ap (λ y. y ∷ xs) (sym is)
@@ -31,13 +31,13 @@ left_none (suc n) (x ∷ xs) past = left_none n xs (omega (arith, past))
 pub wakes_none : (known : Known) → Wakes known known []
 wakes_none known = record { tags = refl; states = λ i. refl; prescribers = λ n. refl; room = λ c. refl }
 
--- of two that are not told, neither is
+-- if a disjunction is false, both its parts are
 neither : (a b : Bool) → (a || b) ≡ false → (a ≡ false) × (b ≡ false)
 neither true b none = absurd (false≢true (sym none))
 neither false b none = (refl, none)
 
 module _ (total : IsTotalOrder inst_cmp) (tie : IsAntisymmetric inst_cmp) where
-  -- two instances are one, or not
+  -- instances that compare as equal are equal
   pub one_instance : (a b : Inst) → eq_by_cmp inst_cmp a b ≡ true → a ≡ b
   one_instance a b is = tie a b ((Equal-is (inst_cmp a b)).0 is)
 
@@ -51,14 +51,14 @@ module _ (total : IsTotalOrder inst_cmp) (tie : IsAntisymmetric inst_cmp) where
       other true is = absurd (false≢true (sym not ∙ ap (eq_by_cmp inst_cmp a) (one_instance b a is) ∙ itself a))
       other false is = refl
 
-  -- one is among the first and the next if it is among the first, or the next
+  -- an instance is among the first `k + 1` if it is among the first `k`, or is the next
   one_more : (i : Inst) (k : ℕ) (ws : List Inst) (next : Inst) → k < length ws → next ≡ get_or ws k next → is_one_of i (take (suc k) ws) ≡ (is_one_of i (take k ws) || eq_by_cmp inst_cmp i next)
   one_more i k ws next within is =
       let more : k + 1 ≡ suc k = omega arith in
       subst (λ m. is_one_of i (take m ws) ≡ (is_one_of i (take k ws) || eq_by_cmp inst_cmp i next)) more
       (list_any_more (eq_by_cmp inst_cmp i) ws k next within ∙ ap (λ one. is_one_of i (take k ws) || eq_by_cmp inst_cmp i one) (sym is))
 
-  -- the last of those that wait, which does not stand before, and those before it
+  -- the last of the waiting instances, which does not appear before, and those before it
   pub last_waits : (known : Known) (k : ℕ) (ws : List Inst) (last : Inst) → k < length ws → last ≡ get_or ws k last → EachWaits known (take (suc k) ws)
       → IsWaiting (state_at known last) × (is_one_of last (take k ws) ≡ false) × EachWaits known (take k ws)
   last_waits known k [] last within is waits = absurd (omega (arith, within))

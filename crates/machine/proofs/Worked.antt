@@ -1,4 +1,4 @@
--- What a store holds behind a change that brings no fact, or that ends an instance.
+-- What a store holds after a change that adds no fact, or that ends an instance.
 use Rattle.std.proofs.Common.{◌≡◌, ◌∙◌, ap, sym, refl, subst, ℕ, Bool, false, ◌||◌, List, [], ◌∷◌, length, Option, Some, None, is_some}
 use Rattle.std.proofs.lemmas.Bool.{false≢true}
 use Rattle.std.specs.FinMap.{IsAntisymmetric}
@@ -31,7 +31,7 @@ use Rattle.machine.proofs.Growing.{either_way}
 use Rattle.machine.proofs.Tagging.{unmoved}
 use Rattle.machine.proofs.Moved.{IsAwake, by_instance, facts_stay, environment_stays, done_comes, still_listed}
 
--- what comes by an event comes
+-- if the facts of an event are added, the event comes
 pub comes_of : (old new : Memory) (event : Event) (n : ℕ) → Grows old new (event_facts event) (environment_facts event) n → Comes old new event
 comes_of old new event n grows = record {
   facts = grows.facts;
@@ -43,7 +43,7 @@ comes_of old new event n grows = record {
   listed = grows.listed;
 }
 
--- where no fact changes
+-- if no fact changes
 pub same_is_of : (g : Graph) (old new : Memory) → IsOf g old
     → ((fact : Fact) → facts_of new fact ≡ facts_of old fact)
     → ((fact : Fact) → environment_of new fact ≡ environment_of old fact)
@@ -74,7 +74,7 @@ module _ (total : IsTotalOrder inst_cmp) (tie : IsAntisymmetric inst_cmp) (old n
   pub environment_same : (fact : Fact) → environment_of new fact ≡ environment_of old fact
   environment_same = environment_stays total tie old new i from to was moves same_items fault
 
-  -- where it does not come to wait, none waits that did not
+  -- if the instance does not begin to wait, no instance begins to wait
   waited : IsAwake to → (j : Inst) (a : Addr) → state_at new.instances j ≡ Some (Waiting a) → state_at old.instances j ≡ Some (Waiting a)
   waited awake j a is =
       by_instance total tie old new i from to was moves j (λ s. s ≡ Some (Waiting a) → state_at old.instances j ≡ Some (Waiting a))
@@ -83,7 +83,7 @@ module _ (total : IsTotalOrder inst_cmp) (tie : IsAntisymmetric inst_cmp) (old n
       awake_waits : Some to ≡ Some (Waiting a) → ⊥
       awake_waits waits = false≢true (sym (awake a) ∙ ap (waits_at a) waits ∙ same_itself a)
 
-  -- one that runs is given back, or one that is ready runs
+  -- an instance that runs is given back, or a ready one runs
   pub moved_is_of : (g : Graph) → IsOf g old → is_done (Some from) ≡ is_done (Some to) → IsAwake from → IsAwake to → IsOf g new
   moved_is_of g is as_done awake wakes =
       same_is_of g old new is (facts_same as_done) environment_same (ap (λ (h : Held). length h.items.room) items) (ap (λ (t : Numbered Bool). length t.room) moves.tags) moves.prescribers
@@ -109,7 +109,7 @@ module _ (total : IsTotalOrder inst_cmp) (tie : IsAntisymmetric inst_cmp) (old m
   pub ended_listed : AreListed mid
   ended_listed = mid_listed
 
-  -- an instance is done, and then its puts come
+  -- an instance is done, and then its puts are added
   pub end_comes : (puts : List Put) (n : ℕ) → Grows mid new (put_facts i 0 puts) [] n → Comes old new (event.Done i puts)
   end_comes puts n grows = record {
     facts = λ fact. grows.facts fact ∙ ap (λ b. b || among (put_facts i 0 puts) fact) (done_comes total tie old mid i Running Done was moves (same_items total tie old mid i Running Done was moves items fault) fault refl fact)
@@ -129,7 +129,7 @@ module _ (told : OneFact) where
   no_fault_there None none = refl
   no_fault_there (Some there) none = absurd (false≢true (sym (none there.0 there.1) ∙ (told (bad there.0 there.1) (bad there.0 there.1)).0))
 
-  -- in a store without a fault an instance that runs comes to be at fault, and is given back
+  -- in a store without a fault, an instance that runs comes to be at fault, and is given back
   pub fault_comes : (old mid new : Memory) (i : Inst) (kind : FaultKind) → HasNoFault (facts_of old)
       → ((fact : Fact) → facts_of mid fact ≡ facts_of old fact) → ((fact : Fact) → environment_of mid fact ≡ environment_of old fact)
       → new.items ≡ mid.items → new.instances ≡ mid.instances → mid.fault ≡ old.fault → new.fault ≡ Some (i, kind)
@@ -174,7 +174,7 @@ module _ (told : OneFact) where
       its : (fact : Fact) → (facts_of new fact ≡ with_facts (facts_of old) (bad i kind ∷ []) fact) × (environment_of new fact ≡ with_facts (environment_of old) [] fact)
       its = fault_comes old mid new i kind working (facts_same total tie old mid i Running Ready was moves items refl refl) (environment_same total tie old mid i Running Ready was moves items refl) refl refl refl stopped
 
--- one whose state stays goes on
+-- an instance whose state stays goes on
 pub stays_on : (old new : Memory) → AreListed old → new.items ≡ old.items → (j : Inst) → state_at new.instances j ≡ state_at old.instances j → MovesOn new (state_at old.instances j) (state_at new.instances j)
 stays_on old new listed items j same =
     subst (MovesOn new (state_at old.instances j)) (sym same) (unmoved new (state_at old.instances j) (λ a is. ap (λ (h : Held). item_at h a) items ∙ listed.absent j a is))

@@ -19,22 +19,22 @@ abbrev pub fact_of : Producer → Put → Fact
 fact_of by (put.Item address value) = item address value by
 fact_of by (put.Tag name) = tag name
 
--- what of that the environment put
+-- the part of it that the environment put
 abbrev pub given_by : Producer → Put → List Fact
 given_by Env one = fact_of Env one ∷ []
 given_by (By instance number) one = []
 
--- the address of the put, if it is of an item, has none, and the collection has room for so many
+-- the put can be made: if it is of an item, its address has none; and its collection has room for `count` more
 abbrev pub CanTake : Memory → ℕ → Put → Type 0
 CanTake m count (put.Item address value) = IsAbsent (facts_of m) address × IsOfCollection m.items address.collection × (count ≤ items.room_for m.items address.collection)
 CanTake m count (put.Tag name) = count ≤ instances.room_for m.instances name.collection
 
--- a put of the environment states what is not there
+-- a put of the environment states something that is not there
 abbrev pub IsNewTo : Memory → Producer → Put → Type 0
 IsNewTo m Env one = facts_of m (fact_of Env one) ≡ false
 IsNewTo m (By instance number) one = ⊤
 
--- so it is of each put of the list, and no two of its items are at one address
+-- the same for each put of the list, and no two of its items are at one address
 abbrev pub CanTakeAll : Memory → ℕ → List Put → Type 0
 CanTakeAll m count [] = ⊤
 CanTakeAll m count (one ∷ puts) = CanTake m count one × ((address : Addr) → IsIn address (addresses (one ∷ [])) → IsIn address (addresses puts) → ⊥) × CanTakeAll m count puts

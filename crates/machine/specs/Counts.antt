@@ -1,4 +1,4 @@
--- What a store tells of its items in order, and of how much it holds.
+-- What a store reports about its items in order, and about how much it holds.
 use Rattle.std.specs.Prelude.{◌≡◌, ◌↔◌, ◌-◌, ◌^◌, ℕ, ℤ, T, true, List, length, min, Some}
 use Rattle.std.specs.List.{list_any}
 use Rattle.std.specs.List.Sorted.{IsStrictlySortedBy}
@@ -20,14 +20,14 @@ pub record AreItemsOf (X : Facts) (collection : ItemCollection) (list : List (Ad
   pub rises : T (is_sorted addr_cmp list)
   pub each : (address : Addr) (value : ℤ) → (find addr_cmp address list ≡ Some value) ↔ ((address.collection ≡ collection) × items X address value)
 
--- So many names pass: those of a list that has each of them, and each once. It is told up to the greatest number of 64 bits.
+-- The number of names that pass: the length of a list that has each of them, each once. It is given up to the greatest 64-bit number.
 pub record AreSoMany {N : Type 0} (cmp : N → N → Ordering) (Passes : N → Type 0) (count : ℕ) : Type 0 where
   pub list : List N
   pub rises : IsStrictlySortedBy cmp list
   pub each : (name : N) → (list_any (eq_by_cmp cmp name) list ≡ true) ↔ Passes name
   pub told : count ≡ min (length list) (2 ^ 64 - 1)
 
--- so many addresses have an item, so many tags are there, and so many instances are prescribed and done
+-- the numbers of addresses with an item, of tags, of prescribed instances and of done instances
 pub record AreCountsOf (g : Graph) (X : Facts) (counts : Counts) : Type 0 where
   pub items : AreSoMany addr_cmp (λ address. (value : ℤ) × items X address value) counts.items
   pub tags : AreSoMany tag_cmp (λ name. X (tag name) ≡ true) counts.tags

@@ -53,7 +53,7 @@ pub record FiveNumbers : Type 0 where
   pub same : (fact : Fact) → stated in_two_parts fact ≡ stated one_by_one fact
   pub fifth : Meaning fibonacci (put_by_environment one_by_one) (item (fib 5) (pos 5) (By (add 5) 0))
 
--- with one number alone the step needs the other
+-- with one number alone, the step needs the other
 abbrev pub one_number : List Event
 one_number = put_fib 0 0 ∷ EnvTag (n 2) ∷ []
 
@@ -62,7 +62,7 @@ pub record OneNumber : Type 0 where
   pub quiet : IsQuiet fibonacci (stated one_number)
   pub needs : BodyMeans fibonacci (add 2) (items (stated one_number)) (Asks (fib 1))
 
--- where the number is there before, the step is at fault, and no order of that environment is quiet
+-- if the number is already there, the step is at fault, and no order of that environment is quiet
 abbrev pub conflict : List Event
 conflict = put_fib 0 0 ∷ put_fib 1 1 ∷ put_fib 2 7 ∷ EnvTag (n 2) ∷ []
 
@@ -96,12 +96,12 @@ twice = record {
   environment_gets = true ∷ [];
 }
 
--- its instance can be ended by a double put alone
+-- its instance can end only by a double put
 pub record PutTwice : Type 0 where
   pub legal : AreLegal twice [] (EnvTag (n 1) ∷ Stopped (add 1) DoublePut ∷ [])
   pub not_done : (puts : List Put) → IsLegal twice (stated (EnvTag (n 1) ∷ [])) (Done (add 1) puts) → ⊥
 
--- ---- what the definitions refuse
+-- ---- what the definitions reject
 
 abbrev pub enabled : List Event
 enabled = put_fib 0 0 ∷ put_fib 1 1 ∷ EnvTag (n 2) ∷ []
@@ -114,11 +114,11 @@ pub record Refused : Type 0 where
   pub all_closed : IsClosed fibonacci (among []) (λ fact. true)
   pub none_closed : IsClosed fibonacci (among []) (among [])
   pub not_meant : Meaning fibonacci (among []) (item (fib 0) (pos 0) Env) → ⊥
-  -- a second put of an address, of the same value too; a tag again; an instance done again
+  -- a second put at an address, even of the same value; a tag again; an instance done again
   pub not_twice : (v w : ℤ) → AreLegal fibonacci [] (EnvItem (fib 0) v ∷ EnvItem (fib 0) w ∷ []) → ⊥
   pub no_repeat : AreLegal fibonacci [] (EnvTag (n 2) ∷ EnvTag (n 2) ∷ []) → ⊥
   pub not_again : AreLegal fibonacci [] (enabled ++ added 2 1 ∷ added 2 1 ∷ []) → ⊥
   -- another number than the body gives
   pub not_another : AreLegal fibonacci [] (enabled ++ added 2 2 ∷ []) → ⊥
-  -- anything behind a fault
+  -- anything after a fault
   pub nothing_behind : AreLegal fibonacci [] (conflict ++ Stopped (add 2) DoublePut ∷ EnvTag (n 3) ∷ []) → ⊥

@@ -15,7 +15,7 @@ use Rattle.graph.specs.Graph.{Graph, BodyMeans}
 use Rattle.graph.specs.Fits.{IsPrescribed, HasNoFault, addresses, IsIn, IsTwiceIn, AreNew, ItemMayCome, TagMayCome}
 use Rattle.machine.specs.Meaning.{items, BodyGives, BodyFaults}
 
--- An item of these puts is there, or stands twice among them. Whoever put it: an instance that is not done has put none.
+-- An item of these puts is there, or appears twice among them. Who put it does not matter: an instance that is not done has put none.
 abbrev pub Conflicts : Facts → List Put → Type 0
 Conflicts X puts = (address : Addr) × (IsTwiceIn address (addresses puts)
     ⊎ (IsIn address (addresses puts) × ((value : ℤ) × (by : Producer) × (X (item address value by) ≡ true))))
@@ -30,7 +30,7 @@ IsLegalAs g X (EnvTag name) = TagMayCome g X name
 IsLegalAs g X (Done instance puts) = IsPrescribed g X instance × (X (done instance) ≡ false) × BodyGives g X instance puts × AreNew X puts
 IsLegalAs g X (Stopped instance kind) = IsPrescribed g X instance × (X (done instance) ≡ false) × IsAtFault g X instance kind
 
--- the event may come where these facts are there, and none comes behind a fault
+-- the event may come after these facts; after a fault no event may
 pub record IsLegal (g : Graph) (X : Facts) (event : Event) : Type 0 where
   pub working : HasNoFault X
   pub event_is_legal : IsLegalAs g X event
@@ -42,12 +42,12 @@ IsMeant g X (EnvTag name) = ⊤
 IsMeant g X (Done instance puts) = BodyGives g X instance puts
 IsMeant g X (Stopped instance kind) = IsAtFault g X instance kind
 
--- each event of the list may come behind these facts and those of the events before it
+-- each event of the list may come after these facts and those of the events before it
 abbrev pub AreLegal : Graph → List Fact → List Event → Type 0
 AreLegal g before [] = ⊤
 AreLegal g before (event ∷ events) = IsLegal g (among before) event × AreLegal g (before ++ event_facts event) events
 
--- over the items of the set the instance needs this one, which is not there: it asks for it, and is not answered
+-- over the items of the set the instance needs this one, which is not there: the body asks for it, and finds nothing
 abbrev pub Needs : Graph → Facts → Inst → Addr → Type 0
 Needs g X instance address = BodyMeans g instance (items X) (Asks address)
 
@@ -55,7 +55,7 @@ Needs g X instance address = BodyMeans g instance (items X) (Asks address)
 abbrev pub IsBlocked : Graph → Facts → Inst → Type 0
 IsBlocked g X instance = (address : Addr) × Needs g X instance address
 
--- no instance is at fault, and each that is prescribed is done or asks for an item that is not there
+-- no instance is at fault, and each prescribed instance is done or asks for an item that is not there
 pub record IsQuiet (g : Graph) (X : Facts) : Type 0 where
   pub no_fault : HasNoFault X
   pub done_or_blocked : (instance : Inst) → IsPrescribed g X instance → (X (done instance) ≡ true) ⊎ IsBlocked g X instance

@@ -1,4 +1,4 @@
--- The state of a store in memory: its graph and what it holds; what each call makes of it, and why one is refused.
+-- The state of a store in memory: its graph and what it holds; what each call does to it, and why a call is refused.
 use Rattle.std.specs.Prelude.{◌≡◌, ◌≢◌, ◌⊎◌, ⊤, ℕ, ℤ, ◌+◌, ◌≤◌, Bool, true, false, List, [], ◌∷◌, length, get_or, slice_get, Option, Some, None}
 use Rattle.std.specs.List.{AllByRecursion}
 use Rattle.terms.specs.declared.name.Addr.{Addr}
@@ -45,7 +45,7 @@ environment m = environment_of m.memory
 abbrev pub state_of : Machine → Inst → Option State
 state_of m instance = state_at m.memory.instances instance
 
--- how many instances are in such a state; how many are ready, how many run, and how many wait
+-- the number of instances in such a state: of the ready ones, of those that run, and of those that wait
 abbrev pub how_many : (State → Bool) → Machine → ℕ
 how_many test m = total test m.memory.instances
 
@@ -58,7 +58,7 @@ running_count m = how_many is_running m
 abbrev pub waiting_count : Machine → ℕ
 waiting_count m = how_many is_waiting m
 
--- for how many more items of a collection there is room, and for how many more tags of one, with all that they prescribe
+-- for how many more items a collection has room, and for how many more tags, with all that they prescribe
 abbrev pub item_room : Machine → ItemCollection → ℕ
 item_room m collection = items_held.room_for m.memory.items collection
 
@@ -74,14 +74,14 @@ Ends (event.EnvTag name) instance = ⊥
 Ends (event.Done ended puts) instance = ended ≡ instance
 Ends (event.Stopped ended kind) instance = ended ≡ instance
 
--- the environment puts
+-- the event is a put by the environment
 abbrev pub IsPut : Event → Type 0
 IsPut (event.EnvItem address value) = ⊤
 IsPut (event.EnvTag name) = ⊤
 IsPut (event.Done ended puts) = ⊥
 IsPut (event.Stopped ended kind) = ⊥
 
--- the puts that the event has, and how many they are
+-- the puts of the event, and their number
 abbrev pub puts_of : Event → List Put
 puts_of (event.EnvItem address value) = put.Item address value ∷ []
 puts_of (event.EnvTag name) = put.Tag name ∷ []
@@ -98,8 +98,8 @@ count_of (event.Stopped ended kind) = 0
 abbrev pub HasItem : Facts → Addr → Type 0
 HasItem X address = (value : ℤ) × items X address value
 
--- How the state of an instance goes on where facts come, and are X then. One that waits is ready where its item is there, and only there. One
--- that had no state has none, or is ready. The others stay.
+-- How the state of an instance goes on when facts are added that make X. An instance that waits becomes ready exactly if its item is
+-- there. One without a state has none, or is ready. The others stay.
 abbrev pub GoesOn : Facts → Option State → Option State → Type 0
 GoesOn X None to = (to ≡ None) ⊎ (to ≡ Some Ready)
 GoesOn X (Some (Waiting address)) to = (IsAbsent X address × (to ≡ Some (Waiting address))) ⊎ (HasItem X address × (to ≡ Some Ready))
@@ -107,15 +107,15 @@ GoesOn X (Some Ready) to = to ≡ Some Ready
 GoesOn X (Some Running) to = to ≡ Some Running
 GoesOn X (Some Done) to = to ≡ Some Done
 
--- the instance that the event ends is done; one that comes to be at fault is given back, and as nothing is claimed behind a fault it stays ready
+-- the instance that the event ends is done; if it is at fault, it is given back, and stays ready because nothing is claimed after a fault
 abbrev pub EndsAs : Machine → Event → Type 0
 EndsAs new (event.EnvItem address value) = ⊤
 EndsAs new (event.EnvTag name) = ⊤
 EndsAs new (event.Done ended puts) = state_of new ended ≡ Some Done
 EndsAs new (event.Stopped ended kind) = state_of new ended ≡ Some Ready
 
--- The event is taken: its facts come, and of them the environment put its own. Other instances go on. Of each room there is less by as many as
--- the event has puts, at most.
+-- The event is taken: its facts are added, and among them those that the environment put. Other instances go on. The room of each
+-- collection shrinks by at most the number of the event's puts.
 pub record Takes (old new : Machine) (event : Event) : Type 0 where
   pub graph : new.graph ≡ old.graph
   pub facts : (fact : Fact) → facts new fact ≡ with_facts (facts old) (event_facts event) fact
@@ -125,7 +125,7 @@ pub record Takes (old new : Machine) (event : Event) : Type 0 where
   pub item_room : (collection : ItemCollection) → item_room old collection ≤ item_room new collection + count_of event
   pub tag_room : (collection : TagCollection) → tag_room old collection ≤ tag_room new collection + count_of event
 
--- one instance comes into a state, and so it is counted there and no more in the one that it had; no fact changes, nor another instance, nor any room
+-- one instance moves into a state: it is counted there, and no more in the state it had; no fact, no other instance and no room changes
 pub record Moves (old new : Machine) (instance : Inst) (to : State) : Type 0 where
   pub graph : new.graph ≡ old.graph
   pub facts : (fact : Fact) → facts new fact ≡ facts old fact
@@ -136,13 +136,13 @@ pub record Moves (old new : Machine) (instance : Inst) (to : State) : Type 0 whe
   pub item_room : (collection : ItemCollection) → item_room new collection ≡ item_room old collection
   pub tag_room : (collection : TagCollection) → tag_room new collection ≡ tag_room old collection
 
--- where the item is there by now, the instance is ready, else it waits
+-- if the item is there by now, the instance is ready; otherwise it waits
 abbrev pub LooksAgain : Machine → Machine → Inst → Addr → Type 0
 LooksAgain old new instance address = (IsAbsent (facts old) address × Moves old new instance (Waiting address)) ⊎ (HasItem (facts old) address × Moves old new instance Ready)
 
 -- ---- room
 
--- the collection of the put has room for so many
+-- the collection of the put has room for `count` more
 abbrev pub HasRoomFor : Machine → ℕ → Put → Type 0
 HasRoomFor m count (put.Item address value) = count ≤ item_room m address.collection
 HasRoomFor m count (put.Tag name) = count ≤ tag_room m name.collection
@@ -166,7 +166,7 @@ RefusesSecond X address NotFromEnvironment = ⊥
 RefusesSecond X address (Stopped instance kind) = ⊥
 RefusesSecond X address Repeat = ⊥
 
--- why the environment may not put an item: the first of these that is so
+-- why the environment may not put an item: the first cause that applies
 abbrev pub RefusesItem : Graph → Facts → Addr → Refusal → Type 0
 RefusesItem g X address NoSuchCollection = slice_get g.items address.collection.0 ≡ None
 RefusesItem g X address WrongArity = HasOther g.items address.collection.0 (length address.key)
@@ -193,19 +193,19 @@ RefusesEnd X NotFromEnvironment = ⊥
 RefusesEnd X (AlreadyPut value) = ⊥
 RefusesEnd X Repeat = ⊥
 
--- the event by which an instance ends whose body gave these puts
+-- the event that ends an instance after its body gave these puts
 abbrev pub event_of : End → Inst → List Put → Event
 event_of end.Done instance puts = event.Done instance puts
 event_of end.DoublePut instance puts = event.Stopped instance DoublePut
 
 -- ---- reads
 
--- this is what is at the address: the value of an item there, or none where there is no item
+-- what is at the address: the value of the item there, or `None` if there is no item
 abbrev pub IsValueAt : Facts → Addr → Option ℤ → Type 0
 IsValueAt X address None = IsAbsent X address
 IsValueAt X address (Some value) = items X address value
 
--- why a step may not read an item: the first of these that is so
+-- why a step may not read an item: the first cause that applies
 abbrev pub RefusesRead : Graph → Addr → Refusal → Type 0
 RefusesRead g address NoSuchCollection = slice_get g.items address.collection.0 ≡ None
 RefusesRead g address WrongArity = HasOther g.items address.collection.0 (length address.key)

@@ -1,5 +1,5 @@
--- What a graph means on an environment: the facts that are in every closed set. A set tells of each fact whether it is in it.
--- Where bodies put two values at one address, the meaning has both, and the fault with them: more than any store holds.
+-- What a graph means on an environment: the facts that are in every closed set. A set says of each fact whether it contains it.
+-- If bodies put two values at one address, the meaning has both, and the fault as well: more than any store holds.
 use Rattle.std.specs.Prelude.{◌≡◌, ◌≢◌, ◌⊎◌, ⊤, ℤ, true, List}
 use Rattle.terms.specs.declared.name.Addr.{Addr}
 use Rattle.terms.specs.declared.name.Inst.{Inst}
@@ -18,24 +18,24 @@ use Rattle.graph.specs.Fits.{IsPrescribed, addresses, IsIn, IsTwiceIn}
 abbrev pub items : Facts → Addr → ℤ → Type 0
 items X address value = (by : Producer) × (X (item address value by) ≡ true)
 
--- over the items of the set the body of the instance gives these puts, or is at fault so
+-- over the items of the set, the body of the instance gives these puts; or it has this fault
 abbrev pub BodyGives : Graph → Facts → Inst → List Put → Type 0
 BodyGives g X instance puts = BodyMeans g instance (items X) (Gives puts)
 
 abbrev pub BodyFaults : Graph → Facts → Inst → FaultKind → Type 0
 BodyFaults g X instance kind = BodyMeans g instance (items X) (Faults kind)
 
--- somebody else than the instance put it
+-- the producer is another than the instance
 abbrev pub IsAnother : Inst → Producer → Type 0
 IsAnother instance Env = ⊤
 IsAnother instance (By other number) = other ≢ instance
 
--- an item of these puts is there by another (for that of a done instance is there by itself), or stands twice among them
+-- an item of these puts is there by another producer (a done instance's own items are there), or appears twice among them
 abbrev pub IsDoubled : Facts → Inst → List Put → Type 0
 IsDoubled X instance puts = (address : Addr) × (IsTwiceIn address (addresses puts)
     ⊎ (IsIn address (addresses puts) × ((value : ℤ) × (by : Producer) × (X (item address value by) ≡ true) × IsAnother instance by)))
 
--- what each prescribed instance can do over the items of the set is in the set, and so is the environment
+-- the set contains the environment, and what each prescribed instance can do over the items of the set
 pub record IsClosed (g : Graph) (E X : Facts) : Type 0 where
   pub environment : (fact : Fact) → E fact ≡ true → X fact ≡ true
   pub done : (instance : Inst) (puts : List Put) → IsPrescribed g X instance → BodyGives g X instance puts → X (done instance) ≡ true

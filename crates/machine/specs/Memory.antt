@@ -1,4 +1,4 @@
--- What a store holds in memory, as sets of facts, and what each change makes of them.
+-- What a store holds in memory, as sets of facts, and what each change does to them.
 use Rattle.std.specs.Prelude.{◌≡◌, ◌⊎◌, ⊤, ℕ, ℤ, ◌+◌, ◌<◌, ◌≤◌, Bool, true, false, ◌&&◌, ◌==◌, List, [], ◌∷◌, length, slice_get, Option, Some, None, IsSome, is_some}
 use Rattle.std.specs.Option.{option_map, unwrap_or}
 use Rattle.std.specs.Ordering.{is_eq, int_eq}
@@ -48,14 +48,14 @@ abbrev pub is_fault : Option (Inst × FaultKind) → Inst → FaultKind → Bool
 is_fault None instance kind = false
 is_fault (Some there) instance kind = is_eq (inst_cmp there.0 instance) && (fault_number there.1 == fault_number kind)
 
--- all that the store has
+-- all facts of the store
 abbrev pub facts_of : Memory → Facts
 facts_of m (tag name) = is_some (mark_of m.instances name)
 facts_of m (item address value by) = is_item (item_at m.items address) value by
 facts_of m (done instance) = is_done (state_at m.instances instance)
 facts_of m (bad instance kind) = is_fault m.fault instance kind
 
--- what of it the environment put: the marked tags, and the items of its own
+-- those that the environment put: the marked tags, and the items that it produced
 abbrev pub environment_of : Memory → Facts
 environment_of m (tag name) = unwrap_or (mark_of m.instances name) false
 environment_of m (item address value Env) = is_item (item_at m.items address) value Env
@@ -63,7 +63,7 @@ environment_of m (item address value (By instance number)) = false
 environment_of m (done instance) = false
 environment_of m (bad instance kind) = false
 
--- ---- what is kept
+-- ---- the invariant
 
 -- whether the instance waits at the address
 abbrev pub waits_at : Addr → Option State → Bool
@@ -73,12 +73,12 @@ waits_at address (Some Running) = false
 waits_at address (Some (Waiting other)) = is_same address other
 waits_at address (Some Done) = false
 
--- each instance stands in the list once
+-- each instance appears in the list once
 abbrev pub IsOnceEach : List Inst → Type 0
 IsOnceEach [] = ⊤
 IsOnceEach (first ∷ others) = (is_one_of first others ≡ false) × IsOnceEach others
 
--- those that wait at an address are listed there, each once, and no others; and the item is not there
+-- the instances that wait at an address are listed there, each once, and no others; and the item is not there
 pub record AreListed (m : Memory) : Type 0 where
   pub listed : (instance : Inst) (address : Addr) → is_one_of instance (waiters_at m.items address) ≡ waits_at address (state_at m.instances instance)
   pub once : (address : Addr) → IsOnceEach (waiters_at m.items address)
@@ -88,8 +88,8 @@ pub record AreListed (m : Memory) : Type 0 where
 abbrev pub prescriber_of : Graph → ℕ → Option ℕ
 prescriber_of g number = option_map (λ (step : Step). step.prescriber) (slice_get g.steps number)
 
--- What a store of this graph holds: its facts fit the graph, with one item an address; each collection of the graph is there, and each
--- step with what prescribes it; each instance that waits needs the item, which is not there, and is listed.
+-- What a store of this graph holds: its facts fit the graph, with no two items at one address; each collection of the graph is
+-- there, and each step with what prescribes it; each instance that waits needs an item that is not there, and is listed.
 pub record IsOf (g : Graph) (m : Memory) : Type 0 where
   pub graph : IsGraph g
   pub fits : FitsState g (environment_of m) (facts_of m)
@@ -100,10 +100,10 @@ pub record IsOf (g : Graph) (m : Memory) : Type 0 where
   pub listed : AreListed m
   pub numbered : (address : Addr) (value : ℤ) (instance : Inst) (number : ℕ) → facts_of m (item address value (By instance number)) ≡ true → number < MOST_PUTS
 
--- ---- what changes
+-- ---- changes
 
--- How the state of an instance moves on, by the items that are held then: one that had none may be ready; one that waits is ready where its
--- item is there, and only there; the others stay.
+-- How the state of an instance moves on, given the items after the change: an instance without a state may become ready; one that
+-- waits becomes ready exactly if its item is there; the others stay.
 abbrev pub MovesOn : Memory → Option State → Option State → Type 0
 MovesOn new None to = (to ≡ None) ⊎ (to ≡ Some Ready)
 MovesOn new (Some (Waiting address)) to = ((item_at new.items address ≡ None) × (to ≡ Some (Waiting address))) ⊎ (IsSome (item_at new.items address) × (to ≡ Some Ready))
@@ -111,7 +111,7 @@ MovesOn new (Some Ready) to = to ≡ Some Ready
 MovesOn new (Some Running) to = to ≡ Some Running
 MovesOn new (Some Done) to = to ≡ Some Done
 
--- These facts come, and of them the environment put some. The room of each collection is less by so many at most.
+-- These facts are added; `given` are those that the environment put. The room of each collection shrinks by at most `count`.
 pub record Grows (old new : Memory) (more given : List Fact) (count : ℕ) : Type 0 where
   pub facts : (fact : Fact) → facts_of new fact ≡ with_facts (facts_of old) more fact
   pub environment : (fact : Fact) → environment_of new fact ≡ with_facts (environment_of old) given fact
@@ -123,7 +123,7 @@ pub record Grows (old new : Memory) (more given : List Fact) (count : ℕ) : Typ
   pub item_room : (collection : ItemCollection) → items.room_for old.items collection ≤ items.room_for new.items collection + count
   pub tag_room : (collection : TagCollection) → instances.room_for old.instances collection ≤ instances.room_for new.instances collection + count
 
--- the event comes: its facts, and of them those of the environment; no instance begins to wait by it
+-- the event comes: its facts are added, and among them those of the environment; no instance begins to wait because of it
 pub record Comes (old new : Memory) (event : Event) : Type 0 where
   pub facts : (fact : Fact) → facts_of new fact ≡ with_facts (facts_of old) (event_facts event) fact
   pub environment : (fact : Fact) → environment_of new fact ≡ with_facts (environment_of old) (environment_facts event) fact

@@ -1,4 +1,4 @@
--- A state that is within the meaning of a graph, and that no legal list of events reaches: being meant is less than being reached.
+-- A state within the meaning of a graph that no legal list of events reaches: a state can be meant without being reached.
 use Rattle.std.specs.Prelude.{◌≡◌, ℕ, pos, true, false, List, [], ◌∷◌, codes}
 use Rattle.terms.specs.declared.name.Addr.{Addr}
 use Rattle.terms.specs.declared.name.Tag.{Tag}
@@ -59,7 +59,7 @@ two_putters = record {
   environment_gets = false ∷ false ∷ [];
 }
 
--- p is done and put a as 1, and r is done and put b as 2, which it can have read of q alone
+-- p is done and put a as 1, and r is done and put b as 2; only from q can r have read this value
 abbrev pub mixed : List Fact
 mixed = tag the_tag ∷ done (of_step 0) ∷ item (named_item 0) (pos 1) (By (of_step 0) 0) ∷ done (of_step 2) ∷ item (named_item 1) (pos 2) (By (of_step 2) 0) ∷ []
 

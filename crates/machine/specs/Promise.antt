@@ -1,4 +1,4 @@
--- What a machine keeps, by the definitions of what a graph means.
+-- The invariant of a machine, in terms of the definitions of what a graph means.
 use Rattle.std.specs.Prelude.{◌≡◌, ◌↔◌, ℕ, ℤ, ◌<◌, Bool, true, false, Some, is_some}
 use Rattle.terms.specs.declared.name.Addr.{Addr}
 use Rattle.terms.specs.declared.name.Inst.{Inst}
@@ -12,9 +12,9 @@ use Rattle.instances.specs.declared.state.State.TheVariants.{Waiting, Done}
 use Rattle.machine.specs.State.{Waits}
 use Rattle.machine.specs.Machine.{Machine, facts, environment, how_many, state_of}
 
--- The facts fit the graph, with one item an address, and the number of a put is below the most that there may be. The instances that have a
--- state are those that are prescribed; the done ones are done by the facts; one that waits needs the item, which is not there; and where none is
--- counted in such a state, none is in one.
+-- The facts fit the graph, with no two items at one address, and the number of a put is below the limit. Exactly the prescribed
+-- instances have a state; exactly those that the facts have as done are in the state `Done`; one that waits needs the item, which is
+-- not there; and a count is zero exactly if no instance is in such a state.
 pub record IsKept (m : Machine) : Type 0 where
   pub graph : IsGraph m.graph
   pub fits : FitsState m.graph (environment m) (facts m)

@@ -1,4 +1,4 @@
--- The state of a store that is opened: what an image lists, with each prescribed instance ready or done.
+-- The state of a store after it was opened: what an image lists, with each prescribed instance ready or done.
 use Rattle.std.specs.Prelude.{◌≡◌, ⊤, false, Option, Some, None}
 use Rattle.terms.specs.declared.name.Inst.{Inst}
 use Rattle.terms.specs.Facts.{done}
@@ -18,8 +18,8 @@ IsReadyOrDone (Some Running) = ⊥
 IsReadyOrDone (Some (Waiting address)) = ⊥
 IsReadyOrDone (Some Done) = ⊤
 
--- It has the facts of the image, of which the environment put those of the image. No instance runs or waits: each that is prescribed and not
--- done is ready.
+-- It has the facts of the image, and the environment put those that the image says it put. No instance runs or waits: each that is
+-- prescribed and not done is ready.
 pub record Restores (g : Graph) (image : Image) (m : Machine) : Type 0 where
   pub graph : m.graph ≡ g
   pub lists : Lists image (environment m) (facts m)

@@ -20,21 +20,21 @@ use Rattle.machine.specs.declared.memory.Memory.{Memory}
 use Rattle.machine.specs.Memory.{IsOf, environment_of, facts_of, is_item}
 use Rattle.machine.specs.Restored.{IsReadyOrDone}
 
--- no item is at the address, and there is its collection
+-- no item is at the address, and its collection is there
 abbrev pub CanHold : Held → Item → Type 0
 CanHold held one = (item_at held one.0 ≡ None) × IsOfCollection held one.0.collection
 
--- these items come, and nothing else changes, but for room
+-- these items are added, and nothing else changes but room
 pub record PutsItems (old new : Held) (list : List Item) : Type 0 where
   pub items : (address : Addr) (value : ℤ) (by : Producer) → is_item (item_at new address) value by ≡ (is_item (item_at old address) value by || among (map (λ it. item it.0 it.1 it.2) list) (item address value by))
   pub waiting : new.waiting ≡ old.waiting
   pub collections : length new.items.room ≡ length old.items.room
 
--- the tag is not there, and there is its collection
+-- the tag is not there, and its collection is
 abbrev pub CanPrescribe : Known → MarkedTag → Type 0
 CanPrescribe known one = (mark_of known one.0 ≡ None) × (one.0.collection.0 < length known.tags.room)
 
--- these tags come with their marks, and an instance whose state changes is done, if it is among those that ended, and else ready
+-- these tags are added with their marks; an instance whose state changes is done if it is among those that ended, and otherwise ready
 pub record PutsTags (ended : List Inst) (old new : Known) (list : List MarkedTag) : Type 0 where
   pub tags : (name : Tag) → is_some (mark_of new name) ≡ (is_some (mark_of old name) || among (map (λ marked. tag marked.0) list) (tag name))
   pub marks : (name : Tag) → unwrap_or (mark_of new name) false ≡ (unwrap_or (mark_of old name) false || among (flat_map environment_tag list) (tag name))
@@ -42,7 +42,7 @@ pub record PutsTags (ended : List Inst) (old new : Known) (list : List MarkedTag
   pub prescribers : (number : ℕ) → prescriber_at new number ≡ prescriber_at old number
   pub collections : length new.tags.room ≡ length old.tags.room
 
--- it is of the graph and has what the image lists, with no instance that runs or waits
+-- it belongs to the graph and holds what the image lists, and no instance runs or waits
 pub record IsRestored (g : Graph) (image : Image) (m : Memory) : Type 0 where
   pub is_of : IsOf g m
   pub lists : Lists image (environment_of m) (facts_of m)

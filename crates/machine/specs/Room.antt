@@ -1,4 +1,4 @@
--- How room comes: nothing changes but that there may be more of it, in any collection. So what was legal is legal still.
+-- How room is added: nothing changes except that any collection may have more room. So what was legal is still legal.
 use Rattle.std.specs.Prelude.{◌≡◌, ◌≤◌}
 use Rattle.terms.specs.declared.name.Inst.{Inst}
 use Rattle.terms.specs.declared.name.ItemCollection.{ItemCollection}

@@ -1,5 +1,5 @@
--- Words for a state of a store: the facts X that it has, of which the environment put E. Both are sets, so that no list of events,
--- no order of them and no schedule plays a part.
+-- The state of a store: the facts X that it has, of which the environment put E. Both are sets, so lists of events, their order
+-- and schedules do not matter.
 use Rattle.std.specs.Prelude.{◌≡◌, ◌↔◌, ⊤, ℤ, true, false, List, [], ◌∷◌}
 use Rattle.terms.specs.declared.name.Addr.{Addr}
 use Rattle.terms.specs.declared.name.Tag.{Tag}
@@ -14,14 +14,14 @@ use Rattle.graph.specs.Fits.{IsPrescribed}
 use Rattle.machine.specs.Meaning.{Meaning}
 use Rattle.machine.specs.Legal.{IsLegal, AreLegal, Needs}
 
--- some legal list of events from nothing states the facts X, and E is what the environment put by them
+-- some legal list of events from the empty store states the facts X, and E is what the environment put by them
 pub record IsReached (g : Graph) (E X : Facts) : Type 0 where
   pub events : List Event
   pub legal : AreLegal g [] events
   pub facts : (fact : Fact) → stated events fact ≡ X fact
   pub environment : (fact : Fact) → put_by_environment events fact ≡ E fact
 
--- each event of the list may come where the facts of the set are there, and those of the events before it
+-- each event of the list may come after the facts of the set and those of the events before it
 abbrev pub AreLegalFrom : Graph → Facts → List Event → Type 0
 AreLegalFrom g X [] = ⊤
 AreLegalFrom g X (event ∷ events) = IsLegal g X event × AreLegalFrom g (with_facts X (event_facts event)) events
@@ -30,7 +30,7 @@ AreLegalFrom g X (event ∷ events) = IsLegal g X event × AreLegalFrom g (with_
 abbrev pub IsMeaning : Graph → Facts → Facts → Type 0
 IsMeaning g E X = (fact : Fact) → (X fact ≡ true) ↔ Meaning g E fact
 
--- the instance is prescribed and not done, and needs this item: where nothing is left to do, it waits for it
+-- the instance is prescribed and not done, and needs this item: if nothing is left to do, it waits for it
 pub record Waits (g : Graph) (X : Facts) (instance : Inst) (address : Addr) : Type 0 where
   pub prescribed : IsPrescribed g X instance
   pub not_done : X (done instance) ≡ false
@@ -40,7 +40,7 @@ pub record Waits (g : Graph) (X : Facts) (instance : Inst) (address : Addr) : Ty
 abbrev pub items_meant : Graph → Facts → Addr → ℤ → Type 0
 items_meant g E address value = (by : Producer) × Meaning g E (item address value by)
 
--- a tag of the meaning prescribes the instance, which is not done in the meaning, and over the meaning's items it needs this one
+-- a tag of the meaning prescribes the instance; in the meaning the instance is not done; over the meaning's items it needs this one
 pub record IsUnfinished (g : Graph) (E : Facts) (instance : Inst) (address : Addr) : Type 0 where
   pub name : Tag
   pub name_is_meant : Meaning g E (tag name)

@@ -1,4 +1,4 @@
--- What a legal event leaves of what a store holds is what a store of the graph may hold.
+-- After a legal event, a store of the graph holds what such a store may hold.
 use Rattle.std.specs.Prelude.{◌≤◌, List, length}
 use Rattle.std.specs.List.{AllByRecursion}
 use Rattle.terms.specs.declared.event.Event.{Event}
@@ -13,10 +13,10 @@ use Rattle.machine.specs.Meaning.{BodyGives}
 use Rattle.machine.specs.Memory.{facts_of, IsOf, Comes}
 use Rattle.terms.specs.Sets.{Facts}
 
--- what a store may hold, and a legal event comes to it, is what it may hold
+-- if a store holds what it may hold and a legal event comes, it still holds what it may hold
 abbrev pub TakingKeeps : Type 0
 TakingKeeps = (g : Graph) (old new : Memory) (event : Event) → IsOf g old → IsLegal g (facts_of old) event → Comes old new event → IsOf g new
 
--- what a body gives is of the graph, and not too much
+-- what a body gives belongs to the graph, and is within the limit of puts
 abbrev pub GivenAreOfGraph : Type 0
 GivenAreOfGraph = (g : Graph) (X : Facts) (instance : Inst) (puts : List Put) → IsGraph g → BodyGives g X instance puts → AllByRecursion (PutIsOf g) puts × (length puts ≤ MOST_PUTS)

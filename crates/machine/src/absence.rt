@@ -16,7 +16,7 @@ pub(crate) fn are_absent(items: &Items, puts: &[Put]) -> bool
     true
 }
 
-// So of one put.
+// The same for one put.
 fn is_absent(items: &Items, put: &Put) -> bool
     ensures { MatchBool result (AreAllAbsent items.now (put.now ∷ [])) (IsOneThere items.now (put.now ∷ [])) }
 {

@@ -1,16 +1,16 @@
 use crate::{ItemsOf, Machine};
 use terms::{ItemCollection, facts_are_told_apart, orders_are_total};
 
-/// How much a store holds. Each number is the greatest `usize` where there are more.
+/// How much a store holds. A number that does not fit in a `usize` is given as `usize::MAX`.
 #[derive(Clone, Copy, Debug, PartialEq, Eq)]
 pub struct Counts {
-    /// The items that are there.
+    /// The number of items.
     pub items: usize,
-    /// The tags that are there.
+    /// The number of tags.
     pub tags: usize,
-    /// The instances that the tags prescribe.
+    /// The number of instances that the tags prescribe.
     pub prescribed: usize,
-    /// Those of them that are done.
+    /// The number of those that are done.
     pub done: usize,
 }
 
@@ -18,7 +18,7 @@ impl Machine {
     ghost use Rattle.machine.specs.Counts.{AreCountsOf, AreItemsOf};
     ghost use Rattle.machine.specs.Machine.{facts};
 
-    /// The items of a collection, each with its value, in the order of their addresses; none where the graph has no such collection.
+    /// The items of a collection, each with its value, sorted by address; none if the graph has no such collection.
     pub fn items_of(&self, collection: ItemCollection) -> ItemsOf<'_>
         ensures { AreItemsOf (facts self.now) collection result }
     {
@@ -29,7 +29,7 @@ impl Machine {
         }
     }
 
-    /// How many items and tags there are, how many instances are prescribed, and how many of these are done. It goes through all instances.
+    /// The numbers of items, of tags, of prescribed instances and of those that are done. It goes through all instances.
     pub fn counts(&self) -> Counts
         ensures { AreCountsOf self.now.graph (facts self.now) result }
     {

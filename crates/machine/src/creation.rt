@@ -16,7 +16,7 @@ impl Machine {
     ghost use Rattle.terms.specs.declared.name.Inst.{Inst};
     ghost use Rattle.machine.specs.Machine.{environment, facts, state_of};
 
-    /// The state of a store of this graph that holds nothing.
+    /// The state of an empty store of this graph.
     pub fn new(alloc: Global, graph: Arc<Graph>) -> Result<Self, AllocError>
         ensures graph { IfOk result (λ m. m.graph ≡ graph.value) }
         ensures facts { IfOk result (λ m. (fact : Fact) → facts m fact ≡ false) }

@@ -6,8 +6,7 @@ ghost use Rattle.graph.specs.Fits.{IsTwiceIn, addresses as addresses_of};
 
 use terms::{Addr, Put, addr_order};
 
-/// Puts the addresses of the items of these puts into the list, in place of what it has. It takes no memory: there is
-/// room for them.
+/// Replaces `addresses` by the addresses of the items of these puts. It allocates no memory: there is room for them.
 fn gather(addresses: &mut Vec<Addr>, puts: &[Put])
     requires { length puts.now ≤ vec_capacity addresses.old }
     ensures gathered { addresses.new.items ≡ addresses_of puts.now }
@@ -21,7 +20,7 @@ fn gather(addresses: &mut Vec<Addr>, puts: &[Put])
     }
 }
 
-/// Whether no address of a list in order is the one before it, so that none is there twice.
+/// Whether no address of a sorted list equals the one before it, so that no address is there twice.
 fn neighbours_differ(addresses: &[Addr]) -> bool
     requires { IsSorted addr_cmp addresses.now }
     ensures { MatchBool result ((address : Addr) → IsTwiceIn address addresses.now → ⊥) ((address : Addr) × IsTwiceIn address addresses.now) }
@@ -34,7 +33,7 @@ fn neighbours_differ(addresses: &[Addr]) -> bool
     true
 }
 
-/// Whether no two items of these puts are at one address. It takes no memory: there is room for their addresses.
+/// Whether no two items of these puts are at one address. It allocates no memory: there is room for their addresses.
 pub(crate) fn are_distinct(addresses: &mut Vec<Addr>, puts: &[Put]) -> bool
     requires { length puts.now ≤ vec_capacity addresses.old }
     ensures distinct { MatchBool result ((address : Addr) → IsTwiceIn address (addresses_of puts.now) → ⊥) ((address : Addr) × IsTwiceIn address (addresses_of puts.now)) }

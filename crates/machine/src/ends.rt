@@ -16,17 +16,17 @@ impl Machine {
     ghost use Rattle.machine.specs.Meaning.{BodyGives, BodyFaults};
     ghost use Rattle.machine.specs.Machine.{RefusesEnd, event_of, facts, state_of};
 
-    /// Whether the instance of a task runs here.
+    /// Whether the instance of a task is running here.
     pub fn runs(&self, task: &Task) -> bool
         ensures { IsTrue result ↔ (state_of self.now task.now ≡ Some Running) }
     {
         self.memory.instances.state(task.inst()) == Some(State::Running)
     }
 
-    /// How an instance ends whose body gave these puts over items that are here: it is done, or at fault by a double put. Where the
-    /// store has a fault it may not end.
+    /// How an instance ends after its body gave these puts, reading the items that are here: it is done, or at fault because
+    /// of a double put. If the store has a fault, the instance may not end.
     ///
-    /// It takes no memory: it looks each item up, and sorts the addresses of the puts.
+    /// It allocates no memory: it looks each item up, and sorts the addresses of the puts.
     pub fn may_end(&mut self, task: &Task, puts: &[Put]) -> Result<End, Refusal>
         requires running { state_of self.old task.now ≡ Some Running }
         requires gives { BodyGives self.old.graph (facts self.old) task.now puts.now }
@@ -45,7 +45,7 @@ impl Machine {
         }
     }
 
-    /// Whether the fault of a body is legal, over items that are here. Where the store has a fault already it is not, nor is any event.
+    /// Whether the fault of a body that read the items that are here is legal. If the store already has a fault, no event is.
     pub fn may_stop(&self, task: &Task, kind: FaultKind) -> Result<(), Refusal>
         requires running { state_of self.now task.now ≡ Some Running }
         requires faults { BodyFaults self.now.graph (facts self.now) task.now kind }
@@ -57,7 +57,7 @@ impl Machine {
         self.is_working()
     }
 
-    // Whether the items of these puts are new, or one of them conflicts.
+    // Whether the items of these puts are new; if not, one of them conflicts.
     fn are_new(&mut self, puts: &[Put]) -> bool
         requires { length puts.now ≤ MOST_PUTS }
         ensures new { MatchBool result (AreNew (facts self.old) puts.now) (Conflicts (facts self.old) puts.now) }

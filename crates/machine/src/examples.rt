@@ -5,7 +5,7 @@ ghost use Rattle.machine.specs.Mixed.{MixedIsRefused};
 use steptree::ends_once;
 use terms::facts_are_told_apart;
 
-/// Four Fibonacci numbers in two orders; one number alone; and a number that is there before.
+/// Four Fibonacci numbers in two orders; one number alone; and a number that is already there.
 pub fn fibonacci_numbers()
     ensures five_numbers { FiveNumbers }
     ensures one_number { OneNumber }
@@ -23,7 +23,7 @@ pub fn item_put_twice()
     ends_once();
 }
 
-/// What the definitions refuse: sets that are not quiet, not closed or not meant, and lists that are not legal.
+/// What the definitions reject: sets that are not quiet, not closed or not meant, and lists that are not legal.
 pub fn refused_examples()
     ensures { Refused }
 {
@@ -31,7 +31,8 @@ pub fn refused_examples()
     ends_once();
 }
 
-/// A state that is within the meaning, and that no legal list reaches: two steps put one item, and a third read what is not there.
+/// A state within the meaning that no legal list reaches: two steps put one item, and a third has read a value that is not
+/// there.
 pub fn meant_and_not_reached()
     ensures { MixedIsRefused }
 {

@@ -9,7 +9,8 @@ impl Machine {
     ghost use Rattle.machine.specs.Machine.{HasRoom, HasRoomFor, item_room, tag_room};
     ghost use Rattle.machine.specs.Room.{GivesRoom};
 
-    /// Makes room for all that these puts bring: in each of their collections for as many as they are. A refusal comes only where there was less.
+    /// Makes room for all that these puts add: each of their collections gets room for as many entries as there are puts. It is
+    /// refused only if there was not as much room before.
     pub fn make_room(&mut self, puts: &[Put]) -> Result<(), AllocError>
         requires { AllByRecursion (PutIsOf self.old.graph) puts.now }
         ensures ok { OnOk result (HasRoom self.new puts.now) }
@@ -22,7 +23,7 @@ impl Machine {
         Ok(())
     }
 
-    // Makes room for so many puts to the collection of this one.
+    // Makes room for `count` puts to the collection of this put.
     fn make_room_for(&mut self, put: Put, count: usize) -> Result<(), AllocError>
         requires { PutIsOf self.old.graph put }
         ensures ok { OnOk result (HasRoomFor self.new count put) }
@@ -35,7 +36,7 @@ impl Machine {
         }
     }
 
-    // Makes room for so many items of a collection.
+    // Makes room for `count` items of a collection.
     fn make_item_room(&mut self, collection: ItemCollection, count: usize) -> Result<(), AllocError>
         requires { collection.0 < length self.old.graph.items }
         ensures ok { OnOk result (count ≤ item_room self.new collection) }
@@ -45,7 +46,7 @@ impl Machine {
         self.memory.items.make_room(collection, count)
     }
 
-    // Makes room for so many tags of a collection, with all that they prescribe.
+    // Makes room for `count` tags of a collection, with all that they prescribe.
     fn make_tag_room(&mut self, collection: TagCollection, count: usize) -> Result<(), AllocError>
         requires { collection.0 < length self.old.graph.tags }
         ensures ok { OnOk result (count ≤ tag_room self.new collection) }

@@ -13,7 +13,7 @@ impl Machine {
     ghost use Rattle.codec.specs.Image.{IsListed, Lists};
     ghost use Rattle.machine.specs.Machine.{environment, facts};
 
-    /// The image that lists what the store holds, in order.
+    /// The image that lists what the store holds, sorted.
     pub fn image(&self, alloc: Global) -> Result<Image, AllocError>
         ensures lists { IfOk result (λ image. Lists image (environment self.now) (facts self.now)) }
         ensures listed { IfOk result IsListed }
@@ -32,7 +32,7 @@ impl Machine {
     }
 }
 
-// The items in the order of their addresses.
+// The items, sorted by address.
 fn listed_items(items: &Items, alloc: Global) -> Result<Vec<(Addr, i64, Producer)>, AllocError>
     ensures { IfOk result (λ list. list.items ≡ items_in items.now) }
 {
@@ -42,7 +42,7 @@ fn listed_items(items: &Items, alloc: Global) -> Result<Vec<(Addr, i64, Producer
         .collect(alloc)
 }
 
-// The tags in order, each with whether the environment put it.
+// The tags, sorted, each with whether the environment put it.
 fn listed_tags(instances: &Instances, alloc: Global) -> Result<Vec<(Tag, bool)>, AllocError>
     ensures { IfOk result (λ list. list.items ≡ tags_in instances.now) }
 {

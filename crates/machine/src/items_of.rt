@@ -2,7 +2,7 @@ use items::Walk;
 use std::marker::Model;
 use terms::Addr;
 
-/// The items that are left of those of one collection, each with its value, in the order of their addresses. It takes no memory.
+/// The items of one collection that are left, each with its value, sorted by address. It allocates no memory.
 #[derive(Drop)]
 pub struct ItemsOf<'a> {
     pub(crate) items: Walk<'a>,

@@ -5,7 +5,7 @@ use graph::fitting;
 use steptree::{ends_within_limits, keeps_to_its_sheet};
 use terms::facts_are_told_apart;
 
-/// A law, with nothing to run: a store holds, behind a legal event, what a store of its graph may hold.
+/// A law, with nothing to run: after a legal event, a store holds what a store of its graph may hold.
 pub(crate) fn taking_keeps()
     ensures { TakingKeeps }
 {
@@ -16,7 +16,7 @@ pub(crate) fn taking_keeps()
     unfinished_wait();
 }
 
-/// A law, with nothing to run: what a body gives is of its graph, and within the limit of puts.
+/// A law, with nothing to run: what a body gives belongs to its graph, and is within the limit of puts.
 pub fn given_are_of_graph()
     ensures { GivenAreOfGraph }
 {

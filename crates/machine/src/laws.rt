@@ -1,4 +1,4 @@
-//! The laws of what a graph means. Each is a contract, with nothing to run.
+//! The laws of the meaning of a graph. Each is a contract, with nothing to run.
 ghost use Rattle.graph.specs.FitLaws.{FitKeeps};
 ghost use Rattle.machine.specs.Laws.{StaysWithin, QuietIsMeaning, QuietIsClean, StoppedIsMeant, StoppedOrQuiet, OneEnd, ListsGoOn, HasLegalParts, OneState, LegalFits, LegalFitsState, FitsAndMeant, FitKeepsOneItem, NewOrConflicting, CanGoOn};
 
@@ -6,14 +6,14 @@ use graph::fitting;
 use steptree::{ends_once, ends_within_limits, keeps_to_its_sheet};
 use terms::facts_are_told_apart;
 
-/// After a legal list of events from nothing the facts are within the meaning of the graph on what the environment put.
+/// After a legal list of events from the empty store, the facts are within the graph's meaning on what the environment put.
 pub fn stays_within()
     ensures { StaysWithin }
 {
     facts_are_told_apart();
 }
 
-/// Where nothing is left to do the facts are the meaning, and the meaning has no fault and one item at an address.
+/// If nothing is left to do, the facts are the meaning, and the meaning has no fault and no two items at one address.
 pub fn quiet_is_meaning()
     ensures meaning { QuietIsMeaning }
     ensures clean { QuietIsClean }
@@ -22,7 +22,7 @@ pub fn quiet_is_meaning()
     ends_once();
 }
 
-/// Where a legal list ends in a fault the meaning has that fault, and no legal list on its environment is quiet.
+/// If a legal list ends in a fault, the meaning has that fault, and no legal list on its environment is quiet.
 pub fn stopped_is_not_clean()
     ensures meant { StoppedIsMeant }
     ensures not_quiet { StoppedOrQuiet }
@@ -31,7 +31,7 @@ pub fn stopped_is_not_clean()
     ends_once();
 }
 
-/// Two legal lists on one environment at whose ends nothing is left to do have the same facts, whatever their order.
+/// If two legal lists are on one environment and leave nothing to do, they have the same facts, whatever their order.
 pub fn one_end()
     ensures { OneEnd }
 {
@@ -39,8 +39,8 @@ pub fn one_end()
     ends_once();
 }
 
-/// Legal lists one behind the other are a legal list, and of one the second part is legal behind the first. What is legal is
-/// told by the set of facts before it.
+/// A legal list and then one that is legal after it are a legal list; of a legal list the first part is legal, and the
+/// second part after it. Only the set of facts before an event decides whether the event is legal.
 pub fn legal_lists_go_on()
     ensures goes_on { ListsGoOn }
     ensures parts { HasLegalParts }
@@ -49,7 +49,7 @@ pub fn legal_lists_go_on()
     facts_are_told_apart();
 }
 
-/// Legal events fit, and events that fit and are meant are legal. What an event that fits leaves fits.
+/// Legal events fit, and events that fit and are meant are legal. After an event that fits, the state still fits.
 pub fn legal_events_fit()
     ensures fit { LegalFits }
     ensures fit_state { LegalFitsState }
@@ -63,7 +63,7 @@ pub fn legal_events_fit()
     fitting();
 }
 
-/// An instance that is prescribed and not done is blocked, or can be ended: legality leaves none without a way on.
+/// After a legal list without a fault, each instance that is prescribed and not done is blocked, or some end of it is legal.
 pub fn each_instance_can_go_on()
     ensures puts { NewOrConflicting }
     ensures instance { CanGoOn }

@@ -1,11 +1,12 @@
-//! What a graph means, that no legal order of its steps leaves that meaning, and the state of a store in memory.
+//! The meaning of a graph, the laws that no legal order of its steps leaves that meaning, and the state of a store in memory.
 //!
 //! `Meaning` of `specs/Meaning.antt` is the least set of facts that a graph has on an environment; `AreLegal` of
-//! `specs/Legal.antt` tells which events may be committed one after another. The layers above stand on the laws of `laws`.
+//! `specs/Legal.antt` says which events may be committed one after another. The layers above use the laws of `laws`.
 //!
-//! `Machine` is seen as its graph and what it holds: the sets `facts` and `environment`, and the state of each instance. It looks
-//! whether an event is legal (`may_put_item`, `may_end`), makes room (`make_room`), and takes it (`take_item`, `take_end`); what it
-//! keeps is told by `is_kept`. `image` lists what it holds, and `of_image` restores it from such a list.
+//! Contracts see a `Machine` as its graph and what it holds: the sets `facts` and `environment`, and the state of each
+//! instance. It checks whether an event is legal (`may_put_item`, `may_end`), makes room (`make_room`), and takes the event
+//! (`take_item`, `take_end`); `is_kept` states its invariant. `image` lists what it holds, and `of_image` restores it from
+//! such a list.
 #![tactic(auto)]
 
 mod absence;

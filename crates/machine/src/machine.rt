@@ -6,8 +6,9 @@ use terms::Addr;
 
 /// The state of a store in memory: its graph, its items, its tags with the instances that they prescribe, and its fault.
 ///
-/// An event is taken in three calls. `may_put_item`, `may_put_tag`, `may_end` and `may_stop` tell whether it is legal, and else why not;
-/// `make_room` makes all room that it needs, and may be refused; `take_item`, `take_tag`, `take_end` and `take_fault` take it, and have no error.
+/// An event is taken in three calls. `may_put_item`, `may_put_tag`, `may_end` and `may_stop` say whether it is legal, and if
+/// not, why; `make_room` makes all the room that it needs, and may be refused; `take_item`, `take_tag`, `take_end` and
+/// `take_fault` take it, and cannot fail.
 pub struct Machine {
     pub(crate) graph: Arc<Graph>,
     pub(crate) memory: Memory,
@@ -16,7 +17,7 @@ pub struct Machine {
 }
 
 impl Drop for Machine {
-    // Written out, so that letting a machine go is one call in the proofs of its callers.
+    // Written by hand, so that dropping a machine is one call in the proofs of its callers.
     fn drop(self) {
         let Machine {
             graph: _,

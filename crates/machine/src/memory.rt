@@ -25,7 +25,7 @@ impl Memory {
     ghost use Rattle.machine.specs.Memory.{AreListed, Grows, facts_of};
     ghost use Rattle.machine.specs.Coming.{CanTake, CanTakeAll, IsNewTo, fact_of, given_by};
 
-    /// Puts what an instance put, one put behind the other.
+    /// Puts what an instance put, one put after the other.
     pub(crate) fn put_all(&mut self, instance: Inst, puts: &[Put])
         requires listed { AreListed self.old }
         requires new { CanTakeAll self.old (length puts.now) puts.now }
@@ -52,7 +52,7 @@ impl Memory {
         }
     }
 
-    // Puts an item that is not there, and makes those ready that wait for it.
+    // Puts an item that is not there, and makes the instances ready that wait for it.
     fn put_item(&mut self, addr: Addr, value: i64, producer: Producer)
         requires listed { AreListed self.old }
         requires absent { IsAbsent (facts_of self.old) addr }

@@ -4,7 +4,7 @@ use terms::{facts_are_told_apart, orders_are_total};
 impl Machine {
     ghost use Rattle.machine.specs.Promise.{IsKept};
 
-    /// A law, with nothing to run: what a machine keeps.
+    /// A law, with nothing to run: the invariant of a machine.
     pub fn is_kept(&self)
         ensures { IsKept self.now }
     {

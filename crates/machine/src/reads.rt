@@ -16,7 +16,7 @@ impl Machine {
         &self.graph
     }
 
-    /// The value at an address, as the environment gets it; none where no item is there.
+    /// The value at an address, as the environment gets it; `None` if no item is there.
     pub fn get(&self, addr: Addr) -> Result<Option<i64>, Refusal>
         ensures allowed { OnOk result (EnvironmentMayGet self.now.graph addr) }
         ensures value { IfOk result (IsValueAt (facts self.now) addr) }
@@ -30,7 +30,7 @@ impl Machine {
         Ok(self.value_at(addr))
     }
 
-    /// The value at an address of any collection of the graph, as a step reads it; none where no item is there.
+    /// The value at an address of any collection of the graph, as a step reads it; `None` if no item is there.
     pub fn read(&self, addr: Addr) -> Result<Option<i64>, Refusal>
         ensures allowed { OnOk result (AddressIsOf self.now.graph addr) }
         ensures value { IfOk result (IsValueAt (facts self.now) addr) }
@@ -41,7 +41,7 @@ impl Machine {
         Ok(self.value_at(addr))
     }
 
-    // Whether the address is of a collection of the graph, and has as many components as its keys.
+    // Whether the address is of a collection of the graph, and has the number of components that its keys have.
     pub(crate) fn is_address(&self, addr: Addr) -> Result<(), Refusal>
         ensures address { OnOk result (AddressIsOf self.now.graph addr) }
         ensures other { OnErr result (AddressIsOf self.now.graph addr → ⊥) }

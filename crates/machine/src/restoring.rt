@@ -43,7 +43,7 @@ impl Memory {
     ghost use Rattle.codec.specs.Image.{IsListed, environment_in, facts_in};
     ghost use Rattle.machine.specs.Restoring.{IsRestored};
 
-    // What a store of this graph holds that is restored from an image.
+    // What a store of this graph holds after it was restored from an image.
     fn of_image(alloc: Global, graph: &Graph, image: &Image) -> Result<Self, AllocError>
         requires fits { FitsState graph.now (environment_in image.now) (facts_in image.now) }
         requires listed { IsListed image.now }
@@ -64,7 +64,7 @@ impl Memory {
     }
 }
 
-// Puts items in the order of their addresses, none of which has one.
+// Puts items, sorted by address, at addresses that have none.
 fn put_items(items: &mut Items, list: &[(Addr, i64, Producer)]) -> Result<(), AllocError>
     requires rise { Rises item_cmp list.now }
     requires hold { AllByRecursion (CanHold items.old) list.now }
@@ -90,7 +90,7 @@ fn put_item(items: &mut Items, one: (Addr, i64, Producer)) -> Result<(), AllocEr
     Ok(())
 }
 
-// Puts tags in their order, none of which is there.
+// Puts tags in order; none of them is there yet.
 fn put_tags(
     instances: &mut Instances,
     tags: &[(Tag, bool)],

@@ -1,8 +1,8 @@
-//! What the result of a body is over the items of a store. It is a contract, with nothing to run.
+//! What the result of a body means over the items of a store. It is a contract, with nothing to run.
 ghost use Rattle.machine.specs.Results.{GivesAlong, FaultsAlong, NeedsAlong, ReadsStay};
 
-/// Where all that a body read is there, its result is what it means there: it gives these puts, is at fault, or needs the item that it asks
-/// for, if that is not there. What was read stays there.
+/// If all that a body read is in the store, its result is what the body means there: it gives these puts, is at fault, or
+/// needs the item that it asks for if that is not there. What was read stays there.
 pub fn results_are_meant()
     ensures gives { GivesAlong }
     ensures faults { FaultsAlong }

@@ -1,10 +1,10 @@
-//! The laws of states, which have sets of facts in place of lists of events. Each is a contract, with nothing to run.
+//! The laws of states, which use sets of facts instead of lists of events. Each is a contract, with nothing to run.
 ghost use Rattle.machine.specs.StateLaws.{EmptyIsReached, ReachedGoesOn, ReachedTakes, LegalAsSet, ReachedIsWithin, ReachedHasOneItem, ReachedIsMeaning, OneMeaningEach, ReachedStoppedOrQuiet, ReachedCanGoOn, NeedsStays, QuietWaits};
 
 use steptree::ends_once;
 use terms::{facts_are_told_apart, facts_go_on};
 
-/// The empty state is reached, and from a state that is reached each legal list of events goes on to one that is.
+/// The empty state is reached, and each legal list of events leads from a reached state to a reached state.
 pub fn reached_goes_on()
     ensures empty { EmptyIsReached }
     ensures goes_on { ReachedGoesOn }
@@ -15,7 +15,7 @@ pub fn reached_goes_on()
     facts_go_on();
 }
 
-/// A state that is reached is within the meaning, and has one item at an address.
+/// A reached state is within the meaning, and has no two items at one address.
 pub fn reached_within()
     ensures within { ReachedIsWithin }
     ensures one_item { ReachedHasOneItem }
@@ -23,8 +23,8 @@ pub fn reached_within()
     facts_are_told_apart();
 }
 
-/// A state that is reached and quiet is the meaning, which is then clean, and there is one. Where a state that is reached has a fault,
-/// none that is reached on its environment is quiet.
+/// A state that is reached and quiet is the meaning; the meaning is then clean, and there is only one. If a reached state
+/// has a fault, no state that is reached on its environment is quiet.
 pub fn reached_and_quiet()
     ensures meaning { ReachedIsMeaning }
     ensures one { OneMeaningEach }
@@ -34,8 +34,9 @@ pub fn reached_and_quiet()
     ends_once();
 }
 
-/// Of the instances that are prescribed and not done: where a state that is reached has no fault, each is blocked or can be ended; what
-/// one needs it needs until it is there; and those that wait in a state that is reached and quiet are those that the meaning leaves unfinished.
+/// About the instances that are prescribed and not done: in a reached state without a fault each is blocked or can end;
+/// what an instance needs it needs until it is there; and in a state that is reached and quiet, the waiting ones are those
+/// that the meaning leaves unfinished.
 pub fn unfinished_wait()
     ensures can_go_on { ReachedCanGoOn }
     ensures stays { NeedsStays }

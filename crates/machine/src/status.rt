@@ -19,8 +19,8 @@ impl Machine {
         self.memory.fault
     }
 
-    /// Whether no instance is ready, none runs, and there is no fault: then nothing is left to do. Where something is ready that would only wait,
-    /// nothing is left to do either, and this is false until it has run.
+    /// Whether no instance is ready or running, and there is no fault: then nothing is left to do. If an instance is ready that
+    /// would only wait, nothing is left to do either, but this is false until that instance has run.
     pub fn is_quiet(&self) -> bool
         ensures exact { IsTrue result ↔ (HasNoFault (facts self.now) × NoneIsActive self.now) }
         ensures quiet { IsTrue result → IsQuiet self.now.graph (facts self.now) }
@@ -33,28 +33,28 @@ impl Machine {
         self.memory.fault.is_none() && self.memory.instances.is_quiet()
     }
 
-    /// How many instances are ready, or the greatest `usize` where they are more.
+    /// The number of ready instances, or `usize::MAX` if there are more.
     pub fn ready(&self) -> usize
         ensures { result ≡ min (ready_count self.now) (2 ^ 64 - 1) }
     {
         self.memory.instances.ready()
     }
 
-    /// How many instances run, or the greatest `usize` where they are more.
+    /// The number of running instances, or `usize::MAX` if there are more.
     pub fn running(&self) -> usize
         ensures { result ≡ min (running_count self.now) (2 ^ 64 - 1) }
     {
         self.memory.instances.running()
     }
 
-    /// How many instances wait, or the greatest `usize` where they are more. It goes through all.
+    /// The number of waiting instances, or `usize::MAX` if there are more. It goes through all instances.
     pub fn waiting(&self) -> usize
         ensures { result ≡ min (waiting_count self.now) (2 ^ 64 - 1) }
     {
         self.memory.instances.waiting()
     }
 
-    /// The instances that wait, each with the address of the item that it needs, by step and then by key.
+    /// The instances that wait, each with the address of the item that it needs, sorted by step and then by key.
     pub fn blocked(&self, alloc: Global) -> Result<Vec<(Inst, Addr)>, AllocError>
         ensures blocked { IfOk result (λ list. AreBlocked self.now list.items) }
         ensures unfinished { IfOk result (λ list. AreUnfinished self.now list.items) }
@@ -67,7 +67,7 @@ impl Machine {
         self.memory.instances.blocked(alloc)
     }
 
-    /// A law, with nothing to run: where none is counted, none is in such a state.
+    /// A law, with nothing to run: a count of instances is zero exactly if no instance is in such a state.
     pub fn are_counted(&self)
         ensures { AreCounted self.now }
     {

@@ -3,7 +3,8 @@ ghost use Rattle.machine.specs.Waking.{EachWaits, Wakes};
 use instances::Instances;
 use terms::{Inst, orders_are_total};
 
-/// Makes those ready that waited. The last comes first, since each goes in front of the others: so they run in the order in which they came.
+/// Makes the waiting instances ready. It begins with the last, because each goes to the front: so they run in the order in
+/// which they came.
 pub(crate) fn wake_all(instances: &mut Instances, waiters: &[Inst])
     requires { EachWaits instances.old waiters.now }
     ensures { Wakes instances.old instances.new waiters.now }

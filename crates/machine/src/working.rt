@@ -10,8 +10,8 @@ impl Machine {
     ghost use Rattle.machine.specs.Legal.{Needs};
     ghost use Rattle.machine.specs.Machine.{LooksAgain, Moves, facts, ready_count, state_of};
 
-    /// Lets one of the ready instances run, by its number among them; which one a number stands for is left open. None where the number is
-    /// not below theirs, and none in a store that a fault stopped.
+    /// Lets one of the ready instances run, by its index among them; which instance an index stands for is unspecified. `None`
+    /// if the index is not below their number, or if a fault stopped the store.
     pub fn claim(&mut self, at: usize) -> Option<Task>
         ensures some { at < ready_count self.old → HasNoFault (facts self.old) → IsSome result }
         ensures below { IfSome result (λ task. at < ready_count self.old) }
@@ -26,9 +26,9 @@ impl Machine {
         self.memory.instances.claim(at)
     }
 
-    /// Lets the instance of a task wait for an item, unless it is there by now: then it is ready.
+    /// Lets the instance of a task wait for an item, unless the item is there by now: then the instance is ready.
     ///
-    /// Where a growth is refused it is ready.
+    /// If memory is refused, the instance is ready.
     pub fn park(&mut self, task: Task, addr: Addr) -> Result<(), AllocError>
         requires running { state_of self.old task ≡ Some Running }
         requires needs { IsAbsent (facts self.old) addr → Needs self.old.graph (facts self.old) task addr }

@@ -4,7 +4,7 @@ use Rattle.graph.specs.Fits.{addresses, IsIn}
 use Rattle.machine.specs.Absence.{AreAllAbsent}
 use Rattle.machine.proofs.absence.are_absent.Given as goal
 
--- where none of what is left is there, none is; and what is left is of the list
+-- if no item of what is left is there, none is; and what is left is part of the list
 abbrev pub invariant-loop-number : goal.invariant-loop-number
 invariant-loop-number l =
     (AreAllAbsent l.fn.items (drop l.number l.fn.puts) → AreAllAbsent l.fn.items l.fn.puts)

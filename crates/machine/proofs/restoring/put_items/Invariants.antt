@@ -5,7 +5,7 @@ use Rattle.items.specs.Held.{Held}
 use Rattle.machine.specs.Restoring.{CanHold, PutsItems}
 use Rattle.machine.proofs.restoring.put_items.Given as goal
 
--- what is left can be put, and with it comes all
+-- what is left can be put, and after that all is put
 abbrev pub invariant-loop-number : goal.invariant-loop-number
 invariant-loop-number l =
     AllByRecursion (CanHold l.items) (drop l.number l.fn.list) × Rises item_cmp (drop l.number l.fn.list)

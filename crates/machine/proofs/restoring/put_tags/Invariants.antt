@@ -5,7 +5,7 @@ use Rattle.instances.specs.Known.{Known}
 use Rattle.machine.specs.Restoring.{CanPrescribe, PutsTags}
 use Rattle.machine.proofs.restoring.put_tags.Given as goal
 
--- what is left can be put, and with it comes all
+-- what is left can be put, and after that all is put
 abbrev pub invariant-loop-number : goal.invariant-loop-number
 invariant-loop-number l =
     AllByRecursion (CanPrescribe l.instances) (drop l.number l.fn.tags) × Rises marked_cmp (drop l.number l.fn.tags)

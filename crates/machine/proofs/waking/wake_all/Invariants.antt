@@ -3,7 +3,7 @@ use Rattle.instances.specs.Known.{Known}
 use Rattle.machine.specs.Waking.{EachWaits, Wakes}
 use Rattle.machine.proofs.waking.wake_all.Given as goal
 
--- those that are left wait, and waking them wakes all
+-- the instances that are left wait, and after they are woken all are
 abbrev pub invariant-loop-number : goal.invariant-loop-number
 invariant-loop-number l =
     EachWaits l.instances (take l.number l.fn.waiters)

@@ -4,7 +4,7 @@ use Rattle.machine.specs.Machine.{Machine, HasRoomFor}
 use Rattle.machine.specs.Room.{GivesRoom}
 use Rattle.machine.proofs.machine.Machine.make_room.Given as goal
 
--- only room came, and where there is room for what is left there is room for all
+-- only room was added; if there is room for what is left, there is room for all
 abbrev pub invariant-loop-number : goal.invariant-loop-number
 invariant-loop-number l =
     GivesRoom l.initial.self l.self

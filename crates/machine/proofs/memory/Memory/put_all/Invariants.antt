@@ -5,7 +5,7 @@ use Rattle.machine.specs.Memory.{AreListed, Grows}
 use Rattle.machine.specs.Coming.{CanTakeAll}
 use Rattle.machine.proofs.memory.Memory.put_all.Given as goal
 
--- what is left can be taken, and with it comes all
+-- what is left can be taken, and after that all is taken
 abbrev pub invariant-loop-number : goal.invariant-loop-number
 invariant-loop-number l =
     AreListed l.self × CanTakeAll l.self (length (drop l.number l.fn.puts)) (drop l.number l.fn.puts)
