@@ -1,13 +1,14 @@
 -- Runs, one after another.
-use Rattle.std.proofs.Common.{◌<◌, ◌≡◌, ◌≢◌, ◌⊎◌, ◌∙◌, ◌≤◌, ◌+◌, ◌++◌, ap, sym, subst, inl, inr, ℕ, false, List, [], arith}
-use Rattle.std.proofs.lemmas.Bool.{cases_lt, false≢true}
+use Rattle.std.proofs.Common.{◌<◌, ◌≡◌, ◌∙◌, ◌+◌, ◌++◌, ap, sym, subst, ℕ, false, List, [], arith}
+use Rattle.std.proofs.lemmas.Bool.{false≢true}
 use Rattle.std.proofs.lemmas.Grind.{flat_map-append}
 use Rattle.std.proofs.lemmas.List.{append_assoc, append-nil, length-append}
 use Rattle.std.specs.List.{AllByRecursion}
 use Rattle.disk.specs.declared.side.Side.{Side}
+use Rattle.disk.specs.Erred.{HasErredFrom, later_erred, erred_later}
 use Rattle.disk.specs.File.{File}
-use Rattle.disk.specs.Moments.{joined_since}
-use Rattle.disk.specs.Time.{Contents, LeavesOnly, LeavesSince}
+use Rattle.disk.specs.Moments.{joined_since, leaves_at_last}
+use Rattle.disk.specs.Time.{Contents, LeavesSince}
 use Rattle.terms.specs.declared.event.Event.{Event}
 use Rattle.terms.specs.Commits.{Commit, facts_behind, environment_behind}
 use Rattle.terms.specs.Facts.{Fact, event_facts}
@@ -21,43 +22,6 @@ use Rattle.vault.specs.Store.{HasGates}
 use Rattle.commit.specs.Core.{Core, graph, facts, environment, is_halted}
 use Rattle.commit.specs.Runs.{Begun, IsEnd, Runs, RunsOn, RunsSince, begun_by, one_by_one}
 use Rattle.commit.proofs.Lists.{with_both, one_by_one_joined, facts_joined, ends_joined, first_ends, environment_stays, legal_joined}
-
--- two numbers that do not differ are equal
-same_number : (n m : ℕ) → (n ≢ m → ⊥) → n ≡ m
-same_number n m never = elim (cases_lt n m) [
-  | inl above ↦ elim (cases_lt m n) [
-    | inl below ↦ absurd (never (λ is. omega (arith, below, is)))
-    | inr not_below ↦ omega (arith, above, not_below)
-  ]
-  | inr not_above ↦ elim (cases_lt m n) [
-    | inl below ↦ absurd (never (λ is. omega (arith, below, is)))
-    | inr not_below ↦ omega (arith, not_above, not_below)
-  ]
-]
-
--- if no call of the disk failed in the first part, an error since then is one since the beginning, by the counts of failures and of refusals
-abbrev HasErredFrom : (failures later refusals now : ℕ) → Type 0
-HasErredFrom failures later refusals now = (failures < later) ⊎ (now ≢ refusals)
-
-later_erred : (f g h r s t : ℕ) → f ≤ g → (HasErredFrom f g r s → ⊥) → HasErredFrom g h s t → HasErredFrom f h r t
-later_erred f g h r s t later calm (inl grew) = inl (omega (arith, later, grew))
-later_erred f g h r s t later calm (inr changed) = inr (λ is. changed (is ∙ sym (same_number s r (λ differs. calm (inr differs)))))
-
-erred_later : (f g h r s t : ℕ) → f ≤ g → (HasErredFrom f g r s → ⊥) → HasErredFrom f h r t → HasErredFrom g h s t
-erred_later f g h r s t later calm (inl grew) = elim (cases_lt f g) [
-  | inl before ↦ absurd (calm (inl before))
-  | inr not_before ↦ inl (omega (arith, not_before, grew))
-]
-erred_later f g h r s t later calm (inr changed) = inr (λ is. changed (is ∙ same_number s r (λ differs. calm (inr differs))))
-
-module _ {D : Type 0} (moment : D → ℕ) (left_at : D → ℕ → Contents → Type 0) (begun : ℕ) (left : ℕ → Contents → Type 0) where
-  -- what holds since the beginning holds of the last moment by itself
-  leaves_at_last : (mid : D) (P : Contents → Type 0) → LeavesSince moment left_at begun left mid P → LeavesOnly moment left_at mid mid P
-  leaves_at_last mid P first = record {
-    later = omega arith;
-    each = λ t c from to was. first.each t c (omega (arith, from, first.later)) to was;
-    stays = λ t c le. (λ was. was, λ was. was);
-  }
 
 -- bytes that stand for a prefix of some commits stand for a prefix of more of them
 extended : (g : Graph) (E X : Facts) (some more : List Commit) (contents : Contents) → StandsForBeginning g E X [] some contents → StandsForBeginning g E X [] (some ++ more) contents

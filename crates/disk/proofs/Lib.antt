@@ -1,5 +1,6 @@
 pub mod AtOnce
 pub mod Calls
+pub mod Chosen
 pub mod Durability
 pub mod Fronts
 pub mod Left

@@ -1,5 +1,7 @@
 pub mod Calls
+pub mod Choice
 pub mod Crash
+pub mod Erred
 pub mod File
 pub mod Laws
 pub mod MemDisk

@@ -49,6 +49,14 @@ module _ {D : Type 0} (moment : D → ℕ) (left_at : D → ℕ → Contents →
         (λ was. early.0 (last.0 was), λ was. last.1 (early.1 was));
   }
 
+  -- what holds since the beginning holds of the last moment by itself
+  pub leaves_at_last : (from : ℕ) (left : ℕ → Contents → Type 0) (mid : D) (P : Contents → Type 0) → LeavesSince moment left_at from left mid P → LeavesOnly moment left_at mid mid P
+  leaves_at_last from left mid P first = record {
+    later = omega arith;
+    each = λ t c after to was. first.each t c (omega (arith, after, first.later)) to was;
+    stays = λ t c le. (λ was. was, λ was. was);
+  }
+
   pub joined : (old mid new : D) (P Q R : Contents → Type 0) → LeavesOnly moment left_at old mid P → LeavesOnly moment left_at mid new Q
       → ((c : Contents) → P c → R c) → ((c : Contents) → Q c → R c) → LeavesOnly moment left_at old new R
   joined old = joined_since (moment old) (left_at old)

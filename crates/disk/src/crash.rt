@@ -25,8 +25,8 @@ pub(crate) fn may_leave(calls: &[Call], side: Side, bytes: &[u8]) -> bool
     true
 }
 
-// The bytes that the last sync of a file made durable, and the calls since.
-fn last_sync(calls: &[Call], side: Side) -> (&[u8], &[Call])
+/// The bytes that the last sync of a file made durable, and the calls since.
+pub(crate) fn last_sync(calls: &[Call], side: Side) -> (&[u8], &[Call])
     ensures { TouchedSince (durable_of calls.now side) side result.0.now result.1.now }
 {
     let mut synced: &[u8] = &[];
@@ -50,8 +50,8 @@ fn syncs(side: Side, call: &Call) -> Option<&[u8]>
     }
 }
 
-// Whether one of these calls touches a position.
-fn any_touches(synced: &[u8], side: Side, calls: &[Call], position: u64) -> bool
+/// Whether one of these calls touches a position.
+pub(crate) fn any_touches(synced: &[u8], side: Side, calls: &[Call], position: u64) -> bool
     ensures { result ≡ calls_touch synced.now side calls.now position }
 {
     calls

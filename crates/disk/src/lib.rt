@@ -5,6 +5,7 @@
 //! The crates above rely on the clauses of the trait, and on its two laws.
 #![tactic(auto)]
 
+mod choice;
 mod crash;
 mod error;
 mod file_disk;
@@ -16,6 +17,7 @@ mod side;
 mod storage;
 mod synced;
 
+pub use choice::Choice;
 pub use error::DiskError;
 pub use file_disk::FileDisk;
 pub use mem_disk::{Fill, MemDisk};

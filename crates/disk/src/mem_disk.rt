@@ -1,13 +1,14 @@
-ghost use Rattle.std.specs.Prelude.{◌≡◌, ◌≤◌, [], take, length, vec_len, if◌then◌else◌, IsTrue, ◌↔◌, OnOk, OnErr, IfErr, IsOk};
+ghost use Rattle.std.specs.Prelude.{◌≡◌, ◌≤◌, [], take, length, vec_len, if◌then◌else◌, IsTrue, ◌↔◌, OnOk, OnErr, IfOk, IfErr, IsOk};
 ghost use Rattle.disk.specs.declared.side.Side.{Side};
 ghost use Rattle.disk.specs.Side.{is_side, pick};
 ghost use Rattle.disk.specs.File.{MayLeave, overwritten};
 ghost use Rattle.disk.specs.Calls.{durable_of};
 ghost use Rattle.disk.specs.Crash.{crashed};
 
+use crate::choice::choose;
 use crate::crash::may_leave;
 use crate::record::{Change, Record};
-use crate::{Disk, DiskError, Side};
+use crate::{Choice, Disk, DiskError, Side};
 use std::alloc::{AllocError, Global};
 
 /// The bytes that a crash is to leave of both files.
@@ -43,6 +44,7 @@ impl Drop for MemDisk {
 
 impl MemDisk {
     ghost use Rattle.disk.specs.File.{at_rest};
+    ghost use Rattle.disk.specs.Choice.{chosen};
     ghost use Rattle.disk.specs.Time.{MayLeaveNow};
     ghost use Rattle.disk.specs.MemDisk.{files_of, fill_of};
 
@@ -67,6 +69,25 @@ impl MemDisk {
         ensures number { self.new.history.until_failure ≡ number }
     {
         self.history.fail(number);
+    }
+
+    /// The number of device calls so far. A call that was refused memory is not counted.
+    pub fn calls(&self) -> u64
+        ensures { result ≡ length self.now.history.calls.items }
+    {
+        self.history.calls.len() as u64
+    }
+
+    /// A fill that `crash` takes: each byte that was touched since the last sync is as the choice says.
+    pub fn fill(&self, alloc: Global, choice: Choice) -> Result<Fill, AllocError>
+        ensures chosen { IfOk result (λ fill. (side : Side) → fill_of fill side ≡ chosen choice (files_of self.now side)) }
+        ensures allowed { IfOk result (λ fill. MayLeaveNow (files_of self.now) (fill_of fill)) }
+    {
+        let calls = self.history.calls.as_slice();
+        Ok(Fill {
+            a: choose(alloc, calls, Side::A, &self.a, choice)?,
+            b: choose(alloc, calls, Side::B, &self.b, choice)?,
+        })
     }
 
     /// Crashes and leaves these bytes, if a crash may leave them; else it returns the fill, and nothing has changed.

@@ -1,9 +1,10 @@
 -- How a core goes on by a call, and by several, one after another.
-use Rattle.std.proofs.Common.{◌≡◌, ◌≢◌, ◌∙◌, ◌≤◌, ◌++◌, ap, refl, sym, subst, inl, inr, ℕ, Bool, true, false, List, [], ◌∷◌, Result, Err, arith}
-use Rattle.std.proofs.lemmas.Bool.{cases_lt, false≢true}
+use Rattle.std.proofs.Common.{◌≡◌, ◌∙◌, ◌≤◌, ◌++◌, ap, refl, sym, subst, inl, inr, ℕ, Bool, true, false, List, [], ◌∷◌, Result, Err, arith}
+use Rattle.std.proofs.lemmas.Bool.{false≢true}
 use Rattle.std.proofs.lemmas.Grind.{flat_map-append}
 use Rattle.std.proofs.lemmas.List.{append_assoc, append-nil}
 use Rattle.disk.specs.declared.side.Side.{Side}
+use Rattle.disk.specs.Erred.{later_erred, erred_later}
 use Rattle.disk.specs.File.{File}
 use Rattle.disk.specs.Moments.{joined}
 use Rattle.disk.specs.Time.{Contents, LeavesOnly, HasErred}
@@ -30,34 +31,6 @@ use Rattle.script.specs.declared.command.Command.{Command}
 use Rattle.session.specs.declared.reply.Reply.{Reply}
 use Rattle.session.specs.Answers.{Drive, Replies}
 use Rattle.session.specs.Went.{GoesOn, Went}
-
--- ---- errors of a disk
-
--- a number that does not differ from another is equal to it
-same_number : (n m : ℕ) → (n ≢ m → ⊥) → n ≡ m
-same_number n m never = elim (cases_lt n m) [
-  | inl above ↦ elim (cases_lt m n) [
-    | inl below ↦ absurd (never (λ is. omega (arith, below, is)))
-    | inr not_below ↦ omega (arith, above, not_below)
-  ]
-  | inr not_above ↦ elim (cases_lt m n) [
-    | inl below ↦ absurd (never (λ is. omega (arith, below, is)))
-    | inr not_below ↦ omega (arith, not_above, not_below)
-  ]
-]
-
-module _ {D : Type 0} (failures refusals : D → ℕ) where
-  -- if no call returned an error before `mid`, one did after `mid` exactly if one did from the beginning on
-  later_erred : (old mid new : D) → failures old ≤ failures mid → (HasErred failures refusals old mid → ⊥) → HasErred failures refusals mid new → HasErred failures refusals old new
-  later_erred old mid new later calm (inl grew) = inl (omega (arith, later, grew))
-  later_erred old mid new later calm (inr changed) = inr (λ is. changed (is ∙ sym (same_number (refusals mid) (refusals old) (λ differs. calm (inr differs)))))
-
-  erred_later : (old mid new : D) → failures old ≤ failures mid → (HasErred failures refusals old mid → ⊥) → HasErred failures refusals old new → HasErred failures refusals mid new
-  erred_later old mid new later calm (inl grew) = elim (cases_lt (failures old) (failures mid)) [
-    | inl before ↦ absurd (calm (inl before))
-    | inr not_before ↦ inl (omega (arith, not_before, grew))
-  ]
-  erred_later old mid new later calm (inr changed) = inr (λ is. changed (is ∙ same_number (refusals mid) (refusals old) (λ differs. calm (inr differs))))
 
 -- ---- what a crash leaves
 
@@ -125,8 +98,8 @@ module _ {D : Type 0} (files : D → Side → File) (moment : D → ℕ) (left_a
               let here = one.gates on has in
               joined moment left_at old.vault.disk mid.vault.disk new.vault.disk HasGates HasGates HasGates here (two.gates on (gates_stay on old.vault.disk mid.vault.disk here)) (λ c so. so) (λ c so. so);
           halts = (
-            λ is. later_erred failures refusals old.vault.disk mid.vault.disk new.vault.disk later calm (two.halts.0 is),
-            λ erred. two.halts.1 (erred_later failures refusals old.vault.disk mid.vault.disk new.vault.disk later calm erred),
+            λ is. later_erred (failures old.vault.disk) (failures mid.vault.disk) (failures new.vault.disk) (refusals old.vault.disk) (refusals mid.vault.disk) (refusals new.vault.disk) later calm (two.halts.0 is),
+            λ erred. two.halts.1 (erred_later (failures old.vault.disk) (failures mid.vault.disk) (failures new.vault.disk) (refusals old.vault.disk) (refusals mid.vault.disk) (refusals new.vault.disk) later calm erred),
           );
         }
 
