@@ -1,5 +1,5 @@
 -- What may come next in a graph text: a machine that reads tokens from the left, one at each step, and never looks back.
-use Rattle.std.specs.Prelude.{◌≡◌, ℕ, suc, ◌==◌, Bool, if◌then◌else◌, codes, List, [], ◌∷◌, ◌++◌, length, Option, Some, None}
+use Rattle.std.specs.Prelude.{◌≡◌, ℕ, zero, suc, ◌+◌, ◌*◌, ◌==◌, Bool, if◌then◌else◌, codes, List, [], ◌∷◌, ◌++◌, length, Option, Some, None}
 use Rattle.terms.specs.declared.key.TheConstants.{MAX_COMPONENTS}
 use Rattle.steptree.specs.declared.slot.TheConstants.{MOST_NAMES}
 use Rattle.steptree.specs.declared.sheet.TheConstants.{MOST_COLLECTIONS}
@@ -539,10 +539,15 @@ run stack (spot ∷ spots) = followed (next stack spot) (spot ∷ spots) (λ aft
 abbrev pub graph_expected : List Expected
 graph_expected = declarations 0 0 ∷ []
 
--- `[x: i];` is accepted, `[x` ends too early, `[x: 1` breaks off at the number, and `[x: i, j, k, l, m` has a fifth component
+-- names from this place on, so many, each with a comma and a blank behind it
+abbrev pub names_with_commas : ℕ → Position → List Spot
+names_with_commas zero place = []
+names_with_commas (suc count) place = (name (codes "i"), place) ∷ (symbol sign.Comma, place + 1) ∷ names_with_commas count (place + 3)
+
+-- `[x: i];` is accepted, `[x` ends too early, `[x: 1` breaks off at the number, and behind `[x: ` one name more than a key has components is one too many
 abbrev pub ExpectedExample : Type 0
 ExpectedExample = (run graph_expected ((symbol sign.OpenBracket, 0) ∷ (name (codes "x"), 1) ∷ (symbol sign.Colon, 2) ∷ (name (codes "i"), 4) ∷ (symbol sign.CloseBracket, 5) ∷ (symbol sign.Semicolon, 6) ∷ []) ≡ accepted)
     × (run graph_expected ((symbol sign.OpenBracket, 0) ∷ (name (codes "x"), 1) ∷ []) ≡ syntax [])
     × (run graph_expected ((symbol sign.OpenBracket, 0) ∷ (name (codes "x"), 1) ∷ (symbol sign.Colon, 2) ∷ (number 1, 4) ∷ []) ≡ syntax ((number 1, 4) ∷ []))
-    × (run graph_expected ((symbol sign.OpenBracket, 0) ∷ (name (codes "x"), 1) ∷ (symbol sign.Colon, 2) ∷ (name (codes "i"), 4) ∷ (symbol sign.Comma, 5) ∷ (name (codes "j"), 7) ∷ (symbol sign.Comma, 8)
-    ∷ (name (codes "k"), 10) ∷ (symbol sign.Comma, 11) ∷ (name (codes "l"), 13) ∷ (symbol sign.Comma, 14) ∷ (name (codes "m"), 16) ∷ []) ≡ too_large 16)
+    × (run graph_expected ((symbol sign.OpenBracket, 0) ∷ (name (codes "x"), 1) ∷ (symbol sign.Colon, 2) ∷ names_with_commas MAX_COMPONENTS 4 ++ (name (codes "i"), 4 + 3 * MAX_COMPONENTS) ∷ [])
+    ≡ too_large (4 + 3 * MAX_COMPONENTS))

@@ -16,7 +16,7 @@ use std::alloc::Global;
 use steptree::{MOST_COLLECTIONS, Name};
 
 /// A declaration, or a relation that begins like one.
-#[derive(Clone, Copy, Debug)]
+#[derive(Clone, Copy)]
 pub(crate) enum Front<'a> {
     Item { name: Name<'a>, components: usize },
     Tag { name: Name<'a>, components: usize },

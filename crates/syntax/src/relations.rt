@@ -13,7 +13,7 @@ use crate::{Relation, Symbol, Token, Word};
 use steptree::Name;
 
 /// What a step or the environment puts.
-#[derive(Clone, Copy, Debug)]
+#[derive(Clone, Copy)]
 pub(crate) enum Target<'a> {
     Item(Name<'a>),
     Tag(Name<'a>),

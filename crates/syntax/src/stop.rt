@@ -5,7 +5,7 @@ use std::alloc::{AllocError, AllocFailed};
 
 /// Why the parser stops: no graph text goes on with the next token, a limit is passed at a place, or memory was
 /// refused.
-#[derive(Clone, Copy, Debug)]
+#[derive(Clone, Copy)]
 pub(crate) enum Stop {
     Syntax,
     TooLarge(usize),

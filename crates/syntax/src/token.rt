@@ -57,7 +57,7 @@ pub enum Token<'a> {
 }
 
 /// A token and the position of its first byte.
-#[derive(Clone, Copy, Debug, PartialEq, Eq)]
+#[derive(Clone, Copy, PartialEq, Eq)]
 pub struct Placed<'a> {
     pub token: Token<'a>,
     pub place: usize,

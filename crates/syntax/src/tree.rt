@@ -1,7 +1,7 @@
 use steptree::{Name, Step};
 
 /// A declared collection, and how many components its keys have.
-#[derive(Clone, Copy, Debug)]
+#[derive(Clone, Copy)]
 pub enum Declaration<'a> {
     Item { name: Name<'a>, components: usize },
     Tag { name: Name<'a>, components: usize },
@@ -9,7 +9,7 @@ pub enum Declaration<'a> {
 
 /// A relation between two collections, or between the environment and one. All but a prescription have the position of
 /// their first token.
-#[derive(Clone, Copy, Debug)]
+#[derive(Clone, Copy)]
 pub enum Relation<'a> {
     /// `<tag> :: (step);`
     Prescribes {
