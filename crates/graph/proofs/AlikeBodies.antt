@@ -9,7 +9,7 @@ use Rattle.steptree.specs.declared.step.NamedExpression.TheVariants.{Number, Var
 use Rattle.steptree.specs.declared.step.NamedKey.{NamedKey}
 use Rattle.steptree.specs.declared.step.NamedBlock.{NamedBlock}
 use Rattle.steptree.specs.declared.step.NamedBlock.TheVariants.{End, Assign', If', For', Get', PutItem', PutTag'}
-use Rattle.steptree.specs.Names.{Text, place_of, names_declared}
+use Rattle.steptree.specs.Names.{Text, place_of, names_in}
 use Rattle.steptree.specs.Resolved.{IsExpression, AreExpressions, IsKey, IsBlock}
 use Rattle.steptree.specs.Nameable.{Collection, Nameable}
 use Rattle.syntax.specs.Tree.{AreAll}
@@ -54,7 +54,7 @@ module _ (names : List Text) where
   key_same : (collections : List Collection) (one two : NamedKey) (m n : ℕ) (es fs : List Expression) → AlikeKey one two
       → IsKey names collections one m es → IsKey names collections two n fs → (m ≡ n) × es ≡ fs
   key_same collections one two m n es fs alike a b = (
-    same_place (names_declared collections) one.collection two.collection m n alike.0 a.0 b.0,
+    same_place (names_in collections) one.collection two.collection m n alike.0 a.0 b.0,
     expressions_same one.components.items two.components.items es fs alike.1 a.1 b.1,
   )
 

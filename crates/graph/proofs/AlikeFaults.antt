@@ -5,7 +5,7 @@ use Rattle.std.specs.List.{list_any}
 use Rattle.std.proofs.lemmas.List.{map-append}
 use Rattle.steptree.specs.declared.step.Name.{Name}
 use Rattle.steptree.specs.declared.step.Step.{Step as NamedStep}
-use Rattle.steptree.specs.Names.{Text, is_text, place_of}
+use Rattle.steptree.specs.Names.{Text, is_text, place_of, names_in}
 use Rattle.steptree.specs.Nameable.{Collection}
 use Rattle.syntax.specs.declared.tree.Declaration.{Declaration as Declaring}
 use Rattle.syntax.specs.declared.tree.Declaration.TheVariants as declared
@@ -17,7 +17,7 @@ use Rattle.syntax.specs.Limits.{all_names}
 use Rattle.syntax.specs.Tree.{IsName, AreAll, IsDeclaration, IsRelation, IsStep, IsTree}
 use Rattle.graph.specs.declared.fault.GraphError.{GraphError}
 use Rattle.graph.specs.declared.fault.GraphError.TheVariants as error
-use Rattle.graph.specs.Tree.{text_of, items_of, tags_of, names_in, step_names, prescriber_of}
+use Rattle.graph.specs.Tree.{text_of, items_of, tags_of, step_names, prescriber_of}
 use Rattle.graph.specs.Faults.{fault_if, or_else, has, repeated, declaration_faults, same_relation, again, unknown, missing, prescribed_before, relation_fault, relation_faults, components_of, is_other, arity_faults, step_faults, tree_faults}
 use Rattle.graph.proofs.AlikeSheets.{shared}
 use Rattle.graph.proofs.SmallTrees.{as_many}

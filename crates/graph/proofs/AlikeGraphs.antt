@@ -5,13 +5,13 @@ use Rattle.steptree.specs.declared.step.Name.{Name}
 use Rattle.steptree.specs.declared.step.Step.{Step as NamedStep}
 use Rattle.steptree.specs.Nameable.{Nameable}
 use Rattle.steptree.specs.Resolved.{IsBlock}
-use Rattle.steptree.specs.Names.{Text, place_of, names_of}
+use Rattle.steptree.specs.Names.{Text, place_of, names_of, names_in}
 use Rattle.syntax.specs.declared.tree.Tree.{Tree}
 use Rattle.syntax.specs.Grammar.{Named, StepText, GraphText}
 use Rattle.syntax.specs.Limits.{all_names}
 use Rattle.syntax.specs.Tree.{IsName, AreAll, IsStep, IsTree, IsGet, IsPut}
 use Rattle.graph.specs.Graph.{Step, Graph}
-use Rattle.graph.specs.Tree.{text_of, names_in, is_environment_item_put, is_environment_tag_put, is_environment_get, each_of, prescriber_of, sheet_in, IsStepOf, IsGraphOf}
+use Rattle.graph.specs.Tree.{text_of, is_environment_item_put, is_environment_tag_put, is_environment_get, each_of, prescriber_of, sheet_in, IsStepOf, IsGraphOf}
 use Rattle.graph.proofs.AlikeTrees.{statements_alike, get_alike, put_alike}
 use Rattle.graph.proofs.AlikeBodies.{block_same}
 use Rattle.graph.proofs.AlikeSheets.{SharesNames, shared, sheet_same}

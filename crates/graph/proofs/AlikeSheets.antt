@@ -2,7 +2,7 @@
 use Rattle.std.proofs.Common.{◌≡◌, ℕ, List, [], ◌∷◌, length, map, refl, sym, ap, ◌∙◌}
 use Rattle.steptree.specs.declared.step.Name.{Name}
 use Rattle.steptree.specs.declared.step.Step.{Step as NamedStep}
-use Rattle.steptree.specs.Names.{Text}
+use Rattle.steptree.specs.Names.{Text, names_in}
 use Rattle.steptree.specs.Nameable.{Collection}
 use Rattle.syntax.specs.declared.tree.Declaration.{Declaration as Declaring}
 use Rattle.syntax.specs.declared.tree.Declaration.TheVariants as declared
@@ -10,7 +10,7 @@ use Rattle.syntax.specs.declared.tree.Tree.{Tree}
 use Rattle.syntax.specs.Grammar.{Named, Declaration, item_declared, tag_declared, GraphText}
 use Rattle.syntax.specs.Limits.{all_names}
 use Rattle.syntax.specs.Tree.{IsName, AreAll, IsDeclaration, IsTree}
-use Rattle.graph.specs.Tree.{text_of, items_of, tags_of, names_in, is_read, is_item_put, is_tag_put, each_of, sheet_in}
+use Rattle.graph.specs.Tree.{text_of, items_of, tags_of, is_read, is_item_put, is_tag_put, each_of, sheet_in}
 use Rattle.graph.proofs.Ties.{tie, ties_are, each_same, read_tie, read_told, item_put_tie, item_put_told, tag_put_tie, tag_put_told}
 
 -- ---- declarations

@@ -13,7 +13,7 @@ use Rattle.steptree.specs.declared.step.NamedExpression.TheVariants.{Number, Var
 use Rattle.steptree.specs.declared.step.NamedKey.{NamedKey}
 use Rattle.steptree.specs.declared.step.NamedBlock.{NamedBlock}
 use Rattle.steptree.specs.declared.step.NamedBlock.TheVariants.{End, Assign', If', For', Get', PutItem', PutTag'}
-use Rattle.steptree.specs.Names.{Text, place_of, names_declared, slot_of, number_of}
+use Rattle.steptree.specs.Names.{Text, place_of, names_in, slot_of, number_of}
 use Rattle.steptree.specs.CheckFaults.{fault_if, variable_faults, expression_faults, component_faults, is_number, components_of, known_faults, key_faults, block_faults}
 use Rattle.steptree.specs.Resolved.{IsExpression, AreExpressions, IsKey, IsBlock}
 use Rattle.steptree.specs.Sheet.{IsAllowed, KeepsTo}
@@ -64,7 +64,7 @@ module _ (names : List Text) where
   key_clear : (collections : List Collection) (allowed : List Bool) (error : CheckError) (one two : NamedKey) (number : ℕ) (es : List Expression)
       → AlikeKey one two → IsKey names collections one number es → IsAllowed collections allowed number (length es) → key_faults names collections allowed error two ≡ []
   key_clear collections allowed error one two number es alike is may =
-      let found : number_of collections two.collection ≡ Some number = ap (place_of (names_declared collections)) (sym alike.0) ∙ is.0 in
+      let found : number_of collections two.collection ≡ Some number = ap (place_of (names_in collections)) (sym alike.0) ∙ is.0 in
       let components = components_clear one.components.items two.components.items es alike.1 is.1 in
       let known = known_clear collections allowed error two number (length es) found may components.1 in
       λ i. known i ++ components.0 i

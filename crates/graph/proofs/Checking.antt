@@ -3,7 +3,7 @@ use Rattle.std.proofs.Common.{◌≡◌, ◌<◌, ℕ, zero, suc, Bool, true, fa
 use Rattle.std.specs.Prelude.{option_map, ◌==◌}
 use Rattle.std.proofs.lemmas.Bool.{eqb-true, eq-eqb, true≢false, false≢true}
 use Rattle.steptree.specs.declared.step.Step.{Step as NamedStep}
-use Rattle.steptree.specs.Names.{Text, is_text, place_of}
+use Rattle.steptree.specs.Names.{Text, is_text, place_of, names_in}
 use Rattle.terms.specs.declared.name.TagCollection.{TagCollection}
 use Rattle.syntax.specs.declared.tree.Relation.{Relation}
 use Rattle.graph.specs.declared.fault.GraphError.TheVariants.{StepTwice, Arity}
@@ -14,7 +14,7 @@ use Rattle.graph.specs.Marks.{IsPrescriber, prescriber_at}
 use Rattle.graph.specs.Placed.{IsFirst}
 use Rattle.graph.specs.Relations.{AreRelations}
 use Rattle.graph.specs.Steps.{components_faults, components_by}
-use Rattle.graph.specs.Tree.{text_of, step_names, names_in, prescriber_of}
+use Rattle.graph.specs.Tree.{text_of, step_names, prescriber_of}
 use Rattle.graph.proofs.FirstFaults.{in_front, behind_none, empty_in_front}
 use Rattle.graph.proofs.Lists.{opened, past}
 use Rattle.graph.proofs.Marks.{is_place, at_place}

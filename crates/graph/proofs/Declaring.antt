@@ -2,7 +2,7 @@
 use Rattle.std.proofs.Common.{◌≡◌, ◌<◌, ℕ, List, [], ◌∷◌, ◌++◌, length, take, drop, get_or, refl, sym, ap, subst, ◌∙◌, ◌+◌}
 use Rattle.std.proofs.lemmas.List.{take_more, map-append}
 use Rattle.steptree.specs.declared.step.Name.{Name}
-use Rattle.steptree.specs.Names.{Text}
+use Rattle.steptree.specs.Names.{Text, names_in}
 use Rattle.steptree.specs.Nameable.{Collection}
 use Rattle.syntax.specs.declared.tree.Declaration.{Declaration}
 use Rattle.syntax.specs.declared.tree.Declaration.TheVariants as declared
@@ -12,7 +12,7 @@ use Rattle.graph.specs.Collected.{AreCollected, again, of_name, collections_numb
 use Rattle.graph.specs.Faults.{At, declaration_faults}
 use Rattle.graph.specs.Numbered.{names_numbered}
 use Rattle.graph.specs.Placed.{IsFirst}
-use Rattle.graph.specs.Tree.{items_of, tags_of, names_in, text_of}
+use Rattle.graph.specs.Tree.{items_of, tags_of, text_of}
 use Rattle.graph.proofs.FirstFaults.{in_front, empty_in_front}
 use Rattle.graph.proofs.Lists.{opened, past, with_none}
 use Rattle.graph.proofs.Seen.{items_named}

@@ -5,7 +5,7 @@ use Rattle.std.specs.List.{IsDistinct}
 use Rattle.std.specs.Str.{bytes_eq}
 use Rattle.steptree.specs.declared.step.Name.{Name}
 use Rattle.steptree.specs.declared.step.Step.{Step as NamedStep}
-use Rattle.steptree.specs.Names.{Text, is_text, place_of}
+use Rattle.steptree.specs.Names.{Text, is_text, place_of, names_in}
 use Rattle.steptree.specs.Nameable.{Collection}
 use Rattle.syntax.specs.declared.tree.Declaration.{Declaration}
 use Rattle.syntax.specs.declared.tree.Declaration.TheVariants as declared
@@ -14,7 +14,7 @@ use Rattle.syntax.specs.declared.tree.Tree.{Tree}
 use Rattle.graph.specs.declared.fault.GraphError.{GraphError}
 use Rattle.graph.specs.declared.fault.GraphError.TheVariants.{Redeclared, StepTwice}
 use Rattle.graph.specs.Faults.{At, fault_if, or_else, has, repeated, declaration_faults, relation_faults, step_faults, arity_faults, tree_faults}
-use Rattle.graph.specs.Tree.{text_of, items_of, tags_of, names_in, step_names, prescriber_of}
+use Rattle.graph.specs.Tree.{text_of, items_of, tags_of, step_names, prescriber_of}
 use Rattle.graph.proofs.Texts.{texts_are_bytes}
 use Rattle.graph.proofs.PrintedApart.{each_of_both}
 

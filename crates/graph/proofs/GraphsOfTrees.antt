@@ -4,7 +4,7 @@ use Rattle.std.specs.Prelude.{option_map}
 use Rattle.std.proofs.lemmas.Bool.{eqb-true}
 use Rattle.steptree.specs.declared.step.Name.{Name}
 use Rattle.steptree.specs.declared.step.Step.{Step as NamedStep}
-use Rattle.steptree.specs.Names.{Text, is_text, place_of, names_of}
+use Rattle.steptree.specs.Names.{Text, is_text, place_of, names_of, names_in}
 use Rattle.steptree.specs.Nameable.{Collection, Nameable}
 use Rattle.steptree.specs.Sheet.{BodyKeepsTo}
 use Rattle.steptree.specs.Limits.{AreFew}
@@ -15,7 +15,7 @@ use Rattle.graph.specs.declared.fault.GraphError.TheVariants.{Arity}
 use Rattle.graph.specs.Faults.{arity_faults, fault_if, is_other, components_of, tree_faults}
 use Rattle.graph.specs.Graph.{Step, Graph, sheet_of, IsGraph, IsOf, IsOfGraph}
 use Rattle.graph.specs.Small.{IsSmall}
-use Rattle.graph.specs.Tree.{text_of, items_of, tags_of, names_in, each_of, prescriber_of, is_environment_item_put, is_environment_tag_put, is_environment_get, sheet_in, IsStepOf, IsGraphOf}
+use Rattle.graph.specs.Tree.{text_of, items_of, tags_of, each_of, prescriber_of, is_environment_item_put, is_environment_tag_put, is_environment_get, sheet_in, IsStepOf, IsGraphOf}
 use Rattle.graph.proofs.Faultless.{no_arity, not_so}
 use Rattle.graph.proofs.Rising.{as_many_mapped}
 use Rattle.graph.proofs.Sheets.{small_step}

@@ -6,7 +6,7 @@ use Rattle.std.specs.declared.alloc.Global.{Global}
 use Rattle.std.proofs.lemmas.Option.{slice_get_within}
 use Rattle.terms.specs.declared.name.StepCollection.{StepCollection}
 use Rattle.steptree.specs.declared.step.Step.{Step as NamedStep}
-use Rattle.steptree.specs.Names.{Text, place_of}
+use Rattle.steptree.specs.Names.{Text, place_of, names_in}
 use Rattle.steptree.specs.Nameable.{Collection}
 use Rattle.syntax.specs.declared.tree.Relation.{Relation}
 use Rattle.syntax.specs.declared.tree.Tree.{Tree}
@@ -26,7 +26,7 @@ use Rattle.graph.specs.Reads.{Reads, IsOfText}
 use Rattle.graph.specs.Resolved.{IsResolved}
 use Rattle.graph.specs.Small.{IsSmall}
 use Rattle.graph.specs.Textual.{CanonicalReads, ReadsTextual}
-use Rattle.graph.specs.Tree.{text_of, items_of, tags_of, names_in, each_of, prescriber_of, is_environment_item_put, is_environment_tag_put, is_environment_get, IsStepOf, IsGraphOf}
+use Rattle.graph.specs.Tree.{text_of, items_of, tags_of, each_of, prescriber_of, is_environment_item_put, is_environment_tag_put, is_environment_get, IsStepOf, IsGraphOf}
 use Rattle.graph.proofs.Faultless.{items_apart, tags_apart}
 use Rattle.graph.proofs.GraphsOfTrees.{graph_is}
 use Rattle.graph.proofs.Marks.{at_place}

@@ -6,7 +6,7 @@ use Rattle.steptree.specs.declared.expression.Expression.{Expression}
 use Rattle.steptree.specs.declared.block.Block.{Block}
 use Rattle.steptree.specs.Tree.{End, Assign, If, For, Get, PutItem, PutTag}
 use Rattle.steptree.specs.declared.step.NamedBlock.TheVariants as tree
-use Rattle.steptree.specs.Names.{Text, place_of, names_declared}
+use Rattle.steptree.specs.Names.{Text, place_of, names_in}
 use Rattle.steptree.specs.Sheet.{IsAllowed, KeepsTo}
 use Rattle.steptree.specs.Nameable.{Nameable}
 use Rattle.syntax.specs.declared.token.Word.TheVariants as kept
@@ -15,7 +15,6 @@ use Rattle.syntax.specs.Spelled.{get_pieces, put_pieces}
 use Rattle.syntax.specs.Limits.{get_limits, put_limits}
 use Rattle.syntax.specs.Tree.{IsGet, IsPut}
 use Rattle.graph.specs.Graph.{Graph, Step, sheet_of}
-use Rattle.graph.specs.Tree.{names_in}
 use Rattle.graph.specs.Textual.{IsTextExpression, AreComponents, IsGraphName, AreNames, IsReadBlock, IsWriteBlock}
 use Rattle.graph.specs.Canonical.{expression_text, item_text, tag_text, line}
 use Rattle.graph.proofs.PrintedTokens.{behind, and}
@@ -58,7 +57,7 @@ module _ (g : Graph) (step : Step) (names : List Text) (are : AreNames names)
         limits = no_both _ _ (no_both _ _ (no_name_limit variable (start + 4) good) it.limits) later.limits;
         value = tree.Get' (name_of (variable, start + 4)) it.value boxed later.value;
         is = ((refl, refl), it.is, later.is);
-        resolves = (found_at names slot are.distinct within, (ap (λ (t : Text). place_of (names_declared g.items) t) it.is_of ∙ is.found, it.resolve), later.resolves);
+        resolves = (found_at names slot are.distinct within, (ap (λ (t : Text). place_of (names_in g.items) t) it.is_of ∙ is.found, it.resolve), later.resolves);
       }
 
   abbrev item_line : ℕ → ℕ → List Expression → Expression → Text
@@ -80,7 +79,7 @@ module _ (g : Graph) (step : Step) (names : List Text) (are : AreNames names)
         limits = no_both _ _ (no_both _ _ it.limits (no_limits it2 value_is.1)) later.limits;
         value = tree.PutItem' it.value it2.value boxed later.value;
         is = (it.is, it2.is, later.is);
-        resolves = ((ap (λ (t : Text). place_of (names_declared g.items) t) it.is_of ∙ is.found, it.resolve), it2.resolves, later.resolves);
+        resolves = ((ap (λ (t : Text). place_of (names_in g.items) t) it.is_of ∙ is.found, it.resolve), it2.resolves, later.resolves);
       }
 
   abbrev tag_line : ℕ → ℕ → List Expression → Text
@@ -101,7 +100,7 @@ module _ (g : Graph) (step : Step) (names : List Text) (are : AreNames names)
         limits = no_both _ _ it.limits later.limits;
         value = tree.PutTag' it.value boxed later.value;
         is = (it.is, later.is);
-        resolves = ((ap (λ (t : Text). place_of (names_declared g.tags) t) it.is_of ∙ is.found, it.resolve), later.resolves);
+        resolves = ((ap (λ (t : Text). place_of (names_in g.tags) t) it.is_of ∙ is.found, it.resolve), later.resolves);
       }
 
   pub read_printed : (block : Block) (level around place : ℕ) → IsReadBlock (length names) around block → KeepsTo sheet block → ReadPrinted level around place block

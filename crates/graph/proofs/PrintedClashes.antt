@@ -3,12 +3,12 @@ use Rattle.std.proofs.Common.{◌≡◌, ℕ, Bool, true, false, ◌||◌, ◌&&
 use Rattle.std.specs.Prelude.{is_some, not, ⊤}
 use Rattle.std.specs.List.{AllByRecursion, flat_map, list_any}
 use Rattle.std.proofs.lemmas.List.{map-append}
-use Rattle.steptree.specs.Names.{Text, is_text, place_of}
+use Rattle.steptree.specs.Names.{Text, is_text, place_of, names_in}
 use Rattle.syntax.specs.declared.tree.Relation.{Relation as Related}
 use Rattle.syntax.specs.Grammar.{Relation, prescribes, reads, puts_item, puts_tag, environment_puts_item, environment_puts_tag, environment_gets}
 use Rattle.graph.specs.declared.fault.GraphError.TheVariants.{Redeclared, UnknownName, StepMissing, TwoPrescribers}
 use Rattle.graph.specs.Graph.{Graph, Step}
-use Rattle.graph.specs.Tree.{names_in, prescriber_of}
+use Rattle.graph.specs.Tree.{prescriber_of}
 use Rattle.graph.specs.Faults.{At, fault_if, or_else, same_relation, again, unknown, missing, prescribed_before, relation_fault, relation_faults}
 use Rattle.graph.specs.Prescribed.{names_of_steps}
 use Rattle.graph.specs.Canonical.{those}

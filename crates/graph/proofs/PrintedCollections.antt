@@ -3,11 +3,10 @@ use Rattle.std.proofs.Common.{◌≡◌, ℕ, zero, suc, ◌<◌, ◌≤◌, Boo
 use Rattle.std.specs.Prelude.{slice_get}
 use Rattle.std.proofs.lemmas.Option.{slice_get_within}
 use Rattle.terms.specs.declared.key.TheConstants.{MAX_COMPONENTS}
-use Rattle.steptree.specs.Names.{place_of, names_declared}
+use Rattle.steptree.specs.Names.{place_of, names_in}
 use Rattle.steptree.specs.Sheet.{IsAllowed}
 use Rattle.steptree.specs.Nameable.{Collection}
 use Rattle.steptree.specs.Limits.{AreFew}
-use Rattle.graph.specs.Tree.{names_in}
 use Rattle.graph.specs.Textual.{IsGraphName, AreNames}
 use Rattle.graph.proofs.PrintedNames.{name_at, found_at}
 
@@ -15,7 +14,7 @@ use Rattle.graph.proofs.PrintedNames.{name_at, found_at}
 pub record Known (collections : List Collection) (index components : ℕ) : Type 0 where
   pub few : components ≤ MAX_COMPONENTS
   pub name : IsGraphName (get_or (names_in collections) index [])
-  pub found : place_of (names_declared collections) (get_or (names_in collections) index []) ≡ Some index
+  pub found : place_of (names_in collections) (get_or (names_in collections) index []) ≡ Some index
 
 components_at : (collections : List Collection) (index : ℕ) (collection : Collection) → slice_get collections index ≡ Some collection
     → (k : ℕ) (d : Collection) → k ≡ index → (get_or collections k d).components ≡ collection.components

@@ -49,7 +49,7 @@ pub record Declares (make : Named → Option Names → Declaration) (collection 
 declares : (make : Named → Option Names → Declaration) (collection : Collection) (place : ℕ) (it : HeadPrinted place collection.name (component_names collection.components)) → Declarable collection
     → Declares make collection (make (collection.name, place) it.names)
 declares make collection place it good =
-    let many : length (all_names it.names) ≡ collection.components = sym (related_lengths Bears (component_names collection.components) (all_names it.names) it.related) ∙ many_components collection.components (omega (arith, good.few)) in record {
+    let many : length (all_names it.names) ≡ collection.components = sym (related_lengths Bears (component_names collection.components) (all_names it.names) it.related) ∙ many_components collection.components good.few in record {
       position = place;
       components = it.names;
       is = refl;

@@ -3,7 +3,7 @@ use Rattle.std.proofs.Common.{◌≡◌, ℕ, suc, ◌+◌, ◌≤◌, false, Li
 use Rattle.std.specs.Prelude.{is_some}
 use Rattle.std.specs.List.{AllByRecursion}
 use Rattle.steptree.specs.declared.sheet.TheConstants.{MOST_COLLECTIONS}
-use Rattle.steptree.specs.Names.{Text, is_text}
+use Rattle.steptree.specs.Names.{Text, is_text, names_in}
 use Rattle.steptree.specs.Nameable.{Collection}
 use Rattle.syntax.specs.declared.tree.Declaration.{Declaration as Declared}
 use Rattle.syntax.specs.declared.tree.Declaration.TheVariants as tree
@@ -11,7 +11,7 @@ use Rattle.syntax.specs.Grammar.{Names, Declaration, item_declared, tag_declared
 use Rattle.syntax.specs.Limits.{all_names, declarations_limits}
 use Rattle.syntax.specs.Tree.{AreAll, IsDeclaration}
 use Rattle.graph.specs.declared.fault.GraphError.TheVariants.{Redeclared}
-use Rattle.graph.specs.Tree.{items_of, tags_of, names_in}
+use Rattle.graph.specs.Tree.{items_of, tags_of}
 use Rattle.graph.specs.Faults.{At, fault_if, has, declaration_faults}
 use Rattle.graph.proofs.PrintedNames.{no_more_limit}
 use Rattle.graph.proofs.PrintedExpressions.{no_both}

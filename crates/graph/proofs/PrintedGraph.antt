@@ -5,12 +5,11 @@ use Rattle.std.specs.List.{AllByRecursion, flat_map}
 use Rattle.std.proofs.lemmas.Bool.{false≢true}
 use Rattle.std.proofs.lemmas.Option.{slice_get_within}
 use Rattle.terms.specs.declared.key.TheConstants.{MAX_COMPONENTS}
-use Rattle.steptree.specs.Names.{Text, is_text, place_of}
+use Rattle.steptree.specs.Names.{Text, is_text, place_of, names_in}
 use Rattle.steptree.specs.Nameable.{Collection}
 use Rattle.syntax.specs.Grammar.{Relation}
 use Rattle.syntax.specs.Tree.{AreAll}
 use Rattle.graph.specs.Graph.{Graph, Step, IsOfGraph}
-use Rattle.graph.specs.Tree.{names_in}
 use Rattle.graph.specs.Faults.{relation_faults}
 use Rattle.graph.specs.Textual.{IsGraphName, IsTextStep, IsTextual}
 use Rattle.graph.specs.Prescribed.{names_of_steps}

@@ -2,12 +2,12 @@
 use Rattle.std.proofs.Common.{◌≡◌, ℕ, zero, suc, Bool, false, ◌&&◌, if◌then◌else◌, List, [], ◌∷◌, ◌++◌, length, get_or, map, Option, Some, refl, ap, subst, ◌∙◌, append_assoc}
 use Rattle.std.specs.Prelude.{slice_get}
 use Rattle.std.specs.List.{AllByRecursion, flat_map, list_any}
-use Rattle.steptree.specs.Names.{Text, is_text}
+use Rattle.steptree.specs.Names.{Text, is_text, names_in}
 use Rattle.syntax.specs.declared.tree.Relation.{Relation as Related}
 use Rattle.syntax.specs.Grammar.{Relation, prescribes, reads, puts_item, puts_tag, environment_puts_item, environment_puts_tag, environment_gets}
 use Rattle.syntax.specs.Tree.{AreAll}
 use Rattle.graph.specs.Graph.{Graph, Step}
-use Rattle.graph.specs.Tree.{names_in, is_read, is_item_put, is_tag_put, is_environment_item_put, is_environment_tag_put, is_environment_get, each_of, prescriber_of}
+use Rattle.graph.specs.Tree.{is_read, is_item_put, is_tag_put, is_environment_item_put, is_environment_tag_put, is_environment_get, each_of, prescriber_of}
 use Rattle.graph.specs.Prescribed.{names_of_steps}
 use Rattle.graph.specs.Canonical.{those}
 use Rattle.graph.proofs.PrintedNames.{same_text}

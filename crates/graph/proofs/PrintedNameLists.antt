@@ -1,17 +1,18 @@
 -- Lists of names that are printed: components of a declaration, parameters and variables.
-use Rattle.std.proofs.Common.{◌≡◌, ◌≢◌, ℕ, zero, suc, ◌+◌, ◌≤◌, List, [], ◌∷◌, ◌++◌, length, map, take, codes, Option, Some, None, refl, sym, ap, subst, arith, length-take-le}
+use Rattle.std.proofs.Common.{◌≡◌, ◌≢◌, ℕ, zero, suc, ◌+◌, ◌≤◌, true, List, [], ◌∷◌, ◌++◌, length, map, take, codes, Option, Some, None, refl, sym, ap, subst, arith, length-take-le}
 use Rattle.std.specs.List.{AllByRecursion, flat_map}
 use Rattle.std.proofs.lemmas.List.{drop_all, map-id}
+use Rattle.terms.specs.declared.key.TheConstants.{MAX_COMPONENTS}
 use Rattle.steptree.specs.Names.{Text}
 use Rattle.syntax.specs.declared.token.Word.{Word}
 use Rattle.syntax.specs.declared.token.Word.TheVariants as kept
-use Rattle.syntax.specs.Tokens.{word_text}
+use Rattle.syntax.specs.Tokens.{is_letter, word_text}
 use Rattle.syntax.specs.Grammar.{Named, Names}
 use Rattle.syntax.specs.Spelled.{named, names_pieces, after_colon, parameters_pieces, variables_pieces}
 use Rattle.syntax.specs.Limits.{name_limits, names_behind, all_names}
 use Rattle.syntax.specs.Tree.{IsName, AreAll}
 use Rattle.graph.specs.Textual.{IsGraphName}
-use Rattle.graph.specs.Canonical.{joined, with_colon, component_names, variables_line}
+use Rattle.graph.specs.Canonical.{joined, with_colon, letters, component_names, variables_line}
 use Rattle.graph.proofs.PrintedTokens.{after_word, never, anything, Printed, behind, and, narrowed, nothing}
 use Rattle.graph.proofs.PrintedNames.{printed_name, no_name_limit}
 use Rattle.graph.proofs.PrintedLists.{OnePrinted, joined_printed, no_all}
@@ -107,23 +108,22 @@ is_a_name : (letter : ℕ) (it : Word) → letter ∷ [] ≢ word_text it
 is_a_name letter kept.Env e = omega (arith, ap length e)
 is_a_name letter _ e = omega (arith, ap length e)
 
-pub good_components : (components : ℕ) → AllByRecursion IsGraphName (component_names components)
-good_components zero = tt
-good_components (suc zero) = (record { word = (refl, tt); not_reserved = is_a_name 105; short = omega arith }, tt)
-good_components (suc (suc zero)) = (record { word = (refl, tt); not_reserved = is_a_name 105; short = omega arith }, (record { word = (refl, tt); not_reserved = is_a_name 106; short = omega arith }, tt))
-good_components (suc (suc (suc zero))) =
-    (record { word = (refl, tt); not_reserved = is_a_name 105; short = omega arith }, (record { word = (refl, tt); not_reserved = is_a_name 106; short = omega arith }, (record { word = (refl, tt); not_reserved = is_a_name 107; short = omega arith }, tt)))
-good_components (suc (suc (suc (suc more)))) = (
-  record { word = (refl, tt); not_reserved = is_a_name 105; short = omega arith },
-  (
-    record { word = (refl, tt); not_reserved = is_a_name 106; short = omega arith },
-    (record { word = (refl, tt); not_reserved = is_a_name 107; short = omega arith }, (record { word = (refl, tt); not_reserved = is_a_name 108; short = omega arith }, nothing_more more)),
-  ),
-)
-  where
-    nothing_more : (more : ℕ) → AllByRecursion IsGraphName (take more [])
-    nothing_more zero = tt
-    nothing_more (suc more) = tt
+good_letter : (letter : ℕ) → is_letter letter ≡ true → IsGraphName (letter ∷ [])
+good_letter letter is = record { word = (is, tt); not_reserved = is_a_name letter; short = omega arith }
 
-pub many_components : (components : ℕ) → components ≤ 4 → length (component_names components) ≡ components
-many_components components few = length-take-le components (codes "i" ∷ codes "j" ∷ codes "k" ∷ codes "l" ∷ []) few
+good_letters : AllByRecursion IsGraphName letters
+good_letters = (
+  good_letter 105 refl,
+  (good_letter 106 refl, (good_letter 107 refl, (good_letter 108 refl, (good_letter 109 refl, (good_letter 110 refl, (good_letter 111 refl, (good_letter 112 refl, tt))))))),
+)
+
+pub good_components : (components : ℕ) → AllByRecursion IsGraphName (component_names components)
+good_components components = first components letters good_letters
+  where
+    first : (count : ℕ) (texts : List Text) → AllByRecursion IsGraphName texts → AllByRecursion IsGraphName (take count texts)
+    first zero texts good = tt
+    first (suc count) [] good = tt
+    first (suc count) (text ∷ texts) good = (good.0, first count texts good.1)
+
+pub many_components : (components : ℕ) → components ≤ MAX_COMPONENTS → length (component_names components) ≡ components
+many_components components few = length-take-le components letters (omega (arith, few))

@@ -5,7 +5,7 @@ use Rattle.std.proofs.lemmas.List.{append-nil}
 use Rattle.steptree.specs.declared.sheet.TheConstants.{MOST_COLLECTIONS}
 use Rattle.steptree.specs.declared.step.Step.{Step as NamedStep}
 use Rattle.steptree.specs.Nameable.{Collection, Nameable}
-use Rattle.steptree.specs.Names.{Text, is_text, names_of}
+use Rattle.steptree.specs.Names.{Text, is_text, names_of, names_in}
 use Rattle.steptree.specs.Resolved.{IsBlock}
 use Rattle.steptree.specs.Sheet.{BodyKeepsTo}
 use Rattle.syntax.specs.declared.tree.Tree.{Tree}
@@ -14,7 +14,7 @@ use Rattle.syntax.specs.Spelled.{Piece, declaration_pieces, relation_pieces, ste
 use Rattle.syntax.specs.Limits.{relation_limits}
 use Rattle.syntax.specs.Tree.{AreAll}
 use Rattle.graph.specs.Graph.{Graph, Step, sheet_of}
-use Rattle.graph.specs.Tree.{text_of, items_of, tags_of, names_in, step_names, is_read, is_item_put, is_tag_put, each_of, sheet_in, IsStepOf}
+use Rattle.graph.specs.Tree.{text_of, items_of, tags_of, step_names, is_read, is_item_put, is_tag_put, each_of, sheet_in, IsStepOf}
 use Rattle.graph.specs.Faults.{At, declaration_faults, relation_faults, step_faults}
 use Rattle.graph.specs.Textual.{IsTextual, CanonicalReads}
 use Rattle.graph.specs.Prescribed.{names_of_steps}

@@ -1,7 +1,7 @@
 -- The relations of a graph as they are printed.
 use Rattle.std.proofs.Common.{◌≡◌, ℕ, ◌+◌, Bool, false, List, [], ◌∷◌, ◌++◌, length, get_or, map, codes, refl, sym, ap, ◌∙◌, append_assoc}
 use Rattle.std.specs.List.{AllByRecursion, flat_map}
-use Rattle.steptree.specs.Names.{Text}
+use Rattle.steptree.specs.Names.{Text, names_in}
 use Rattle.syntax.specs.declared.token.Word.TheVariants as kept
 use Rattle.syntax.specs.declared.token.Symbol.TheVariants as sign
 use Rattle.syntax.specs.Grammar.{Relation, prescribes, reads, puts_item, puts_tag, environment_puts_item, environment_puts_tag, environment_gets}
@@ -9,7 +9,6 @@ use Rattle.syntax.specs.Spelled.{Piece, a_sign, sign_at, relation_pieces}
 use Rattle.syntax.specs.Spelled.{arrow as arrow_pieces}
 use Rattle.syntax.specs.Limits.{name_limits, relation_limits}
 use Rattle.graph.specs.Graph.{Graph, Step}
-use Rattle.graph.specs.Tree.{names_in}
 use Rattle.graph.specs.Textual.{IsGraphName}
 use Rattle.graph.specs.Canonical.{in_brackets, in_angles, in_rounds, arrow, line, those, step_relations, environment_relations}
 use Rattle.graph.proofs.PrintedTokens.{after_word, never, anything, Printed, behind, and, and_blanks, closed_sign}

@@ -7,7 +7,7 @@ use Rattle.terms.specs.declared.key.TheConstants.{MAX_COMPONENTS}
 use Rattle.steptree.specs.declared.slot.TheConstants.{MOST_NAMES}
 use Rattle.steptree.specs.declared.step.Name.{Name}
 use Rattle.steptree.specs.declared.step.Step.{Step as NamedStep}
-use Rattle.steptree.specs.Names.{Text, is_text, names_of}
+use Rattle.steptree.specs.Names.{Text, is_text, names_of, names_in}
 use Rattle.steptree.specs.Resolved.{IsBlock}
 use Rattle.steptree.specs.Sheet.{BodyKeepsTo}
 use Rattle.steptree.specs.Limits.{AreFew}
@@ -20,7 +20,7 @@ use Rattle.syntax.specs.Limits.{all_names, step_limits}
 use Rattle.syntax.specs.Tree.{AreAll, IsStep}
 use Rattle.graph.specs.declared.fault.GraphError.TheVariants.{Redeclared}
 use Rattle.graph.specs.Graph.{Graph, Step, sheet_of, IsOfGraph}
-use Rattle.graph.specs.Tree.{text_of, names_in}
+use Rattle.graph.specs.Tree.{text_of}
 use Rattle.graph.specs.Faults.{At, fault_if, has, repeated}
 use Rattle.graph.specs.Textual.{IsGraphName, AreNames, IsTextStep}
 use Rattle.graph.specs.Canonical.{in_rounds, joined, line, variables_line, block_text, step_text}

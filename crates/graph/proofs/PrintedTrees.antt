@@ -5,7 +5,7 @@ use Rattle.std.specs.List.{AllByRecursion}
 use Rattle.std.proofs.lemmas.Bool.Decides.{nat_tests}
 use Rattle.steptree.specs.declared.sheet.TheConstants.{MOST_COLLECTIONS}
 use Rattle.steptree.specs.declared.step.Step.{Step as NamedStep}
-use Rattle.steptree.specs.Names.{Text, is_text, place_of, names_of}
+use Rattle.steptree.specs.Names.{Text, is_text, place_of, names_of, names_in}
 use Rattle.steptree.specs.Resolved.{IsBlock}
 use Rattle.steptree.specs.Sheet.{BodyKeepsTo}
 use Rattle.steptree.specs.Nameable.{Collection}
@@ -15,7 +15,7 @@ use Rattle.syntax.specs.Limits.{steps_limits}
 use Rattle.syntax.specs.Tree.{AreAll, IsStep}
 use Rattle.graph.specs.declared.fault.GraphError.TheVariants.{StepTwice, Arity}
 use Rattle.graph.specs.Graph.{Graph, Step, sheet_of}
-use Rattle.graph.specs.Tree.{text_of, names_in, step_names, is_read, is_item_put, is_tag_put, each_of, prescriber_of}
+use Rattle.graph.specs.Tree.{text_of, step_names, is_read, is_item_put, is_tag_put, each_of, prescriber_of}
 use Rattle.graph.specs.Faults.{At, fault_if, or_else, has, repeated, components_of, is_other, arity_faults, step_faults}
 use Rattle.graph.specs.Prescribed.{names_of_steps}
 use Rattle.graph.proofs.PrintedNames.{no_more_limit, same_text}

@@ -12,7 +12,8 @@ use Rattle.syntax.specs.Tree.{AreAll}
 use Rattle.graph.specs.Graph.{Step, Graph}
 use Rattle.graph.specs.Prescribed.{names_of_steps}
 use Rattle.graph.specs.Textual.{IsGraphName, AreNames, IsTextStep, ReadsTextual}
-use Rattle.graph.specs.Tree.{items_of, tags_of, names_in, step_names, IsStepOf}
+use Rattle.steptree.specs.Names.{names_in}
+use Rattle.graph.specs.Tree.{items_of, tags_of, step_names, IsStepOf}
 use Rattle.graph.proofs.Faultless.{first_empty, second_empty, items_apart, tags_apart, step_names_apart, no_step}
 use Rattle.graph.proofs.GraphsOfTrees.{graph_is}
 use Rattle.graph.proofs.PrintedApart.{each_weaker, each_mapped}

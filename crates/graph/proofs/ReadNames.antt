@@ -5,7 +5,7 @@ use Rattle.std.specs.Str.{bytes_eq}
 use Rattle.std.proofs.lemmas.Option.{slice_get-get_or}
 use Rattle.terms.specs.declared.key.TheConstants.{MAX_COMPONENTS}
 use Rattle.steptree.specs.declared.sheet.TheConstants.{MOST_COLLECTIONS}
-use Rattle.steptree.specs.Names.{Text, place_of}
+use Rattle.steptree.specs.Names.{Text, place_of, names_in}
 use Rattle.syntax.specs.declared.limits.TheConstants.{MOST_NAME_BYTES}
 use Rattle.syntax.specs.declared.token.Symbol.TheVariants as sign
 use Rattle.syntax.specs.declared.tree.Declaration.{Declaration as Declared}
@@ -16,7 +16,7 @@ use Rattle.syntax.specs.Limits.{one_more, name_limits, names_behind, all_names, 
 use Rattle.syntax.specs.Spelled.{Piece, a_sign, named, names_pieces, parameters_pieces, variables_pieces, declaration_pieces}
 use Rattle.syntax.specs.Tree.{AreAll, IsDeclaration}
 use Rattle.graph.specs.Textual.{IsGraphName, AreNames}
-use Rattle.graph.specs.Tree.{items_of, tags_of, names_in}
+use Rattle.graph.specs.Tree.{items_of, tags_of}
 use Rattle.graph.proofs.Faultless.{first_empty, second_empty}
 use Rattle.graph.proofs.Places.{own_place}
 use Rattle.graph.proofs.SoundTokens.{IsSound, AreSound, front, rear, kept_to}

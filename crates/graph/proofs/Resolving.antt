@@ -1,7 +1,7 @@
 -- The parts of a tree, one after another.
 use Rattle.std.proofs.Common.{◌≡◌, ℕ, suc, List, [], ◌∷◌, ◌++◌, length, map, refl, sym, ap, subst, ◌∙◌}
 use Rattle.steptree.specs.declared.step.Step.{Step as NamedStep}
-use Rattle.steptree.specs.Names.{Text, place_of}
+use Rattle.steptree.specs.Names.{Text, place_of, names_in}
 use Rattle.steptree.specs.Nameable.{Collection}
 use Rattle.syntax.specs.declared.tree.Declaration.{Declaration}
 use Rattle.syntax.specs.declared.tree.Relation.{Relation}
@@ -16,7 +16,7 @@ use Rattle.graph.specs.Numbered.{found}
 use Rattle.graph.specs.Placed.{IsFirst}
 use Rattle.graph.specs.Relations.{AreNumbers, AreRelations}
 use Rattle.graph.specs.Steps.{ArePlaces}
-use Rattle.graph.specs.Tree.{items_of, tags_of, names_in, step_names}
+use Rattle.graph.specs.Tree.{items_of, tags_of, step_names}
 use Rattle.graph.proofs.Declaring.{their_names}
 use Rattle.graph.proofs.FirstFaults.{in_front, behind_none, empty_in_front}
 

@@ -2,13 +2,12 @@
 use Rattle.std.proofs.Common.{◌≡◌, ℕ, zero, suc, Bool, true, false, List, [], ◌∷◌, map, Some, None, if◌then◌else◌, refl, sym, ap, ◌∙◌, slice_get, length, ◌≤◌, arith}
 use Rattle.std.specs.Prelude.{◌==◌, option_map}
 use Rattle.std.proofs.Common.{eqb-true}
-use Rattle.steptree.specs.Names.{Text}
+use Rattle.steptree.specs.Names.{Text, names_in}
 use Rattle.graph.specs.declared.graph.Prescribed.{Prescribed}
 use Rattle.graph.specs.Graph.{Step, Graph, IsGraph}
 use Rattle.graph.specs.Seen.{collection_seen, step_seen}
 use Rattle.graph.specs.Numbered.{names_numbered}
 use Rattle.graph.specs.Prescribed.{prescribed_by, prescribed_from, names_of_steps}
-use Rattle.graph.specs.Tree.{names_in}
 use Rattle.graph.proofs.Rising.{as_many_mapped}
 
 fused : {X Y Z : Type 0} (f : X → Y) (g : Y → Z) (xs : List X) → map g (map f xs) ≡ map (λ x. g (f x)) xs

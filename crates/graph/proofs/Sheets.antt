@@ -9,7 +9,7 @@ use Rattle.terms.specs.declared.name.TagCollection.{TagCollection}
 use Rattle.steptree.specs.declared.step.Step.{Step as NamedStep}
 use Rattle.steptree.specs.CheckFaults.{faults_of}
 use Rattle.steptree.specs.Limits.{AreFew, IsWithinLimits}
-use Rattle.steptree.specs.Names.{Text, place_of}
+use Rattle.steptree.specs.Names.{Text, place_of, names_in}
 use Rattle.steptree.specs.Nameable.{Nameable}
 use Rattle.syntax.specs.declared.tree.Relation.{Relation}
 use Rattle.syntax.specs.declared.tree.Tree.{Tree}
@@ -21,7 +21,7 @@ use Rattle.graph.specs.Placed.{IsFirst}
 use Rattle.graph.specs.Marks.{mark_at, AreMarks, AreRows, IsPrescriber, prescriber_at}
 use Rattle.graph.specs.Resolved.{IsResolved}
 use Rattle.graph.specs.Small.{IsSmall, IsSmallStep}
-use Rattle.graph.specs.Tree.{text_of, items_of, tags_of, names_in, step_names, is_read, is_item_put, is_tag_put, each_of, prescriber_of, sheet_in}
+use Rattle.graph.specs.Tree.{text_of, items_of, tags_of, step_names, is_read, is_item_put, is_tag_put, each_of, prescriber_of, sheet_in}
 use Rattle.graph.proofs.Faultless.{items_apart, tags_apart, step_names_apart, no_arity}
 use Rattle.graph.proofs.Lists.{any_default}
 use Rattle.graph.proofs.Marks.{width_at, stood}

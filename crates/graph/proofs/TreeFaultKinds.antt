@@ -5,7 +5,7 @@ use Rattle.std.specs.List.{AllByRecursion}
 use Rattle.steptree.specs.declared.checker.CheckFault.{CheckFault}
 use Rattle.steptree.specs.declared.step.Name.{Name}
 use Rattle.steptree.specs.declared.step.Step.{Step as NamedStep}
-use Rattle.steptree.specs.Names.{Text}
+use Rattle.steptree.specs.Names.{Text, names_in}
 use Rattle.steptree.specs.Nameable.{Collection}
 use Rattle.syntax.specs.declared.tree.Declaration.{Declaration}
 use Rattle.syntax.specs.declared.tree.Declaration.TheVariants as declared
@@ -17,7 +17,7 @@ use Rattle.graph.specs.declared.fault.GraphError.{GraphError}
 use Rattle.graph.specs.declared.fault.GraphError.TheVariants as error
 use Rattle.graph.specs.declared.fault.PlacedFault.{PlacedFault}
 use Rattle.graph.specs.Placed.{no_memory}
-use Rattle.graph.specs.Tree.{text_of, items_of, tags_of, names_in, step_names, prescriber_of}
+use Rattle.graph.specs.Tree.{text_of, items_of, tags_of, step_names, prescriber_of}
 use Rattle.graph.specs.Faults.{At, fault_if, or_else, has, repeated, declaration_faults, again, unknown, missing, prescribed_before, relation_fault, relation_faults, arity_faults, step_faults, tree_faults, body_fault}
 use Rattle.graph.specs.Reads.{IsPlain, body_faults, IsTreeFault, IsFirstFault, IsCause}
 

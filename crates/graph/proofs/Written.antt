@@ -1,10 +1,11 @@
 -- The canonical text, one part after another.
-use Rattle.std.proofs.Common.{◌≡◌, ◌+◌, ◌-◌, ◌<◌, ℕ, zero, suc, Bool, true, false, List, [], ◌∷◌, ◌++◌, length, map, get_or, drop, take, Option, Some, None, refl, sym, ap, ◌∙◌, slice_get, arith, append_assoc, length-append, length-drop}
+use Rattle.std.proofs.Common.{◌≡◌, ◌+◌, ◌-◌, ◌<◌, ℕ, zero, suc, min, Bool, true, false, List, [], ◌∷◌, ◌++◌, length, map, get_or, drop, take, Option, Some, None, refl, sym, ap, subst, ◌∙◌, Result, OnOk, slice_get, arith, append_assoc, length-append, length-drop}
 use Rattle.std.specs.Prelude.{codes, unwrap_or}
 use Rattle.std.proofs.lemmas.Option.{unwrap_or-slice_get}
+use Rattle.std.proofs.lemmas.List.{take_min}
 use Rattle.std.specs.List.{flat_map, zip}
 use Rattle.steptree.specs.Names.{Text}
-use Rattle.graph.specs.Canonical.{line, marked, joined, with_colon, declaration_lines, in_rounds, variables_line}
+use Rattle.graph.specs.Canonical.{line, marked, joined, with_colon, letters, component_names, declaration_lines, in_rounds, variables_line}
 use Rattle.graph.specs.Collected.{collections_numbered}
 use Rattle.graph.specs.Pieces.{indentation, where_marked, after_colon, declaration_at, where_there}
 use Rattle.graph.proofs.Lists.{with_none}
@@ -90,7 +91,36 @@ pub colon_behind : (name : Text) (texts : List Text) → with_colon name texts �
 colon_behind name [] = sym (with_none name)
 colon_behind name (first ∷ more) = append_assoc name (codes ": ") (joined (first ∷ more))
 
--- nothing is written if there is no name
+-- the first so many of these, each with what stands in front of it
+pub behind_commas : (count : ℕ) (texts : List Text) → flat_map (λ (t : Text). t) (take count (map (λ t. codes ", " ++ t) texts)) ≡ flat_map (λ t. codes ", " ++ t) (take count texts)
+behind_commas zero texts = refl
+behind_commas (suc count) [] = refl
+behind_commas (suc count) (text ∷ texts) = ap (λ (t : Text). codes ", " ++ text ++ t) (behind_commas count texts)
+
+pub letters_behind : (components : ℕ) → flat_map (λ (t : Text). t) (take components (codes ": i" ∷ map (λ t. codes ", " ++ t) (drop 1 letters))) ≡ after_colon (component_names components)
+letters_behind zero = refl
+letters_behind (suc more) = ap (λ (t : Text). codes ": i" ++ t) (behind_commas more (drop 1 letters))
+
+-- the first so many pieces, by their texts
+pieces_taken : {X : Type 0} (now : X → Text) (count : ℕ) (pieces : List X) → flat_map now (take count pieces) ≡ flat_map (λ (t : Text). t) (take count (map now pieces))
+pieces_taken now zero pieces = refl
+pieces_taken now (suc count) [] = refl
+pieces_taken now (suc count) (piece ∷ pieces) = ap (λ (t : Text). now piece ++ t) (pieces_taken now count pieces)
+
+-- the first so many of the letters, each with what stands in front of it
+letters_taken : {X : Type 0} (now : X → Text) (pieces : List X) (count components : ℕ) → count ≡ min components 8 → map now pieces ≡ codes ": i" ∷ map (λ t. codes ", " ++ t) (drop 1 letters)
+    → flat_map now (take count pieces) ≡ after_colon (component_names components)
+letters_taken now pieces count components few are =
+    pieces_taken now count pieces ∙ ap (λ (l : List Text). flat_map (λ (t : Text). t) (take count l)) are
+    ∙ ap (λ (n : ℕ). flat_map (λ (t : Text). t) (take n (codes ": i" ∷ map (λ t. codes ", " ++ t) (drop 1 letters)))) few
+    ∙ ap (λ (l : List Text). flat_map (λ (t : Text). t) l) (take_min components (codes ": i" ∷ map (λ t. codes ", " ++ t) (drop 1 letters))) ∙ letters_behind components
+
+pub letters_put : {T E X : Type 0} (now : X → Text) (pieces : List X) (count : ℕ) (result : Result T E) (text new : Text) (components : ℕ) → OnOk result (new ≡ text ++ flat_map now (take count pieces))
+    → count ≡ min components 8 → map now pieces ≡ codes ": i" ∷ map (λ t. codes ", " ++ t) (drop 1 letters) → OnOk result (new ≡ text ++ after_colon (component_names components))
+letters_put now pieces count result text new components wrote few are =
+    subst (λ (t : Text). OnOk result (new ≡ text ++ t)) (letters_taken now pieces count components few are) wrote
+
+-- nothing is written where there is no name
 pub no_name : (text : Text) (names : List Text) (number : ℕ) → None ≡ slice_get names number → text ≡ text ++ get_or names number []
 no_name text names number none =
     sym (ap (λ (t : Text). text ++ t) (sym (unwrap_or-slice_get names number []) ∙ ap (λ (o : Option Text). unwrap_or o []) (sym none)) ∙ with_none text)

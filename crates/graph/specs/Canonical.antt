@@ -7,10 +7,9 @@ use Rattle.steptree.specs.declared.expression.Operator.TheVariants as operator
 use Rattle.steptree.specs.declared.expression.Expression.{Expression}
 use Rattle.steptree.specs.declared.block.Block.{Block}
 use Rattle.steptree.specs.Tree.{Number, Variable, Negation, Operation, End, Assign, If, For, Get, PutItem, PutTag}
-use Rattle.steptree.specs.Names.{Text}
+use Rattle.steptree.specs.Names.{Text, names_in}
 use Rattle.steptree.specs.Nameable.{Collection}
 use Rattle.graph.specs.Graph.{Step, Graph}
-use Rattle.graph.specs.Tree.{names_in}
 
 -- these texts, with ", " between them
 abbrev pub joined : List Text → Text
@@ -38,9 +37,13 @@ in_rounds text = codes "(" ++ text ++ codes ")"
 
 -- ---- declarations and relations
 
--- the names of this number of components
+-- the names that components have, as many as any key may have
+abbrev pub letters : List Text
+letters = codes "i" ∷ codes "j" ∷ codes "k" ∷ codes "l" ∷ codes "m" ∷ codes "n" ∷ codes "o" ∷ codes "p" ∷ []
+
+-- the names of so many components
 abbrev pub component_names : ℕ → List Text
-component_names components = take components (codes "i" ∷ codes "j" ∷ codes "k" ∷ codes "l" ∷ [])
+component_names components = take components letters
 
 abbrev pub declaration_lines : (Text → Text) → List Collection → Text
 declaration_lines brackets collections = flat_map (λ collection. line 0 (brackets (with_colon collection.name (component_names collection.components)) ++ codes ";")) collections

@@ -2,7 +2,7 @@
 use Rattle.std.specs.Prelude.{◌≡◌, ℕ, List, [], map, Some}
 use Rattle.steptree.specs.declared.step.Step.{Step as NamedStep}
 use Rattle.steptree.specs.CheckFaults.{faults_of}
-use Rattle.steptree.specs.Names.{Text, place_of}
+use Rattle.steptree.specs.Names.{Text, place_of, names_in}
 use Rattle.steptree.specs.Resolved.{Resolves}
 use Rattle.steptree.specs.Sheet.{BodyKeepsTo}
 use Rattle.syntax.specs.declared.tree.Tree.{Tree}
@@ -11,7 +11,7 @@ use Rattle.graph.specs.declared.fault.PlacedFault.{PlacedFault}
 use Rattle.graph.specs.declared.graph.Prescribed.{Prescribed}
 use Rattle.graph.specs.Faults.{body_fault}
 use Rattle.graph.specs.Placed.{IsFirst}
-use Rattle.graph.specs.Tree.{text_of, names_in, tags_of, prescriber_of, sheet_in}
+use Rattle.graph.specs.Tree.{text_of, tags_of, prescriber_of, sheet_in}
 
 -- this is the number of the tag collection that prescribes the step
 pub record IsPrescribedBy (tree : Tree) (step : NamedStep) (number : ℕ) : Type 0 where

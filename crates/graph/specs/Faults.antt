@@ -5,7 +5,7 @@ use Rattle.std.specs.List.{list_any}
 use Rattle.steptree.specs.declared.checker.CheckFault.{CheckFault}
 use Rattle.steptree.specs.declared.step.Name.{Name}
 use Rattle.steptree.specs.declared.step.Step.{Step as NamedStep}
-use Rattle.steptree.specs.Names.{Text, is_text, place_of}
+use Rattle.steptree.specs.Names.{Text, is_text, place_of, names_in}
 use Rattle.steptree.specs.Nameable.{Collection}
 use Rattle.syntax.specs.declared.tree.Declaration.{Declaration}
 use Rattle.syntax.specs.declared.tree.Declaration.TheVariants as declared
@@ -14,7 +14,7 @@ use Rattle.syntax.specs.declared.tree.Relation.TheVariants as related
 use Rattle.syntax.specs.declared.tree.Tree.{Tree}
 use Rattle.graph.specs.declared.fault.GraphError.{GraphError}
 use Rattle.graph.specs.declared.fault.GraphError.TheVariants.{Redeclared, UnknownName, Arity, NoPrescriber, TwoPrescribers, StepMissing, StepTwice, Check}
-use Rattle.graph.specs.Tree.{text_of, items_of, tags_of, names_in, step_names, prescriber_of}
+use Rattle.graph.specs.Tree.{text_of, items_of, tags_of, step_names, prescriber_of}
 
 -- a fault at a position
 abbrev pub At : Type 0

@@ -3,7 +3,8 @@ use Rattle.syntax.specs.declared.tree.Tree.{Tree}
 use Rattle.graph.specs.declared.resolved.Resolved.{Resolved}
 use Rattle.graph.specs.Collected.{AreCollected}
 use Rattle.graph.specs.Relations.{AreRelations}
-use Rattle.graph.specs.Tree.{items_of, tags_of, names_in, step_names}
+use Rattle.steptree.specs.Names.{names_in}
+use Rattle.graph.specs.Tree.{items_of, tags_of, step_names}
 
 pub record IsResolved (tree : Tree) (resolved : Resolved) : Type 0 where
   pub items : AreCollected (items_of tree.declarations.items) resolved.items

@@ -5,7 +5,7 @@ use Rattle.terms.specs.declared.key.TheConstants.{MAX_COMPONENTS}
 use Rattle.steptree.specs.declared.expression.Expression.{Expression}
 use Rattle.steptree.specs.declared.block.Block.{Block}
 use Rattle.steptree.specs.Tree.{Number, Variable, Negation, Operation, End, Assign, If, For, Get, PutItem, PutTag}
-use Rattle.steptree.specs.Names.{Text}
+use Rattle.steptree.specs.Names.{Text, names_in}
 use Rattle.syntax.specs.declared.token.Word.{Word}
 use Rattle.syntax.specs.declared.limits.TheConstants.{MOST_NAME_BYTES, MOST_DEPTH, MOST_BRACES}
 use Rattle.syntax.specs.Tokens.{GREATEST, IsWordText, word_text}
@@ -15,7 +15,7 @@ use Rattle.syntax.specs.declared.tree.Tree.{Tree}
 use Rattle.syntax.specs.Reading.{IsRead}
 use Rattle.graph.specs.declared.fault.GraphFault.{GraphFault}
 use Rattle.graph.specs.Prescribed.{names_of_steps}
-use Rattle.graph.specs.Tree.{names_in, IsGraphOf}
+use Rattle.graph.specs.Tree.{IsGraphOf}
 use Rattle.graph.specs.Reads.{Reads, HasCause, no_memory}
 use Rattle.graph.specs.Canonical.{canonical}
 

@@ -4,7 +4,7 @@ use Rattle.std.specs.List.{list_any}
 use Rattle.steptree.specs.declared.step.Name.{Name}
 use Rattle.steptree.specs.declared.step.Step.{Step as NamedStep}
 use Rattle.steptree.specs.Nameable.{Collection, Nameable}
-use Rattle.steptree.specs.Names.{Text, is_text, place_of, names_of}
+use Rattle.steptree.specs.Names.{Text, is_text, place_of, names_of, names_in}
 use Rattle.steptree.specs.Resolved.{IsBlock}
 use Rattle.steptree.specs.Sheet.{BodyKeepsTo}
 use Rattle.syntax.specs.declared.tree.Declaration.{Declaration}
@@ -29,9 +29,6 @@ abbrev pub tags_of : List Declaration → List Collection
 tags_of [] = []
 tags_of (declared.Item name components ∷ more) = tags_of more
 tags_of (declared.Tag name components ∷ more) = record { name = text_of name; components = components } ∷ tags_of more
-
-abbrev pub names_in : List Collection → List Text
-names_in collections = map (λ collection. collection.name) collections
 
 abbrev pub step_names : List NamedStep → List Text
 step_names steps = map (λ step. text_of step.name) steps

@@ -14,12 +14,12 @@ use steptree::{Block, Checked, Components, Expression, Statement};
 use terms::{StepCollection, TagCollection};
 
 /// Gives its caller the clause that trait search finds for a type.
-fn goes<T: Send>()
+pub fn goes<T: Send>()
     ensures { IsSend T.row }
 {}
 
 /// The same for sharing between threads.
-fn is_shared<T: Sync>()
+pub fn is_shared<T: Sync>()
     ensures { IsSync T.row }
 {}
 

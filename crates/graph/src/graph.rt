@@ -1,12 +1,11 @@
 ghost use Rattle.std.specs.Prelude.{◌≡◌, ◌↔◌, ◌<◌, length, map, get_or, Some, IfSome, slice_get, true, false};
 ghost use Rattle.std.specs.Option.{option_map};
-ghost use Rattle.steptree.specs.Names.{place_of};
+ghost use Rattle.steptree.specs.Names.{place_of, names_in};
 ghost use Rattle.graph.specs.Canonical.{canonical};
 ghost use Rattle.graph.specs.Fits.{AddressIsOf, TagIsOf, InstanceIsOf};
 ghost use Rattle.graph.specs.Graph.{IsGraph, EnvironmentMayPutItem, EnvironmentMayPutTag, EnvironmentMayGet};
 ghost use Rattle.graph.specs.Prescribed.{prescribed_by, names_of_steps, mark_of};
 ghost use Rattle.graph.specs.Reads.{Reads};
-ghost use Rattle.graph.specs.Tree.{names_in};
 
 use crate::numbered::Numbered;
 use crate::parts::Parts;

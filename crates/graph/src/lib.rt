@@ -30,7 +30,7 @@ mod steps;
 mod tables;
 
 pub use canonical_text::canonical;
-pub use crossing::graphs_cross;
+pub use crossing::{goes, graphs_cross, is_shared};
 pub use examples::canonical_example;
 pub use fault::{GraphError, GraphFault};
 pub use graph::Graph;

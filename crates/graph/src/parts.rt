@@ -1,6 +1,6 @@
 ghost use Rattle.std.specs.Prelude.{◌≡◌, slice_get};
 ghost use Rattle.std.specs.Option.{option_map};
-ghost use Rattle.graph.specs.Tree.{names_in};
+ghost use Rattle.steptree.specs.Names.{names_in};
 
 use crate::graph::Prescribed;
 use crate::numbered::Numbered;

@@ -1,6 +1,6 @@
 ghost use Rattle.std.specs.Prelude.{◌≡◌, ◌++◌, ◌<◌, [], List, length, map, IfOk, OnOk, None, Some};
 ghost use Rattle.std.specs.Option.{option_map};
-ghost use Rattle.steptree.specs.Names.{Text, place_of};
+ghost use Rattle.steptree.specs.Names.{Text, place_of, names_in};
 ghost use Rattle.steptree.specs.Statements.{texts};
 ghost use Rattle.graph.specs.declared.fault.GraphError.TheVariants.{StepTwice};
 ghost use Rattle.graph.specs.Faults.{fault_if, or_else, repeated, step_faults};
@@ -9,7 +9,7 @@ ghost use Rattle.graph.specs.Placed.{Reports};
 ghost use Rattle.graph.specs.Steps.{ArePlaces, components_by, components_faults};
 ghost use Rattle.graph.specs.Relations.{AreRelations};
 ghost use Rattle.syntax.specs.declared.tree.Relation.{Relation as Tied};
-ghost use Rattle.graph.specs.Tree.{names_in, step_names};
+ghost use Rattle.graph.specs.Tree.{step_names};
 
 use crate::fault::{GraphError, PlacedFault};
 use crate::numbered::Numbered;

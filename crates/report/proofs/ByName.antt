@@ -11,9 +11,8 @@ use Rattle.std.proofs.lemmas.List.Elements.{recursion_from_All, All-push}
 use Rattle.std.proofs.lemmas.List.Sorted.{All-permutation, sum_by-IsPermutation}
 use Rattle.std.proofs.lemmas.List.Sums.{sum_by-append, sum_by-cons}
 use Rattle.terms.specs.declared.name.ItemCollection.{ItemCollection}
-use Rattle.steptree.specs.Names.{Text, place_of}
+use Rattle.steptree.specs.Names.{Text, place_of, names_in}
 use Rattle.graph.specs.Graph.{Graph, IsGraph}
-use Rattle.graph.specs.Tree.{names_in}
 use Rattle.report.specs.Got.{Named, IsNamed, AreGotBelow, how_many, times}
 use Rattle.report.specs.ReportText.{AreGot, name_cmp}
 

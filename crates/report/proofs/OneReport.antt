@@ -13,7 +13,7 @@ use Rattle.terms.specs.declared.name.Inst.{Inst}
 use Rattle.terms.specs.declared.name.ItemCollection.{ItemCollection}
 use Rattle.terms.specs.declared.fault.FaultKind.{FaultKind}
 use Rattle.graph.specs.Graph.{Graph}
-use Rattle.graph.specs.Tree.{names_in}
+use Rattle.steptree.specs.Names.{names_in}
 use Rattle.machine.specs.Counts.{AreCountsOf, AreItemsOf, AreSoMany}
 use Rattle.machine.specs.declared.counts.Counts.{Counts}
 use Rattle.report.specs.ReportText.{AreGot, AreItemLines, IsOnlyFault, IsReport, counts_text, fault_line, item_lines, line, name_cmp}

@@ -5,7 +5,7 @@ use Rattle.std.specs.List.{flat_map}
 use Rattle.terms.specs.declared.name.Addr.{Addr}
 use Rattle.terms.specs.declared.name.Inst.{Inst}
 use Rattle.graph.specs.Graph.{Graph}
-use Rattle.graph.specs.Tree.{names_in}
+use Rattle.steptree.specs.Names.{names_in}
 use Rattle.graph.specs.Prescribed.{names_of_steps}
 use Rattle.graph.specs.Canonical.{in_brackets, in_rounds, with_colon}
 

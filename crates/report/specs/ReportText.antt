@@ -14,7 +14,7 @@ use Rattle.terms.specs.Fault.{fault_number}
 use Rattle.terms.specs.Facts.{bad}
 use Rattle.terms.specs.Sets.{Facts}
 use Rattle.graph.specs.Graph.{Graph}
-use Rattle.graph.specs.Tree.{names_in}
+use Rattle.steptree.specs.Names.{names_in}
 use Rattle.machine.specs.Counts.{AreItemsOf, AreCountsOf}
 use Rattle.machine.specs.declared.counts.Counts.{Counts}
 use Rattle.report.specs.Named.{instance_text, item_text}

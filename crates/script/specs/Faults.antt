@@ -3,9 +3,8 @@ use Rattle.std.specs.Prelude.{◌≡◌, ⊤, ℕ, ℤ, List, [], ◌∷◌, ◌
 use Rattle.std.specs.Int.{w64}
 use Rattle.std.specs.List.{AllByRecursion}
 use Rattle.steptree.specs.Nameable.{Collection}
-use Rattle.steptree.specs.Names.{place_of}
+use Rattle.steptree.specs.Names.{place_of, names_in}
 use Rattle.graph.specs.Graph.{Graph, IsOf}
-use Rattle.graph.specs.Tree.{names_in}
 use Rattle.script.specs.Tokens.{AreSpaces}
 use Rattle.script.specs.Forms.{Form, Spells, put, tag, get, run}
 use Rattle.script.specs.declared.command.Command.{Command}

@@ -129,12 +129,12 @@ fn steps<'a>(cursor: &Cursor<'_, 'a>) -> Option<Request<'a>>
 }
 
 // A name that is not reserved and a key, between these brackets.
-fn named_key<'a>(cursor: &mut Cursor<'_, 'a>, open: u8, close: u8) -> Option<NamedKey<'a>>
+fn named_key<'a>(cursor: &mut Cursor<'_, 'a>, opening: u8, closing: u8) -> Option<NamedKey<'a>>
     requires { IsSoundCursor cursor.old }
-    ensures named { AnswersNamed result (named_of «open» close (left cursor.old)) (left cursor.new) }
+    ensures named { AnswersNamed result (named_of opening closing (left cursor.old)) (left cursor.new) }
     ensures sound { IsSoundCursor cursor.new }
 {
-    if !cursor.takes(open) {
+    if !cursor.takes(opening) {
         return None;
     }
     match cursor.word() {
@@ -142,7 +142,7 @@ fn named_key<'a>(cursor: &mut Cursor<'_, 'a>, open: u8, close: u8) -> Option<Nam
             if reserved_word(name).is_some() {
                 return None;
             }
-            match written_key(cursor, close) {
+            match written_key(cursor, closing) {
                 Some(key) => Some(NamedKey { name, key }),
                 None => None,
             }

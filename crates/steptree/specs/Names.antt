@@ -24,8 +24,9 @@ place_of (first ∷ rest) text = if is_text first text then Some zero else optio
 abbrev pub names_of : Step → List Text
 names_of step = map (λ name. name.text.now) (step.parameters.items ++ step.variables.items)
 
-abbrev pub names_declared : List Collection → List Text
-names_declared collections = map (λ collection. collection.name) collections
+-- the names of collections
+abbrev pub names_in : List Collection → List Text
+names_in collections = map (λ collection. collection.name) collections
 
 -- the slot of a variable
 abbrev pub slot_of : List Text → Name → Option ℕ
@@ -33,4 +34,4 @@ slot_of names name = place_of names name.text.now
 
 -- the number of a collection
 abbrev pub number_of : List Collection → Name → Option ℕ
-number_of collections name = place_of (names_declared collections) name.text.now
+number_of collections name = place_of (names_in collections) name.text.now

@@ -8,16 +8,12 @@ use crate::numbered::Numbered;
 use std::alloc::AllocError;
 
 /// The names of `components` components, after a colon if there are any.
-fn names_of_components(components: usize) -> &'static str
-    ensures { result.now ≡ after_colon (component_names components) }
+fn put_component_names(text: &mut Vec<u8>, components: usize) -> Result<(), AllocError>
+    ensures { OnOk result (text.new.items ≡ text.old.items ++ after_colon (component_names components)) }
 {
-    match components {
-        0 => "",
-        1 => ": i",
-        2 => ": i, j",
-        3 => ": i, j, k",
-        _ => ": i, j, k, l",
-    }
+    let names = [": i", ", j", ", k", ", l", ", m", ", n", ", o", ", p"];
+    let count = components.min(names.len());
+    put(text, &names[..count])
 }
 
 /// A name, and after a colon the names of its components.
@@ -26,7 +22,7 @@ fn put_name(text: &mut Vec<u8>, name: &str, components: usize) -> Result<(), All
     ensures { OnOk result (text.new.items ≡ text.old.items ++ with_colon name.now (component_names components)) }
 {
     put(text, &[name])?;
-    put(text, &[names_of_components(components)])
+    put_component_names(text, components)
 }
 
 /// A declaration.

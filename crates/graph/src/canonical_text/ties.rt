@@ -3,7 +3,7 @@ ghost use Rattle.std.specs.List.{flat_map};
 ghost use Rattle.graph.specs.Canonical.{environment_relations, in_angles, in_rounds, line, step_relations, those};
 ghost use Rattle.graph.specs.Seen.{step_seen};
 ghost use Rattle.graph.specs.Pieces.{relation_line};
-ghost use Rattle.graph.specs.Tree.{names_in};
+ghost use Rattle.steptree.specs.Names.{names_in};
 
 use super::pieces::put;
 use super::relations::{Kind, put_relations};

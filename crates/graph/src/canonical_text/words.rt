@@ -1,7 +1,7 @@
 ghost use Rattle.std.specs.Prelude.{◌≡◌, ◌++◌, [], OnOk, get_or};
 ghost use Rattle.graph.specs.Canonical.{variable_text};
 ghost use Rattle.graph.specs.Pieces.{names_of_words};
-ghost use Rattle.graph.specs.Tree.{names_in};
+ghost use Rattle.steptree.specs.Names.{names_in};
 
 use super::pieces::put;
 use crate::parts::Parts;

@@ -6,7 +6,8 @@ use Rattle.steptree.specs.Nameable.{Nameable}
 use Rattle.steptree.specs.Resolved.{Resolves}
 use Rattle.steptree.specs.Sheet.{BodyKeepsTo}
 use Rattle.graph.specs.CheckedSteps.{IsBodyFault, IsCheckedStep}
-use Rattle.graph.specs.Tree.{items_of, tags_of, names_in, is_read, is_item_put, is_tag_put}
+use Rattle.steptree.specs.Names.{names_in}
+use Rattle.graph.specs.Tree.{items_of, tags_of, is_read, is_item_put, is_tag_put}
 use Rattle.graph.proofs.FirstFaults.{fault_passed_on}
 use Rattle.graph.proofs.Lists.{any_default}
 use Rattle.graph.proofs.Sheets.{within_limits, is_sheet, is_prescribed, prescribed_by, prescriber_within, first_of_body, one_step, copied_row}

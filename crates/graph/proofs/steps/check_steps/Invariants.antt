@@ -1,9 +1,9 @@
 use Rattle.std.proofs.Common.{List}
-use Rattle.steptree.specs.Names.{Text}
+use Rattle.steptree.specs.Names.{Text, names_in}
 use Rattle.syntax.specs.declared.tree.Relation.{Relation}
 use Rattle.graph.specs.Relations.{AreRelations}
 use Rattle.graph.specs.Steps.{ArePlaces}
-use Rattle.graph.specs.Tree.{names_in, step_names}
+use Rattle.graph.specs.Tree.{step_names}
 use Rattle.graph.proofs.Checking.{IsLeft}
 use Rattle.graph.proofs.steps.check_steps.Given as goal
 

@@ -1,10 +1,9 @@
 use Rattle.std.proofs.Common.{◌∙◌, ◌++◌, List, ap}
 use Rattle.std.specs.List.{flat_map, zip}
-use Rattle.steptree.specs.Names.{Text}
+use Rattle.steptree.specs.Names.{Text, names_in}
 use Rattle.graph.specs.Canonical.{marked}
 use Rattle.graph.specs.Graph.{Graph}
 use Rattle.graph.specs.Pieces.{relation_line}
-use Rattle.graph.specs.Tree.{names_in}
 use Rattle.graph.proofs.Seen.{items_named}
 use Rattle.graph.proofs.canonical_text.ties.put_item_relations.Goals as goal
 

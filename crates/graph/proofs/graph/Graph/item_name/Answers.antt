@@ -1,7 +1,6 @@
 use Rattle.std.proofs.Common.{◌≡◌, ◌∙◌, List, Some, IfSome, ap, subst, slice_get}
-use Rattle.steptree.specs.Names.{Text, place_of}
+use Rattle.steptree.specs.Names.{Text, place_of, names_in}
 use Rattle.graph.specs.Graph.{Graph}
-use Rattle.graph.specs.Tree.{names_in}
 use Rattle.graph.proofs.Seen.{items_named}
 use Rattle.graph.proofs.graph.Graph.item_name.Goals as goal
 

@@ -1,7 +1,6 @@
 use Rattle.std.proofs.Common.{◌∙◌, List, ap, slice_get}
-use Rattle.steptree.specs.Names.{Text}
+use Rattle.steptree.specs.Names.{Text, names_in}
 use Rattle.graph.specs.Graph.{Graph}
-use Rattle.graph.specs.Tree.{names_in}
 use Rattle.graph.proofs.Seen.{items_named}
 use Rattle.graph.proofs.parts.Parts.tag_name.Goals as goal
 

@@ -1,8 +1,7 @@
 use Rattle.std.proofs.Common.{◌≡◌, ◌∙◌, Bor, [], ap, subst, refl, get_or}
 use Rattle.std.specs.Fmt.{WritesOnOk}
-use Rattle.steptree.specs.Names.{Text}
+use Rattle.steptree.specs.Names.{Text, names_in}
 use Rattle.graph.specs.Canonical.{in_brackets}
-use Rattle.graph.specs.Tree.{names_in}
 use Rattle.report.specs.Named.{with_key}
 use Rattle.report.proofs.Names.{told_name}
 use Rattle.report.proofs.named.NamedAddressDisplay.fmt.Goals as goal

@@ -1,4 +1,4 @@
-use Rattle.graph.specs.Tree.{names_in}
+use Rattle.steptree.specs.Names.{names_in}
 use Rattle.graph.proofs.Written.{no_name}
 use Rattle.graph.proofs.canonical_text.words.Words.put_item_name.Goals as goal
 
