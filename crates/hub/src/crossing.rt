@@ -7,20 +7,10 @@ ghost use Rattle.vault.specs.contracts.vault.Vault as of_vault;
 
 use crate::{Board, Kept, Naming};
 use disk::Disk;
-use graph::{Graph, graphs_cross};
+use graph::{Graph, goes, graphs_cross, is_shared};
 use machine::Machine;
 use std::sync::{Arc, Mutex};
 use terms::Event;
-
-// Gives its caller the clause that `T` is `Send`, if trait search finds it.
-fn goes<T: Send>()
-    ensures { IsSend T.row }
-{}
-
-// The same of `Sync`.
-fn is_shared<T: Sync>()
-    ensures { IsSync T.row }
-{}
 
 // A `Vault` is `Send` if its disk is.
 fn vaults_go<D: Disk + Send>()
