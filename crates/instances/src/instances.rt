@@ -4,7 +4,8 @@ ghost use Rattle.terms.specs.Name.{inst_cmp};
 ghost use Rattle.instances.specs.Known.{AllCanTake, AllGrown, AllHaveRoom, changed_from, first_state, fresh_step, least, with_instance};
 
 use crate::step::Step;
-use crate::{InstanceWalk, State, StepInstances, TagWalk, Task, listing};
+use crate::step_instances::StepInstances;
+use crate::{InstanceWalk, State, TagWalk, Task, listing};
 use maps::CollectionMap;
 use std::alloc::{AllocError, Global};
 use std::marker::Model;

@@ -25,6 +25,5 @@ pub use instance_walk::InstanceWalk;
 pub use instances::Instances;
 pub use running::runs_are_counted;
 pub use state::State;
-pub use step_instances::StepInstances;
 pub use tag_walk::TagWalk;
 pub use task::Task;

@@ -1,5 +1,5 @@
-use crate::StepInstances;
 use crate::ended::is_among;
+use crate::step_instances::StepInstances;
 use std::alloc::AllocError;
 use terms::{Inst, StepCollection, Tag, TagCollection};
 

@@ -11,7 +11,7 @@ use terms::{Addr, Key};
 /// The instances of one step, each with its state. No later change of an instance needs memory: its room is there from
 /// the moment when it was added.
 #[derive(Drop)]
-pub struct StepInstances {
+pub(crate) struct StepInstances {
     states: KeyMap<State>,
     // The keys of the ready instances, with room for all instances. A new one goes to the end of the queue, and one
     // that already ran goes to its front. So they run in about the order in which they came, whether they had to wait
@@ -44,7 +44,7 @@ impl StepInstances {
     ghost use Rattle.instances.specs.OfStep.{is_ready, is_running, is_waiting, is_done, how_many, IsWaiting, Moves, AddsInstance};
 
     /// No instances.
-    pub fn new(alloc: Global) -> Self
+    pub(crate) fn new(alloc: Global) -> Self
         ensures { result ≡ record { states = empty; room = 0 } }
     {
         StepInstances {
@@ -55,35 +55,35 @@ impl StepInstances {
     }
 
     /// The state of an instance, if it is prescribed.
-    pub fn state(&self, key: Key) -> Option<State>
+    pub(crate) fn state(&self, key: Key) -> Option<State>
         ensures { result ≡ get self.now.states key }
     {
         self.states.get(key)
     }
 
     /// The instances with their states, in the order of their keys.
-    pub fn entries(&self) -> &[(Key, State)]
+    pub(crate) fn entries(&self) -> &[(Key, State)]
         ensures { result.now ≡ entries self.now.states }
     {
         self.states.entries()
     }
 
     /// The number of ready instances.
-    pub fn ready(&self) -> usize
+    pub(crate) fn ready(&self) -> usize
         ensures { result ≡ how_many is_ready self.now.states }
     {
         self.ready.len()
     }
 
     /// The number of instances that run.
-    pub fn running(&self) -> usize
+    pub(crate) fn running(&self) -> usize
         ensures { result ≡ how_many is_running self.now.states }
     {
         self.running
     }
 
     /// The number of instances that wait. It goes through all instances.
-    pub fn waiting(&self) -> usize
+    pub(crate) fn waiting(&self) -> usize
         ensures { result ≡ how_many is_waiting self.now.states }
     {
         self.states
@@ -94,7 +94,7 @@ impl StepInstances {
     }
 
     /// The number of instances that are done. It goes through all instances.
-    pub fn done(&self) -> usize
+    pub(crate) fn done(&self) -> usize
         ensures { result ≡ how_many is_done self.now.states }
     {
         self.states
@@ -105,7 +105,7 @@ impl StepInstances {
     }
 
     /// The number of further instances that there is room for.
-    pub fn room(&self) -> usize
+    pub(crate) fn room(&self) -> usize
         ensures { result ≡ self.now.room }
     {
         self.states
@@ -114,7 +114,7 @@ impl StepInstances {
     }
 
     /// Makes room for `count` more instances. It fails only if there was less room.
-    pub fn make_room(&mut self, count: usize) -> Result<(), AllocError>
+    pub(crate) fn make_room(&mut self, count: usize) -> Result<(), AllocError>
         ensures states { self.new.states ≡ self.old.states }
         ensures ok { OnOk result (count ≤ self.new.room) }
         ensures not_less { self.old.room ≤ self.new.room }
@@ -131,7 +131,7 @@ impl StepInstances {
     }
 
     /// Adds an instance that is done, or one that can be claimed.
-    pub fn add(&mut self, key: Key, is_done: bool)
+    pub(crate) fn add(&mut self, key: Key, is_done: bool)
         requires absent { get self.old.states key ≡ None }
         requires room { 0 < self.old.room }
         ensures { AddsInstance self.old self.new key (cond is_done Done Ready) }
@@ -164,7 +164,7 @@ impl StepInstances {
     }
 
     /// Lets one of the ready instances run, by its number among them, and returns its key.
-    pub fn claim(&mut self, at: usize) -> Option<Key>
+    pub(crate) fn claim(&mut self, at: usize) -> Option<Key>
         ensures some { at < how_many is_ready self.old.states → IsSome result }
         ensures none { how_many is_ready self.old.states ≤ at → (result ≡ None) × (self.new ≡ self.old) }
         ensures claimed { IfSome result (λ key. (get self.old.states key ≡ Some Ready) × Moves self.old self.new key Running) }
@@ -176,7 +176,7 @@ impl StepInstances {
     }
 
     /// Ends an instance that runs.
-    pub fn finish(&mut self, key: Key)
+    pub(crate) fn finish(&mut self, key: Key)
         requires { get self.old.states key ≡ Some Running }
         ensures { Moves self.old self.new key Done }
     {
@@ -185,7 +185,7 @@ impl StepInstances {
     }
 
     /// Lets an instance that runs wait at an address.
-    pub fn park(&mut self, key: Key, addr: Addr)
+    pub(crate) fn park(&mut self, key: Key, addr: Addr)
         requires { get self.old.states key ≡ Some Running }
         ensures { Moves self.old self.new key (Waiting addr) }
     {
@@ -194,7 +194,7 @@ impl StepInstances {
     }
 
     /// Gives back an instance that runs.
-    pub fn release(&mut self, key: Key)
+    pub(crate) fn release(&mut self, key: Key)
         requires { get self.old.states key ≡ Some Running }
         ensures { Moves self.old self.new key Ready }
     {
@@ -204,7 +204,7 @@ impl StepInstances {
     }
 
     /// Makes a waiting instance ready.
-    pub fn wake(&mut self, key: Key)
+    pub(crate) fn wake(&mut self, key: Key)
         requires { IsWaiting (get self.old.states key) }
         ensures { Moves self.old self.new key Ready }
     {
