@@ -1,5 +1,5 @@
 -- The waiting instances by address, as the map of the vectors that hold them.
-use Rattle.std.proofs.Common.{ℤ, ◌++◌, ◌≡◌, ◌∙◌, ap, sym, refl, Bool, true, false, cond, List, [], ◌∷◌, map, Option, Some, None, Vec, option_map}
+use Rattle.std.proofs.Common.{ℤ, ◌++◌, ◌≡◌, ◌∙◌, ap, sym, subst, refl, Bool, true, false, cond, List, [], ◌∷◌, map, Option, Some, None, Vec, option_map}
 use Rattle.std.specs.declared.alloc.Global.{Global}
 use Rattle.std.specs.Ordering.{eq_by_cmp}
 use Rattle.std.specs.Cmp.{eq_by_cmp_equiv}
@@ -15,6 +15,7 @@ use Rattle.std.specs.Option.{unwrap_or}
 use Rattle.maps.specs.Numbered.{Numbered, Place, place_cmp}
 use Rattle.maps.specs.PlaceOrder.{places_total, same_places}
 use Rattle.items.specs.Held.{Held, place, address_at, waiters_at, with_waiter, without_waiters}
+use Rattle.items.specs.Once.{IsOnceEach, WaitOnce}
 
 abbrev pub Queues : Type 0
 Queues = List (Addr × Vec Inst Global)
@@ -103,3 +104,8 @@ module _ (items : Numbered (ℤ × Producer)) (old new : Queues) (now : Held) (a
   -- no instance waits at an address without a vector
   pub waits_no_more : ((q : Addr) → queue_at new q ≡ cond (eq_by_cmp addr_cmp address q) None (queue_at old q)) → seen_held items new ≡ without_waiters now address
   waits_no_more updates = ap (λ waiting. record { items = items; waiting = waiting }) (queue_taken old new address updates) ∙ ap (λ seen. without_waiters seen address) is
+
+-- where there is no vector nobody waits
+pub none_wait : (items : Numbered (ℤ × Producer)) (queues : Queues) → queues ≡ [] → WaitOnce (seen_held items queues)
+none_wait items queues is address =
+    subst IsOnceEach (sym (ap (λ (o : Option (List Inst)). unwrap_or o []) (waiting_at queues (place address) ∙ ap (λ (q : Queues). option_map (λ (v : Vec Inst Global). v.items) (queue_at q address)) is))) tt

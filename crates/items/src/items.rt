@@ -1,9 +1,14 @@
+ghost use Rattle.std.specs.Prelude.{◌≡◌};
+ghost use Rattle.std.specs.Ordering.{eq_by_cmp};
+ghost use Rattle.terms.specs.Name.{inst_cmp};
+ghost use Rattle.items.specs.Once.{is_one_of};
+
 use crate::{PutError, Walk};
 use maps::{CollectionMap, InsertError};
 use std::alloc::{AllocError, Global};
 use std::collections::BTreeMap;
 use std::marker::Model;
-use terms::{Addr, Inst, ItemCollection, Producer};
+use terms::{Addr, Inst, ItemCollection, Producer, orders_are_total};
 
 /// The items of a store, and the instances that wait for items. A `get` is a binary search. A put with a key greater
 /// than all others of its collection needs no search and moves no item.
@@ -19,16 +24,19 @@ impl Model for Items {
     ghost use Rattle.std.specs.FinMap.{from_entries};
     ghost use Rattle.items.specs.Codes.{held_code};
     ghost use Rattle.items.specs.Held.{Held, place};
+    ghost use Rattle.items.specs.Once.{WaitOnce};
 
     ghost Value = { Held };
 
     ghost coded = { held_code };
 
     ghost view = { λ i. record { items = i.items; waiting = from_entries (map (λ entry. (place entry.0, entry.1.items)) i.waiting.entries) } };
+
+    ghost invariant = { λ i. WaitOnce (record { items = i.items; waiting = from_entries (map (λ entry. (place entry.0, entry.1.items)) i.waiting.entries) }) };
 }
 
 impl Items {
-    ghost use Rattle.std.specs.Prelude.{◌≡◌, ◌<◌, ◌≤◌, ◌-◌, ◌^◌, IfOk, IfErr, OnOk, OnErr, length, map, min, replicate};
+    ghost use Rattle.std.specs.Prelude.{◌<◌, ◌≤◌, ◌-◌, ◌^◌, false, IfOk, IfErr, OnOk, OnErr, length, map, min, replicate};
     ghost use Rattle.std.specs.FinMap.{empty, entries};
     ghost use Rattle.maps.specs.Numbered.{of_number, AddsAt, OnlyMakesRoom};
     ghost use Rattle.items.specs.Held.{
@@ -42,6 +50,7 @@ impl Items {
       with_waiter,
       without_waiters,
     };
+    ghost use Rattle.items.specs.Once.{IsOnceEach};
 
     /// Holds no items yet, for this number of collections.
     pub fn new(alloc: Global, collections: usize) -> Result<Self, AllocError>
@@ -127,11 +136,23 @@ impl Items {
         }
     }
 
-    /// Lets an instance wait at an address, after those that already wait there. An error changes nothing.
+    /// Whether an instance waits at an address.
+    pub fn is_waiting(&self, addr: Addr, inst: Inst) -> bool
+        ensures { result ≡ is_one_of inst (waiters_at self.now addr) }
+    {
+        match self.waiting.get(&addr) {
+            Some(waiters) => is_among(inst, waiters),
+            None => false,
+        }
+    }
+
+    /// Lets an instance that does not wait there wait at an address, behind those that wait there. A refusal changes nothing.
     pub fn wait_on(&mut self, addr: Addr, inst: Inst) -> Result<(), AllocError>
+        requires { is_one_of inst (waiters_at self.old addr) ≡ false }
         ensures ok { OnOk result (self.new ≡ with_waiter self.old addr inst) }
         ensures refused { OnErr result (self.new ≡ self.old) }
     {
+        orders_are_total();
         match self.waiting.get_mut(&addr) {
             Some(waiters) => {
                 waiters.push(inst)?;
@@ -149,6 +170,7 @@ impl Items {
     /// Takes the instances that wait at the address, in the order in which they came. After that none waits there.
     pub fn take_waiters(&mut self, addr: Addr) -> Vec<Inst>
         ensures waiters { result.items ≡ waiters_at self.old addr }
+        ensures once { IsOnceEach result.items }
         ensures taken { self.new ≡ without_waiters self.old addr }
     {
         match self.waiting.remove(&addr) {
@@ -156,4 +178,18 @@ impl Items {
             None => Vec::new(self.alloc),
         }
     }
+}
+
+// Whether an instance is one of these.
+fn is_among(inst: Inst, list: &[Inst]) -> bool
+    ensures { result ≡ is_one_of inst list.now }
+{
+    list.iter().any(|other| is_same(inst, other))
+}
+
+// Whether these are one instance.
+fn is_same(inst: Inst, other: &Inst) -> bool
+    ensures { result ≡ eq_by_cmp inst_cmp inst other.now }
+{
+    inst.cmp(other).is_eq()
 }

@@ -15,13 +15,13 @@ use Rattle.terms.specs.Facts.{Fact, tag, item, done, bad}
 use Rattle.maps.specs.Numbered.{place_cmp}
 use Rattle.graph.specs.Graph.{Graph, Step, IsGraph}
 use Rattle.items.specs.Held.{Held, place}
+use Rattle.items.specs.Once.{IsOnceEach, is_one_of}
 use Rattle.instances.specs.declared.step.Step.{Step as Prescribed}
 use Rattle.instances.specs.declared.state.State.{State}
 use Rattle.instances.specs.declared.state.State.TheVariants.{Waiting}
 use Rattle.instances.specs.Known.{Known, fresh, fresh_step, prescriber_in, prescriber_at, state_at, state_in, tag_place}
 use Rattle.machine.specs.declared.memory.Memory.{Memory}
-use Rattle.machine.specs.Memory.{is_done, is_item, facts_of, environment_of, prescriber_of, waits_at, IsOf, IsOnceEach}
-use Rattle.machine.specs.Waking.{is_one_of}
+use Rattle.machine.specs.Memory.{is_done, is_item, facts_of, environment_of, prescriber_of, waits_at, IsOf}
 use Rattle.machine.specs.Creation.{HoldsNothing}
 
 -- no items, for this number of collections

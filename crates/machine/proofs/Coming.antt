@@ -19,12 +19,13 @@ use Rattle.maps.specs.Numbered.{Numbered, AddsAt, room_at}
 use Rattle.maps.specs.PlaceOrder.{places_total}
 use Rattle.graph.specs.Fits.{IsAbsent}
 use Rattle.items.specs.Held.{Held, place, item_at, waiters_at, room_for}
+use Rattle.items.specs.Once.{IsOnceEach, is_one_of}
 use Rattle.instances.specs.declared.state.State.{State}
 use Rattle.instances.specs.declared.state.State.TheVariants.{Ready, Running, Waiting, Done}
 use Rattle.instances.specs.Known.{mark_of, state_at}
 use Rattle.machine.specs.declared.memory.Memory.{Memory}
-use Rattle.machine.specs.Memory.{is_item, is_done, is_fault, IsOnceEach, facts_of, environment_of, waits_at, AreListed, MovesOn, Grows}
-use Rattle.machine.specs.Waking.{is_one_of, Wakes}
+use Rattle.machine.specs.Memory.{is_item, is_done, is_fault, facts_of, environment_of, waits_at, AreListed, MovesOn, Grows}
+use Rattle.machine.specs.Waking.{Wakes}
 use Rattle.machine.specs.Coming.{given_by}
 
 and_right : (a b : Bool) → (a && b) ≡ true → b ≡ true

@@ -15,12 +15,12 @@ use Rattle.terms.specs.Facts.{Fact, tag, item, done, bad}
 use Rattle.terms.specs.Sets.{with_facts}
 use Rattle.maps.specs.Numbered.{Numbered}
 use Rattle.items.specs.Held.{Held, item_at, waiters_at}
+use Rattle.items.specs.Once.{IsOnceEach, is_one_of}
 use Rattle.instances.specs.declared.state.State.{State}
 use Rattle.instances.specs.declared.state.State.TheVariants.{Ready, Running, Waiting, Done}
 use Rattle.instances.specs.Known.{MovesOne, mark_of, state_at}
 use Rattle.machine.specs.declared.memory.Memory.{Memory}
-use Rattle.machine.specs.Memory.{is_item, is_done, is_fault, facts_of, environment_of, waits_at, IsOnceEach, AreListed}
-use Rattle.machine.specs.Waking.{is_one_of}
+use Rattle.machine.specs.Memory.{is_item, is_done, is_fault, facts_of, environment_of, waits_at, AreListed}
 use Rattle.machine.proofs.Coming.{or_false}
 use Rattle.machine.proofs.Woken.{one_instance, itself}
 

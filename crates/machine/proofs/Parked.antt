@@ -1,9 +1,8 @@
 -- A running instance begins to wait, or a ready one runs.
-use Rattle.std.proofs.Common.{◌≡◌, ◌≢◌, ◌∙◌, ap, sym, refl, subst, inl, inr, ℕ, ◌<◌, ◌≤◌, Bool, true, false, cond, ◌||◌, List, [], ◌∷◌, ◌++◌, length, Option, Some, None, IsSome, IfSome, is_some, ℤ}
+use Rattle.std.proofs.Common.{◌≡◌, ◌≢◌, ◌∙◌, ap, sym, refl, subst, inl, inr, ℕ, ◌<◌, ◌≤◌, Bool, true, false, cond, ◌||◌, [], ◌∷◌, ◌++◌, length, Option, Some, None, IsSome, IfSome, is_some, ℤ}
 use Rattle.std.proofs.lemmas.Bool.{false≢true, cases_lt}
 use Rattle.std.proofs.lemmas.List.Folds.{list_any-append}
-use Rattle.std.specs.Option.{unwrap_or}
-use Rattle.std.specs.FinMap.{IsAntisymmetric, get, get-insert}
+use Rattle.std.specs.FinMap.{IsAntisymmetric}
 use Rattle.std.specs.Cmp.{IsTotalOrder}
 use Rattle.std.specs.Ordering.{eq_by_cmp}
 use Rattle.terms.specs.declared.name.Addr.{Addr}
@@ -13,15 +12,14 @@ use Rattle.terms.specs.declared.producer.Producer.{Producer}
 use Rattle.terms.specs.Name.{inst_cmp}
 use Rattle.terms.specs.Same.{is_same, same_address}
 use Rattle.maps.specs.Numbered.{Numbered}
-use Rattle.maps.specs.PlaceOrder.{places_total}
 use Rattle.graph.specs.Graph.{Graph}
-use Rattle.items.specs.Held.{Held, place, item_at, room_for, waiters_at, with_waiter}
+use Rattle.items.specs.Held.{Held, item_at, room_for, waiters_at, with_waiter}
+use Rattle.items.specs.Once.{IsOnceEach, is_one_of, once_more, waiters_after}
 use Rattle.instances.specs.declared.state.State.TheVariants.{Ready, Running, Waiting}
 use Rattle.instances.specs.Known.{MovesOne, state_at}
 use Rattle.machine.specs.declared.memory.Memory.{Memory}
 use Rattle.machine.specs.Legal.{Needs}
-use Rattle.machine.specs.Memory.{is_fault, facts_of, waits_at, IsOnceEach, AreListed, IsOf}
-use Rattle.machine.specs.Waking.{is_one_of}
+use Rattle.machine.specs.Memory.{is_fault, facts_of, waits_at, AreListed, IsOf}
 use Rattle.machine.proofs.Coming.{or_false}
 use Rattle.machine.proofs.Woken.{one_instance, itself}
 use Rattle.machine.proofs.Moved.{by_instance, facts_stay, environment_stays}
@@ -29,35 +27,9 @@ use Rattle.machine.specs.Machine.{Moves}
 use Rattle.graph.specs.Fits.{HasNoFault}
 use Rattle.machine.proofs.Worked.{moved_is_of, moves_of, same_is_of}
 
--- who waits at an address after one more instance began to wait
-waiters_after : (held : Held) (a : Addr) (i : Inst) (b : Addr) → waiters_at (with_waiter held a i) b ≡ cond (is_same b a) (waiters_at held a ++ i ∷ []) (waiters_at held b)
-waiters_after held a i b =
-    ap (λ (o : Option (List Inst)). unwrap_or o []) (get-insert places_total held.waiting (place a) (waiters_at held a ++ i ∷ []) (place b)) ∙ at (is_same b a)
-  where
-    at : (s : Bool) → unwrap_or (cond s (Some (waiters_at held a ++ i ∷ [])) (get held.waiting (place b))) [] ≡ cond s (waiters_at held a ++ i ∷ []) (waiters_at held b)
-    at true = refl
-    at false = refl
-
 pub no_item : (o : Option (ℤ × Producer)) → is_some o ≡ false → o ≡ None
 no_item None is = refl
 no_item (Some it) is = absurd (false≢true (sym is))
-
-neither : (a b : Bool) → (a || b) ≡ false → (a ≡ false) × (b ≡ false)
-neither true b none = absurd (false≢true (sym none))
-neither false b none = (refl, none)
-
-once_more : (total : IsTotalOrder inst_cmp) (tie : IsAntisymmetric inst_cmp) (list : List Inst) (i : Inst) → IsOnceEach list → is_one_of i list ≡ false → IsOnceEach (list ++ i ∷ [])
-once_more total tie [] i once absent = (refl, tt)
-once_more total tie (first ∷ others) i once absent =
-    let apart = neither (eq_by_cmp inst_cmp i first) (is_one_of i others) absent in
-    (list_any-append (eq_by_cmp inst_cmp first) others (i ∷ []) ∙ ap (λ b. b || (eq_by_cmp inst_cmp first i || false)) once.0 ∙ or_false (eq_by_cmp inst_cmp first i) ∙ other apart.0, once_more total tie others i once.1 apart.1)
-  where
-    other : eq_by_cmp inst_cmp i first ≡ false → eq_by_cmp inst_cmp first i ≡ false
-    other apart = at (eq_by_cmp inst_cmp first i) refl
-      where
-        at : (b : Bool) → eq_by_cmp inst_cmp first i ≡ b → b ≡ false
-        at true is = absurd (false≢true (sym apart ∙ ap (eq_by_cmp inst_cmp i) (one_instance total tie first i is) ∙ itself total tie i))
-        at false is = refl
 
 module _ (total : IsTotalOrder inst_cmp) (tie : IsAntisymmetric inst_cmp) (old new : Memory) (i : Inst) (a : Addr)
     (was : state_at old.instances i ≡ Some Running) (moves : MovesOne old.instances new.instances i (Waiting a)) (items : new.items ≡ with_waiter old.items a i) (fault : new.fault ≡ old.fault)
@@ -84,7 +56,7 @@ module _ (total : IsTotalOrder inst_cmp) (tie : IsAntisymmetric inst_cmp) (old n
       its_address is = cc
 
       few : (b : Addr) (s : Bool) → IsOnceEach (cond s (waiters_at old.items a ++ i ∷ []) (waiters_at old.items b))
-      few b true = once_more total tie (waiters_at old.items a) i (listed.once a) (listed.listed i a ∙ runs_not a)
+      few b true = once_more total (waiters_at old.items a) i (listed.once a) (listed.listed i a ∙ runs_not a)
       few b false = listed.once b
 
       at : (j : Inst) (b : Addr) (s : Bool) → is_same b a ≡ s → is_one_of j (cond s (waiters_at old.items a ++ i ∷ []) (waiters_at old.items b)) ≡ waits_at b (state_at new.instances j)

@@ -9,13 +9,14 @@ use Rattle.terms.specs.Name.{inst_cmp}
 use Rattle.items.specs.Held.{Held, item_at, waiters_at, room_for, IsRefused}
 use Rattle.items.specs.declared.error.PutError.{PutError}
 use Rattle.items.specs.declared.error.PutError.TheVariants.{AlreadyPut, NoMemory}
+use Rattle.items.specs.Once.{IsOnceEach, is_one_of}
 use Rattle.instances.specs.declared.state.State.{State}
 use Rattle.instances.specs.declared.state.State.TheVariants.{Ready, Running, Waiting, Done}
 use Rattle.instances.specs.OfStep.{IsWaiting}
 use Rattle.instances.specs.Known.{Known, state_at}
 use Rattle.machine.specs.declared.memory.Memory.{Memory}
-use Rattle.machine.specs.Memory.{AreListed, IsOnceEach, waits_at}
-use Rattle.machine.specs.Waking.{is_one_of, EachWaits}
+use Rattle.machine.specs.Memory.{AreListed, waits_at}
+use Rattle.machine.specs.Waking.{EachWaits}
 use Rattle.machine.proofs.Woken.{itself}
 
 pub not_refused : {A : Type 0} (result : Result (Unit {0}) PutError) (held : Held) (address : Addr) → OnOk result A → IfErr result (IsRefused held address) → item_at held address ≡ None → 0 < room_for held address.collection → A

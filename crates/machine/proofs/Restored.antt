@@ -25,16 +25,16 @@ use Rattle.codec.specs.Spelling.{HasPutNumber, IsNumbered}
 use Rattle.graph.specs.Graph.{Graph, Step, Prescribes}
 use Rattle.graph.specs.Fits.{FitsState, IsPrescribed}
 use Rattle.items.specs.Held.{item_at, place}
+use Rattle.items.specs.Once.{IsOnceEach, is_one_of}
 use Rattle.instances.specs.declared.state.State.{State}
 use Rattle.instances.specs.declared.state.State.TheVariants.{Ready, Running, Waiting, Done}
 use Rattle.instances.specs.Known.{first_state, is_prescribed_by, mark_of, prescribed_in, prescriber_at, state_at}
 use Rattle.instances.specs.There.{AreThereTogether}
 use Rattle.machine.specs.declared.memory.Memory.{Memory}
 use Rattle.machine.specs.Creation.{HoldsNothing}
-use Rattle.machine.specs.Memory.{AreListed, IsOnceEach, environment_of, facts_of, is_done, is_fault, prescriber_of, waits_at}
+use Rattle.machine.specs.Memory.{AreListed, environment_of, facts_of, is_done, is_fault, prescriber_of, waits_at}
 use Rattle.machine.specs.Restored.{IsReadyOrDone}
 use Rattle.machine.specs.Restoring.{CanHold, CanPrescribe, IsRestored, PutsItems, PutsTags}
-use Rattle.machine.specs.Waking.{is_one_of}
 use Rattle.machine.proofs.Coming.{none_there}
 use Rattle.machine.proofs.Imaged.{done_listed}
 use Rattle.machine.proofs.ImageFacts.{item_fact, tag_fact, facts_tag, facts_item, facts_done, facts_bad, given_tag, given_own, given_by, given_done, given_bad}

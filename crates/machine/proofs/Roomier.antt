@@ -21,14 +21,14 @@ use Rattle.terms.specs.Sets.{Facts}
 use Rattle.maps.specs.Numbered.{place_cmp, OnlyMakesRoom as MapMakesRoom}
 use Rattle.graph.specs.Graph.{Graph}
 use Rattle.items.specs.Held.{Held, place, item_at, waiters_at}
+use Rattle.items.specs.Once.{IsOnceEach, is_one_of}
 use Rattle.instances.specs.Known.{Known, mark_of, tag_place, state_at, prescriber_at}
 use Rattle.instances.specs.Known as instances
 use Rattle.machine.specs.declared.memory.Memory.{Memory}
 use Rattle.machine.specs.Machine.{Machine, HasRoomFor, item_room, tag_room}
 use Rattle.machine.specs.Legal.{IsLegal}
-use Rattle.machine.specs.Memory.{is_item, is_done, is_fault, waits_at, facts_of, environment_of, AreListed, IsOf, IsOnceEach}
+use Rattle.machine.specs.Memory.{is_item, is_done, is_fault, waits_at, facts_of, environment_of, AreListed, IsOf}
 use Rattle.machine.specs.Room.{GivesRoom}
-use Rattle.machine.specs.Waking.{is_one_of}
 use Rattle.machine.proofs.Worked.{same_is_of}
 
 module _ (old new : Memory) (same_items : (a : Addr) → item_at new.items a ≡ item_at old.items a) (marks : (name : Tag) → mark_of new.instances name ≡ mark_of old.instances name)

@@ -18,13 +18,13 @@ use Rattle.terms.specs.Sets.{with_facts}
 use Rattle.maps.specs.PlaceOrder.{places_total, same_places}
 use Rattle.items.specs.Held.{Held, item_at, waiters_at}
 use Rattle.items.specs.Held.{room_for as items_for}
+use Rattle.items.specs.Once.{IsOnceEach, is_one_of}
 use Rattle.instances.specs.declared.state.State.{State}
 use Rattle.instances.specs.declared.state.State.TheVariants.{Ready, Running, Waiting, Done}
 use Rattle.instances.specs.Known.{Prescribes, mark_of, state_at, tag_place, is_prescribed_by, room_for}
 use Rattle.machine.specs.declared.memory.Memory.{Memory}
-use Rattle.machine.specs.Memory.{is_item, is_done, is_fault, IsOnceEach, facts_of, environment_of, waits_at, AreListed, MovesOn, Grows}
+use Rattle.machine.specs.Memory.{is_item, is_done, is_fault, facts_of, environment_of, waits_at, AreListed, MovesOn, Grows}
 use Rattle.machine.specs.Coming.{IsNewTo, given_by}
-use Rattle.machine.specs.Waking.{is_one_of}
 use Rattle.machine.proofs.Coming.{or_false, same_number, itself_number, still_waits}
 
 -- whether two tags are equal

@@ -8,11 +8,12 @@ use Rattle.std.proofs.lemmas.Cmp.{tied_itself}
 use Rattle.std.specs.Cmp.{IsTotalOrder, Equal-is}
 use Rattle.terms.specs.declared.name.Inst.{Inst}
 use Rattle.terms.specs.Name.{inst_cmp}
+use Rattle.items.specs.Once.{is_one_of}
 use Rattle.instances.specs.declared.state.State.{State}
 use Rattle.instances.specs.declared.state.State.TheVariants.{Ready}
 use Rattle.instances.specs.OfStep.{IsWaiting}
 use Rattle.instances.specs.Known.{Known, state_at, MovesOne}
-use Rattle.machine.specs.Waking.{is_one_of, EachWaits, Wakes}
+use Rattle.machine.specs.Waking.{EachWaits, Wakes}
 
 -- what is left of a list at an index begins with the element there
 pub left_at : {X : Type 0} (n : ℕ) (xs : List X) (x : X) → n < length xs → x ≡ get_or xs n x → drop n xs ≡ x ∷ drop (suc n) xs

@@ -1,5 +1,5 @@
 -- What a store holds in memory, as sets of facts, and what each change does to them.
-use Rattle.std.specs.Prelude.{◌≡◌, ◌⊎◌, ⊤, ℕ, ℤ, ◌+◌, ◌<◌, ◌≤◌, Bool, true, false, ◌&&◌, ◌==◌, List, [], ◌∷◌, length, slice_get, Option, Some, None, IsSome, is_some}
+use Rattle.std.specs.Prelude.{◌≡◌, ◌⊎◌, ℕ, ℤ, ◌+◌, ◌<◌, ◌≤◌, Bool, true, false, ◌&&◌, ◌==◌, List, length, slice_get, Option, Some, None, IsSome, is_some}
 use Rattle.std.specs.Option.{option_map, unwrap_or}
 use Rattle.std.specs.Ordering.{is_eq, int_eq}
 use Rattle.terms.specs.declared.name.Addr.{Addr}
@@ -21,13 +21,13 @@ use Rattle.graph.specs.Graph.{Graph, Step, IsGraph}
 use Rattle.graph.specs.Fits.{FitsState}
 use Rattle.items.specs.Held.{item_at, waiters_at}
 use Rattle.items.specs.Held as items
+use Rattle.items.specs.Once.{IsOnceEach, is_one_of}
 use Rattle.instances.specs.declared.state.State.{State}
 use Rattle.instances.specs.declared.state.State.TheVariants.{Ready, Running, Waiting, Done}
 use Rattle.instances.specs.Known.{mark_of, state_at, prescriber_at}
 use Rattle.instances.specs.Known as instances
 use Rattle.machine.specs.declared.memory.Memory.{Memory}
 use Rattle.machine.specs.Legal.{Needs}
-use Rattle.machine.specs.Waking.{is_one_of}
 
 -- ---- the facts
 
@@ -73,12 +73,7 @@ waits_at address (Some Running) = false
 waits_at address (Some (Waiting other)) = is_same address other
 waits_at address (Some Done) = false
 
--- each instance appears in the list once
-abbrev pub IsOnceEach : List Inst → Type 0
-IsOnceEach [] = ⊤
-IsOnceEach (first ∷ others) = (is_one_of first others ≡ false) × IsOnceEach others
-
--- the instances that wait at an address are listed there, each once, and no others; and the item is not there
+-- those that wait at an address are listed there, each once, and no others; and the item is not there
 pub record AreListed (m : Memory) : Type 0 where
   pub listed : (instance : Inst) (address : Addr) → is_one_of instance (waiters_at m.items address) ≡ waits_at address (state_at m.instances instance)
   pub once : (address : Addr) → IsOnceEach (waiters_at m.items address)

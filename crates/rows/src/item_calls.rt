@@ -118,13 +118,16 @@ fn wait(
     instance: &str,
     told: &mut String,
 ) -> Result<(), AllocError> {
-    match instance_of(alloc, instance)? {
-        Some(instance) => {
-            three.items.wait_on(address, instance)?;
-            told.push_str("waits")
-        }
-        None => told.push_str("no instance"),
+    let Some(instance) = instance_of(alloc, instance)? else {
+        return told.push_str("no instance");
+    };
+    let asked = address;
+    let waiter = instance;
+    if three.items.is_waiting(asked, waiter) {
+        return told.push_str("waits already");
     }
+    three.items.wait_on(address, instance)?;
+    told.push_str("waits")
 }
 
 fn take_waiters(three: &mut Three, address: Addr, told: &mut String) -> Result<(), AllocError> {

@@ -1,7 +1,8 @@
-use Rattle.std.proofs.Common.{◌∙◌, [], ap, sym, option_map, Vec}
+use Rattle.std.proofs.Common.{◌∙◌, [], ap, sym, subst, option_map, Vec}
 use Rattle.std.specs.declared.alloc.Global.{Global}
 use Rattle.std.specs.Option.{unwrap_or}
 use Rattle.terms.specs.declared.name.Inst.{Inst}
+use Rattle.items.specs.Once.{IsOnceEach, WaitOnce, left_once}
 use Rattle.items.proofs.Waiting.{waiters_seen, waits_no_more}
 use Rattle.items.proofs.items.Items.take_waiters.Goals.{in-Some, in-None}
 use Rattle.items.proofs.items.Items.take_waiters.Goals as goal
@@ -17,3 +18,11 @@ returns-clause-waiters c =
 pub returns-clause-taken : goal.returns-clause-taken
 returns-clause-taken c =
     waits_no_more c.self.inside.items c.self.inside.waiting.entries c.remove.new.self.entries c.args.self.now c.args.addr c.self.view_is c.remove.ensures.updates.0
+
+pub returns-clause-once : goal.returns-clause-once
+returns-clause-once c = subst IsOnceEach (sym (returns-clause-waiters c)) (subst WaitOnce c.self.view_is c.self.invariant c.args.addr)
+
+pub invariant_of-self : goal.invariant_of-self
+invariant_of-self c =
+    subst WaitOnce (sym (waits_no_more c.self.inside.items c.self.inside.waiting.entries c.remove.new.self.entries c.args.self.now c.args.addr c.self.view_is c.remove.ensures.updates.0))
+    (left_once c.args.self.now c.args.addr (subst WaitOnce c.self.view_is c.self.invariant))

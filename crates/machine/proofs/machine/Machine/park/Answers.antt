@@ -1,10 +1,12 @@
 use Rattle.std.proofs.Common.{◌≡◌, ◌∙◌, Some, ap, sym, subst, refl, true, is_some, None, inl, inr}
 use Rattle.graph.specs.Fits.{IsAbsent}
-use Rattle.items.specs.Held.{item_at, with_waiter}
+use Rattle.terms.specs.declared.name.Inst.{Inst}
+use Rattle.items.specs.Held.{item_at, waiters_at, with_waiter}
+use Rattle.items.specs.Once.{is_one_of}
 use Rattle.instances.specs.declared.state.State.TheVariants.{Ready, Running}
 use Rattle.machine.specs.declared.memory.Memory.{Memory}
 use Rattle.machine.specs.Legal.{Needs}
-use Rattle.machine.specs.Memory.{is_item}
+use Rattle.machine.specs.Memory.{is_item, waits_at}
 use Rattle.machine.specs.Machine.{LooksAgain, Machine, Moves, facts, state_of}
 use Rattle.machine.proofs.Worked.{moved_is_of, moves_of}
 use Rattle.machine.proofs.Parked.{no_item, parked_is_of, parked_moves}
@@ -30,6 +32,13 @@ returns-then-is_some-clause-ok c =
       there_of c.facts_are_told_apart.ensures.one old c.args.addr there,
       moves_of c.orders_are_total.ensures.instances c.orders_are_total.ensures.instances_tie old new c.args.task Running Ready was c.release.ensures refl refl g refl,
     ))
+
+pub wait_on-requires : goal.wait_on-requires
+wait_on-requires c =
+    let old = c.self.inside.memory in
+    let was = subst (λ (m : Machine). state_of m c.args.task ≡ Some Running) (sym c.self.view_is) c.requires.running in
+    ap (λ (i : Inst). is_one_of i (waiters_at old.items c.args.addr)) c.inst.ensures
+    ∙ c.self.invariant.0.listed.listed c.args.task c.args.addr ∙ ap (waits_at c.args.addr) was
 
 pub invariant_of-self-in-Ok : goal.invariant_of-self-in-Ok
 invariant_of-self-in-Ok c =
