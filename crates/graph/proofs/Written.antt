@@ -91,7 +91,7 @@ pub colon_behind : (name : Text) (texts : List Text) → with_colon name texts �
 colon_behind name [] = sym (with_none name)
 colon_behind name (first ∷ more) = append_assoc name (codes ": ") (joined (first ∷ more))
 
--- the first so many of these, each with what stands in front of it
+-- the first `count` of these, each after its comma
 pub behind_commas : (count : ℕ) (texts : List Text) → flat_map (λ (t : Text). t) (take count (map (λ t. codes ", " ++ t) texts)) ≡ flat_map (λ t. codes ", " ++ t) (take count texts)
 behind_commas zero texts = refl
 behind_commas (suc count) [] = refl
@@ -101,13 +101,13 @@ pub letters_behind : (components : ℕ) → flat_map (λ (t : Text). t) (take co
 letters_behind zero = refl
 letters_behind (suc more) = ap (λ (t : Text). codes ": i" ++ t) (behind_commas more (drop 1 letters))
 
--- the first so many pieces, by their texts
+-- the first `count` pieces, by their texts
 pieces_taken : {X : Type 0} (now : X → Text) (count : ℕ) (pieces : List X) → flat_map now (take count pieces) ≡ flat_map (λ (t : Text). t) (take count (map now pieces))
 pieces_taken now zero pieces = refl
 pieces_taken now (suc count) [] = refl
 pieces_taken now (suc count) (piece ∷ pieces) = ap (λ (t : Text). now piece ++ t) (pieces_taken now count pieces)
 
--- the first so many of the letters, each with what stands in front of it
+-- the first letters, each after its colon or comma
 letters_taken : {X : Type 0} (now : X → Text) (pieces : List X) (count components : ℕ) → count ≡ min components 8 → map now pieces ≡ codes ": i" ∷ map (λ t. codes ", " ++ t) (drop 1 letters)
     → flat_map now (take count pieces) ≡ after_colon (component_names components)
 letters_taken now pieces count components few are =
@@ -120,7 +120,7 @@ pub letters_put : {T E X : Type 0} (now : X → Text) (pieces : List X) (count :
 letters_put now pieces count result text new components wrote few are =
     subst (λ (t : Text). OnOk result (new ≡ text ++ t)) (letters_taken now pieces count components few are) wrote
 
--- nothing is written where there is no name
+-- nothing is written if there is no name
 pub no_name : (text : Text) (names : List Text) (number : ℕ) → None ≡ slice_get names number → text ≡ text ++ get_or names number []
 no_name text names number none =
     sym (ap (λ (t : Text). text ++ t) (sym (unwrap_or-slice_get names number []) ∙ ap (λ (o : Option Text). unwrap_or o []) (sym none)) ∙ with_none text)

@@ -41,7 +41,7 @@ in_rounds text = codes "(" ++ text ++ codes ")"
 abbrev pub letters : List Text
 letters = codes "i" ∷ codes "j" ∷ codes "k" ∷ codes "l" ∷ codes "m" ∷ codes "n" ∷ codes "o" ∷ codes "p" ∷ []
 
--- the names of so many components
+-- the names of this number of components
 abbrev pub component_names : ℕ → List Text
 component_names components = take components letters
 

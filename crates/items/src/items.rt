@@ -146,7 +146,7 @@ impl Items {
         }
     }
 
-    /// Lets an instance that does not wait there wait at an address, behind those that wait there. A refusal changes nothing.
+    /// Lets an instance that does not wait there wait at an address, after those that already wait there. An error changes nothing.
     pub fn wait_on(&mut self, addr: Addr, inst: Inst) -> Result<(), AllocError>
         requires { is_one_of inst (waiters_at self.old addr) ≡ false }
         ensures ok { OnOk result (self.new ≡ with_waiter self.old addr inst) }

@@ -73,7 +73,7 @@ waits_at address (Some Running) = false
 waits_at address (Some (Waiting other)) = is_same address other
 waits_at address (Some Done) = false
 
--- those that wait at an address are listed there, each once, and no others; and the item is not there
+-- the instances that wait at an address are listed there, each once, and no others; and the item is not there
 pub record AreListed (m : Memory) : Type 0 where
   pub listed : (instance : Inst) (address : Addr) → is_one_of instance (waiters_at m.items address) ≡ waits_at address (state_at m.instances instance)
   pub once : (address : Addr) → IsOnceEach (waiters_at m.items address)

@@ -7,7 +7,7 @@ use Rattle.instances.specs.declared.state.State.TheVariants.{Ready}
 use Rattle.instances.specs.OfStep.{IsWaiting}
 use Rattle.instances.specs.Known.{Known, state_at, prescriber_at, room_for}
 
--- each of them waits, and stands in the list once
+-- each of them waits, and appears in the list once
 abbrev pub EachWaits : Known → List Inst → Type 0
 EachWaits known [] = ⊤
 EachWaits known (first ∷ others) = IsWaiting (state_at known first) × (is_one_of first others ≡ false) × EachWaits known others
