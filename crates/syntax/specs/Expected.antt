@@ -539,12 +539,12 @@ run stack (spot ∷ spots) = followed (next stack spot) (spot ∷ spots) (λ aft
 abbrev pub graph_expected : List Expected
 graph_expected = declarations 0 0 ∷ []
 
--- names from this place on, so many, each with a comma and a blank behind it
+-- this number of names from this place on, each followed by a comma and a blank
 abbrev pub names_with_commas : ℕ → Position → List Spot
 names_with_commas zero place = []
 names_with_commas (suc count) place = (name (codes "i"), place) ∷ (symbol sign.Comma, place + 1) ∷ names_with_commas count (place + 3)
 
--- `[x: i];` is accepted, `[x` ends too early, `[x: 1` breaks off at the number, and behind `[x: ` one name more than a key has components is one too many
+-- `[x: i];` is accepted, `[x` ends too early, `[x: 1` breaks off at the number, and after `[x: ` one name more than a key has components is one too many
 abbrev pub ExpectedExample : Type 0
 ExpectedExample = (run graph_expected ((symbol sign.OpenBracket, 0) ∷ (name (codes "x"), 1) ∷ (symbol sign.Colon, 2) ∷ (name (codes "i"), 4) ∷ (symbol sign.CloseBracket, 5) ∷ (symbol sign.Semicolon, 6) ∷ []) ≡ accepted)
     × (run graph_expected ((symbol sign.OpenBracket, 0) ∷ (name (codes "x"), 1) ∷ []) ≡ syntax [])
