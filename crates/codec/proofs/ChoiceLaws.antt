@@ -12,13 +12,13 @@ byte_read byte rest =
     let is : little_number 1 (take 1 (byte ∷ rest)) ≡ byte = omega arith in
     rw (test, is) refl
 
--- one whose place there is
+-- a byte that is not below the first number chooses the reading at its place
 pub at_place : {X : Type 0} (first : ℕ) (choices : List (Reading X)) (byte : ℕ) (rest : List ℕ) → first ≤ byte → one_of first choices (byte ∷ rest) ≡ chosen choices (byte - first) rest
 at_place first choices byte rest from =
     ap (λ read. go_on read (λ b. cond (ltb b first) (fails Kind) (chosen choices (b - first)))) (byte_read byte rest)
     ∙ ap (λ test. (cond test (fails Kind) (chosen choices (byte - first))) rest) (le-ltb byte first from)
 
--- what was read was read at a place
+-- what was read was read by the reading at some place
 pub some_place : {X : Type 0} (first : ℕ) (choices : List (Reading X)) (bytes : List ℕ) (read : X × List ℕ) → one_of first choices bytes ≡ Ok read
     → (place : ℕ) × (tail : List ℕ) × (bytes ≡ (place + first) ∷ tail) × (chosen choices place tail ≡ Ok read)
 some_place first choices [] read is = absurd (cc)

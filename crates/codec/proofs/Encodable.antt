@@ -1,4 +1,4 @@
--- What was read to the end of the bytes is what they spell, and can be spelled again.
+-- A value that is read from the whole of the bytes is the value that they spell, and it can be spelled again.
 use Rattle.std.proofs.Common.{◌≡◌, ◌<◌, ℕ, suc, List, [], ◌∷◌, inl, inr, Result, Ok, get_or, sym, ap, ◌∙◌}
 use Rattle.std.specs.List.{AllByRecursion}
 use Rattle.terms.specs.declared.event.Event.{Event}
@@ -42,7 +42,7 @@ in_order image is = record {
   numbered = each_numbered image.items is.items.each;
 }
 
--- what was read, and left nothing
+-- a value that was read, and left nothing
 module _ {V : Type 0} (Is : V → Type 0) (spelling : V → List ℕ) (reading : Reading V) (back : ReadsBack Is spelling (λ bytes. whole (reading bytes))) where
   pub is_spelled : (bytes rest : List ℕ) (value : V) → ((k : ℕ) → get_or bytes k 0 < 256) → (let read : Result V CodecError = Ok value in ReadsOrRefused rest read (reading bytes))
       → rest ≡ [] → Is value × (bytes ≡ spelling value)

@@ -107,7 +107,7 @@ fault_kind_agrees = record { back = back; only = only }
     back DoublePut rest is = at_place 1 kinds 4 rest (omega arith)
     back TooManyPuts rest is = at_place 1 kinds 5 rest (omega arith)
 
-    -- a kind that stands at a place
+    -- the kind at a place
     stands : (known kind : FaultKind) (number : ℕ) (tail rest : List ℕ) → number ≡ fault_number known → (let one : Result (FaultKind × List ℕ) CodecError = Ok (known, tail) in one) ≡ Ok (kind, rest)
         → number ∷ tail ≡ fault_number kind ∷ rest
     stands known kind number tail rest numbered is =

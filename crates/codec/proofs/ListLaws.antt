@@ -1,4 +1,4 @@
--- Lists whose elements are read as they are spelled are so too.
+-- If elements are read as they are spelled, so are lists of them.
 use Rattle.std.proofs.Common.{◌≡◌, ◌<◌, ◌≤◌, ◌^◌, ℕ, suc, zero, Bool, true, false, cond, ltb, List, [], ◌∷◌, ◌++◌, length, Option, Some, None, Ok, refl, sym, ap, subst, ◌∙◌, arith, append_assoc}
 use Rattle.std.specs.List.{flat_map, AllByRecursion}
 use Rattle.std.specs.declared.cmp.Ordering.{Ordering}
@@ -14,7 +14,7 @@ use Rattle.byteorder.specs.Endian.{little_bytes}
 use Rattle.codec.specs.Reading.{Reading, go_on, always, fails, next, number, several, counted, rising, list, comes_after}
 use Rattle.codec.proofs.Agreeing.{Agrees, exactly, went_on, same_read, bytes_behind}
 
--- each behind the one before it, if there is one
+-- each element comes after the one before it, if there is one
 abbrev pub RisesBehind : {X : Type 0} → (X → X → Ordering) → Option X → List X → Type 0
 RisesBehind cmp None xs = Rises cmp xs
 RisesBehind cmp (Some before) xs = Rises cmp (before ∷ xs)
@@ -104,7 +104,7 @@ module _ {X : Type 0} (Is : X → Type 0) (spelling : X → List ℕ) (element :
         subst (λ ys. (length ys ≡ suc count) × AllByRecursion Is ys × RisesBehind cmp before ys × (bytes ≡ flat_map spelling ys ++ rest)) same.0
         (ap suc others.0, (first.0, others.1), goes_on cmp before w.0.0 v.0.0 p.0 others.2, parts ∙ ap (λ l. (spelling w.0.0 ++ flat_map spelling v.0.0) ++ l) same.1)
 
-  -- as many as a number says, up to a greatest
+  -- as many elements as a number says, up to a greatest number
   pub counted_agrees : (width greatest limit : ℕ) (count_bytes : ℕ → List ℕ) → Agrees (λ n. n < limit) count_bytes (number width) → greatest < limit
       → Agrees (λ xs. (length xs ≤ greatest) × AllByRecursion Is xs) (λ xs. count_bytes (length xs) ++ flat_map spelling xs) (counted width greatest element)
   counted_agrees width greatest limit count_bytes counts small = record { back = back; only = only }

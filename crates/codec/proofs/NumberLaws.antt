@@ -19,7 +19,7 @@ use Rattle.codec.proofs.Agreeing.{Agrees, exactly, went_on, same_read, bytes_are
 use Rattle.codec.proofs.ListLaws.{passed}
 use Rattle.codec.proofs.Numbers.{signed}
 
--- so many bytes spell the number that they are read as
+-- `width` bytes spell the number that they are read as
 pub record IsWide (width : ℕ) : Type 0 where
   pub whole : (bytes : List ℕ) → length bytes ≡ width → ((k : ℕ) → get_or bytes k 0 < 256) → little_bytes width (little_number width bytes) ≡ bytes
 

@@ -1,4 +1,4 @@
--- Numbers in bytes, as the code reads them and as the definitions do.
+-- Numbers in bytes: the code reads them as the definitions do.
 use Rattle.std.proofs.Common.{◌≡◌, ◌≤◌, ◌<◌, ◌-◌, ◌^◌, ℕ, ℤ, inl, inr, List, Ok, length, take, drop, refl, sym, ap, ◌∙◌, arith}
 use Rattle.std.specs.Prelude.{FitsSigned, Result, slice_index}
 use Rattle.std.specs.Int.{w64, cast_signed, cast_unsigned}

@@ -6,7 +6,7 @@ use Rattle.codec.specs.Laws.{ReadsBack, SpellsOne, BeginsNoOther}
 use Rattle.codec.specs.Reading.{Reading, all_used, whole}
 use Rattle.codec.proofs.Agreeing.{Agrees, exactly, same_read}
 
--- what was read as a whole left nothing
+-- a value that was read from all of the bytes left nothing
 pub nothing_left : {V : Type 0} (v value : V) (rest : List ℕ) → all_used v rest ≡ Ok value → (v ≡ value) × (rest ≡ [])
 nothing_left v value [] is = (cc, refl)
 nothing_left v value (byte ∷ rest) is = absurd (cc)

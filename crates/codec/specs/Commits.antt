@@ -1,4 +1,4 @@
--- How a record spells a commit: today's payload is the bytes of one event, and so spells a commit of one event, and no other.
+-- How a record spells a commit. Today a payload is the bytes of one event, and so it spells a commit of one event, and no other.
 use Rattle.std.specs.Prelude.{◌≡◌, ℕ, List, [], ◌∷◌}
 use Rattle.terms.specs.Commits.{Commit}
 use Rattle.codec.specs.Spelling.{event_bytes, IsEvent}

@@ -1,4 +1,4 @@
--- What an image lists, and the orders in which it stands there.
+-- What an image lists, and the orders of its lists.
 use Rattle.std.specs.Prelude.{◌≡◌, ⊤, ℤ, Bool, List, [], ◌∷◌}
 use Rattle.std.specs.declared.cmp.Ordering.{Ordering}
 use Rattle.std.specs.declared.cmp.Ordering.TheVariants.{Less}
@@ -21,7 +21,7 @@ item_cmp a b = addr_cmp a.0 b.0
 abbrev pub marked_cmp : MarkedTag → MarkedTag → Ordering
 marked_cmp a b = tag_cmp a.0 b.0
 
--- each comes before the next
+-- each element comes before the next
 abbrev pub Rises : {X : Type 0} → (X → X → Ordering) → List X → Type 0
 Rises cmp [] = ⊤
 Rises cmp (x ∷ []) = ⊤

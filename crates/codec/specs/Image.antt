@@ -1,4 +1,4 @@
--- What an image says: facts, and which of them the environment put.
+-- What an image says: its facts, and which of them the environment put.
 use Rattle.std.specs.Prelude.{◌≡◌, ℤ, true, false, List, [], ◌∷◌, ◌++◌, map, Option, Some, None}
 use Rattle.std.specs.List.{flat_map, AllByRecursion}
 use Rattle.terms.specs.declared.name.Addr.{Addr}
@@ -17,7 +17,7 @@ abbrev pub fault_facts : Option (Inst × FaultKind) → List Fact
 fault_facts None = []
 fault_facts (Some fault) = bad fault.0 fault.1 ∷ []
 
--- all that the image has
+-- all facts of the image
 abbrev pub image_facts : Image → List Fact
 image_facts image = fault_facts image.fault ++ map (λ it. item it.0 it.1 it.2) image.items ++ map (λ marked. tag marked.0) image.tags ++ map done image.done
 
@@ -34,21 +34,21 @@ environment_tag (name, false) = []
 abbrev pub image_environment : Image → List Fact
 image_environment image = flat_map (λ it. environment_item it.0 it.1 it.2) image.items ++ flat_map environment_tag image.tags
 
--- the same as sets
+-- the same lists of facts as sets
 abbrev pub facts_in : Image → Facts
 facts_in image = among (image_facts image)
 
 abbrev pub environment_in : Image → Facts
 environment_in image = among (image_environment image)
 
--- the image's lists rise, and the numbers of its puts are such as a put may have
+-- the image's lists are in rising order, and the numbers of its puts are numbers that a put may have
 pub record IsListed (image : Image) : Type 0 where
   pub items_rise : Rises item_cmp image.items
   pub tags_rise : Rises marked_cmp image.tags
   pub done_rise : Rises inst_cmp image.done
   pub numbered : AllByRecursion HasPutNumber image.items
 
--- the image has the facts X, of which the environment put E
+-- the image has exactly the facts X, of which the environment put exactly E
 pub record Lists (image : Image) (E X : Facts) : Type 0 where
   pub facts : (fact : Fact) → facts_in image fact ≡ X fact
   pub environment : (fact : Fact) → environment_in image fact ≡ E fact

@@ -1,4 +1,4 @@
--- What bytes are read as, from the left: a value and the bytes behind it, or the first fault.
+-- What bytes are read as, from the left: a value and the bytes after it, or the first fault.
 use Rattle.std.specs.Prelude.{ℕ, zero, suc, ◌-◌, ℤ, Bool, true, false, List, [], ◌∷◌, length, take, drop, nat_lt, Option, Some, None, Result, Ok, Err, if◌then◌else◌}
 use Rattle.std.specs.declared.cmp.Ordering.{Ordering}
 use Rattle.std.specs.Ordering.{is_lt}
@@ -22,18 +22,18 @@ use Rattle.codec.specs.declared.error.CodecError.TheVariants.{Short, Kind, Range
 use Rattle.codec.specs.declared.image.Image.{Image}
 use Rattle.codec.specs.Entries.{Item, MarkedTag, item_cmp, marked_cmp}
 
--- a value of these bytes' beginning and the bytes behind it, or a fault
+-- the value at the front of the bytes and the bytes after it, or a fault
 abbrev pub Reading : Type 0 → Type 0
 Reading X = List ℕ → Result (X × List ℕ) CodecError
 
--- a value alone
+-- a value for which no byte is read
 abbrev pub always : {X : Type 0} → X → Reading X
 always x bytes = Ok (x, bytes)
 
 abbrev pub fails : {X : Type 0} → CodecError → Reading X
 fails error bytes = Err error
 
--- one behind another
+-- one reading after another
 abbrev pub go_on : {X Y : Type 0} → Result (X × List ℕ) CodecError → (X → Reading Y) → Result (Y × List ℕ) CodecError
 go_on (Ok read) second = second read.0 read.1
 go_on (Err error) second = Err error
@@ -41,19 +41,19 @@ go_on (Err error) second = Err error
 abbrev pub next : {X Y : Type 0} → Reading X → (X → Reading Y) → Reading Y
 next first second bytes = go_on (first bytes) second
 
--- so many bytes, as a number
+-- `count` bytes, as a number
 abbrev pub number : ℕ → Reading ℕ
 number count bytes = if nat_lt (length bytes) count then Err Short else Ok (little_number count (take count bytes), drop count bytes)
 
 abbrev pub value : Reading ℤ
 value = next (number 8) (λ low. always (twos_complement 8 low))
 
--- so many elements
+-- this number of elements
 abbrev pub several : {X : Type 0} → ℕ → Reading X → Reading (List X)
 several zero element = always []
 several (suc count) element = next element (λ x. next (several count element) (λ xs. always (x ∷ xs)))
 
--- as many as the number of these bytes says, which is answered at once where it passes the greatest
+-- a number in `width` bytes, and then this number of elements; a number above `greatest` is a fault before any element is read
 abbrev pub counted : {X : Type 0} → ℕ → ℕ → Reading X → Reading (List X)
 counted width greatest element = next (number width) (λ count. if nat_lt greatest count then fails Range else several count element)
 
@@ -78,7 +78,7 @@ chosen [] place = fails Kind
 chosen (first ∷ rest) zero = first
 chosen (first ∷ rest) (suc place) = chosen rest place
 
--- a byte that says which of several it is, counted from the first number
+-- a byte that says which of several readings follows; the first of them has the number `first`
 abbrev pub one_of : {X : Type 0} → ℕ → List (Reading X) → Reading X
 one_of first choices = next (number 1) (λ byte. if nat_lt byte first then fails Kind else chosen choices (byte - first))
 
@@ -111,7 +111,7 @@ event = one_of 1 (env_item ∷ env_tag ∷ done ∷ stopped ∷ [])
 
 -- ---- images
 
--- the number of a put, which lies below the greatest number of puts
+-- the number of a put, which is below `MOST_PUTS`
 abbrev pub put_number : Reading ℕ
 put_number = next (number 4) (λ n. if nat_lt n MOST_PUTS then always n else fails Range)
 
@@ -130,12 +130,12 @@ mark = one_of 0 (always false ∷ always true ∷ [])
 abbrev pub marked : Reading MarkedTag
 marked = next tag (λ t. next mark (λ m. always (t, m)))
 
--- whether an element may stand behind the one before it, if there is one
+-- whether an element may follow the one before it, if there is one
 abbrev pub comes_after : {X : Type 0} → (X → X → Ordering) → Option X → X → Bool
 comes_after cmp None x = true
 comes_after cmp (Some before) x = is_lt (cmp before x)
 
--- so many elements behind this one, each looked at once it was read whole
+-- this number of elements, each greater than the one before it; each is compared once it was read whole
 abbrev pub rising : {X : Type 0} → (X → X → Ordering) → Reading X → Option X → ℕ → Reading (List X)
 rising cmp element before zero = always []
 rising cmp element before (suc count) = next element (λ x.

@@ -1,4 +1,4 @@
--- The bytes of a value, numbers with the lowest byte first.
+-- The bytes of a value; numbers have their lowest byte first.
 use Rattle.std.specs.Prelude.{◌≡◌, ◌≤◌, ◌<◌, ◌^◌, ℕ, ⊤, ℤ, List, [], ◌∷◌, ◌++◌, length, Option, Some, None, FitsSigned, if◌then◌else◌}
 use Rattle.std.specs.declared.cmp.Ordering.{Ordering}
 use Rattle.std.specs.List.{flat_map, AllByRecursion}
@@ -63,7 +63,7 @@ producer_bytes (By instance number) = 1 ∷ inst_bytes instance ++ little_bytes 
 abbrev pub item_bytes : Item → List ℕ
 item_bytes item = addr_bytes item.0 ++ value_bytes item.1 ++ producer_bytes item.2
 
--- 1 where the environment put it, else 0
+-- the tag, and 1 if the environment put it, else 0
 abbrev pub marked_bytes : MarkedTag → List ℕ
 marked_bytes marked = tag_bytes marked.0 ++ (if marked.1 then 1 else 0) ∷ []
 
@@ -94,7 +94,7 @@ abbrev pub IsProducer : Producer → Type 0
 IsProducer Env = ⊤
 IsProducer (By instance number) = IsName instance.collection.0 instance.key × (number < MOST_PUTS)
 
--- a producer's put has a number that it may have
+-- the number of a producer's put is one that a put may have
 abbrev pub IsNumbered : Producer → Type 0
 IsNumbered Env = ⊤
 IsNumbered (By instance number) = number < MOST_PUTS
@@ -106,7 +106,7 @@ abbrev pub IsFault : Option (Inst × FaultKind) → Type 0
 IsFault None = ⊤
 IsFault (Some fault) = IsName fault.0.collection.0 fault.0.key
 
--- a list whose elements are such, in strictly rising order, and so few that four bytes count them
+-- a list whose elements are all such, in strictly rising order, and whose length fits in four bytes
 pub record IsList {X : Type 0} (Is : X → Type 0) (cmp : X → X → Ordering) (elements : List X) : Type 0 where
   pub few : length elements < 2 ^ 32
   pub each : AllByRecursion Is elements
@@ -118,25 +118,25 @@ pub record IsImage (image : Image) : Type 0 where
   pub tags : IsList (λ marked. IsName marked.0.collection.0 marked.0.key) marked_cmp image.tags
   pub done : IsList (λ instance. IsName instance.collection.0 instance.key) inst_cmp image.done
 
--- what a caller sees to, of an event: that an instance made no more puts than it may
+-- what a caller must ensure for an event: an instance made no more puts than it may
 abbrev pub HasFewPuts : Event → Type 0
 HasFewPuts (EnvItem address value) = ⊤
 HasFewPuts (EnvTag tag) = ⊤
 HasFewPuts (Done instance puts) = length puts ≤ MOST_PUTS
 HasFewPuts (Stopped instance kind) = ⊤
 
--- and of an item: that the number of its put is one of those
+-- and for an item: the number of its put is one that a put may have
 abbrev pub HasPutNumber : Item → Type 0
 HasPutNumber item = IsNumbered item.2
 
--- the bytes are the spelling of this event, or of this image
+-- the bytes are the spelling of this event; and of this image
 abbrev pub SpellsEvent : List ℕ → Event → Type 0
 SpellsEvent bytes event = IsEvent event × (bytes ≡ event_bytes event)
 
 abbrev pub SpellsImage : List ℕ → Image → Type 0
 SpellsImage bytes image = IsImage image × (bytes ≡ image_bytes image)
 
--- what a caller sees to, of an image: its lists are not too long and rise, and its put numbers are such
+-- what a caller must ensure for an image: its lists are not too long and in rising order, and its put numbers are allowed
 pub record IsInOrder (image : Image) : Type 0 where
   pub few_items : length image.items < 2 ^ 32
   pub few_tags : length image.tags < 2 ^ 32

@@ -12,7 +12,7 @@ use terms::{Event, MOST_PUTS, Puts};
 
 /// The event that these bytes spell, or their first fault from the left.
 ///
-/// It takes memory for the puts of an instance alone, and never more than the bytes that are there could spell.
+/// It allocates only for the puts of an instance, and for no more puts than the bytes that are there could spell.
 pub fn decode_event(alloc: Global, bytes: &[u8]) -> Result<Event, CodecError>
     ensures decoded { IsErrOf result NoMemory ⊎ (result ≡ decoded_event bytes.now) }
     ensures spelled { IfOk result (SpellsEvent bytes.now) }
@@ -27,7 +27,7 @@ pub fn decode_event(alloc: Global, bytes: &[u8]) -> Result<Event, CodecError>
 
 /// The image that these bytes spell, or their first fault from the left.
 ///
-/// It takes no more memory than the bytes that are there could spell.
+/// It allocates for no more elements than the bytes that are there could spell.
 pub fn decode_image(alloc: Global, bytes: &[u8]) -> Result<Image, CodecError>
     ensures decoded { IsErrOf result NoMemory ⊎ (result ≡ decoded_image bytes.now) }
     ensures spelled { IfOk result (SpellsImage bytes.now) }

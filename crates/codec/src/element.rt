@@ -12,28 +12,28 @@ use crate::CodecError;
 use crate::reader::Reader;
 use terms::{Addr, Inst, Producer, Put, Tag, addr_order, inst_order, tag_order};
 
-/// What a list in bytes is made of.
+/// An element of a list in bytes.
 pub(crate) trait Element: Copy {
-    /// What bytes are read as.
+    /// The element that bytes are read as, and the bytes after it.
     ghost reading: { List ℕ → Result (Self × List ℕ) CodecError };
 
-    /// The least number of bytes that spell one.
+    /// The least number of bytes that spell an element.
     const LEAST: usize;
 
     ghost LEAST: { ℕ };
 
-    /// Reads one.
+    /// Reads an element.
     fn read(reader: &mut Reader<'_>) -> Result<Self, CodecError>
         ensures { leaving reader.new.rest.now result ≡ reading reader.old.rest.now };
 
     ghost takes_room: { 0 < LEAST };
 }
 
-/// What stands in strictly rising order in a list.
+/// An element of a list that is in strictly rising order.
 pub(crate) trait Ranked: Element {
     ghost cmp: { Self → Self → Ordering };
 
-    /// Whether it may stand behind another.
+    /// Whether it may follow `before`.
     fn comes_after(&self, before: &Self) -> bool
         ensures { result ≡ is_lt (cmp before.now self.now) };
 }

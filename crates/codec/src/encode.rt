@@ -8,10 +8,10 @@ use crate::writing::{
 use std::alloc::AllocError;
 use terms::Event;
 
-// The most bytes of an event but for an instance's puts: its kind, a name of four components, and a value.
+// The most bytes of an event without an instance's puts: its kind, a name of four components, and a value.
 const GREATEST: usize = 44;
 
-/// Appends the spelling of an event. After an error some of it may stand there.
+/// Appends the spelling of an event. After an error a part of it may have been appended.
 pub fn encode_event(out: &mut Vec<u8>, event: &Event) -> Result<(), AllocError>
     requires { HasFewPuts event.now }
     ensures spelled { OnOk result (out.new.items ≡ out.old.items ++ event_bytes event.now) }
@@ -42,7 +42,7 @@ pub fn encode_event(out: &mut Vec<u8>, event: &Event) -> Result<(), AllocError>
     }
 }
 
-/// Appends the spelling of an image. After an error some of it may stand there.
+/// Appends the spelling of an image. After an error a part of it may have been appended.
 pub fn encode_image(out: &mut Vec<u8>, image: &Image) -> Result<(), AllocError>
     requires { IsInOrder image.now }
     ensures spelled { OnOk result (out.new.items ≡ out.old.items ++ image_bytes image.now) }

@@ -4,10 +4,10 @@ ghost use Rattle.codec.specs.declared.error.CodecError.TheVariants.{NoMemory};
 use std::alloc::{AllocError, AllocFailed};
 use thiserror::Error;
 
-/// Why bytes are no event or no image: the first fault from the left.
+/// Why bytes do not spell an event or an image: the first fault from the left.
 #[derive(Clone, Copy, Debug, PartialEq, Eq, Error)]
 pub enum CodecError {
-    /// They end too early.
+    /// The bytes end too early.
     #[error("short")]
     Short,
     /// A kind, a mark, a producer or a kind of fault is outside its list.
@@ -22,7 +22,7 @@ pub enum CodecError {
     /// Bytes follow a whole value.
     #[error("trailing")]
     Trailing,
-    /// A growth was refused.
+    /// Memory was refused.
     #[error("no memory")]
     NoMemory,
 }

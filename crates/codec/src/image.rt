@@ -19,7 +19,7 @@ impl Model for Items {
 }
 
 impl Items {
-    /// These items. It takes no memory.
+    /// These items. It does not allocate.
     pub fn new(items: Vec<(Addr, i64, Producer)>) -> Self
         ensures { result ≡ items.items }
     {
@@ -33,7 +33,7 @@ impl Items {
         &self.items
     }
 
-    /// The items as a vector. It takes no memory.
+    /// The items as a vector. It does not allocate.
     pub fn into_vec(self) -> Vec<(Addr, i64, Producer)>
         ensures { result.items ≡ self }
     {
@@ -41,7 +41,7 @@ impl Items {
     }
 }
 
-/// The tags of an image, each with whether the environment put it, in their order.
+/// The tags of an image, in their order, each with a mark whether the environment put it.
 #[derive(Drop)]
 pub struct Tags {
     tags: Vec<(Tag, bool)>,
@@ -57,7 +57,7 @@ impl Model for Tags {
 }
 
 impl Tags {
-    /// These tags. It takes no memory.
+    /// These tags. It does not allocate.
     pub fn new(tags: Vec<(Tag, bool)>) -> Self
         ensures { result ≡ tags.items }
     {
@@ -71,7 +71,7 @@ impl Tags {
         &self.tags
     }
 
-    /// The tags as a vector. It takes no memory.
+    /// The tags as a vector. It does not allocate.
     pub fn into_vec(self) -> Vec<(Tag, bool)>
         ensures { result.items ≡ self }
     {
@@ -95,7 +95,7 @@ impl Model for Instances {
 }
 
 impl Instances {
-    /// These instances. It takes no memory.
+    /// These instances. It does not allocate.
     pub fn new(instances: Vec<Inst>) -> Self
         ensures { result ≡ instances.items }
     {
@@ -109,7 +109,7 @@ impl Instances {
         &self.instances
     }
 
-    /// The instances as a vector. It takes no memory.
+    /// The instances as a vector. It does not allocate.
     pub fn into_vec(self) -> Vec<Inst>
         ensures { result.items ≡ self }
     {

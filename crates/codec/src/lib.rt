@@ -1,8 +1,8 @@
 //! The bytes of events and images.
 //!
-//! Its model is `decoded`: what bytes are read as from the left, an event or an image or the first fault. `encode_event` and
-//! `encode_image` append the one spelling of a value, and `decode_event` and `decode_image` give a value exactly on its
-//! spelling. The layers above stand on these four.
+//! The model is `decoded_event` and `decoded_image`: what bytes are read as from the left, a value or the first fault.
+//! `encode_event` and `encode_image` append the one spelling of a value, and `decode_event` and `decode_image` return a
+//! value exactly when the bytes are its spelling. The crates above rely on these four functions.
 #![tactic(auto)]
 
 mod decode;

@@ -7,7 +7,7 @@ use crate::element::{Element, Ranked};
 use crate::reader::Reader;
 use std::alloc::{AllocError, Global};
 
-// Room for so many elements, but for no more than the bytes that are left could spell.
+// Room for `count` elements, but for no more than the bytes that are left could spell.
 fn room<T: Element>(alloc: Global, reader: &Reader<'_>, count: u32) -> Result<Vec<T>, AllocError>
     ensures empty { IfOk result (λ elements. elements.items ≡ []) }
     ensures spelled { IfOk result (λ elements. T.LEAST * vec_capacity elements ≤ length reader.now.rest.now) }
@@ -16,7 +16,7 @@ fn room<T: Element>(alloc: Global, reader: &Reader<'_>, count: u32) -> Result<Ve
     Vec::with_capacity(alloc, most.min(count as usize))
 }
 
-/// So many elements, one behind another.
+/// Reads `count` elements, one after another.
 pub(crate) fn several<T: Element>(
     alloc: Global,
     reader: &mut Reader<'_>,
@@ -31,7 +31,7 @@ pub(crate) fn several<T: Element>(
     Ok(elements)
 }
 
-/// A list in strictly rising order: how many elements it has, and these.
+/// Reads a list in strictly rising order: the number of its elements, and the elements.
 pub(crate) fn rising<T: Ranked>(
     alloc: Global,
     reader: &mut Reader<'_>,
@@ -52,7 +52,7 @@ pub(crate) fn rising<T: Ranked>(
     Ok(elements)
 }
 
-// Whether an element may stand behind the one before it, if there is one.
+// Whether an element may follow the one before it, if there is one.
 fn may_follow<T: Ranked>(before: Option<T>, element: T) -> bool
     ensures { result ≡ comes_after T.cmp before element }
 {

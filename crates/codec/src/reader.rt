@@ -12,10 +12,10 @@ use terms::{
 
 /// Bytes that are read from the left, with one method for each field.
 ///
-/// A method answers what stands at the front, and goes on behind it. After an error nothing more is to be read.
+/// A method returns the field at the front, and moves past it. After an error, read nothing more.
 #[derive(Drop)]
 pub(crate) struct Reader<'a> {
-    /// What is not read yet.
+    /// The bytes that are not read yet.
     pub(crate) rest: &'a [u8],
 }
 
@@ -152,7 +152,7 @@ impl Reader<'_> {
         }
     }
 
-    /// That nothing is left.
+    /// Checks that nothing is left.
     pub(crate) fn end(&self) -> Result<(), CodecError>
         ensures { result ≡ all_used tt self.now.rest.now }
     {

@@ -6,20 +6,20 @@ use crate::writing::{write_address, write_instance, write_producer, write_tag, w
 use std::alloc::AllocError;
 use terms::{Addr, Inst, Producer, Put, Tag};
 
-/// What lists are spelled of.
+/// An element of a list that can be spelled.
 pub(crate) trait Spelled {
     ghost use Rattle.std.specs.Prelude.{ℕ, List};
 
     /// Its bytes.
     ghost spelling: { Self → List ℕ };
 
-    /// What a caller sees to.
+    /// What the caller must ensure.
     ghost May: { Self → Type 0 };
 
-    /// What has a spelling.
+    /// Which elements have a spelling.
     ghost Is: { Self → Type 0 };
 
-    /// Appends its bytes. After an error some of them may stand there.
+    /// Appends its bytes. After an error some of them may have been appended.
     fn write(&self, out: &mut Vec<u8>) -> Result<(), AllocError>
         requires { May self.now }
         ensures spelled { OnOk result (out.new.items ≡ out.old.items ++ spelling self.now) }

@@ -1,4 +1,4 @@
-//! A writer for each field: it appends the field's bytes. After an error some of them may stand there.
+//! A writer for each field: it appends the field's bytes. After an error some of them may have been appended.
 
 ghost use Rattle.std.specs.Prelude.{◌≡◌, ◌++◌, ◌<◌, ◌^◌, length, take, OnOk};
 ghost use Rattle.std.specs.List.{flat_map, AllByRecursion};
@@ -114,7 +114,7 @@ pub(crate) fn write_list<T: Spelled>(out: &mut Vec<u8>, elements: &[T]) -> Resul
     write_each(out, elements)
 }
 
-// The elements of a list, one behind another.
+// The elements of a list, one after another.
 fn write_each<T: Spelled>(out: &mut Vec<u8>, elements: &[T]) -> Result<(), AllocError>
     requires { AllByRecursion T.May elements.now }
     ensures spelled { OnOk result (out.new.items ≡ out.old.items ++ flat_map T.spelling elements.now) }
