@@ -2,7 +2,7 @@
 use crate::bytes::bytes_of;
 use crate::journals;
 use cases::Names;
-use disk::{Disk, DiskError, Fill, MemDisk, Side};
+use disk::{Choice, Disk, DiskError, Fill, MemDisk, Side};
 use std::alloc::{AllocError, Global};
 
 /// One call.
@@ -14,8 +14,11 @@ pub(crate) fn take(
     rest: &str,
     told: &mut String,
 ) -> Result<(), AllocError> {
-    if word == "crash" {
-        return crash(alloc, names, disk, rest, told);
+    match word {
+        "crash" => return crash(alloc, names, disk, rest, told),
+        "leave" => return leave(alloc, disk, rest, told),
+        "calls" => return write!(told, "{} calls", disk.calls()),
+        _ => {}
     }
     let (name, more) = rest.split_once(' ').unwrap_or((rest, ""));
     let side = match name {
@@ -196,7 +199,29 @@ fn crash(
     let (Some(a), Some(b)) = (bytes_of(alloc, names, a)?, bytes_of(alloc, names, b)?) else {
         return no_such("crash", told);
     };
-    match disk.crash(Fill { a, b }) {
+    crash_to(disk, Fill { a, b }, told)
+}
+
+// A crash that leaves each touched byte by a choice.
+fn leave(
+    alloc: Global,
+    disk: &mut MemDisk,
+    text: &str,
+    told: &mut String,
+) -> Result<(), AllocError> {
+    let choice = match (text, text.parse::<u8>()) {
+        ("synced", _) => Choice::Synced,
+        ("written", _) => Choice::Written,
+        (_, Ok(byte)) => Choice::Byte(byte),
+        (_, Err(_)) => return no_such("leave", told),
+    };
+    let fill = disk.fill(alloc, choice)?;
+    crash_to(disk, fill, told)
+}
+
+// Crashes, and writes whether these bytes may be left.
+fn crash_to(disk: &mut MemDisk, fill: Fill, told: &mut String) -> Result<(), AllocError> {
+    match disk.crash(fill) {
         Ok(()) => told.push_str("left"),
         Err(_) => told.push_str("never left"),
     }

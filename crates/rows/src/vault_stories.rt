@@ -1,7 +1,8 @@
 //! Stories of a store on a memory disk: `store NUMBERS`, and below it a line for each call (`stories`).
 //!
 //! Calls on the two files, which first close an open store: `write SIDE PLACE BYTES`, `cut SIDE LENGTH`, `sync SIDE`,
-//! `length SIDE`, `read SIDE PLACE LENGTH`, `has SIDE BYTES`, `crash BYTES | BYTES`, and those of `journals`.
+//! `length SIDE`, `read SIDE PLACE LENGTH`, `has SIDE BYTES`, `crash BYTES | BYTES`, `leave CHOICE`, a crash that leaves
+//! each touched byte as it was `synced`, as it was `written`, or as this number, `calls`, and those of `journals`.
 //! `fail NUMBER`: the call of the disk with this number, counted from now, fails. Calls of a store: `create NAME`,
 //! `open`, `facts`, `append BYTES`, and `turn`, which writes the image that the last `open` gave.
 use crate::stories::World;
