@@ -1,5 +1,5 @@
 -- What an image says: its facts, and which of them the environment put.
-use Rattle.std.specs.Prelude.{◌≡◌, ℤ, true, false, List, [], ◌∷◌, ◌++◌, map, Option, Some, None}
+use Rattle.std.specs.Prelude.{◌≡◌, ◌<◌, ◌^◌, ℤ, true, false, List, [], ◌∷◌, ◌++◌, length, map, Option, Some, None}
 use Rattle.std.specs.List.{flat_map, AllByRecursion}
 use Rattle.terms.specs.declared.name.Addr.{Addr}
 use Rattle.terms.specs.declared.name.Inst.{Inst}
@@ -10,7 +10,7 @@ use Rattle.terms.specs.Facts.{Fact, tag, item, done, bad}
 use Rattle.terms.specs.Name.{inst_cmp}
 use Rattle.terms.specs.Sets.{Facts, among}
 use Rattle.codec.specs.declared.image.Image.{Image}
-use Rattle.codec.specs.Entries.{Item, MarkedTag, item_cmp, marked_cmp, Rises}
+use Rattle.codec.specs.Entries.{MarkedTag, item_cmp, marked_cmp, Rises}
 use Rattle.codec.specs.Spelling.{HasPutNumber}
 
 abbrev pub fault_facts : Option (Inst × FaultKind) → List Fact
@@ -47,6 +47,13 @@ pub record IsListed (image : Image) : Type 0 where
   pub tags_rise : Rises marked_cmp image.tags
   pub done_rise : Rises inst_cmp image.done
   pub numbered : AllByRecursion HasPutNumber image.items
+
+-- what a caller must ensure to spell an image: it is so listed, and the length of each list fits in four bytes
+pub record IsInOrder (image : Image) : Type 0 where
+  pub listed : IsListed image
+  pub few_items : length image.items < 2 ^ 32
+  pub few_tags : length image.tags < 2 ^ 32
+  pub few_done : length image.done < 2 ^ 32
 
 -- the image has exactly the facts X, of which the environment put exactly E
 pub record Lists (image : Image) (E X : Facts) : Type 0 where

@@ -15,6 +15,10 @@ pub record ReadsBack {V : Type 0} (Is : V → Type 0) (spelling : V → List ℕ
 abbrev pub SpellsOne : {V : Type 0} → (List ℕ → V → Type 0) → Type 0
 SpellsOne {V} Spells = (bytes : List ℕ) (one two : V) → Spells bytes one → Spells bytes two → one ≡ two
 
+-- the bytes spell no value
+abbrev pub SpellsNone : {V : Type 0} → (List ℕ → V → Type 0) → List ℕ → Type 0
+SpellsNone {V} Spells bytes = (value : V) → Spells bytes value → ⊥
+
 -- no spelling is a proper prefix of another
 abbrev pub BeginsNoOther : {V : Type 0} → (V → Type 0) → (V → List ℕ) → Type 0
 BeginsNoOther {V} Is spelling = (one two : V) (rest : List ℕ) → Is one → Is two → spelling one ++ rest ≡ spelling two → rest ≡ []

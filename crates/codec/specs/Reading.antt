@@ -1,9 +1,8 @@
--- What bytes are read as, from the left: a value and the bytes after it, or the first fault.
-use Rattle.std.specs.Prelude.{ℕ, zero, suc, ◌-◌, ℤ, Bool, true, false, List, [], ◌∷◌, length, take, drop, nat_lt, Option, Some, None, Result, Ok, Err, if◌then◌else◌}
+-- What bytes are read as, from the left: a value and the bytes after it, or the first fault. A key may have `most` components at most.
+use Rattle.std.specs.Prelude.{ℕ, zero, suc, ◌-◌, ℤ, Bool, true, false, List, [], ◌∷◌, ◌++◌, map, length, take, drop, nat_lt, Option, Some, None, Result, Ok, Err, if◌then◌else◌}
 use Rattle.std.specs.declared.cmp.Ordering.{Ordering}
 use Rattle.std.specs.Ordering.{is_lt}
 use Rattle.byteorder.specs.Endian.{little_number, twos_complement}
-use Rattle.terms.specs.declared.key.TheConstants.{MAX_COMPONENTS}
 use Rattle.terms.specs.declared.name.Addr.{Addr}
 use Rattle.terms.specs.declared.name.Tag.{Tag}
 use Rattle.terms.specs.declared.name.Inst.{Inst}
@@ -16,7 +15,9 @@ use Rattle.terms.specs.declared.put.Put.{Put}
 use Rattle.terms.specs.declared.put.Put.TheVariants as put
 use Rattle.terms.specs.declared.event.Event.{Event}
 use Rattle.terms.specs.declared.event.Event.TheVariants.{EnvItem, EnvTag, Done, Stopped}
+use Rattle.terms.specs.Commits.{Commit}
 use Rattle.terms.specs.Name.{inst_cmp}
+use Rattle.codec.specs.declared.payload.TheConstants.{MOST_EVENTS}
 use Rattle.codec.specs.declared.error.CodecError.{CodecError}
 use Rattle.codec.specs.declared.error.CodecError.TheVariants.{Short, Kind, Range, Order, Trailing}
 use Rattle.codec.specs.declared.image.Image.{Image}
@@ -57,20 +58,20 @@ several (suc count) element = next element (λ x. next (several count element) (
 abbrev pub counted : {X : Type 0} → ℕ → ℕ → Reading X → Reading (List X)
 counted width greatest element = next (number width) (λ count. if nat_lt greatest count then fails Range else several count element)
 
-abbrev pub key : Reading (List ℤ)
-key = counted 1 MAX_COMPONENTS value
+abbrev pub key : ℕ → Reading (List ℤ)
+key most = counted 1 most value
 
-abbrev pub name : {X : Type 0} → (ℕ → List ℤ → X) → Reading X
-name make = next (number 2) (λ collection. next key (λ components. always (make collection components)))
+abbrev pub name : {X : Type 0} → ℕ → (ℕ → List ℤ → X) → Reading X
+name most make = next (number 2) (λ collection. next (key most) (λ components. always (make collection components)))
 
-abbrev pub address : Reading Addr
-address = name (λ collection components. record { collection = record { 0 = collection }; key = components })
+abbrev pub address : ℕ → Reading Addr
+address most = name most (λ collection components. record { collection = record { 0 = collection }; key = components })
 
-abbrev pub tag : Reading Tag
-tag = name (λ collection components. record { collection = record { 0 = collection }; key = components })
+abbrev pub tag : ℕ → Reading Tag
+tag most = name most (λ collection components. record { collection = record { 0 = collection }; key = components })
 
-abbrev pub instance : Reading Inst
-instance = name (λ collection components. record { collection = record { 0 = collection }; key = components })
+abbrev pub instance : ℕ → Reading Inst
+instance most = name most (λ collection components. record { collection = record { 0 = collection }; key = components })
 
 -- the reading at this place of a list
 abbrev pub chosen : {X : Type 0} → List (Reading X) → ℕ → Reading X
@@ -78,36 +79,61 @@ chosen [] place = fails Kind
 chosen (first ∷ rest) zero = first
 chosen (first ∷ rest) (suc place) = chosen rest place
 
--- a byte that says which of several readings follows; the first of them has the number `first`
+-- the reading that has this number; the first of them has the number `first`
+abbrev pub numbered : {X : Type 0} → ℕ → List (Reading X) → ℕ → Reading X
+numbered first choices byte = if nat_lt byte first then fails Kind else chosen choices (byte - first)
+
+-- a byte that says which of several readings follows
 abbrev pub one_of : {X : Type 0} → ℕ → List (Reading X) → Reading X
-one_of first choices = next (number 1) (λ byte. if nat_lt byte first then fails Kind else chosen choices (byte - first))
+one_of first choices = next (number 1) (numbered first choices)
 
-abbrev pub put_item : Reading Put
-put_item = next address (λ a. next value (λ v. always (put.Item a v)))
+abbrev pub put_item : ℕ → Reading Put
+put_item most = next (address most) (λ a. next value (λ v. always (put.Item a v)))
 
-abbrev pub put_tag : Reading Put
-put_tag = next tag (λ t. always (put.Tag t))
+abbrev pub put_tag : ℕ → Reading Put
+put_tag most = next (tag most) (λ t. always (put.Tag t))
 
-abbrev pub one_put : Reading Put
-one_put = one_of 1 (put_item ∷ put_tag ∷ [])
+abbrev pub one_put : ℕ → Reading Put
+one_put most = one_of 1 (put_item most ∷ put_tag most ∷ [])
 
 abbrev pub fault_kind : Reading FaultKind
 fault_kind = one_of 1 (always Overflow ∷ always DivisionByZero ∷ always Budget ∷ always DoublePut ∷ always TooManyPuts ∷ [])
 
-abbrev pub env_item : Reading Event
-env_item = next address (λ a. next value (λ v. always (EnvItem a v)))
+abbrev pub env_item : ℕ → Reading Event
+env_item most = next (address most) (λ a. next value (λ v. always (EnvItem a v)))
 
-abbrev pub env_tag : Reading Event
-env_tag = next tag (λ t. always (EnvTag t))
+abbrev pub env_tag : ℕ → Reading Event
+env_tag most = next (tag most) (λ t. always (EnvTag t))
 
-abbrev pub done : Reading Event
-done = next instance (λ i. next (counted 4 MOST_PUTS one_put) (λ puts. always (Done i puts)))
+abbrev pub done : ℕ → Reading Event
+done most = next (instance most) (λ i. next (counted 4 MOST_PUTS (one_put most)) (λ puts. always (Done i puts)))
 
-abbrev pub stopped : Reading Event
-stopped = next instance (λ i. next fault_kind (λ kind. always (Stopped i kind)))
+abbrev pub stopped : ℕ → Reading Event
+stopped most = next (instance most) (λ i. next fault_kind (λ kind. always (Stopped i kind)))
 
-abbrev pub event : Reading Event
-event = one_of 1 (env_item ∷ env_tag ∷ done ∷ stopped ∷ [])
+-- what the byte of an event's kind is followed by
+abbrev pub kinds : ℕ → List (Reading Event)
+kinds most = env_item most ∷ env_tag most ∷ done most ∷ stopped most ∷ []
+
+abbrev pub event : ℕ → Reading Event
+event most = one_of 1 (kinds most)
+
+-- ---- payloads
+
+-- a commit of the one event that is read
+abbrev pub alone : Reading Event → Reading Commit
+alone reading = next reading (λ event. always (event ∷ []))
+
+-- a number of events in two bytes, at least two, and these
+abbrev pub group : ℕ → Reading Commit
+group most = next (number 2) (λ count. if nat_lt count 2 then fails Range else if nat_lt MOST_EVENTS count then fails Range else several count (event most))
+
+-- what the first byte of a payload is followed by: the kinds of events, and a group
+abbrev pub payload_kinds : ℕ → List (Reading Commit)
+payload_kinds most = map alone (kinds most) ++ group most ∷ []
+
+abbrev pub payload : ℕ → Reading Commit
+payload most = one_of 1 (payload_kinds most)
 
 -- ---- images
 
@@ -115,20 +141,20 @@ event = one_of 1 (env_item ∷ env_tag ∷ done ∷ stopped ∷ [])
 abbrev pub put_number : Reading ℕ
 put_number = next (number 4) (λ n. if nat_lt n MOST_PUTS then always n else fails Range)
 
-abbrev pub by_instance : Reading Producer
-by_instance = next instance (λ i. next put_number (λ n. always (By i n)))
+abbrev pub by_instance : ℕ → Reading Producer
+by_instance most = next (instance most) (λ i. next put_number (λ n. always (By i n)))
 
-abbrev pub producer : Reading Producer
-producer = one_of 0 (always Env ∷ by_instance ∷ [])
+abbrev pub producer : ℕ → Reading Producer
+producer most = one_of 0 (always Env ∷ by_instance most ∷ [])
 
-abbrev pub item : Reading Item
-item = next address (λ a. next value (λ v. next producer (λ by. always (a, v, by))))
+abbrev pub item : ℕ → Reading Item
+item most = next (address most) (λ a. next value (λ v. next (producer most) (λ by. always (a, v, by))))
 
 abbrev pub mark : Reading Bool
 mark = one_of 0 (always false ∷ always true ∷ [])
 
-abbrev pub marked : Reading MarkedTag
-marked = next tag (λ t. next mark (λ m. always (t, m)))
+abbrev pub marked : ℕ → Reading MarkedTag
+marked most = next (tag most) (λ t. next mark (λ m. always (t, m)))
 
 -- whether an element may follow the one before it, if there is one
 abbrev pub comes_after : {X : Type 0} → (X → X → Ordering) → Option X → X → Bool
@@ -144,14 +170,14 @@ rising cmp element before (suc count) = next element (λ x.
 abbrev pub list : {X : Type 0} → (X → X → Ordering) → Reading X → Reading (List X)
 list cmp element = next (number 4) (rising cmp element None)
 
-abbrev pub some_fault : Reading (Option (Inst × FaultKind))
-some_fault = next instance (λ i. next fault_kind (λ kind. always (Some (i, kind))))
+abbrev pub some_fault : ℕ → Reading (Option (Inst × FaultKind))
+some_fault most = next (instance most) (λ i. next fault_kind (λ kind. always (Some (i, kind))))
 
-abbrev pub image_fault : Reading (Option (Inst × FaultKind))
-image_fault = one_of 0 (always None ∷ some_fault ∷ [])
+abbrev pub image_fault : ℕ → Reading (Option (Inst × FaultKind))
+image_fault most = one_of 0 (always None ∷ some_fault most ∷ [])
 
-abbrev pub image : Reading Image
-image = next image_fault (λ f. next (list item_cmp item) (λ items. next (list marked_cmp marked) (λ tags. next (list inst_cmp instance) (λ done.
+abbrev pub image : ℕ → Reading Image
+image most = next (image_fault most) (λ f. next (list item_cmp (item most)) (λ items. next (list marked_cmp (marked most)) (λ tags. next (list inst_cmp (instance most)) (λ done.
     always (record { fault = f; items = items; tags = tags; done = done })))))
 
 -- ---- the whole of the bytes
@@ -164,8 +190,11 @@ abbrev pub whole : {X : Type 0} → Result (X × List ℕ) CodecError → Result
 whole (Ok read) = all_used read.0 read.1
 whole (Err error) = Err error
 
-abbrev pub decoded_event : List ℕ → Result Event CodecError
-decoded_event bytes = whole (event bytes)
+abbrev pub decoded_event : ℕ → List ℕ → Result Event CodecError
+decoded_event most bytes = whole (event most bytes)
 
-abbrev pub decoded_image : List ℕ → Result Image CodecError
-decoded_image bytes = whole (image bytes)
+abbrev pub decoded_payload : ℕ → List ℕ → Result Commit CodecError
+decoded_payload most bytes = whole (payload most bytes)
+
+abbrev pub decoded_image : ℕ → List ℕ → Result Image CodecError
+decoded_image most bytes = whole (image most bytes)

@@ -1,10 +1,9 @@
--- The bytes of a value; numbers have their lowest byte first.
+-- The bytes of a value; numbers have their lowest byte first. Which values have a spelling depends on how many components a key may have: `most`.
 use Rattle.std.specs.Prelude.{◌≡◌, ◌≤◌, ◌<◌, ◌^◌, ℕ, ⊤, ℤ, List, [], ◌∷◌, ◌++◌, length, Option, Some, None, FitsSigned, if◌then◌else◌}
 use Rattle.std.specs.declared.cmp.Ordering.{Ordering}
 use Rattle.std.specs.List.{flat_map, AllByRecursion}
 use Rattle.std.specs.Int.{w64, cast_unsigned}
 use Rattle.byteorder.specs.Endian.{little_bytes}
-use Rattle.terms.specs.declared.key.TheConstants.{MAX_COMPONENTS}
 use Rattle.terms.specs.declared.name.Addr.{Addr}
 use Rattle.terms.specs.declared.name.Tag.{Tag}
 use Rattle.terms.specs.declared.name.Inst.{Inst}
@@ -77,34 +76,40 @@ image_bytes image = fault_bytes image.fault ++ list_bytes item_bytes image.items
 
 -- ---- which values have a spelling
 
-abbrev pub IsName : ℕ → List ℤ → Type 0
-IsName collection key = (collection < 2 ^ 16) × (length key ≤ MAX_COMPONENTS) × AllByRecursion (FitsSigned w64) key
+abbrev pub IsName : ℕ → ℕ → List ℤ → Type 0
+IsName most collection key = (collection < 2 ^ 16) × (length key ≤ most) × AllByRecursion (FitsSigned w64) key
 
-abbrev pub IsPut : Put → Type 0
-IsPut (put.Item address value) = IsName address.collection.0 address.key × FitsSigned w64 value
-IsPut (put.Tag tag) = IsName tag.collection.0 tag.key
+abbrev pub IsInstance : ℕ → Inst → Type 0
+IsInstance most instance = IsName most instance.collection.0 instance.key
 
-abbrev pub IsEvent : Event → Type 0
-IsEvent (EnvItem address value) = IsName address.collection.0 address.key × FitsSigned w64 value
-IsEvent (EnvTag tag) = IsName tag.collection.0 tag.key
-IsEvent (Done instance puts) = IsName instance.collection.0 instance.key × (length puts ≤ MOST_PUTS) × AllByRecursion IsPut puts
-IsEvent (Stopped instance kind) = IsName instance.collection.0 instance.key
+abbrev pub IsPut : ℕ → Put → Type 0
+IsPut most (put.Item address value) = IsName most address.collection.0 address.key × FitsSigned w64 value
+IsPut most (put.Tag tag) = IsName most tag.collection.0 tag.key
 
-abbrev pub IsProducer : Producer → Type 0
-IsProducer Env = ⊤
-IsProducer (By instance number) = IsName instance.collection.0 instance.key × (number < MOST_PUTS)
+abbrev pub IsEvent : ℕ → Event → Type 0
+IsEvent most (EnvItem address value) = IsName most address.collection.0 address.key × FitsSigned w64 value
+IsEvent most (EnvTag tag) = IsName most tag.collection.0 tag.key
+IsEvent most (Done instance puts) = IsInstance most instance × (length puts ≤ MOST_PUTS) × AllByRecursion (IsPut most) puts
+IsEvent most (Stopped instance kind) = IsInstance most instance
+
+abbrev pub IsProducer : ℕ → Producer → Type 0
+IsProducer most Env = ⊤
+IsProducer most (By instance number) = IsInstance most instance × (number < MOST_PUTS)
 
 -- the number of a producer's put is one that a put may have
 abbrev pub IsNumbered : Producer → Type 0
 IsNumbered Env = ⊤
 IsNumbered (By instance number) = number < MOST_PUTS
 
-abbrev pub IsItem : Item → Type 0
-IsItem item = IsName item.0.collection.0 item.0.key × FitsSigned w64 item.1 × IsProducer item.2
+abbrev pub IsItem : ℕ → Item → Type 0
+IsItem most item = IsName most item.0.collection.0 item.0.key × FitsSigned w64 item.1 × IsProducer most item.2
 
-abbrev pub IsFault : Option (Inst × FaultKind) → Type 0
-IsFault None = ⊤
-IsFault (Some fault) = IsName fault.0.collection.0 fault.0.key
+abbrev pub IsMarked : ℕ → MarkedTag → Type 0
+IsMarked most marked = IsName most marked.0.collection.0 marked.0.key
+
+abbrev pub IsFault : ℕ → Option (Inst × FaultKind) → Type 0
+IsFault most None = ⊤
+IsFault most (Some fault) = IsInstance most fault.0
 
 -- a list whose elements are all such, in strictly rising order, and whose length fits in four bytes
 pub record IsList {X : Type 0} (Is : X → Type 0) (cmp : X → X → Ordering) (elements : List X) : Type 0 where
@@ -112,11 +117,11 @@ pub record IsList {X : Type 0} (Is : X → Type 0) (cmp : X → X → Ordering) 
   pub each : AllByRecursion Is elements
   pub rises : Rises cmp elements
 
-pub record IsImage (image : Image) : Type 0 where
-  pub fault : IsFault image.fault
-  pub items : IsList IsItem item_cmp image.items
-  pub tags : IsList (λ marked. IsName marked.0.collection.0 marked.0.key) marked_cmp image.tags
-  pub done : IsList (λ instance. IsName instance.collection.0 instance.key) inst_cmp image.done
+pub record IsImage (most : ℕ) (image : Image) : Type 0 where
+  pub fault : IsFault most image.fault
+  pub items : IsList (IsItem most) item_cmp image.items
+  pub tags : IsList (IsMarked most) marked_cmp image.tags
+  pub done : IsList (IsInstance most) inst_cmp image.done
 
 -- what a caller must ensure for an event: an instance made no more puts than it may
 abbrev pub HasFewPuts : Event → Type 0
@@ -130,18 +135,8 @@ abbrev pub HasPutNumber : Item → Type 0
 HasPutNumber item = IsNumbered item.2
 
 -- the bytes are the spelling of this event; and of this image
-abbrev pub SpellsEvent : List ℕ → Event → Type 0
-SpellsEvent bytes event = IsEvent event × (bytes ≡ event_bytes event)
+abbrev pub SpellsEvent : ℕ → List ℕ → Event → Type 0
+SpellsEvent most bytes event = IsEvent most event × (bytes ≡ event_bytes event)
 
-abbrev pub SpellsImage : List ℕ → Image → Type 0
-SpellsImage bytes image = IsImage image × (bytes ≡ image_bytes image)
-
--- what a caller must ensure for an image: its lists are not too long and in rising order, and its put numbers are allowed
-pub record IsInOrder (image : Image) : Type 0 where
-  pub few_items : length image.items < 2 ^ 32
-  pub few_tags : length image.tags < 2 ^ 32
-  pub few_done : length image.done < 2 ^ 32
-  pub items_rise : Rises item_cmp image.items
-  pub tags_rise : Rises marked_cmp image.tags
-  pub done_rise : Rises inst_cmp image.done
-  pub numbered : AllByRecursion HasPutNumber image.items
+abbrev pub SpellsImage : ℕ → List ℕ → Image → Type 0
+SpellsImage most bytes image = IsImage most image × (bytes ≡ image_bytes image)

@@ -1,5 +1,6 @@
-ghost use Rattle.std.specs.Prelude.{◌≡◌, ◌<◌, ℕ, List, Result};
+ghost use Rattle.std.specs.Prelude.{◌≡◌, ◌<◌, ◌≤◌, ℕ, List, Result};
 ghost use Rattle.std.proofs.Common.{arith};
+ghost use Rattle.terms.specs.declared.key.TheConstants.{MAX_COMPONENTS};
 ghost use Rattle.codec.specs.Answers.{leaving};
 ghost use Rattle.codec.specs.Reading.{one_put, item, marked, instance};
 ghost use Rattle.codec.specs.Entries.{item_cmp, marked_cmp};
@@ -14,17 +15,18 @@ use terms::{Addr, Inst, Producer, Put, Tag, addr_order, inst_order, tag_order};
 
 /// An element of a list in bytes.
 pub(crate) trait Element: Copy {
-    /// The element that bytes are read as, and the bytes after it.
-    ghost reading: { List ℕ → Result (Self × List ℕ) CodecError };
+    /// The element that bytes are read as, if a key may have this many components, and the bytes after it.
+    ghost reading: { ℕ → List ℕ → Result (Self × List ℕ) CodecError };
 
     /// The least number of bytes that spell an element.
     const LEAST: usize;
 
     ghost LEAST: { ℕ };
 
-    /// Reads an element.
-    fn read(reader: &mut Reader<'_>) -> Result<Self, CodecError>
-        ensures { leaving reader.new.rest.now result ≡ reading reader.old.rest.now };
+    /// Reads an element whose keys have `most` components at most.
+    fn read(reader: &mut Reader<'_>, most: usize) -> Result<Self, CodecError>
+        requires { most ≤ MAX_COMPONENTS }
+        ensures { leaving reader.new.rest.now result ≡ reading most reader.old.rest.now };
 
     ghost takes_room: { 0 < LEAST };
 }
@@ -48,14 +50,14 @@ impl Element for Put {
 
     ghost takes_room = { Prim.omega arith };
 
-    fn read(reader: &mut Reader<'_>) -> Result<Put, CodecError> {
+    fn read(reader: &mut Reader<'_>, most: usize) -> Result<Put, CodecError> {
         match reader.byte()? {
             1 => {
-                let address = reader.address()?;
+                let address = reader.address(most)?;
                 let value = reader.value()?;
                 Ok(Put::Item(address, value))
             }
-            2 => Ok(Put::Tag(reader.tag()?)),
+            2 => Ok(Put::Tag(reader.tag(most)?)),
             _ => Err(CodecError::Kind),
         }
     }
@@ -71,10 +73,10 @@ impl Element for (Addr, i64, Producer) {
 
     ghost takes_room = { Prim.omega arith };
 
-    fn read(reader: &mut Reader<'_>) -> Result<(Addr, i64, Producer), CodecError> {
-        let address = reader.address()?;
+    fn read(reader: &mut Reader<'_>, most: usize) -> Result<(Addr, i64, Producer), CodecError> {
+        let address = reader.address(most)?;
         let value = reader.value()?;
-        let producer = reader.producer()?;
+        let producer = reader.producer(most)?;
         Ok((address, value, producer))
     }
 }
@@ -97,8 +99,8 @@ impl Element for (Tag, bool) {
 
     ghost takes_room = { Prim.omega arith };
 
-    fn read(reader: &mut Reader<'_>) -> Result<(Tag, bool), CodecError> {
-        let tag = reader.tag()?;
+    fn read(reader: &mut Reader<'_>, most: usize) -> Result<(Tag, bool), CodecError> {
+        let tag = reader.tag(most)?;
         let mark = reader.mark()?;
         Ok((tag, mark))
     }
@@ -122,8 +124,8 @@ impl Element for Inst {
 
     ghost takes_room = { Prim.omega arith };
 
-    fn read(reader: &mut Reader<'_>) -> Result<Inst, CodecError> {
-        reader.instance()
+    fn read(reader: &mut Reader<'_>, most: usize) -> Result<Inst, CodecError> {
+        reader.instance(most)
     }
 }
 

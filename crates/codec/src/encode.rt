@@ -1,21 +1,28 @@
-ghost use Rattle.std.specs.Prelude.{◌≡◌, ◌++◌, length, take, OnOk};
-ghost use Rattle.codec.specs.Spelling.{HasFewPuts, IsEvent, event_bytes, IsInOrder, IsImage, image_bytes};
+ghost use Rattle.std.specs.Prelude.{◌≡◌, ◌≤◌, ◌++◌, length, take, OnOk};
+ghost use Rattle.std.specs.List.{AllByRecursion};
+ghost use Rattle.terms.specs.declared.key.TheConstants.{MAX_COMPONENTS};
+ghost use Rattle.codec.specs.declared.payload.TheConstants.{MOST_EVENTS};
+ghost use Rattle.codec.specs.Commits.{IsCommit, commit_bytes};
+ghost use Rattle.codec.specs.Image.{IsInOrder};
+ghost use Rattle.codec.specs.Spelling.{HasFewPuts, IsEvent, event_bytes, IsImage, image_bytes};
 
 use crate::Image;
+use crate::payload::GROUP;
 use crate::writing::{
-    write_address, write_fault, write_instance, write_list, write_tag, write_value,
+    write_address, write_each, write_fault, write_instance, write_list, write_short, write_tag,
+    write_value,
 };
 use std::alloc::AllocError;
-use terms::Event;
+use terms::{Event, MAX_COMPONENTS};
 
-// The most bytes of an event without an instance's puts: its kind, a name of four components, and a value.
-const GREATEST: usize = 44;
+// The most bytes of an event without an instance's puts: its kind, a collection, the number of components, these, and a value.
+const GREATEST: usize = 1 + 2 + 1 + 8 * MAX_COMPONENTS + 8;
 
 /// Appends the spelling of an event. After an error a part of it may have been appended.
 pub fn encode_event(out: &mut Vec<u8>, event: &Event) -> Result<(), AllocError>
     requires { HasFewPuts event.now }
     ensures spelled { OnOk result (out.new.items ≡ out.old.items ++ event_bytes event.now) }
-    ensures in_range { OnOk result (IsEvent event.now) }
+    ensures in_range { OnOk result (IsEvent MAX_COMPONENTS event.now) }
     ensures kept { take (length out.old.items) out.new.items ≡ out.old.items }
 {
     out.reserve(GREATEST)?;
@@ -42,11 +49,28 @@ pub fn encode_event(out: &mut Vec<u8>, event: &Event) -> Result<(), AllocError>
     }
 }
 
+/// Appends the payload that spells a commit: the bytes of its one event, or a group. After an error a part of it may have been appended.
+pub fn encode_payload(out: &mut Vec<u8>, commit: &[Event]) -> Result<(), AllocError>
+    requires some { 1 ≤ length commit.now }
+    requires few { length commit.now ≤ MOST_EVENTS }
+    requires puts { AllByRecursion HasFewPuts commit.now }
+    ensures spelled { OnOk result (out.new.items ≡ out.old.items ++ commit_bytes commit.now) }
+    ensures in_range { OnOk result (IsCommit MAX_COMPONENTS commit.now) }
+    ensures kept { take (length out.old.items) out.new.items ≡ out.old.items }
+{
+    if commit.len() == 1 {
+        return encode_event(out, &commit[0]);
+    }
+    out.push(GROUP)?;
+    write_short(out, commit.len() as u16)?;
+    write_each(out, commit)
+}
+
 /// Appends the spelling of an image. After an error a part of it may have been appended.
 pub fn encode_image(out: &mut Vec<u8>, image: &Image) -> Result<(), AllocError>
     requires { IsInOrder image.now }
     ensures spelled { OnOk result (out.new.items ≡ out.old.items ++ image_bytes image.now) }
-    ensures in_range { OnOk result (IsImage image.now) }
+    ensures in_range { OnOk result (IsImage MAX_COMPONENTS image.now) }
     ensures kept { take (length out.old.items) out.new.items ≡ out.old.items }
 {
     write_fault(out, &image.fault)?;

@@ -1,26 +1,32 @@
-ghost use Rattle.codec.specs.Commits.{SpellsCommit};
+ghost use Rattle.std.specs.Prelude.{◌≤◌};
+ghost use Rattle.terms.specs.declared.key.TheConstants.{MAX_COMPONENTS};
+ghost use Rattle.codec.specs.Commits.{IsCommit, commit_bytes, SpellsCommit, GroupOfOneSpellsNone};
 ghost use Rattle.codec.specs.Laws.{ReadsBack, SpellsOne, BeginsNoOther};
-ghost use Rattle.codec.specs.Reading.{decoded_event, decoded_image};
+ghost use Rattle.codec.specs.Reading.{decoded_event, decoded_payload, decoded_image};
 ghost use Rattle.codec.specs.Spelling.{IsEvent, event_bytes, SpellsEvent, IsImage, image_bytes, SpellsImage};
 
 /// An event has one spelling, which is read as that event. No other bytes are read as that event, and no spelling is a
-/// proper prefix of another.
-pub fn spellings_of_events()
-    ensures back { ReadsBack IsEvent event_bytes decoded_event }
-    ensures one { SpellsOne SpellsEvent }
-    ensures begins { BeginsNoOther IsEvent event_bytes }
+/// proper prefix of another. This holds for each greatest number of components, `most`.
+pub fn spellings_of_events(most: usize)
+    requires { most ≤ MAX_COMPONENTS }
+    ensures back { ReadsBack (IsEvent most) event_bytes (decoded_event most) }
+    ensures one { SpellsOne (SpellsEvent most) }
+    ensures begins { BeginsNoOther (IsEvent most) event_bytes }
 {}
 
 /// The same for images.
-pub fn spellings_of_images()
-    ensures back { ReadsBack IsImage image_bytes decoded_image }
-    ensures one { SpellsOne SpellsImage }
-    ensures begins { BeginsNoOther IsImage image_bytes }
+pub fn spellings_of_images(most: usize)
+    requires { most ≤ MAX_COMPONENTS }
+    ensures back { ReadsBack (IsImage most) image_bytes (decoded_image most) }
+    ensures one { SpellsOne (SpellsImage most) }
+    ensures begins { BeginsNoOther (IsImage most) image_bytes }
 {}
 
-/// Bytes spell at most one commit. Today that is a commit of a single event.
-pub fn spellings_of_commits()
-    ensures { SpellsOne SpellsCommit }
-{
-    spellings_of_events();
-}
+/// The same for commits, which payloads spell. A group of one event spells no commit.
+pub fn spellings_of_commits(most: usize)
+    requires { most ≤ MAX_COMPONENTS }
+    ensures back { ReadsBack (IsCommit most) commit_bytes (decoded_payload most) }
+    ensures one { SpellsOne (SpellsCommit most) }
+    ensures begins { BeginsNoOther (IsCommit most) commit_bytes }
+    ensures group { GroupOfOneSpellsNone most }
+{}

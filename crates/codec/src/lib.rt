@@ -1,8 +1,9 @@
-//! The bytes of events and images.
+//! The bytes of events, of commits and of images.
 //!
-//! The model is `decoded_event` and `decoded_image`: what bytes are read as from the left, a value or the first fault.
-//! `encode_event` and `encode_image` append the one spelling of a value, and `decode_event` and `decode_image` return a
-//! value exactly when the bytes are its spelling. The crates above rely on these four functions.
+//! The model is `decoded_event`, `decoded_payload` and `decoded_image`: what bytes are read as from the left, a value or the first
+//! fault. A payload is a commit: the bytes of one event, or a group of several. `encode_event`, `encode_payload` and
+//! `encode_image` append the one spelling of a value. `decode_event`, `decode_payload` and `decode_image` return a value exactly
+//! when the bytes are its spelling. The crates above rely on these six functions.
 #![tactic(auto)]
 
 mod decode;
@@ -12,12 +13,14 @@ mod error;
 mod image;
 mod law;
 mod lists;
+mod payload;
 mod reader;
 mod spelled;
 mod writing;
 
-pub use decode::{decode_event, decode_image};
-pub use encode::{encode_event, encode_image};
+pub use decode::{decode_event, decode_image, decode_payload};
+pub use encode::{encode_event, encode_image, encode_payload};
 pub use error::CodecError;
 pub use image::{Image, Instances, Items, Tags};
 pub use law::{spellings_of_commits, spellings_of_events, spellings_of_images};
+pub use payload::MOST_EVENTS;

@@ -1,4 +1,5 @@
 ghost use Rattle.std.specs.Prelude.{◌≡◌, ◌≤◌, ◌*◌, [], length, IfOk, vec_capacity};
+ghost use Rattle.terms.specs.declared.key.TheConstants.{MAX_COMPONENTS};
 ghost use Rattle.codec.specs.Answers.{items_in, ReadsOrRefused};
 ghost use Rattle.codec.specs.Reading.{several, comes_after, list};
 
@@ -16,33 +17,37 @@ fn room<T: Element>(alloc: Global, reader: &Reader<'_>, count: u32) -> Result<Ve
     Vec::with_capacity(alloc, most.min(count as usize))
 }
 
-/// Reads `count` elements, one after another.
+/// Reads `count` elements, one after another, whose keys have `most` components at most.
 pub(crate) fn several<T: Element>(
     alloc: Global,
     reader: &mut Reader<'_>,
     count: u32,
+    most: usize,
 ) -> Result<Vec<T>, CodecError>
-    ensures { ReadsOrRefused reader.new.rest.now (items_in result) (several count T.reading reader.old.rest.now) }
+    requires { most ≤ MAX_COMPONENTS }
+    ensures { ReadsOrRefused reader.new.rest.now (items_in result) (several count (T.reading most) reader.old.rest.now) }
 {
     let mut elements = room(alloc, reader, count)?;
     for _ in 0..count {
-        elements.push(T::read(reader)?)?;
+        elements.push(T::read(reader, most)?)?;
     }
     Ok(elements)
 }
 
-/// Reads a list in strictly rising order: the number of its elements, and the elements.
+/// Reads a list in strictly rising order: the number of its elements, and the elements. Their keys have `most` components at most.
 pub(crate) fn rising<T: Ranked>(
     alloc: Global,
     reader: &mut Reader<'_>,
+    most: usize,
 ) -> Result<Vec<T>, CodecError>
-    ensures { ReadsOrRefused reader.new.rest.now (items_in result) (list T.cmp T.reading reader.old.rest.now) }
+    requires { most ≤ MAX_COMPONENTS }
+    ensures { ReadsOrRefused reader.new.rest.now (items_in result) (list T.cmp (T.reading most) reader.old.rest.now) }
 {
     let count = reader.count()?;
     let mut elements = room(alloc, reader, count)?;
     let mut before = None;
     for _ in 0..count {
-        let element = T::read(reader)?;
+        let element = T::read(reader, most)?;
         if !may_follow(before, element) {
             return Err(CodecError::Order);
         }

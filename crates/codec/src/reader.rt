@@ -1,5 +1,6 @@
 ghost use Rattle.std.specs.Prelude.{◌≡◌, ◌≤◌, length};
 ghost use Rattle.byteorder.specs.Endian.{little_number, twos_complement};
+ghost use Rattle.terms.specs.declared.key.TheConstants.{MAX_COMPONENTS};
 ghost use Rattle.codec.specs.Answers.{leaving};
 ghost use Rattle.codec.specs.Reading.{number, value, key, address, tag, instance, fault_kind, mark, put_number, producer, image_fault, all_used};
 
@@ -12,7 +13,8 @@ use terms::{
 
 /// Bytes that are read from the left, with one method for each field.
 ///
-/// A method returns the field at the front, and moves past it. After an error, read nothing more.
+/// A method returns the field at the front, and moves past it. After an error, read nothing more. `most` is the greatest number of
+/// components that a key may have.
 #[derive(Drop)]
 pub(crate) struct Reader<'a> {
     /// The bytes that are not read yet.
@@ -32,8 +34,8 @@ impl Reader<'_> {
         Ok(bytes[0])
     }
 
-    /// The number of a collection.
-    pub(crate) fn collection(&mut self) -> Result<u16, CodecError>
+    /// The number of a collection, or of the events of a group.
+    pub(crate) fn short(&mut self) -> Result<u16, CodecError>
         ensures { leaving self.new.rest.now result ≡ number 2 self.old.rest.now }
     {
         let bytes = self.rest;
@@ -68,11 +70,13 @@ impl Reader<'_> {
         Ok(value_in(bytes))
     }
 
-    fn key(&mut self) -> Result<Key, CodecError>
-        ensures { leaving self.new.rest.now result ≡ key self.old.rest.now }
+    // A key of `most` components at most.
+    fn key(&mut self, most: usize) -> Result<Key, CodecError>
+        requires { most ≤ MAX_COMPONENTS }
+        ensures { leaving self.new.rest.now result ≡ key most self.old.rest.now }
     {
         let count = usize::from(self.byte()?);
-        if MAX_COMPONENTS < count {
+        if most < count {
             return Err(CodecError::Range);
         }
         let mut components = [0; MAX_COMPONENTS];
@@ -82,27 +86,30 @@ impl Reader<'_> {
         Ok(Key::new(&components[..count]))
     }
 
-    pub(crate) fn address(&mut self) -> Result<Addr, CodecError>
-        ensures { leaving self.new.rest.now result ≡ address self.old.rest.now }
+    pub(crate) fn address(&mut self, most: usize) -> Result<Addr, CodecError>
+        requires { most ≤ MAX_COMPONENTS }
+        ensures { leaving self.new.rest.now result ≡ address most self.old.rest.now }
     {
-        let collection = ItemCollection(self.collection()?);
-        let key = self.key()?;
+        let collection = ItemCollection(self.short()?);
+        let key = self.key(most)?;
         Ok(Addr { collection, key })
     }
 
-    pub(crate) fn tag(&mut self) -> Result<Tag, CodecError>
-        ensures { leaving self.new.rest.now result ≡ tag self.old.rest.now }
+    pub(crate) fn tag(&mut self, most: usize) -> Result<Tag, CodecError>
+        requires { most ≤ MAX_COMPONENTS }
+        ensures { leaving self.new.rest.now result ≡ tag most self.old.rest.now }
     {
-        let collection = TagCollection(self.collection()?);
-        let key = self.key()?;
+        let collection = TagCollection(self.short()?);
+        let key = self.key(most)?;
         Ok(Tag { collection, key })
     }
 
-    pub(crate) fn instance(&mut self) -> Result<Inst, CodecError>
-        ensures { leaving self.new.rest.now result ≡ instance self.old.rest.now }
+    pub(crate) fn instance(&mut self, most: usize) -> Result<Inst, CodecError>
+        requires { most ≤ MAX_COMPONENTS }
+        ensures { leaving self.new.rest.now result ≡ instance most self.old.rest.now }
     {
-        let collection = StepCollection(self.collection()?);
-        let key = self.key()?;
+        let collection = StepCollection(self.short()?);
+        let key = self.key(most)?;
         Ok(Inst { collection, key })
     }
 
@@ -123,13 +130,14 @@ impl Reader<'_> {
         }
     }
 
-    pub(crate) fn producer(&mut self) -> Result<Producer, CodecError>
-        ensures { leaving self.new.rest.now result ≡ producer self.old.rest.now }
+    pub(crate) fn producer(&mut self, most: usize) -> Result<Producer, CodecError>
+        requires { most ≤ MAX_COMPONENTS }
+        ensures { leaving self.new.rest.now result ≡ producer most self.old.rest.now }
     {
         match self.byte()? {
             0 => Ok(Producer::Env),
             1 => {
-                let instance = self.instance()?;
+                let instance = self.instance(most)?;
                 let number = self.put_number()?;
                 Ok(Producer::By(instance, number))
             }
@@ -138,13 +146,14 @@ impl Reader<'_> {
     }
 
     /// The instance at fault of an image, if there is one.
-    pub(crate) fn fault(&mut self) -> Result<Option<(Inst, FaultKind)>, CodecError>
-        ensures { leaving self.new.rest.now result ≡ image_fault self.old.rest.now }
+    pub(crate) fn fault(&mut self, most: usize) -> Result<Option<(Inst, FaultKind)>, CodecError>
+        requires { most ≤ MAX_COMPONENTS }
+        ensures { leaving self.new.rest.now result ≡ image_fault most self.old.rest.now }
     {
         match self.byte()? {
             0 => Ok(None),
             1 => {
-                let instance = self.instance()?;
+                let instance = self.instance(most)?;
                 let kind = self.fault_kind()?;
                 Ok(Some((instance, kind)))
             }

@@ -1,10 +1,12 @@
 ghost use Rattle.std.specs.Prelude.{◌≡◌, ◌++◌, FitsSigned, length, take, OnOk, ⊤};
 ghost use Rattle.std.specs.Int.{w64};
-ghost use Rattle.codec.specs.Spelling.{value_bytes, put_bytes, IsPut, item_bytes, HasPutNumber, IsItem, marked_bytes, inst_bytes, IsName};
+ghost use Rattle.terms.specs.declared.key.TheConstants.{MAX_COMPONENTS};
+ghost use Rattle.codec.specs.Spelling.{value_bytes, put_bytes, IsPut, item_bytes, HasPutNumber, IsItem, marked_bytes, IsMarked, inst_bytes, IsInstance, event_bytes, HasFewPuts, IsEvent};
 
+use crate::encode::encode_event;
 use crate::writing::{write_address, write_instance, write_producer, write_tag, write_value};
 use std::alloc::AllocError;
-use terms::{Addr, Inst, Producer, Put, Tag};
+use terms::{Addr, Event, Inst, Producer, Put, Tag};
 
 /// An element of a list that can be spelled.
 pub(crate) trait Spelled {
@@ -44,7 +46,7 @@ impl Spelled for Put {
 
     ghost May = { λ _. ⊤ };
 
-    ghost Is = { IsPut };
+    ghost Is = { IsPut MAX_COMPONENTS };
 
     fn write(&self, out: &mut Vec<u8>) -> Result<(), AllocError> {
         match self {
@@ -66,7 +68,7 @@ impl Spelled for (Addr, i64, Producer) {
 
     ghost May = { HasPutNumber };
 
-    ghost Is = { IsItem };
+    ghost Is = { IsItem MAX_COMPONENTS };
 
     fn write(&self, out: &mut Vec<u8>) -> Result<(), AllocError> {
         write_address(out, &self.0)?;
@@ -80,7 +82,7 @@ impl Spelled for (Tag, bool) {
 
     ghost May = { λ _. ⊤ };
 
-    ghost Is = { λ marked. IsName marked.0.collection.0 marked.0.key };
+    ghost Is = { IsMarked MAX_COMPONENTS };
 
     fn write(&self, out: &mut Vec<u8>) -> Result<(), AllocError> {
         write_tag(out, &self.0)?;
@@ -93,9 +95,21 @@ impl Spelled for Inst {
 
     ghost May = { λ _. ⊤ };
 
-    ghost Is = { λ instance. IsName instance.collection.0 instance.key };
+    ghost Is = { IsInstance MAX_COMPONENTS };
 
     fn write(&self, out: &mut Vec<u8>) -> Result<(), AllocError> {
         write_instance(out, self)
+    }
+}
+
+impl Spelled for Event {
+    ghost spelling = { event_bytes };
+
+    ghost May = { HasFewPuts };
+
+    ghost Is = { IsEvent MAX_COMPONENTS };
+
+    fn write(&self, out: &mut Vec<u8>) -> Result<(), AllocError> {
+        encode_event(out, self)
     }
 }

@@ -3,12 +3,23 @@
 ghost use Rattle.std.specs.Prelude.{◌≡◌, ◌++◌, ◌<◌, ◌^◌, length, take, OnOk};
 ghost use Rattle.std.specs.List.{flat_map, AllByRecursion};
 ghost use Rattle.byteorder.specs.Endian.{little_bytes};
-ghost use Rattle.codec.specs.Spelling.{value_bytes, name_bytes, addr_bytes, tag_bytes, inst_bytes, IsName, list_bytes, producer_bytes, IsProducer, IsNumbered, fault_bytes, IsFault};
+ghost use Rattle.terms.specs.declared.key.TheConstants.{MAX_COMPONENTS};
+ghost use Rattle.codec.specs.Spelling.{value_bytes, name_bytes, addr_bytes, tag_bytes, inst_bytes, IsName, IsInstance, list_bytes, producer_bytes, IsProducer, IsNumbered, fault_bytes, IsFault};
 
 use crate::spelled::Spelled;
 use byteorder::{ByteOrder, LittleEndian};
 use std::alloc::AllocError;
 use terms::{Addr, FaultKind, Inst, Key, Producer, Tag};
+
+/// The number of a collection, or of the events of a group.
+pub(crate) fn write_short(out: &mut Vec<u8>, number: u16) -> Result<(), AllocError>
+    ensures spelled { OnOk result (out.new.items ≡ out.old.items ++ little_bytes 2 number) }
+    ensures kept { take (length out.old.items) out.new.items ≡ out.old.items }
+{
+    let mut bytes = [0; 2];
+    LittleEndian::write_u16(&mut bytes, number);
+    out.extend_from_slice(&bytes)
+}
 
 /// A count of elements, or the number of a put.
 pub(crate) fn write_count(out: &mut Vec<u8>, count: u32) -> Result<(), AllocError>
@@ -32,7 +43,7 @@ pub(crate) fn write_value(out: &mut Vec<u8>, value: i64) -> Result<(), AllocErro
 
 pub(crate) fn write_address(out: &mut Vec<u8>, address: &Addr) -> Result<(), AllocError>
     ensures spelled { OnOk result (out.new.items ≡ out.old.items ++ addr_bytes address.now) }
-    ensures in_range { OnOk result (IsName address.now.collection.0 address.now.key) }
+    ensures in_range { OnOk result (IsName MAX_COMPONENTS address.now.collection.0 address.now.key) }
     ensures kept { take (length out.old.items) out.new.items ≡ out.old.items }
 {
     write_name(out, address.collection.0, &address.key)
@@ -40,7 +51,7 @@ pub(crate) fn write_address(out: &mut Vec<u8>, address: &Addr) -> Result<(), All
 
 pub(crate) fn write_tag(out: &mut Vec<u8>, tag: &Tag) -> Result<(), AllocError>
     ensures spelled { OnOk result (out.new.items ≡ out.old.items ++ tag_bytes tag.now) }
-    ensures in_range { OnOk result (IsName tag.now.collection.0 tag.now.key) }
+    ensures in_range { OnOk result (IsName MAX_COMPONENTS tag.now.collection.0 tag.now.key) }
     ensures kept { take (length out.old.items) out.new.items ≡ out.old.items }
 {
     write_name(out, tag.collection.0, &tag.key)
@@ -48,7 +59,7 @@ pub(crate) fn write_tag(out: &mut Vec<u8>, tag: &Tag) -> Result<(), AllocError>
 
 pub(crate) fn write_instance(out: &mut Vec<u8>, instance: &Inst) -> Result<(), AllocError>
     ensures spelled { OnOk result (out.new.items ≡ out.old.items ++ inst_bytes instance.now) }
-    ensures in_range { OnOk result (IsName instance.now.collection.0 instance.now.key) }
+    ensures in_range { OnOk result (IsInstance MAX_COMPONENTS instance.now) }
     ensures kept { take (length out.old.items) out.new.items ≡ out.old.items }
 {
     write_name(out, instance.collection.0, &instance.key)
@@ -57,7 +68,7 @@ pub(crate) fn write_instance(out: &mut Vec<u8>, instance: &Inst) -> Result<(), A
 pub(crate) fn write_producer(out: &mut Vec<u8>, producer: &Producer) -> Result<(), AllocError>
     requires { IsNumbered producer.now }
     ensures spelled { OnOk result (out.new.items ≡ out.old.items ++ producer_bytes producer.now) }
-    ensures in_range { OnOk result (IsProducer producer.now) }
+    ensures in_range { OnOk result (IsProducer MAX_COMPONENTS producer.now) }
     ensures kept { take (length out.old.items) out.new.items ≡ out.old.items }
 {
     match producer {
@@ -76,7 +87,7 @@ pub(crate) fn write_fault(
     fault: &Option<(Inst, FaultKind)>,
 ) -> Result<(), AllocError>
     ensures spelled { OnOk result (out.new.items ≡ out.old.items ++ fault_bytes fault.now) }
-    ensures in_range { OnOk result (IsFault fault.now) }
+    ensures in_range { OnOk result (IsFault MAX_COMPONENTS fault.now) }
     ensures kept { take (length out.old.items) out.new.items ≡ out.old.items }
 {
     match fault {
@@ -91,13 +102,11 @@ pub(crate) fn write_fault(
 
 fn write_name(out: &mut Vec<u8>, collection: u16, key: &Key) -> Result<(), AllocError>
     ensures spelled { OnOk result (out.new.items ≡ out.old.items ++ name_bytes collection key.now) }
-    ensures in_range { OnOk result (IsName collection key.now) }
+    ensures in_range { OnOk result (IsName MAX_COMPONENTS collection key.now) }
     ensures kept { take (length out.old.items) out.new.items ≡ out.old.items }
 {
     let components = key.components();
-    let mut bytes = [0; 2];
-    LittleEndian::write_u16(&mut bytes, collection);
-    out.extend_from_slice(&bytes)?;
+    write_short(out, collection)?;
     out.push(components.len() as u8)?;
     write_each(out, components)
 }
@@ -114,8 +123,8 @@ pub(crate) fn write_list<T: Spelled>(out: &mut Vec<u8>, elements: &[T]) -> Resul
     write_each(out, elements)
 }
 
-// The elements of a list, one after another.
-fn write_each<T: Spelled>(out: &mut Vec<u8>, elements: &[T]) -> Result<(), AllocError>
+/// The elements of a list, one after another.
+pub(crate) fn write_each<T: Spelled>(out: &mut Vec<u8>, elements: &[T]) -> Result<(), AllocError>
     requires { AllByRecursion T.May elements.now }
     ensures spelled { OnOk result (out.new.items ≡ out.old.items ++ flat_map T.spelling elements.now) }
     ensures in_range { OnOk result (AllByRecursion T.Is elements.now) }

@@ -8,8 +8,9 @@ use Rattle.codec.proofs.decode.decode_event.Goals as goal
 
 pub returns-clause-spelled : goal.returns-clause-spelled
 returns-clause-spelled c =
-    is_spelled IsEvent event_bytes event (reads_back IsEvent event_bytes event event_agrees) c.args.bytes.now c.read_event.new.reader.rest.now c.in_ok-event.event (λ k. omega (arith, c.type_inv.bytes k)) c.in_ok-event.ensures
-    (nothing_left tt tt c.read_event.new.reader.rest.now (sym c.in_ok-end.ensures)).1
+    let most = c.args.most in
+    is_spelled (IsEvent most) event_bytes (event most) (reads_back (IsEvent most) event_bytes (event most) (event_agrees most c.requires)) c.args.bytes.now c.read_event.new.reader.rest.now c.in_ok-event.event
+    (λ k. omega (arith, c.type_inv.bytes k)) c.in_ok-event.ensures (nothing_left tt tt c.read_event.new.reader.rest.now (sym c.in_ok-end.ensures)).1
 
 pub returns-clause-encodable : goal.returns-clause-encodable
-returns-clause-encodable c = few_puts c.in_ok-event.event (returns-clause-spelled c).0
+returns-clause-encodable c = few_puts c.args.most c.in_ok-event.event (returns-clause-spelled c).0

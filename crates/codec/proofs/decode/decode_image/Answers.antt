@@ -8,8 +8,9 @@ use Rattle.codec.proofs.decode.decode_image.Goals as goal
 
 pub returns-clause-spelled : goal.returns-clause-spelled
 returns-clause-spelled c =
-    is_spelled IsImage image_bytes image (reads_back IsImage image_bytes image image_agrees) c.args.bytes.now c.read_image.new.reader.rest.now c.in_ok-image.image (λ k. omega (arith, c.type_inv.bytes k)) c.in_ok-image.ensures
-    (nothing_left tt tt c.read_image.new.reader.rest.now (sym c.in_ok-end.ensures)).1
+    let most = c.args.most in
+    is_spelled (IsImage most) image_bytes (image most) (reads_back (IsImage most) image_bytes (image most) (image_agrees most c.requires)) c.args.bytes.now c.read_image.new.reader.rest.now c.in_ok-image.image
+    (λ k. omega (arith, c.type_inv.bytes k)) c.in_ok-image.ensures (nothing_left tt tt c.read_image.new.reader.rest.now (sym c.in_ok-end.ensures)).1
 
 pub returns-clause-encodable : goal.returns-clause-encodable
-returns-clause-encodable c = in_order c.in_ok-image.image (returns-clause-spelled c).0
+returns-clause-encodable c = in_order c.args.most c.in_ok-image.image (returns-clause-spelled c).0

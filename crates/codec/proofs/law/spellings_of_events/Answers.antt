@@ -5,10 +5,10 @@ use Rattle.codec.proofs.WholeLaws.{reads_back, spells_one, begins_no_other}
 use Rattle.codec.proofs.law.spellings_of_events.Goals as goal
 
 pub returns-clause-back : goal.returns-clause-back
-returns-clause-back c = reads_back IsEvent event_bytes event event_agrees
+returns-clause-back c = reads_back (IsEvent c.args.most) event_bytes (event c.args.most) (event_agrees c.args.most c.requires)
 
 pub returns-clause-one : goal.returns-clause-one
-returns-clause-one c = spells_one IsEvent event_bytes event event_agrees
+returns-clause-one c = spells_one (IsEvent c.args.most) event_bytes (event c.args.most) (event_agrees c.args.most c.requires)
 
 pub returns-clause-begins : goal.returns-clause-begins
-returns-clause-begins c = begins_no_other IsEvent event_bytes event event_agrees
+returns-clause-begins c = begins_no_other (IsEvent c.args.most) event_bytes (event c.args.most) (event_agrees c.args.most c.requires)

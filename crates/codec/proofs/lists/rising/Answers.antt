@@ -8,7 +8,7 @@ pub returns-in_err-element : goal.returns-in_err-element
 returns-in_err-element g c =
     let p = err_from_is_err_and c.from_residual-in_err-element.result c.from_residual-in_err-element.ensures.1 in
     let cmp = g.T.Ranked.cmp in
-    let reading = g.T.Element.reading in
+    let reading = g.T.Element.reading c.args.most in
     let first = ranked_fault cmp reading c.loop.elements.items c.loop.before c.in_ok-count.count c.loop.counter c.loop.reader.rest.now
     (rising cmp reading None c.in_ok-count.count c.count.new.self.rest.now) _ c.loop-test.true c.in_err-element.ensures c.loop.invariant in
     rw (p.1, p.2) (inr (list_read cmp reading c.args.reader.now.rest.now c.count.new.self.rest.now c.in_ok-count.count _ c.in_ok-count.ensures first))
@@ -16,7 +16,7 @@ returns-in_err-element g c =
 pub returns-then-not-may_follow : goal.returns-then-not-may_follow
 returns-then-not-may_follow g c =
     let cmp = g.T.Ranked.cmp in
-    let reading = g.T.Element.reading in
+    let reading = g.T.Element.reading c.args.most in
     let follows : comes_after cmp c.loop.before c.in_ok-element.element ≡ false = search rules in
     let first = out_of_order cmp reading c.loop.elements.items c.loop.before c.in_ok-count.count c.loop.counter c.loop.reader.rest.now
     (rising cmp reading None c.in_ok-count.count c.count.new.self.rest.now) c.in_ok-element.element c.read.new.reader.rest.now c.loop-test.true c.in_ok-element.ensures follows c.loop.invariant in
@@ -25,7 +25,7 @@ returns-then-not-may_follow g c =
 pub loop-preserved : goal.loop-preserved
 loop-preserved g c =
     let cmp = g.T.Ranked.cmp in
-    let reading = g.T.Element.reading in
+    let reading = g.T.Element.reading c.args.most in
     let follows : comes_after cmp c.loop.before c.in_ok-element.element ≡ true = search rules in
     let pushed : c.push.new.self.items ≡ c.loop.elements.items ++ c.in_ok-element.element ∷ [] = c.in_ok-push.ensures.items in
     rw pushed (one_ranked cmp reading c.loop.elements.items c.loop.before c.in_ok-count.count c.loop.counter c.loop.reader.rest.now
@@ -34,7 +34,7 @@ loop-preserved g c =
 pub returns : goal.returns
 returns g c =
     let cmp = g.T.Ranked.cmp in
-    let reading = g.T.Element.reading in
+    let reading = g.T.Element.reading c.args.most in
     let all = all_ranked cmp reading c.loop.elements.items c.loop.before c.in_ok-count.count c.loop.counter c.loop.reader.rest.now
     (rising cmp reading None c.in_ok-count.count c.count.new.self.rest.now) c.loop-test.false c.loop.invariant in
     inr (list_read cmp reading c.args.reader.now.rest.now c.count.new.self.rest.now c.in_ok-count.count _ c.in_ok-count.ensures all)

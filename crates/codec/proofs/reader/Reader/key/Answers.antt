@@ -12,7 +12,7 @@ returns-in_err-components c =
     let count = c.from-count.result in
     let first = fault_comes value (take c.loop-place.place c.loop-place.components) count c.loop-place.place c.loop-place.self.rest.now _ (several count value c.byte.new.self.rest.now)
     c.loop-place-test.true c.in_err-components.ensures c.loop-place.invariant.so_far in
-    rw (p.1, p.2) (counted_read 1 4 value c.args.self.now.rest.now c.byte.new.self.rest.now count _ (search rules) (omega arith) first)
+    rw (p.1, p.2) (counted_read 1 c.args.most value c.args.self.now.rest.now c.byte.new.self.rest.now count _ (search rules) (omega arith) first)
 
 pub loop-place-preserved : goal.loop-place-preserved
 loop-place-preserved c =
