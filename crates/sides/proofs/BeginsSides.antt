@@ -15,9 +15,13 @@ use Rattle.graph.specs.Reads.{Reads}
 use Rattle.graph.specs.Fits.{FitsState}
 use Rattle.graph.specs.FitLaws.{SameSet, AllFitKeep, StateAsSet}
 use Rattle.sides.specs.Side.{behind_gate, IsSide, end_of}
+use Rattle.terms.specs.declared.key.TheConstants.{MAX_COMPONENTS}
+use Rattle.sides.specs.declared.gate.TheConstants.{FORMAT}
 
 abbrev relisted : (bytes : List ℕ) (g : Graph) (n : ℕ) (E F X Y : Facts) → SameSet E F → SameSet X Y → IsSide bytes g n E X → IsSide bytes g n F Y
 relisted bytes g n E F X Y given there side = record {
+  format = side.format;
+  is_known = side.is_known;
   small = side.small;
   reads = side.reads;
   image = side.image;
@@ -51,9 +55,11 @@ no_records = record { short = All-nil IsShort; gate = 0; closed = closed; rest =
     closed : ◌≡◌ {A = ℕ} 0 1 → ⊥
     closed same = omega arith
 
-abbrev beginning : (g : Graph) (n : ℕ) (image : Image) → n < 2 ^ 64 → Reads (canonical g) g → IsImage image → length (image_bytes image) < 2 ^ 32
-    → FitsState g (environment_in image) (facts_in image) → IsSide (1 ∷ behind_gate n (canonical g) (image_bytes image) (0 ∷ [])) g n (environment_in image) (facts_in image)
+abbrev beginning : (g : Graph) (n : ℕ) (image : Image) → n < 2 ^ 64 → Reads (canonical g) g → IsImage MAX_COMPONENTS image → length (image_bytes image) < 2 ^ 32
+    → FitsState g (environment_in image) (facts_in image) → IsSide (1 ∷ behind_gate FORMAT n (canonical g) (image_bytes image) (0 ∷ [])) g n (environment_in image) (facts_in image)
 beginning g n image small reads is_image counted_image fits = record {
+  format = FORMAT;
+  is_known = refl;
   small = small;
   reads = reads;
   image = image;
@@ -70,12 +76,12 @@ beginning g n image small reads is_image counted_image fits = record {
   facts = λ fact. ap (λ (list : List Fact). among list fact) (sym (append-nil (image_facts image)));
 }
 
-pub begins_side : (g : Graph) (n : ℕ) (image : Image) → n < 2 ^ 64 → Reads (canonical g) g → IsImage image → length (image_bytes image) < 2 ^ 32
+pub begins_side : (g : Graph) (n : ℕ) (image : Image) → n < 2 ^ 64 → Reads (canonical g) g → IsImage MAX_COMPONENTS image → length (image_bytes image) < 2 ^ 32
     → FitsState g (environment_in image) (facts_in image)
-    → (side : IsSide (1 ∷ behind_gate n (canonical g) (image_bytes image) (0 ∷ [])) g n (environment_in image) (facts_in image))
-    × (end_of side ≡ length (1 ∷ behind_gate n (canonical g) (image_bytes image) []))
+    → (side : IsSide (1 ∷ behind_gate FORMAT n (canonical g) (image_bytes image) (0 ∷ [])) g n (environment_in image) (facts_in image))
+    × (end_of side ≡ length (1 ∷ behind_gate FORMAT n (canonical g) (image_bytes image) []))
 begins_side g n image small reads is_image counted_image fits =
-    (beginning g n image small reads is_image counted_image fits, nothing_more (length (1 ∷ behind_gate n (canonical g) (image_bytes image) [])))
+    (beginning g n image small reads is_image counted_image fits, nothing_more (length (1 ∷ behind_gate FORMAT n (canonical g) (image_bytes image) [])))
   where
     nothing_more : (m : ℕ) → m + 0 ≡ m
     nothing_more m = omega arith

@@ -18,35 +18,38 @@ use Rattle.graph.specs.Graph.{Graph}
 use Rattle.graph.specs.Canonical.{canonical}
 use Rattle.graph.specs.Fits.{AllFit}
 use Rattle.graph.specs.FitLaws.{SameSet, AllFitInParts}
-use Rattle.sides.specs.Side.{FORMAT, counted, behind_gate, IsSide, start_of, end_of, facts_of}
+use Rattle.sides.specs.Side.{counted, behind_gate, IsSide, start_of, end_of, facts_of}
+use Rattle.terms.specs.declared.key.TheConstants.{MAX_COMPONENTS}
 
 -- a side up to its journal
-abbrev pub front : ℕ → Graph → Image → List ℕ
-front n g image = 1 ∷ behind_gate n (canonical g) (image_bytes image) []
+abbrev pub front : ℕ → ℕ → Graph → Image → List ℕ
+front format n g image = 1 ∷ behind_gate format n (canonical g) (image_bytes image) []
 
-pub behind_front : (n : ℕ) (g : Graph) (image : Image) (journal : List ℕ) → 1 ∷ behind_gate n (canonical g) (image_bytes image) journal ≡ front n g image ++ journal
-behind_front n g image journal = ap (λ (head : List ℕ). 1 ∷ FORMAT ∷ head ++ journal) (sym (append-nil (little_bytes 8 n ++ counted (canonical g) ++ counted (image_bytes image))))
+pub behind_front : (format n : ℕ) (g : Graph) (image : Image) (journal : List ℕ) → 1 ∷ behind_gate format n (canonical g) (image_bytes image) journal ≡ front format n g image ++ journal
+behind_front format n g image journal = ap (λ (head : List ℕ). 1 ∷ format ∷ head ++ journal) (sym (append-nil (little_bytes 8 n ++ counted (canonical g) ++ counted (image_bytes image))))
 
 module _ (bytes : List ℕ) (g : Graph) (n : ℕ) (E X : Facts) (side : IsSide bytes g n E X) where
-  in_two : bytes ≡ front n g side.image ++ side.journal
-  in_two = side.spelled ∙ behind_front n g side.image side.journal
+  in_two : bytes ≡ front side.format n g side.image ++ side.journal
+  in_two = side.spelled ∙ behind_front side.format n g side.image side.journal
 
   pub has_journal : StandsFor (drop (start_of side) bytes) (map commit_bytes side.commits)
   has_journal = subst (λ (journal : List ℕ). StandsFor journal (map commit_bytes side.commits))
-      (sym (ap (drop (start_of side)) in_two ∙ drop-append_seam (front n g side.image) side.journal)) side.records
+      (sym (ap (drop (start_of side)) in_two ∙ drop-append_seam (front side.format n g side.image) side.journal)) side.records
 
   -- other bytes that begin so
-  begins_so : (other : List ℕ) → take (start_of side) other ≡ take (start_of side) bytes → other ≡ 1 ∷ behind_gate n (canonical g) (image_bytes side.image) (drop (start_of side) other)
+  begins_so : (other : List ℕ) → take (start_of side) other ≡ take (start_of side) bytes → other ≡ 1 ∷ behind_gate side.format n (canonical g) (image_bytes side.image) (drop (start_of side) other)
   begins_so other same =
       sym (take-append-drop (start_of side) other)
-      ∙ ap (λ (begin : List ℕ). begin ++ drop (start_of side) other) (same ∙ ap (take (start_of side)) in_two ∙ take-append_seam (front n g side.image) side.journal)
-      ∙ sym (behind_front n g side.image (drop (start_of side) other))
+      ∙ ap (λ (begin : List ℕ). begin ++ drop (start_of side) other) (same ∙ ap (take (start_of side)) in_two ∙ take-append_seam (front side.format n g side.image) side.journal)
+      ∙ sym (behind_front side.format n g side.image (drop (start_of side) other))
 
 -- ---- the same commits
 
 abbrev again : (bytes other : List ℕ) (g : Graph) (n : ℕ) (E X : Facts) (side : IsSide bytes g n E X) → take (start_of side) other ≡ take (start_of side) bytes
     → StandsFor (drop (start_of side) other) (map commit_bytes side.commits) → IsSide other g n E X
 again bytes other g n E X side same stands = record {
+  format = side.format;
+  is_known = side.is_known;
   small = side.small;
   reads = side.reads;
   image = side.image;
@@ -113,17 +116,19 @@ pub fit_on : AllFitInParts → (g : Graph) (old : List Fact) (commits : List Com
 fit_on parts g old commits commit before behind = subst (AllFit g old) (sym (events_more commits commit)) ((parts g old (events_of commits) commit).1 (before, behind))
 
 module _ (both : AmongBoth) (facts_on : FactsGoOn) (given_on : EnvironmentGoesOn) (parts : AllFitInParts) where
-  abbrev grown : (bytes other : List ℕ) (g : Graph) (n : ℕ) (E X : Facts) (side : IsSide bytes g n E X) (commit : Commit) → IsCommit commit → AllFit g (facts_of side) commit
+  abbrev grown : (bytes other : List ℕ) (g : Graph) (n : ℕ) (E X : Facts) (side : IsSide bytes g n E X) (commit : Commit) → IsCommit MAX_COMPONENTS commit → AllFit g (facts_of side) commit
       → take (start_of side) other ≡ take (start_of side) bytes → StandsFor (drop (start_of side) other) (map commit_bytes side.commits ++ commit_bytes commit ∷ [])
       → IsSide other g n (with_facts E (environment commit)) (with_facts X (facts commit))
   grown bytes other g n E X side commit is_commit fit same stands = record {
+    format = side.format;
+    is_known = side.is_known;
     small = side.small;
     reads = side.reads;
     image = side.image;
     is_image = side.is_image;
     counted_image = side.counted_image;
     commits = side.commits ++ commit ∷ [];
-    are_commits = one_more IsCommit side.commits commit side.are_commits is_commit;
+    are_commits = one_more (IsCommit MAX_COMPONENTS) side.commits commit side.are_commits is_commit;
     journal = drop (start_of side) other;
     records = subst (λ (list : List (List ℕ)). StandsFor (drop (start_of side) other) list) (sym (map-append commit_bytes side.commits (commit ∷ []))) stands;
     spelled = begins_so bytes g n E X side other same;
@@ -134,7 +139,7 @@ module _ (both : AmongBoth) (facts_on : FactsGoOn) (given_on : EnvironmentGoesOn
     facts = λ fact. set_grown both (facts_of side) X (facts commit) side.facts fact ∙ ap (λ (list : List Fact). among list fact) (stated_on facts_on (image_facts side.image) side.commits commit);
   }
 
-  pub grows_by_commit : (bytes other : List ℕ) (g : Graph) (n : ℕ) (E X : Facts) (side : IsSide bytes g n E X) (commit : Commit) → IsCommit commit → AllFit g (facts_of side) commit
+  pub grows_by_commit : (bytes other : List ℕ) (g : Graph) (n : ℕ) (E X : Facts) (side : IsSide bytes g n E X) (commit : Commit) → IsCommit MAX_COMPONENTS commit → AllFit g (facts_of side) commit
       → take (start_of side) other ≡ take (start_of side) bytes → StandsFor (drop (start_of side) other) (map commit_bytes side.commits ++ commit_bytes commit ∷ [])
       → (it : IsSide other g n (with_facts E (environment commit)) (with_facts X (facts commit))) × (end_of it ≡ end_of side + length (record_of (commit_bytes commit)))
   grows_by_commit bytes other g n E X side commit is_commit fit same stands =

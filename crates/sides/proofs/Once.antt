@@ -17,7 +17,8 @@ use Rattle.graph.specs.Graph.{Graph}
 use Rattle.graph.specs.Canonical.{canonical}
 use Rattle.graph.specs.Reads.{Reads}
 use Rattle.graph.specs.Textual.{OneReading}
-use Rattle.sides.specs.Side.{FORMAT, counted, behind_gate, HasGeneration, IsSide, SameSide, end_of}
+use Rattle.sides.specs.Side.{counted, behind_gate, HasGeneration, IsSide, SameSide, end_of}
+use Rattle.terms.specs.declared.key.TheConstants.{MAX_COMPONENTS}
 
 -- equal strings with fronts of one length have equal fronts and equal rests
 pub split : (a b x y : List ℕ) → length a ≡ length b → a ++ x ≡ b ++ y → (a ≡ b) × (x ≡ y)
@@ -43,7 +44,7 @@ counted_once s t x y small also whole =
     split s t x y parts.0 parts.1
 
 -- commits are fixed by their spellings
-commits_once : SpellsOne SpellsCommit → (one two : List Commit) → AllByRecursion IsCommit one → AllByRecursion IsCommit two → map commit_bytes one ≡ map commit_bytes two → one ≡ two
+commits_once : SpellsOne (SpellsCommit MAX_COMPONENTS) → (one two : List Commit) → AllByRecursion (IsCommit MAX_COMPONENTS) one → AllByRecursion (IsCommit MAX_COMPONENTS) two → map commit_bytes one ≡ map commit_bytes two → one ≡ two
 commits_once each [] [] first second same = refl
 commits_once each [] (e ∷ es) first second same = absurd (cc)
 commits_once each (e ∷ es) [] first second same = absurd (cc)
@@ -59,7 +60,7 @@ commits_once each (d ∷ ds) (e ∷ es) first second same =
 pub parts_of : (l t i j : List ℕ) → l ++ t ++ i ++ j ≡ l ++ (t ++ (i ++ j))
 parts_of l t i j = append_assoc (l ++ t) i j ∙ append_assoc l t (i ++ j)
 
-module _ (one_commit : SpellsOne SpellsCommit) (one_image : SpellsOne SpellsImage) (one_list : (bytes : List ℕ) (one two : List (List ℕ)) → StandsFor bytes one → StandsFor bytes two → one ≡ two) (one_reading : OneReading) where
+module _ (one_commit : SpellsOne (SpellsCommit MAX_COMPONENTS)) (one_image : SpellsOne (SpellsImage MAX_COMPONENTS)) (one_list : (bytes : List ℕ) (one two : List (List ℕ)) → StandsFor bytes one → StandsFor bytes two → one ≡ two) (one_reading : OneReading) where
   pub one_meaning : (bytes : List ℕ) (g h : Graph) (m n : ℕ) (E F X Y : Facts) → IsSide bytes g m E X → IsSide bytes h n F Y → SameSide g h m n E F X Y
   one_meaning bytes g h m n E F X Y one two = record {
     generation = numbers.0;
@@ -99,25 +100,27 @@ module _ (one_commit : SpellsOne SpellsCommit) (one_image : SpellsOne SpellsImag
 pub any_rest : (bytes : List ℕ) (g : Graph) (n : ℕ) (E X : Facts) (side : IsSide bytes g n E X)
     → (front : List ℕ) × (rest : List ℕ) × (bytes ≡ front ++ rest) × (length front ≡ end_of side + 1) × ((other : List ℕ) → IsSide (front ++ other) g n E X)
 any_rest bytes g n E X side =
-    (front, side.records.rest, side.spelled ∙ ap (λ (journal : List ℕ). 1 ∷ behind_gate n (canonical g) (image_bytes side.image) journal) side.records.spelled ∙ sym (ends side.records.rest), count, with_rest)
+    (front, side.records.rest, side.spelled ∙ ap (λ (journal : List ℕ). 1 ∷ behind_gate side.format n (canonical g) (image_bytes side.image) journal) side.records.spelled ∙ sym (ends side.records.rest), count, with_rest)
   where
     list : List (List ℕ)
     list = map commit_bytes side.commits
 
     front : List ℕ
-    front = 1 ∷ behind_gate n (canonical g) (image_bytes side.image) (records list ++ side.records.gate ∷ [])
+    front = 1 ∷ behind_gate side.format n (canonical g) (image_bytes side.image) (records list ++ side.records.gate ∷ [])
 
     head : List ℕ
     head = little_bytes 8 n ++ counted (canonical g) ++ counted (image_bytes side.image)
 
-    ends : (other : List ℕ) → front ++ other ≡ 1 ∷ behind_gate n (canonical g) (image_bytes side.image) (records list ++ side.records.gate ∷ other)
-    ends other = ap (λ (bytes : List ℕ). 1 ∷ FORMAT ∷ bytes) (append_assoc head (records list ++ side.records.gate ∷ []) other ∙ ap (λ (journal : List ℕ). head ++ journal) (append_assoc (records list) (side.records.gate ∷ []) other))
+    ends : (other : List ℕ) → front ++ other ≡ 1 ∷ behind_gate side.format n (canonical g) (image_bytes side.image) (records list ++ side.records.gate ∷ other)
+    ends other = ap (λ (bytes : List ℕ). 1 ∷ side.format ∷ bytes) (append_assoc head (records list ++ side.records.gate ∷ []) other ∙ ap (λ (journal : List ℕ). head ++ journal) (append_assoc (records list) (side.records.gate ∷ []) other))
 
     count : length front ≡ end_of side + 1
     count = omega (arith, length-append head (records list ++ side.records.gate ∷ []), length-append (records list) (side.records.gate ∷ []), length-append head [])
 
     with_rest : (other : List ℕ) → IsSide (front ++ other) g n E X
     with_rest other = record {
+      format = side.format;
+      is_known = side.is_known;
       small = side.small;
       reads = side.reads;
       image = side.image;
@@ -138,9 +141,9 @@ pub has_generation : (bytes : List ℕ) (g : Graph) (n : ℕ) (E X : Facts) → 
 has_generation bytes g n E X side = (
   side.small,
   (
-    FORMAT,
+    side.format,
     counted (canonical g) ++ (counted (image_bytes side.image) ++ side.journal),
-    side.spelled ∙ ap (λ (bytes : List ℕ). 1 ∷ FORMAT ∷ bytes) (parts_of (little_bytes 8 n) (counted (canonical g)) (counted (image_bytes side.image)) side.journal),
+    side.spelled ∙ ap (λ (bytes : List ℕ). 1 ∷ side.format ∷ bytes) (parts_of (little_bytes 8 n) (counted (canonical g)) (counted (image_bytes side.image)) side.journal),
   ),
 )
 

@@ -16,16 +16,18 @@ use Rattle.graph.specs.Canonical.{canonical}
 use Rattle.graph.specs.Reads.{Reads}
 use Rattle.graph.specs.Fits.{AllFit, FitsState}
 use Rattle.graph.specs.Textual.{OneReading}
-use Rattle.sides.specs.Side.{FORMAT, counted, behind_gate, HasGeneration, IsSide, end_of}
+use Rattle.sides.specs.Side.{counted, behind_gate, HasGeneration, IsSide, end_of}
 use Rattle.sides.specs.Reading.{IsCountedAt, HasNoneAt, IsTextOf, IsImageOf, AreCommits, IsReplayed}
 use Rattle.sides.proofs.Once.{parts_of, counted_once}
+use Rattle.terms.specs.declared.key.TheConstants.{MAX_COMPONENTS}
+use Rattle.sides.specs.declared.gate.TheConstants.{FORMAT}
 
 -- ---- what the parts make
 
 -- the parts, after the head of a side
 module _ (n : ℕ) (text part : List ℕ) where
   -- where the journal begins
-  starts : length (1 ∷ behind_gate n text part []) ≡ 14 + length text + 4 + length part
+  starts : length (1 ∷ behind_gate FORMAT n text part []) ≡ 14 + length text + 4 + length part
   starts =
       ap (λ (list : List ℕ). length (1 ∷ FORMAT ∷ list)) (append-nil (little_bytes 8 n ++ counted text ++ counted part))
       ∙ omega (
@@ -48,7 +50,7 @@ module _ (bytes : List ℕ) (n : ℕ) (has : HasGeneration bytes n) (format : ge
       (sym (ap (drop 10) has.1.2 ∙ drop_at (1 ∷ has.1.0 ∷ little_bytes 8 n) has.1.1 10 refl))
 
   module _ (text part : List ℕ) (has_text : IsCountedAt bytes 10 text) (has_part : IsCountedAt bytes (14 + length text) part) where
-    pub in_parts : bytes ≡ 1 ∷ behind_gate n text part (drop (14 + length text + 4 + length part) bytes)
+    pub in_parts : bytes ≡ 1 ∷ behind_gate FORMAT n text part (drop (14 + length text + 4 + length part) bytes)
     in_parts =
         in_front ∙ ap (λ (rest : List ℕ). 1 ∷ FORMAT ∷ little_bytes 8 n ++ rest) (has_text.spelled ∙ ap (λ (rest : List ℕ). counted text ++ rest) has_part.spelled)
         ∙ ap (λ (rest : List ℕ). 1 ∷ FORMAT ∷ rest) (sym (parts_of (little_bytes 8 n) (counted text) (counted part) (drop (14 + length text + 4 + length part) bytes)))
@@ -56,6 +58,8 @@ module _ (bytes : List ℕ) (n : ℕ) (has : HasGeneration bytes n) (format : ge
     module _ (g : Graph) (image new : Image) (end : ℕ) (is_text : IsTextOf text g) (is_image : IsImageOf g part image) (replayed : IsReplayed g image new (drop (14 + length text + 4 + length part) bytes) end) where
       abbrev pub side_read : IsSide bytes g n (environment_in new) (facts_in new)
       side_read = record {
+        format = FORMAT;
+        is_known = refl;
         small = has.0;
         reads = subst (λ (list : List ℕ). Reads list g) (sym is_text.1) is_text.0;
         image = image;
@@ -65,7 +69,7 @@ module _ (bytes : List ℕ) (n : ℕ) (has : HasGeneration bytes n) (format : ge
         are_commits = replayed.are.are_commits;
         journal = drop (14 + length text + 4 + length part) bytes;
         records = replayed.are.stands;
-        spelled = in_parts ∙ (λ i. 1 ∷ behind_gate n (sym is_text.1 i) (is_image.0.1 i) (drop (14 + length text + 4 + length part) bytes));
+        spelled = in_parts ∙ (λ i. 1 ∷ behind_gate FORMAT n (sym is_text.1 i) (is_image.0.1 i) (drop (14 + length text + 4 + length part) bytes));
         image_fits = is_image.1;
         events_fit = replayed.are.fit;
         environment = replayed.environment;
@@ -74,20 +78,20 @@ module _ (bytes : List ℕ) (n : ℕ) (has : HasGeneration bytes n) (format : ge
 
       pub ends_there : 14 + length text + 4 + length part + end ≡ end_of side_read
       ends_there =
-          ap (λ (start : ℕ). start + end) (sym (starts n text part) ∙ (λ i. length (1 ∷ behind_gate n (sym is_text.1 i) (is_image.0.1 i) [])))
-          ∙ ap (λ (more : ℕ). length (1 ∷ behind_gate n (canonical g) (image_bytes image) []) + more) replayed.ends
+          ap (λ (start : ℕ). start + end) (sym (starts n text part) ∙ (λ i. length (1 ∷ behind_gate FORMAT n (sym is_text.1 i) (is_image.0.1 i) [])))
+          ∙ ap (λ (more : ℕ). length (1 ∷ behind_gate FORMAT n (canonical g) (image_bytes image) []) + more) replayed.ends
 
 -- ---- what a side has there
 
 module _ (bytes : List ℕ) (h : Graph) (n : ℕ) (E X : Facts) (side : IsSide bytes h n E X) where
   -- it has the format
   pub has_format : get_or bytes 1 0 ≡ FORMAT
-  has_format = ap (λ (list : List ℕ). get_or list 1 0) side.spelled
+  has_format = ap (λ (list : List ℕ). get_or list 1 0) side.spelled ∙ side.is_known
 
   behind_head : drop 10 bytes ≡ counted (canonical h) ++ (counted (image_bytes side.image) ++ side.journal)
   behind_head =
-      ap (drop 10) (side.spelled ∙ ap (λ (rest : List ℕ). 1 ∷ FORMAT ∷ rest) (parts_of (little_bytes 8 n) (counted (canonical h)) (counted (image_bytes side.image)) side.journal))
-      ∙ drop_at (1 ∷ FORMAT ∷ little_bytes 8 n) (counted (canonical h) ++ (counted (image_bytes side.image) ++ side.journal)) 10 refl
+      ap (drop 10) (side.spelled ∙ ap (λ (rest : List ℕ). 1 ∷ side.format ∷ rest) (parts_of (little_bytes 8 n) (counted (canonical h)) (counted (image_bytes side.image)) side.journal))
+      ∙ drop_at (1 ∷ side.format ∷ little_bytes 8 n) (counted (canonical h) ++ (counted (image_bytes side.image) ++ side.journal)) 10 refl
 
   -- a text that four bytes count
   pub has_text : HasNoneAt bytes 10 → ⊥
@@ -120,7 +124,7 @@ module _ (bytes : List ℕ) (h : Graph) (n : ℕ) (E X : Facts) (side : IsSide b
         is_its_image = ((side.is_image, images.0), subst (λ (graph : Graph). FitsState graph (among (image_environment side.image)) (among (image_facts side.image))) same side.image_fits)
 
         -- and a journal of commits that fit after the image
-        pub are_its_commits : SpellsOne SpellsImage → (image : Image) → IsImageOf g part image → AreCommits g image (drop (14 + length text + 4 + length part) bytes) side.commits
+        pub are_its_commits : SpellsOne (SpellsImage MAX_COMPONENTS) → (image : Image) → IsImageOf g part image → AreCommits g image (drop (14 + length text + 4 + length part) bytes) side.commits
         are_its_commits one_image image is_image = record {
           are_commits = side.are_commits;
           stands = subst (λ (journal : List ℕ). StandsFor journal (map commit_bytes side.commits)) (sym images.1) side.records;

@@ -4,25 +4,23 @@ use Rattle.std.specs.List.{AllByRecursion}
 use Rattle.std.proofs.lemmas.List.{append_assoc, append-nil, length-append, map-append, drop-drop}
 use Rattle.std.proofs.lemmas.List.Elements.{All-append, All-cons, All-head, All-nil, All-tail}
 use Rattle.std.proofs.Math.Seq.{drop-append_seam}
-use Rattle.terms.specs.declared.event.Event.{Event}
 use Rattle.terms.specs.Commits.{Commit, events_of}
-use Rattle.terms.specs.Facts.{Fact, facts, environment, event_facts, environment_facts, FactsGoOn, EnvironmentGoesOn}
+use Rattle.terms.specs.Facts.{Fact, facts, environment, FactsGoOn, EnvironmentGoesOn}
 use Rattle.terms.specs.Sets.{among, AmongBoth}
 use Rattle.codec.specs.declared.image.Image.{Image}
 use Rattle.codec.specs.Commits.{commit_bytes, IsCommit, SpellsCommit}
 use Rattle.codec.specs.Laws.{SpellsOne}
-use Rattle.codec.specs.Spelling.{SpellsEvent}
 use Rattle.codec.specs.Image.{image_facts, image_environment, facts_in, environment_in}
 use Rattle.journal.specs.Records.{StandsFor, IsShort, record_of, records}
 use Rattle.journal.specs.WholeRecords.{BeginsWith, BeginsWithNone, LeadsTo, BeginWithFirst, OneInFront, ClosedBeginsNone}
 use Rattle.graph.specs.Graph.{Graph}
-use Rattle.graph.specs.Fits.{Fits, AllFit}
+use Rattle.graph.specs.Fits.{AllFit}
 use Rattle.graph.specs.FitLaws.{AllFitInParts, EventsAsSet}
-use Rattle.sides.specs.Growth.{IsGrownBy, Grows}
 use Rattle.sides.specs.Reading.{AreCommits, IsReplayed}
 use Rattle.sides.specs.Replaying.{IsTaken, IsRefused, IsTakenTo}
 use Rattle.sides.proofs.GoesOn.{one_more, set_grown, records_more, stated_on, put_on, fit_on, events_both}
 use Rattle.sides.proofs.Once.{counted_once}
+use Rattle.terms.specs.declared.key.TheConstants.{MAX_COMPONENTS}
 
 -- ---- whole records
 
@@ -61,7 +59,7 @@ module _ (both : AmongBoth) (facts_on : FactsGoOn) (given_on : EnvironmentGoesOn
       → IsTakenTo g old new bytes (end + length (record_of payload))
   taken_more g old now new bytes payload end so_far begins next = record {
     commits = so_far.commits ++ next.commit ∷ [];
-    are_commits = one_more IsCommit so_far.commits next.commit so_far.are_commits next.spelled.0;
+    are_commits = one_more (IsCommit MAX_COMPONENTS) so_far.commits next.commit so_far.are_commits next.spelled.0;
     leads = subst (LeadsTo bytes (end + length (record_of payload)))
         (ap (λ (last : List ℕ). map commit_bytes so_far.commits ++ last ∷ []) next.spelled.1 ∙ sym (map-append commit_bytes so_far.commits (next.commit ∷ [])))
         (leads_on bytes payload end (map commit_bytes so_far.commits) so_far.leads begins);
@@ -74,16 +72,6 @@ module _ (both : AmongBoth) (facts_on : FactsGoOn) (given_on : EnvironmentGoesOn
         ∙ set_grown both (image_environment old ++ environment (events_of so_far.commits)) (environment_in now) (environment next.commit) so_far.environment fact
         ∙ ap (λ (list : List Fact). among list fact) (put_on given_on (image_environment old) so_far.commits next.commit);
   }
-
--- an event alone, as a commit
-pub alone_taken : (g : Graph) (old new : Image) (payload : List ℕ) (event : Event) → SpellsEvent payload event → Fits g (facts_in old) event → IsGrownBy event old new → IsTaken g old new payload
-alone_taken g old new payload event spelled fits grown = record {
-  commit = event ∷ [];
-  spelled = spelled;
-  fit = (fits, tt);
-  grown = subst (λ (given : List Fact). Grows given (event_facts event ++ []) old new) (sym (append-nil (environment_facts event)))
-      (subst (λ (stated : List Fact). Grows (environment_facts event) stated old new) (sym (append-nil (event_facts event))) grown);
-}
 
 -- all of them, up to a closed gate
 pub all_taken : (g : Graph) (old new : Image) (bytes : List ℕ) (end : ℕ) → IsTakenTo g old new bytes end → StandsFor (drop end bytes) [] → IsReplayed g old new bytes end
@@ -111,11 +99,11 @@ all_taken g old new bytes end so_far closes = record {
 record StandBehind (done commits : List Commit) (rest : List ℕ) : Type 0 where
   more : List Commit
   whole : commits ≡ done ++ more
-  are_commits : AllByRecursion IsCommit more
+  are_commits : AllByRecursion (IsCommit MAX_COMPONENTS) more
   stands : StandsFor rest (map commit_bytes more)
 
-module _ (each : SpellsOne SpellsCommit) where
-  stand_behind : (done commits : List Commit) (rest : List ℕ) → All IsShort (map commit_bytes done) → AllByRecursion IsCommit done → AllByRecursion IsCommit commits
+module _ (each : SpellsOne (SpellsCommit MAX_COMPONENTS)) where
+  stand_behind : (done commits : List Commit) (rest : List ℕ) → All IsShort (map commit_bytes done) → AllByRecursion (IsCommit MAX_COMPONENTS) done → AllByRecursion (IsCommit MAX_COMPONENTS) commits
       → StandsFor (records (map commit_bytes done) ++ rest) (map commit_bytes commits) → StandBehind done commits rest
   stand_behind [] commits rest short are all stands = record { more = commits; whole = refl; are_commits = all; stands = stands }
   stand_behind (d ∷ ds) [] rest short are all stands = absurd (stands.closed (ap (λ (bytes : List ℕ). get_or bytes 0 0) (sym stands.spelled)))
@@ -159,7 +147,7 @@ module _ (each : SpellsOne SpellsCommit) where
           behind : StandBehind so_far.commits commits (drop end bytes)
           behind = go_on g old now bytes end commits so_far are
 
-          by : (more : List Commit) → commits ≡ so_far.commits ++ more → AllByRecursion IsCommit more → StandsFor (drop end bytes) (map commit_bytes more) → ⊥
+          by : (more : List Commit) → commits ≡ so_far.commits ++ more → AllByRecursion (IsCommit MAX_COMPONENTS) more → StandsFor (drop end bytes) (map commit_bytes more) → ⊥
           by [] whole all stands = closes (drop end bytes) stands payload begins
           by (e ∷ es) whole all stands =
               let same : payload ≡ commit_bytes e = once (drop end bytes) payload (commit_bytes e) begins (begin (drop end bytes) (commit_bytes e) (map commit_bytes es) stands) in

@@ -17,6 +17,7 @@ use Rattle.sides.specs.declared.gate.Gate.{Gate}
 use Rattle.sides.specs.declared.gate.Gate.TheVariants.{Closed, Short, Open}
 use Rattle.sides.specs.declared.reading.Standing.{Standing}
 use Rattle.sides.specs.Side.{counted, IsOpen, HasGeneration, IsSide, end_of}
+use Rattle.terms.specs.declared.key.TheConstants.{MAX_COMPONENTS}
 
 -- what the first ten bytes of a file say of its side, or all its bytes where it has fewer
 abbrev pub Tells : Gate → List ℕ → Type 0
@@ -40,11 +41,11 @@ IsTextOf text g = Reads text g × (canonical g ≡ text)
 
 -- the bytes spell the image, and it fits the graph
 abbrev pub IsImageOf : Graph → List ℕ → Image → Type 0
-IsImageOf g bytes image = SpellsImage bytes image × FitsState g (environment_in image) (facts_in image)
+IsImageOf g bytes image = SpellsImage MAX_COMPONENTS bytes image × FitsState g (environment_in image) (facts_in image)
 
 -- the bytes stand for these commits, one a record, and each event fits after the facts of the image and the events before it
 pub record AreCommits (g : Graph) (image : Image) (bytes : List ℕ) (commits : List Commit) : Type 0 where
-  pub are_commits : AllByRecursion IsCommit commits
+  pub are_commits : AllByRecursion (IsCommit MAX_COMPONENTS) commits
   pub stands : StandsFor bytes (map commit_bytes commits)
   pub fit : AllFit g (image_facts image) (events_of commits)
 

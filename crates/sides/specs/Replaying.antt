@@ -15,22 +15,23 @@ use Rattle.sides.specs.declared.replay.Replay.{Replay}
 use Rattle.sides.specs.declared.replay.Replay.TheVariants.{Ended, Broken}
 use Rattle.sides.specs.Growth.{Grows}
 use Rattle.sides.specs.Reading.{AreCommits, IsReplayed}
+use Rattle.terms.specs.declared.key.TheConstants.{MAX_COMPONENTS}
 
 -- a payload spells a commit whose events fit after the old image, and the new image has what they state too
 pub record IsTaken (g : Graph) (old new : Image) (payload : List ℕ) : Type 0 where
   pub commit : Commit
-  pub spelled : SpellsCommit payload commit
+  pub spelled : SpellsCommit MAX_COMPONENTS payload commit
   pub fit : AllFit g (image_facts old) commit
   pub grown : Grows (environment commit) (facts commit) old new
 
 -- a payload spells no such commit
 abbrev pub IsRefused : Graph → Image → List ℕ → Type 0
-IsRefused g old payload = (commit : Commit) → SpellsCommit payload commit → AllFit g (image_facts old) commit → ⊥
+IsRefused g old payload = (commit : Commit) → SpellsCommit MAX_COMPONENTS payload commit → AllFit g (image_facts old) commit → ⊥
 
 -- a prefix of the bytes, up to this end, is records of commits that fit after the old image; the new one has what they state too
 pub record IsTakenTo (g : Graph) (old new : Image) (bytes : List ℕ) (end : ℕ) : Type 0 where
   pub commits : List Commit
-  pub are_commits : AllByRecursion IsCommit commits
+  pub are_commits : AllByRecursion (IsCommit MAX_COMPONENTS) commits
   pub leads : LeadsTo bytes end (map commit_bytes commits)
   pub fit : AllFit g (image_facts old) (events_of commits)
   pub facts : (fact : Fact) → facts_in new fact ≡ among (image_facts old ++ facts (events_of commits)) fact

@@ -14,18 +14,16 @@ use Rattle.graph.specs.Graph.{Graph}
 use Rattle.graph.specs.Canonical.{canonical}
 use Rattle.graph.specs.Reads.{Reads}
 use Rattle.graph.specs.Fits.{FitsState, AllFit}
-
--- the byte of the format
-abbrev pub FORMAT : ℕ
-FORMAT = 1
+use Rattle.terms.specs.declared.key.TheConstants.{MAX_COMPONENTS}
+use Rattle.sides.specs.declared.gate.TheConstants.{FORMAT}
 
 -- the number of the bytes, in four bytes, and then the bytes
 abbrev pub counted : List ℕ → List ℕ
 counted bytes = little_bytes 4 (length bytes) ++ bytes
 
 -- a side behind its gate: the format, the generation, the canonical text of its graph, its image and its journal
-abbrev pub behind_gate : ℕ → List ℕ → List ℕ → List ℕ → List ℕ
-behind_gate generation text image journal = FORMAT ∷ little_bytes 8 generation ++ counted text ++ counted image ++ journal
+abbrev pub behind_gate : ℕ → ℕ → List ℕ → List ℕ → List ℕ → List ℕ
+behind_gate format generation text image journal = format ∷ little_bytes 8 generation ++ counted text ++ counted image ++ journal
 
 -- the side's gate is open
 abbrev pub IsOpen : List ℕ → Type 0
@@ -36,18 +34,21 @@ abbrev pub HasGeneration : List ℕ → ℕ → Type 0
 HasGeneration bytes generation = (generation < 2 ^ 64) × ((format : ℕ) × (rest : List ℕ) × (bytes ≡ 1 ∷ format ∷ little_bytes 8 generation ++ rest))
 
 -- The open side of this generation stands for a graph and the facts X, of which the environment put E. The facts are those of its
--- image and of the events in its journal, one commit a record; each event fits. The bodies of steps play no part.
+-- image and of the events in its journal, one commit a record; each event fits. The bodies of steps play no part. Its format is one
+-- that is known.
 pub record IsSide (bytes : List ℕ) (g : Graph) (generation : ℕ) (E X : Facts) : Type 0 where
+  pub format : ℕ
+  pub is_known : format ≡ FORMAT
   pub small : generation < 2 ^ 64
   pub reads : Reads (canonical g) g
   pub image : Image
-  pub is_image : IsImage image
+  pub is_image : IsImage MAX_COMPONENTS image
   pub counted_image : length (image_bytes image) < 2 ^ 32
   pub commits : List Commit
-  pub are_commits : AllByRecursion IsCommit commits
+  pub are_commits : AllByRecursion (IsCommit MAX_COMPONENTS) commits
   pub journal : List ℕ
   pub records : StandsFor journal (map commit_bytes commits)
-  pub spelled : bytes ≡ 1 ∷ behind_gate generation (canonical g) (image_bytes image) journal
+  pub spelled : bytes ≡ 1 ∷ behind_gate format generation (canonical g) (image_bytes image) journal
   pub image_fits : FitsState g (among (image_environment image)) (among (image_facts image))
   pub events_fit : AllFit g (image_facts image) (events_of commits)
   pub environment : (fact : Fact) → E fact ≡ among (image_environment image ++ environment (events_of commits)) fact
@@ -55,7 +56,7 @@ pub record IsSide (bytes : List ℕ) (g : Graph) (generation : ℕ) (E X : Facts
 
 -- where its journal begins, and where the closed gate stands that ends it
 abbrev pub start_of : {bytes : List ℕ} {g : Graph} {generation : ℕ} {E X : Facts} → IsSide bytes g generation E X → ℕ
-start_of {g} {generation} side = length (1 ∷ behind_gate generation (canonical g) (image_bytes side.image) [])
+start_of {g} {generation} side = length (1 ∷ behind_gate side.format generation (canonical g) (image_bytes side.image) [])
 
 abbrev pub end_of : {bytes : List ℕ} {g : Graph} {generation : ℕ} {E X : Facts} → IsSide bytes g generation E X → ℕ
 end_of side = start_of side + length (records (map commit_bytes side.commits))

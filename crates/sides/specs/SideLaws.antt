@@ -14,6 +14,8 @@ use Rattle.graph.specs.Reads.{Reads}
 use Rattle.graph.specs.Fits.{AllFit, FitsState, HasOneItemEach}
 use Rattle.graph.specs.FitLaws.{SameSet}
 use Rattle.sides.specs.Side.{behind_gate, IsSide, start_of, end_of, facts_of}
+use Rattle.terms.specs.declared.key.TheConstants.{MAX_COMPONENTS}
+use Rattle.sides.specs.declared.gate.TheConstants.{FORMAT}
 
 -- from the position where its journal begins, a side's bytes are a journal of its commits
 abbrev pub HasJournal : Type 0
@@ -28,7 +30,7 @@ StaysAlike = (bytes other : List ℕ) (g : Graph) (generation : ℕ) (E X : Fact
 -- those that go on with a journal of one commit more, whose events fit, stand for what that commit leaves
 abbrev pub GrowsByCommit : Type 0
 GrowsByCommit = (bytes other : List ℕ) (g : Graph) (generation : ℕ) (E X : Facts) (side : IsSide bytes g generation E X) (commit : Commit)
-    → IsCommit commit → AllFit g (facts_of side) commit
+    → IsCommit MAX_COMPONENTS commit → AllFit g (facts_of side) commit
     → take (start_of side) other ≡ take (start_of side) bytes → StandsFor (drop (start_of side) other) (map commit_bytes side.commits ++ commit_bytes commit ∷ [])
     → (grown : IsSide other g generation (with_facts E (environment commit)) (with_facts X (facts commit))) × (end_of grown ≡ end_of side + length (record_of (commit_bytes commit)))
 
@@ -43,10 +45,10 @@ SideFits = (bytes : List ℕ) (g : Graph) (generation : ℕ) (E X : Facts) → I
 
 -- the text of a graph, an image that fits it, and a closed gate make a side without records
 abbrev pub BeginsSide : Type 0
-BeginsSide = (g : Graph) (generation : ℕ) (image : Image) → generation < 2 ^ 64 → Reads (canonical g) g → IsImage image → length (image_bytes image) < 2 ^ 32
+BeginsSide = (g : Graph) (generation : ℕ) (image : Image) → generation < 2 ^ 64 → Reads (canonical g) g → IsImage MAX_COMPONENTS image → length (image_bytes image) < 2 ^ 32
     → FitsState g (environment_in image) (facts_in image)
-    → (side : IsSide (1 ∷ behind_gate generation (canonical g) (image_bytes image) (0 ∷ [])) g generation (environment_in image) (facts_in image))
-    × (end_of side ≡ length (1 ∷ behind_gate generation (canonical g) (image_bytes image) []))
+    → (side : IsSide (1 ∷ behind_gate FORMAT generation (canonical g) (image_bytes image) (0 ∷ [])) g generation (environment_in image) (facts_in image))
+    × (end_of side ≡ length (1 ∷ behind_gate FORMAT generation (canonical g) (image_bytes image) []))
 
 -- an image whose lists are in rising order has at most one item at an address
 abbrev pub ListedOnce : Type 0

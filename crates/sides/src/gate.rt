@@ -6,8 +6,8 @@ use byteorder::{ByteOrder, LittleEndian};
 /// eight bytes of the generation.
 pub const HEAD: usize = 10;
 
-/// The byte of the format.
-pub(crate) const FORMAT: u8 = 1;
+/// The byte of the one format that is known.
+pub const FORMAT: u8 = 1;
 
 /// The gate of a side that is open. Every other byte is a closed gate.
 pub const OPEN: u8 = 1;

@@ -5,7 +5,7 @@ ghost use Rattle.sides.specs.SideLaws.{HasJournal, StaysAlike, GrowsByCommit, Si
 use codec::{spellings_of_commits, spellings_of_images};
 use graph::{fitting, one_reading};
 use journal::one_meaning;
-use terms::{facts_are_told_apart, facts_go_on, orders_are_total};
+use terms::{MAX_COMPONENTS, facts_are_told_apart, facts_go_on, orders_are_total};
 
 /// The bytes of a side stand for at most one graph, one generation and one set of facts, whatever bytes come after the gate
 /// that ends its journal.
@@ -15,8 +15,8 @@ pub fn one_meaning_of_a_side()
     ensures one_generation { OneGeneration }
     ensures rest { AnyRest }
 {
-    spellings_of_commits();
-    spellings_of_images();
+    spellings_of_commits(MAX_COMPONENTS);
+    spellings_of_images(MAX_COMPONENTS);
     one_meaning();
     one_reading();
 }

@@ -17,7 +17,7 @@ mod spelling;
 mod taking;
 
 pub use error::SideError;
-pub use gate::{Gate, HEAD, OPEN, gate_of};
+pub use gate::{FORMAT, Gate, HEAD, OPEN, gate_of};
 pub use holdings::Holdings;
 pub use law::{one_item_each, one_meaning_of_a_side, sides_go_on};
 pub use reading::{Standing, read_side};

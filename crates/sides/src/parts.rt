@@ -12,6 +12,7 @@ use byteorder::{ByteOrder, LittleEndian};
 use codec::{CodecError, decode_image, spellings_of_images};
 use graph::{Graph, GraphError, one_reading, parse_spelled, reads_without_fault};
 use std::alloc::{AllocError, Global};
+use terms::MAX_COMPONENTS;
 
 /// The number of bytes that spell a part's length, before the part.
 pub(crate) const COUNT: usize = 4;
@@ -62,8 +63,8 @@ pub(crate) fn read_image(
     ensures image { IfOk result (λ found. MatchOption found ((image : Listed) → IsImageOf graph.now bytes.now image → ⊥) (IsImageOf graph.now bytes.now)) }
     ensures numbered { IfOk result (λ found. IfSome found (λ holdings. AllByRecursion HasPutNumber holdings.items)) }
 {
-    spellings_of_images();
-    match decode_image(alloc, bytes) {
+    spellings_of_images(MAX_COMPONENTS);
+    match decode_image(alloc, bytes, MAX_COMPONENTS) {
         Ok(image) => {
             let holdings = Holdings::of_image(alloc, image)?;
             if holdings.fits(graph) {

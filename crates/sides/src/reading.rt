@@ -12,6 +12,7 @@ use crate::{Holdings, SideError};
 use codec::spellings_of_images;
 use graph::{Graph, fitting, one_reading};
 use std::alloc::Global;
+use terms::MAX_COMPONENTS;
 
 /// What the bytes of a side stand for.
 #[derive(Drop)]
@@ -36,7 +37,7 @@ pub fn read_side(alloc: Global, bytes: &[u8]) -> Result<Standing, SideError>
 {
     one_reading();
     fitting();
-    spellings_of_images();
+    spellings_of_images(MAX_COMPONENTS);
     if bytes[1] != FORMAT {
         return Err(SideError::Damaged(1));
     }

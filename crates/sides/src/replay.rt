@@ -4,11 +4,11 @@ ghost use Rattle.codec.specs.Spelling.{HasPutNumber};
 ghost use Rattle.sides.specs.Replaying.{IsTaken, IsRefused, Replays, IsNumbered, IsWithin};
 
 use crate::Holdings;
-use codec::{CodecError, decode_event, spellings_of_commits, spellings_of_events};
+use codec::{CodecError, decode_payload, spellings_of_commits};
 use graph::{Graph, fitting};
 use journal::{begins_closed, first_payload, record_length, records_lead};
 use std::alloc::{AllocError, Global};
-use terms::{facts_are_told_apart, facts_go_on};
+use terms::{Event, MAX_COMPONENTS, facts_are_told_apart, facts_go_on};
 
 /// How far the commits of a journal were taken.
 #[derive(Clone, Copy)]
@@ -34,11 +34,12 @@ pub(crate) fn take_commits(
     facts_are_told_apart();
     facts_go_on();
     fitting();
-    spellings_of_commits();
+    spellings_of_commits(MAX_COMPONENTS);
     records_lead();
+    let mut commit = Vec::new(alloc);
     let mut end = 0;
     while let Some(payload) = first_payload(&journal[end..]) {
-        if !take_commit(alloc, graph, holdings, payload)? {
+        if !take_commit(alloc, graph, holdings, &mut commit, payload)? {
             return Ok(Replay::Broken(end));
         }
         end += record_length(payload) as usize;
@@ -50,11 +51,12 @@ pub(crate) fn take_commits(
     }
 }
 
-// Takes the commit of one event that a payload spells. Returns whether the payload spells one that fits.
+// Takes the commit that a payload spells, which it reads into `commit`. Returns whether the payload spells one that fits.
 fn take_commit(
     alloc: Global,
     graph: &Graph,
     holdings: &mut Holdings,
+    commit: &mut Vec<Event>,
     payload: &[u8],
 ) -> Result<bool, AllocError>
     requires { AllByRecursion HasPutNumber holdings.old.items }
@@ -62,9 +64,9 @@ fn take_commit(
     ensures refused { IfOk result (λ taken. taken ≡ false → IsRefused graph.now holdings.old payload.now) }
     ensures numbered { IfOk result (λ taken. IsTrue taken → AllByRecursion HasPutNumber holdings.new.items) }
 {
-    spellings_of_events();
-    match decode_event(alloc, payload) {
-        Ok(event) => Ok(holdings.take(graph, &event)?),
+    spellings_of_commits(MAX_COMPONENTS);
+    match decode_payload(alloc, payload, MAX_COMPONENTS, commit) {
+        Ok(()) => Ok(holdings.take_all(graph, commit)?),
         Err(CodecError::NoMemory) => Err(AllocError),
         Err(_) => Ok(false),
     }

@@ -1,7 +1,10 @@
 ghost use Rattle.std.specs.Prelude.{◌≡◌, ◌≤◌, ◌<◌, ◌+◌, ◌^◌, ◌++◌, ◌↔◌, [], ◌∷◌, length, take, drop, IsTrue, IfOk, OnOk};
 ghost use Rattle.byteorder.specs.Endian.{little_bytes};
-ghost use Rattle.codec.specs.Spelling.{IsInOrder, IsImage, image_bytes};
+ghost use Rattle.codec.specs.Image.{IsInOrder};
+ghost use Rattle.codec.specs.Spelling.{IsImage, image_bytes};
 ghost use Rattle.sides.specs.Side.{behind_gate, counted};
+ghost use Rattle.terms.specs.declared.key.TheConstants.{MAX_COMPONENTS};
+ghost use Rattle.sides.specs.declared.gate.TheConstants.{FORMAT};
 
 use crate::gate::FORMAT;
 use crate::parts::COUNT;
@@ -24,9 +27,9 @@ pub fn spell_side(
 ) -> Result<bool, AllocError>
     requires text { length text.now < 2 ^ 32 }
     requires image { IsInOrder image.now }
-    ensures spelled { OnOk result (length (image_bytes image.now) < 2 ^ 32 → out.new.items ≡ out.old.items ++ behind_gate generation text.now (image_bytes image.now) (0 ∷ [])) }
+    ensures spelled { OnOk result (length (image_bytes image.now) < 2 ^ 32 → out.new.items ≡ out.old.items ++ behind_gate FORMAT generation text.now (image_bytes image.now) (0 ∷ [])) }
     ensures counted { IfOk result (λ counted. IsTrue counted ↔ (length (image_bytes image.now) < 2 ^ 32)) }
-    ensures in_range { OnOk result (IsImage image.now) }
+    ensures in_range { OnOk result (IsImage MAX_COMPONENTS image.now) }
 {
     put_head(out, generation)?;
     put_text(out, text)?;
@@ -61,7 +64,7 @@ fn put_image(out: &mut Vec<u8>, image: &Image) -> Result<bool, AllocError>
     requires { IsInOrder image.now }
     ensures spelled { OnOk result (length (image_bytes image.now) < 2 ^ 32 → out.new.items ≡ out.old.items ++ counted (image_bytes image.now)) }
     ensures counted { IfOk result (λ counted. IsTrue counted ↔ (length (image_bytes image.now) < 2 ^ 32)) }
-    ensures in_range { OnOk result (IsImage image.now) }
+    ensures in_range { OnOk result (IsImage MAX_COMPONENTS image.now) }
 {
     let at = out.len();
     out.extend_from_slice(&[0; COUNT])?;

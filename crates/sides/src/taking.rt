@@ -1,18 +1,37 @@
 ghost use Rattle.std.specs.Prelude.{◌≡◌, ◌↔◌, ◌≤◌, ◌<◌, IsTrue, IfOk, [], ◌∷◌, length, false, None};
 ghost use Rattle.std.specs.List.{AllByRecursion};
-ghost use Rattle.terms.specs.Facts.{tag, item, done, bad, put_fact, put_facts};
+ghost use Rattle.terms.specs.Facts.{tag, item, done, bad, put_fact, put_facts, facts, environment};
 ghost use Rattle.codec.specs.Spelling.{HasPutNumber, IsNumbered, HasFewPuts};
-ghost use Rattle.codec.specs.Image.{facts_in, environment_item, environment_tag};
+ghost use Rattle.codec.specs.Image.{image_facts, facts_in, environment_item, environment_tag};
 ghost use Rattle.terms.specs.declared.put.TheConstants.{MOST_PUTS};
-ghost use Rattle.graph.specs.Fits.{Fits, FitsAs, MayEnd, AreNew, IsAbsent, PutIsOf};
+ghost use Rattle.graph.specs.Fits.{AllFit, Fits, FitsAs, MayEnd, AreNew, IsAbsent, PutIsOf};
 ghost use Rattle.sides.specs.Growth.{Grows, IsGrownBy, PutFits};
 
 use crate::Holdings;
-use graph::Graph;
+use graph::{Graph, fitting};
 use std::alloc::AllocError;
-use terms::{Addr, Event, FaultKind, Inst, Producer, Put, Tag, facts_are_told_apart};
+use terms::{Addr, Event, FaultKind, Inst, Producer, Put, Tag, facts_are_told_apart, facts_go_on};
 
 impl Holdings {
+    /// Takes events one after another, and returns whether each fits after those before it. If one does not, or memory is
+    /// refused, what is held afterwards is unspecified.
+    pub fn take_all(&mut self, graph: &Graph, events: &[Event]) -> Result<bool, AllocError>
+        requires { AllByRecursion HasFewPuts events.now }
+        ensures fits { IfOk result (λ taken. IsTrue taken ↔ AllFit graph.now (image_facts self.old) events.now) }
+        ensures grown { IfOk result (λ taken. IsTrue taken → Grows (environment events.now) (facts events.now) self.old self.new) }
+        ensures numbered { AllByRecursion HasPutNumber self.old.items → IfOk result (λ taken. IsTrue taken → AllByRecursion HasPutNumber self.new.items) }
+    {
+        facts_are_told_apart();
+        facts_go_on();
+        fitting();
+        for event in events {
+            if !self.take(graph, event)? {
+                return Ok(false);
+            }
+        }
+        Ok(true)
+    }
+
     /// Takes an event if it fits what is held, and returns whether it fits. If it does not, or memory is refused, what is
     /// held afterwards is unspecified.
     pub fn take(&mut self, graph: &Graph, event: &Event) -> Result<bool, AllocError>

@@ -2,7 +2,7 @@ use Rattle.sides.proofs.Once.{one_meaning, any_rest, has_generation, one_generat
 use Rattle.sides.proofs.law.one_meaning_of_a_side.Goals as goal
 
 pub returns-clause-one : goal.returns-clause-one
-returns-clause-one c = one_meaning c.spellings_of_commits.ensures c.spellings_of_images.ensures.one c.one_meaning.ensures c.one_reading.ensures
+returns-clause-one c = one_meaning c.spellings_of_commits.ensures.one c.spellings_of_images.ensures.one c.one_meaning.ensures c.one_reading.ensures
 
 pub returns-clause-rest : goal.returns-clause-rest
 returns-clause-rest c = any_rest

@@ -1,6 +1,20 @@
-use Rattle.sides.proofs.Replayed.{alone_taken}
+use Rattle.std.proofs.Common.{List, subst}
+use Rattle.terms.specs.declared.event.Event.{Event}
+use Rattle.terms.specs.Facts.{facts, environment}
+use Rattle.codec.specs.Image.{image_facts}
+use Rattle.graph.specs.Fits.{AllFit}
+use Rattle.sides.specs.Growth.{Grows}
 use Rattle.sides.proofs.replay.take_commit.Goals as goal
 
-pub returns-in_ok-take-in-Ok-clause-taken : goal.returns-in_ok-take-in-Ok-clause-taken
-returns-in_ok-take-in-Ok-clause-taken c taken =
-    alone_taken c.args.graph.now c.args.holdings.now c.take.new.self c.args.payload.now c.in-Ok.event c.in-Ok.ensures.spelled (c.in_ok-take-in-Ok.ensures.fits.0 taken) (c.in_ok-take-in-Ok.ensures.grown taken)
+pub returns-in_ok-take_all-in-Ok-clause-taken : goal.returns-in_ok-take_all-in-Ok-clause-taken
+returns-in_ok-take_all-in-Ok-clause-taken c taken =
+    let old = c.args.holdings.now in
+    let new = c.take_all.new.self in
+    let all = c.in_ok-take_all-in-Ok.ensures in
+    let is = c.deref.ensures.value in
+    record {
+      commit = c.decode_payload.new.events.items;
+      spelled = c.in-Ok.ensures.spelled;
+      fit = subst (λ (events : List Event). AllFit c.args.graph.now (image_facts old) events) is (all.fits.0 taken);
+      grown = subst (λ (events : List Event). Grows (environment events) (facts events) old new) is (all.grown taken);
+    }

@@ -12,7 +12,7 @@ returns-then-not-branch-clause-commits c =
     let journal = c.args.journal.now in
     let end = c.loop-payload.end in
     let payload = c.in-Some.payload.now in
-    none_fits c.spellings_of_commits.ensures c.records_lead.ensures.begins c.records_lead.ensures.one c.records_lead.ensures.closed c.fitting.ensures.parts c.fitting.ensures.events_as_set
+    none_fits c.spellings_of_commits.ensures.one c.records_lead.ensures.begins c.records_lead.ensures.one c.records_lead.ensures.closed c.fitting.ensures.parts c.fitting.ensures.events_as_set
     c.args.graph.now c.args.holdings.now c.loop-payload.holdings journal payload end c.loop-payload.invariant.taken
     (subst (BeginsWith payload) (take_rest journal end) c.in-Some.ensures) (c.in_ok-take_commit.ensures.refused c.if-not-branch.true)
 
@@ -32,10 +32,10 @@ loop-payload-preserved c =
       numbered = c.in_ok-take_commit.ensures.numbered c.if-not-branch.false;
     }
 
-pub returns-else-begins_closed-clause-commits : goal.returns-else-begins_closed-clause-commits
-returns-else-begins_closed-clause-commits c =
+pub returns-clause-commits : goal.returns-clause-commits
+returns-clause-commits c =
     let journal = c.args.journal.now in
     let end = c.loop-payload.end in
-    none_ends c.spellings_of_commits.ensures c.records_lead.ensures.begins c.args.graph.now c.args.holdings.now c.loop-payload.holdings journal end c.loop-payload.invariant.taken
+    none_ends c.spellings_of_commits.ensures.one c.records_lead.ensures.begins c.args.graph.now c.args.holdings.now c.loop-payload.holdings journal end c.loop-payload.invariant.taken
     (subst BeginsWithNone (take_rest journal end) c.in_default.ensures)
     (λ closed. false≢true (c.if-begins_closed.ensures.1 (subst (λ (back : List ℕ). StandsFor back []) (sym (take_rest journal end)) closed)))

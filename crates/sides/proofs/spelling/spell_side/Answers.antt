@@ -1,7 +1,8 @@
 use Rattle.std.proofs.Common.{ℕ, List, [], ◌∷◌, ◌++◌, ap, ◌∙◌}
 use Rattle.byteorder.specs.Endian.{little_bytes}
 use Rattle.codec.specs.Spelling.{image_bytes}
-use Rattle.sides.specs.Side.{FORMAT, counted}
+use Rattle.sides.specs.Side.{counted}
+use Rattle.sides.specs.declared.gate.TheConstants.{FORMAT}
 use Rattle.sides.proofs.Spelled.{in_a_row}
 use Rattle.sides.proofs.spelling.spell_side.Goals as goal
 
