@@ -20,6 +20,7 @@ use Rattle.vault.specs.Store.{Holds, HasGates}
 use Rattle.vault.specs.Turned.{Rests, MayTurn}
 use Rattle.vault.proofs.Appended.{start, payloads}
 use Rattle.vault.proofs.TurnedStores.{held_rests}
+use Rattle.sides.specs.declared.gate.TheConstants.{FORMAT}
 
 -- what begins as other bytes do has a first byte where they have one
 front_there : (count : ℕ) (old bytes : List ℕ) → take (suc count) bytes ≡ take (suc count) old → old ≢ [] → bytes ≢ []
@@ -63,7 +64,7 @@ module _ {D : Type 0} (files : D → Side → File) (moment : D → ℕ) (left_a
         let live = vault.journal.side in
         written_there vault.disk (held_rests files vault g E X holds) gates new live
         (BeforeOrAfter (start journal files vault g E X holds) (holds.contents live) (payloads journal files vault g E X holds) payload)
-        (λ bytes either. front_there (length (behind_gate vault.generation (canonical g) (image_bytes holds.is_live.is_side.image) [])) (holds.contents live) bytes either.front (λ none. gates live (ap (λ (f : File). f.content) (holds.rests live) ∙ none)))
+        (λ bytes either. front_there (length (behind_gate FORMAT vault.generation (canonical g) (image_bytes holds.is_live.is_side.image) [])) (holds.contents live) bytes either.front (λ none. gates live (ap (λ (f : File). f.content) (holds.rests live) ∙ none)))
 
     -- while the other side is written
     pub gates_turned : (new : D) (side : Side) (behind : List ℕ)

@@ -10,6 +10,7 @@ use Rattle.codec.specs.Spelling.{inst_bytes, item_bytes, marked_bytes, fault_byt
 use Rattle.journal.specs.declared.journal.TheConstants.{LIMIT}
 use Rattle.sides.specs.Side.{behind_gate, counted}
 use Rattle.vault.specs.Store.{IsTooLong}
+use Rattle.sides.specs.declared.gate.TheConstants.{FORMAT}
 
 -- if each element has a byte, the bytes are at least as many as the elements
 longer : {X : Type 0} (bytes : X → List ℕ) → ((x : X) → 1 ≤ length (bytes x)) → (xs : List X) → length xs ≤ length (flat_map bytes xs)
@@ -37,11 +38,11 @@ pub record AtLeast (text : List ℕ) (image : Image) (count : ℕ) : Type 0 wher
   pub image_within : length (image_bytes image) ≤ count
 
 -- the length of a side without records, by those of its parts
-pub length-side : (generation : ℕ) (text image journal : List ℕ) → length (1 ∷ behind_gate generation text image journal) ≡ 18 + length text + length image + length journal
+pub length-side : (generation : ℕ) (text image journal : List ℕ) → length (1 ∷ behind_gate FORMAT generation text image journal) ≡ 18 + length text + length image + length journal
 length-side generation text image journal =
     omega (arith, length-append (text ++ counted image) journal, length-append text (counted image))
 
-pub side_longer : (generation : ℕ) (text : List ℕ) (image : Image) → AtLeast text image (length (1 ∷ behind_gate generation text (image_bytes image) []))
+pub side_longer : (generation : ℕ) (text : List ℕ) (image : Image) → AtLeast text image (length (1 ∷ behind_gate FORMAT generation text (image_bytes image) []))
 side_longer generation text image =
     let whole = length-side generation text (image_bytes image) [] in
     let third = length-append (fault_bytes image.fault ++ list_bytes item_bytes image.items ++ list_bytes marked_bytes image.tags) (list_bytes inst_bytes image.done) in
@@ -64,5 +65,5 @@ too_long text image longest is long generation =
     omega (arith, is, past, least.text_within, least.items_within, least.tags_within, least.done_within)
 
 -- where the journal of a side without records ends
-pub end_without_records : (generation : ℕ) (text image : List ℕ) → length (behind_gate generation text image (0 ∷ [])) ≡ length (1 ∷ behind_gate generation text image [])
+pub end_without_records : (generation : ℕ) (text image : List ℕ) → length (behind_gate FORMAT generation text image (0 ∷ [])) ≡ length (1 ∷ behind_gate FORMAT generation text image [])
 end_without_records generation text image = omega (arith, length-side generation text image (0 ∷ []), length-side generation text image [])

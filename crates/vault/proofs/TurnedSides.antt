@@ -16,6 +16,8 @@ use Rattle.vault.specs.Stands.{IsBehind, IsLive, Stands, other_side}
 use Rattle.vault.specs.Store.{new_side}
 use Rattle.vault.specs.Turned.{MayTurn}
 use Rattle.vault.proofs.GatesBytes.{not_open}
+use Rattle.terms.specs.declared.key.TheConstants.{MAX_COMPONENTS}
+use Rattle.sides.specs.declared.gate.TheConstants.{FORMAT}
 
 pub not_other : (side : Side) → side ≢ other_side side
 not_other A e = cc
@@ -35,9 +37,9 @@ behind_other contents live generation = subst (λ (s : Side). IsBehind (contents
 
 -- one side holds these facts, and the image lists them
 module _ (as_set : SideAsSet) (fits : SideFits) (begins : BeginsSide) (state_as_set : StateAsSet) (stands : StandsWithGeneration)
-    (g : Graph) (E X : Facts) (image : Image) (lists : Lists image E X) (is_image : IsImage image) (short : length (image_bytes image) < 2 ^ 32) where
+    (g : Graph) (E X : Facts) (image : Image) (lists : Lists image E X) (is_image : IsImage MAX_COMPONENTS image) (short : length (image_bytes image) < 2 ^ 32) where
   module _ (old : List ℕ) (n : ℕ) (small : n + 1 < 2 ^ 64) (side : IsSide old g n E X) where
-    pub turned_side : (new : IsSide (new_side (n + 1) (canonical g) image) g (n + 1) E X) × (end_of new ≡ length (1 ∷ behind_gate (n + 1) (canonical g) (image_bytes image) []))
+    pub turned_side : (new : IsSide (new_side (n + 1) (canonical g) image) g (n + 1) E X) × (end_of new ≡ length (1 ∷ behind_gate FORMAT (n + 1) (canonical g) (image_bytes image) []))
     turned_side =
         let begun_side = begins g (n + 1) image small side.reads is_image short
         (state_as_set g E (environment_in image) X (facts_in image) (λ fact. sym (lists.environment fact)) (λ fact. sym (lists.facts fact)) (fits old g n E X side)) in

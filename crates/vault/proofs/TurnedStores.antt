@@ -21,6 +21,8 @@ use Rattle.vault.specs.Stands.{IsBehind, Stands, other_side}
 use Rattle.vault.specs.Store.{Holds, new_side}
 use Rattle.vault.specs.Turned.{Rests, MayTurn}
 use Rattle.vault.proofs.TurnedSides.{not_other, behind_next, behind_other, turned_side, passing}
+use Rattle.terms.specs.declared.key.TheConstants.{MAX_COMPONENTS}
+use Rattle.sides.specs.declared.gate.TheConstants.{FORMAT}
 
 module _ {D : Type 0} (files : D → Side → File) where
   -- both files of a store are at rest
@@ -62,11 +64,11 @@ module _ {D : Type 0} (files : D → Side → File) where
         (subst (λ (s : Side). LiveAs s vault.generation (contents s)) is_live own))
 
   module _ (as_set : SideAsSet) (fits : SideFits) (begins : BeginsSide) (state_as_set : StateAsSet) (stands : StandsWithGeneration)
-      (old : Vault D) (g : Graph) (E X : Facts) (image : Image) (holds : Holds files old g E X) (lists : Lists image E X) (is_image : IsImage image) (short : length (image_bytes image) < 2 ^ 32)
+      (old : Vault D) (g : Graph) (E X : Facts) (image : Image) (holds : Holds files old g E X) (lists : Lists image E X) (is_image : IsImage MAX_COMPONENTS image) (short : length (image_bytes image) < 2 ^ 32)
       (small : old.generation + 1 < 2 ^ 64) where
     -- while its other side is written
     pub turning_moments : (moment : D → ℕ) (left_at : D → ℕ → Contents → Type 0) (new : D) (side : Side) → side ≡ other_side old.journal.side
-        → (behind : List ℕ) → behind ≡ behind_gate (old.generation + 1) old.text.items (image_bytes image) (0 ∷ [])
+        → (behind : List ℕ) → behind ≡ behind_gate FORMAT (old.generation + 1) old.text.items (image_bytes image) (0 ∷ [])
         → LeavesOnly moment left_at old.disk new (λ c. MayTurn (files old.disk side).content (1 ∷ behind) (c side) × OtherMayBe side (files old.disk) c)
         → LeavesOnly moment left_at old.disk new (λ c. Stands c g E X)
     turning_moments moment left_at new side is_other behind is leaves =
@@ -82,7 +84,7 @@ module _ {D : Type 0} (files : D → Side → File) where
     -- and after it was written
     pub turned_holds : (new : Vault D) → new.journal.side ≡ other_side old.journal.side → files new.disk new.journal.side ≡ at_rest (new_side (old.generation + 1) old.text.items image)
         → OtherStays new.journal.side (files old.disk) (files new.disk) → new.generation ≡ old.generation + 1
-        → new.journal.end ≡ length (1 ∷ behind_gate (old.generation + 1) old.text.items (image_bytes image) []) → new.text.items ≡ old.text.items → Holds files new g E X
+        → new.journal.end ≡ length (1 ∷ behind_gate FORMAT (old.generation + 1) old.text.items (image_bytes image) []) → new.text.items ≡ old.text.items → Holds files new g E X
     turned_holds new side written others generation end text =
         let live = old.journal.side in
         let kept : contents live ≡ holds.contents live = ap (λ (f : File). f.content) (others live (subst (λ (s : Side). live ≢ s) (sym side) (not_other live)) ∙ holds.rests live) in
@@ -91,7 +93,7 @@ module _ {D : Type 0} (files : D → Side → File) where
         holds_by new g E X contents rests (text ∙ holds.text) (other_side live) side (old.generation + 1) generation (new_side (old.generation + 1) (canonical g) image)
         (ap contents (sym side) ∙ ap (λ (f : File). f.content) written ∙ ap (λ (l : List ℕ). new_side (old.generation + 1) l image) holds.text) turned.0
         (behind_other contents live (old.generation + 1) (behind_next stands (contents live) g old.generation E X old_side))
-        (end ∙ ap (λ (l : List ℕ). length (1 ∷ behind_gate (old.generation + 1) l (image_bytes image) [])) holds.text ∙ sym turned.1)
+        (end ∙ ap (λ (l : List ℕ). length (1 ∷ behind_gate FORMAT (old.generation + 1) l (image_bytes image) [])) holds.text ∙ sym turned.1)
       where
         contents : Contents
         contents each = (files new.disk each).content

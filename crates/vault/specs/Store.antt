@@ -1,16 +1,17 @@
 -- What a vault keeps between two calls, and what its calls leave.
-use Rattle.std.specs.Prelude.{◌≡◌, ◌≢◌, ◌⊎◌, ◌+◌, ◌≤◌, ◌<◌, ◌^◌, ℕ, List, [], ◌∷◌, length, None, Result, Ok, Err}
+use Rattle.std.specs.Prelude.{◌≡◌, ◌≢◌, ◌⊎◌, ◌+◌, ◌≤◌, ◌<◌, ◌^◌, ⊤, ℕ, List, [], ◌∷◌, length, None, Result, Ok, Err}
 use Rattle.disk.specs.declared.side.Side.{Side}
 use Rattle.disk.specs.declared.side.Side.TheVariants.{A, B}
 use Rattle.disk.specs.File.{File, at_rest}
 use Rattle.disk.specs.Time.{Contents}
 use Rattle.terms.specs.Commits.{Commit}
-use Rattle.terms.specs.Facts.{facts, environment}
+use Rattle.terms.specs.Facts.{facts, environment, event_facts}
 use Rattle.terms.specs.Sets.{Facts, among, with_facts}
 use Rattle.codec.specs.declared.image.Image.{Image}
 use Rattle.codec.specs.Spelling.{image_bytes}
 use Rattle.journal.specs.declared.journal.TheConstants.{LIMIT}
 use Rattle.graph.specs.Graph.{Graph}
+use Rattle.graph.specs.Fits.{Fits}
 use Rattle.graph.specs.Canonical.{canonical}
 use Rattle.graph.specs.Reads.{Reads}
 use Rattle.sides.specs.Side.{behind_gate, end_of}
@@ -20,6 +21,7 @@ use Rattle.vault.specs.declared.opening.Recovered.{Recovered}
 use Rattle.vault.specs.declared.error.VaultError.{VaultError}
 use Rattle.vault.specs.declared.error.VaultError.TheVariants.{NotAStore, Damaged}
 use Rattle.vault.specs.Stands.{Stands, IsLive}
+use Rattle.sides.specs.declared.gate.TheConstants.{FORMAT}
 
 -- ---- sets
 
@@ -53,6 +55,11 @@ pub record IsSame {D : Type 0} (old new : Vault D) : Type 0 where
   pub text : new.text ≡ old.text
   pub halted : new.halted ≡ old.halted
 
+-- each event of a commit fits after the facts X and those of the events before it
+abbrev pub FitAfter : Graph → Facts → Commit → Type 0
+FitAfter g X [] = ⊤
+FitAfter g X (event ∷ events) = Fits g X event × FitAfter g (with_facts X (event_facts event)) events
+
 -- ---- what a crash leaves
 
 -- each file has a first byte
@@ -71,14 +78,14 @@ BComesFirst contents = (contents A ≡ []) ⊎ (contents B ≡ 0 ∷ [])
 
 -- a side of this generation, with this graph text and this image, and no record
 abbrev pub new_side : ℕ → List ℕ → Image → List ℕ
-new_side generation text image = 1 ∷ behind_gate generation text (image_bytes image) (0 ∷ [])
+new_side generation text image = 1 ∷ behind_gate FORMAT generation text (image_bytes image) (0 ∷ [])
 
 abbrev pub empty : Image
 empty = record { fault = None; items = []; tags = []; done = [] }
 
 -- the closed gate of its journal would not lie below the limit
 abbrev pub IsTooLong : ℕ → List ℕ → Image → Type 0
-IsTooLong generation text image = LIMIT ≤ length (1 ∷ behind_gate generation text (image_bytes image) [])
+IsTooLong generation text image = LIMIT ≤ length (1 ∷ behind_gate FORMAT generation text (image_bytes image) [])
 
 -- the greatest generation
 abbrev pub IsLast : ℕ → Type 0

@@ -2,6 +2,8 @@ ghost use Rattle.std.specs.Prelude.{◌≡◌, ◌≤◌, ◌+◌, ◌⊎◌, �
 ghost use Rattle.disk.specs.Time.{LeavesOnly};
 ghost use Rattle.terms.specs.Facts.{facts, environment};
 ghost use Rattle.terms.specs.Sets.{Facts, with_facts};
+ghost use Rattle.std.specs.List.{AllByRecursion};
+ghost use Rattle.codec.specs.declared.payload.TheConstants.{MOST_EVENTS};
 ghost use Rattle.codec.specs.Commits.{commit_bytes};
 ghost use Rattle.codec.specs.Spelling.{HasFewPuts};
 ghost use Rattle.journal.specs.Records.{record_of};
@@ -11,23 +13,20 @@ ghost use Rattle.graph.specs.Graph.{Graph};
 ghost use Rattle.graph.specs.Fits.{Fits};
 ghost use Rattle.vault.specs.Calls.{Halts, Appended, WritesRecord, IsFullWhere};
 ghost use Rattle.vault.specs.Opened.{contents_of};
-ghost use Rattle.vault.specs.Store.{Holds, HasGates, IsReady, StandsBeforeOrAfter};
+ghost use Rattle.vault.specs.Store.{Holds, FitAfter, HasGates, IsReady, StandsBeforeOrAfter};
 ghost use Rattle.vault.specs.declared.error.VaultError.TheVariants.{NoMemory, Full};
 
 use crate::{Vault, VaultError};
-use codec::encode_event;
+use codec::encode_payload;
 use disk::Disk;
 use graph::fitting;
 use journal::{AppendError, JournalError};
 use sides::sides_go_on;
-use terms::Event;
+use std::array;
+use terms::{Event, facts_are_told_apart};
 
 impl<D: Disk> Vault<D> {
-    /// Appends an event that fits what the store holds. After `Ok` it is acknowledged: every crash leaves it.
-    ///
-    /// The vault halts exactly if a call of the disk returned an error; then the event may be there or not. Every other
-    /// error leaves the vault and its disk as they were: `Full`, `Halted`, and `NoMemory` if memory for the event or its
-    /// record is refused.
+    /// Appends the commit of one event that fits what the store holds, as `append_all` does.
     pub fn append(&mut self, event: &Event) -> Result<(), VaultError>
         requires puts { HasFewPuts event.now }
         requires store { IsTrue D.is_honest → self.old.halted ≡ false → IsReady D.files self.old }
@@ -49,13 +48,46 @@ impl<D: Disk> Vault<D> {
         ensures full { IsFullWhere self.old.halted (LIMIT ≤ self.old.journal.end + length (record_of (commit_bytes (event.now ∷ [])))) result }
         ensures halting { Halts D.failures D.refusals self.old self.new result }
     {
+        self.append_all(array::from_ref(event))
+    }
+
+    /// Appends a commit whose events fit, one after another, what the store holds. After `Ok` it is acknowledged: every crash leaves
+    /// all of it.
+    ///
+    /// The vault halts exactly if a call of the disk returned an error; then the whole commit may be there or nothing of it.
+    /// Every other error leaves the vault and its disk as they were: `Full`, `Halted`, and `NoMemory` if memory for the commit or
+    /// its record is refused.
+    pub fn append_all(&mut self, commit: &[Event]) -> Result<(), VaultError>
+        requires some { 1 ≤ length commit.now }
+        requires few { length commit.now ≤ MOST_EVENTS }
+        requires puts { AllByRecursion HasFewPuts commit.now }
+        requires store { IsTrue D.is_honest → self.old.halted ≡ false → IsReady D.files self.old }
+
+        ensures added { IsTrue D.is_honest → (g : Graph) (E X : Facts) → Holds D.files self.old g E X → FitAfter g X commit.now
+            → OnOk result (Holds D.files self.new g (with_facts E (environment commit.now)) (with_facts X (facts commit.now))) }
+
+        // A crash at any moment of the call leaves the state before the whole commit or the state after it.
+        ensures any_moment { IsTrue D.is_honest → (g : Graph) (E X : Facts) → Holds D.files self.old g E X → FitAfter g X commit.now
+            → LeavesOnly D.moment D.left_at self.old.disk self.new.disk (StandsBeforeOrAfter g E X commit.now) }
+
+        // If each file has a first byte, a crash leaves each file one.
+        ensures gates { IsTrue D.is_honest → (g : Graph) (E X : Facts) → Holds D.files self.old g E X → HasGates (contents_of (D.files self.old.disk))
+            → LeavesOnly D.moment D.left_at self.old.disk self.new.disk HasGates }
+
+        // What it writes, how it leaves the vault, and why it is refused.
+        ensures written { IsTrue D.is_honest → WritesRecord D.files self.old self.new (record_of (commit_bytes commit.now)) result }
+        ensures appended { Appended self.old self.new (record_of (commit_bytes commit.now)) result }
+        ensures full { IsFullWhere self.old.halted (LIMIT ≤ self.old.journal.end + length (record_of (commit_bytes commit.now))) result }
+        ensures halting { Halts D.failures D.refusals self.old self.new result }
+    {
         fitting();
+        facts_are_told_apart();
         sides_go_on();
         if self.halted {
             return Err(VaultError::Halted);
         }
         self.buffer.clear();
-        encode_event(&mut self.buffer, event)?;
+        encode_payload(&mut self.buffer, commit)?;
         match self.journal.try_append(&mut self.disk, &self.buffer) {
             Ok(()) => Ok(()),
             Err(AppendError::Before(cause)) => Err(refusal(cause)),

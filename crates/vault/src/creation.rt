@@ -12,6 +12,7 @@ ghost use Rattle.vault.specs.Calls.{IsCreated, IsNew, LeavesNonEmpty};
 ghost use Rattle.vault.specs.Store.{IsCanonical, BComesFirst, disk_of, answer_of, empty, new_side};
 ghost use Rattle.vault.specs.Opened.{OnlyReads};
 ghost use Rattle.vault.specs.declared.error.VaultError.TheVariants.{Device, NoMemory, Exists};
+ghost use Rattle.sides.specs.declared.gate.TheConstants.{FORMAT};
 
 use crate::{Refused, Vault, VaultError};
 use codec::{Image, Instances, Items, Tags};
@@ -79,7 +80,7 @@ fn write_store<D: Disk>(alloc: Global, disk: &mut D, text: &[u8]) -> Result<Made
     ensures a { IsTrue D.is_honest → OnOk result (D.files disk.new A ≡ at_rest (new_side 1 text.now empty)) }
     ensures b { IsTrue D.is_honest → OnOk result (D.files disk.new B ≡ at_rest (0 ∷ [])) }
     ensures side { IfOk result (λ made. made.journal.side ≡ A) }
-    ensures end { IfOk result (λ made. made.journal.end ≡ length (1 ∷ behind_gate 1 text.now (image_bytes empty) [])) }
+    ensures end { IfOk result (λ made. made.journal.end ≡ length (1 ∷ behind_gate FORMAT 1 text.now (image_bytes empty) [])) }
     ensures text { IfOk result (λ made. made.kept.items ≡ text.now) }
     ensures begins { IsTrue D.is_honest → D.files disk.old A ≡ at_rest [] → LeavesOnly D.moment D.left_at disk.old disk.new BComesFirst }
     ensures were_empty { IsTrue D.is_honest → (side : Side) → OnOk result ((D.files disk.old side).content ≡ []) }
@@ -107,8 +108,8 @@ fn write_store<D: Disk>(alloc: Global, disk: &mut D, text: &[u8]) -> Result<Made
 // The first side of a store without facts, its gate closed.
 fn without_facts(alloc: Global, text: &[u8]) -> Result<Vec<u8>, AllocError>
     requires { length text.now < 2 ^ 32 }
-    ensures spelled { IfOk result (λ side. side.items ≡ 0 ∷ behind_gate 1 text.now (image_bytes empty) (0 ∷ [])) }
-    ensures count { IfOk result (λ side. length side.items ≡ length (1 ∷ behind_gate 1 text.now (image_bytes empty) []) + 1) }
+    ensures spelled { IfOk result (λ side. side.items ≡ 0 ∷ behind_gate FORMAT 1 text.now (image_bytes empty) (0 ∷ [])) }
+    ensures count { IfOk result (λ side. length side.items ≡ length (1 ∷ behind_gate FORMAT 1 text.now (image_bytes empty) []) + 1) }
 {
     let image = no_facts(alloc);
     let mut side = Vec::new(alloc);

@@ -11,6 +11,8 @@ ghost use Rattle.vault.specs.Stands.{Stands, other_side};
 ghost use Rattle.vault.specs.Opened.{contents_of};
 ghost use Rattle.vault.specs.Store.{Holds, HasGates, IsReady, IsLast, IsTooLong};
 ghost use Rattle.vault.specs.declared.error.VaultError.TheVariants.{NoMemory, Full};
+ghost use Rattle.terms.specs.declared.key.TheConstants.{MAX_COMPONENTS};
+ghost use Rattle.sides.specs.declared.gate.TheConstants.{FORMAT};
 
 use crate::gates::{other, write_side};
 use crate::{Vault, VaultError};
@@ -87,8 +89,8 @@ fn spell_next(
 ) -> Result<u64, VaultError>
     requires { IsListed image.now }
     ensures next { IfOk result (λ next. next ≡ generation + 1) }
-    ensures spelled { OnOk result (buffer.new.items ≡ behind_gate (generation + 1) text.now (image_bytes image.now) (0 ∷ [])) }
-    ensures in_range { OnOk result (IsImage image.now) }
+    ensures spelled { OnOk result (buffer.new.items ≡ behind_gate FORMAT (generation + 1) text.now (image_bytes image.now) (0 ∷ [])) }
+    ensures in_range { OnOk result (IsImage MAX_COMPONENTS image.now) }
     ensures short { OnOk result ((generation + 1 < 2 ^ 64) × (length (image_bytes image.now) < 2 ^ 32)) }
     ensures last { IsLast generation → IsErrOf result Full }
     ensures room { OnOk result ((IsLast generation ⊎ IsTooLong (generation + 1) text.now image.now) → ⊥) }

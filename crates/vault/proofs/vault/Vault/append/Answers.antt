@@ -1,102 +1,18 @@
-use Rattle.std.proofs.Common.{refl, ap, ◌∙◌, subst, ◌++◌, ◌∷◌, [], ◌+◌, length, List, ℕ}
-use Rattle.disk.specs.File.{at_rest, overwritten}
-use Rattle.disk.specs.Moments.{begun}
-use Rattle.codec.specs.Spelling.{event_bytes}
-use Rattle.journal.specs.Records.{record_of}
-use Rattle.journal.specs.Journal.{IsAt}
-use Rattle.vault.proofs.Appended.{alone, start, payloads, is_at, is_at_file, stands_now, moments, holds_more, event_fits}
-use Rattle.vault.proofs.FirstBytes.{gates_before, gates_appended}
-use Rattle.vault.proofs.Ready.{appended_is_ready}
+use Rattle.std.proofs.Common.{sym, subst}
+use Rattle.std.specs.Prelude.{OnOk}
+use Rattle.disk.specs.Time.{LeavesOnly}
+use Rattle.terms.specs.Commits.{Commit}
+use Rattle.terms.specs.Facts.{facts, environment}
+use Rattle.terms.specs.Sets.{with_facts}
+use Rattle.vault.specs.Store.{Holds, FitAfter, StandsBeforeOrAfter}
 use Rattle.vault.proofs.vault.Vault.append.Goals as goal
 
-pub returns-then-self-clause-any_moment : goal.returns-then-self-clause-any_moment
-returns-then-self-clause-any_moment g c honest gr E X holds fits =
-    begun g.D.Disk.moment g.D.Disk.left_at c.args.self.now.disk _ (λ contents left.
-    stands_now c.sides_go_on.ensures.journal g.D.Disk.files c.args.self.now gr E X holds (c.args.event.now ∷ []) contents ((g.met.D.Disk.at_now honest c.args.self.now.disk contents).0 left))
+pub returns-clause-added : goal.returns-clause-added
+returns-clause-added g c honest gr E X holds fits =
+    subst (λ (commit : Commit). OnOk c.append_all.result (Holds g.D.Disk.files c.append_all.new.self gr (with_facts E (environment commit)) (with_facts X (facts commit)))) c.one.ensures
+    (c.append_all.ensures.added honest gr E X holds (subst (FitAfter gr X) (sym c.one.ensures) (fits, tt)))
 
-pub returns-in_err-encode_event-clause-any_moment : goal.returns-in_err-encode_event-clause-any_moment
-returns-in_err-encode_event-clause-any_moment g c honest gr E X holds fits =
-    begun g.D.Disk.moment g.D.Disk.left_at c.args.self.now.disk _ (λ contents left.
-    stands_now c.sides_go_on.ensures.journal g.D.Disk.files c.args.self.now gr E X holds (c.args.event.now ∷ []) contents ((g.met.D.Disk.at_now honest c.args.self.now.disk contents).0 left))
-
-pub try_append-requires : goal.try_append-requires
-try_append-requires g c honest = (c.requires.store honest c.if-self.false).within
-
-pub returns-in-Err-Before-clause-any_moment : goal.returns-in-Err-Before-clause-any_moment
-returns-in-Err-Before-clause-any_moment g c honest gr E X holds fits =
-    let journal = c.sides_go_on.ensures.journal in
-    let vault = c.args.self.now in
-    let spelled = alone c.deref.result.now _ _ (event_bytes c.args.event.now) c.deref.ensures.value c.in_ok-encode_event.ensures.spelled c.clear.ensures.items in
-    moments journal g.D.Disk.files vault gr E X holds c.sides_go_on.ensures.alike c.sides_go_on.ensures.grows (c.args.event.now ∷ []) c.in_ok-encode_event.ensures.in_range (event_fits journal g.D.Disk.files vault gr E X holds c.fitting.ensures.event_as_set c.args.event.now fits) g.D.Disk.moment g.D.Disk.left_at c.try_append.new.disk c.deref.result.now spelled
-    (c.try_append.ensures.any_moment honest (start journal g.D.Disk.files vault gr E X holds) (payloads journal g.D.Disk.files vault gr E X holds) (holds.contents vault.journal.side) (holds.rests vault.journal.side) (is_at journal g.D.Disk.files vault gr E X holds))
-
-pub returns-in-Err-Within-clause-any_moment : goal.returns-in-Err-Within-clause-any_moment
-returns-in-Err-Within-clause-any_moment g c honest gr E X holds fits =
-    let journal = c.sides_go_on.ensures.journal in
-    let vault = c.args.self.now in
-    let spelled = alone c.deref.result.now _ _ (event_bytes c.args.event.now) c.deref.ensures.value c.in_ok-encode_event.ensures.spelled c.clear.ensures.items in
-    moments journal g.D.Disk.files vault gr E X holds c.sides_go_on.ensures.alike c.sides_go_on.ensures.grows (c.args.event.now ∷ []) c.in_ok-encode_event.ensures.in_range (event_fits journal g.D.Disk.files vault gr E X holds c.fitting.ensures.event_as_set c.args.event.now fits) g.D.Disk.moment g.D.Disk.left_at c.try_append.new.disk c.deref.result.now spelled
-    (c.try_append.ensures.any_moment honest (start journal g.D.Disk.files vault gr E X holds) (payloads journal g.D.Disk.files vault gr E X holds) (holds.contents vault.journal.side) (holds.rests vault.journal.side) (is_at journal g.D.Disk.files vault gr E X holds))
-
-pub returns-in-Ok-clause-any_moment : goal.returns-in-Ok-clause-any_moment
-returns-in-Ok-clause-any_moment g c honest gr E X holds fits =
-    let journal = c.sides_go_on.ensures.journal in
-    let vault = c.args.self.now in
-    let spelled = alone c.deref.result.now _ _ (event_bytes c.args.event.now) c.deref.ensures.value c.in_ok-encode_event.ensures.spelled c.clear.ensures.items in
-    moments journal g.D.Disk.files vault gr E X holds c.sides_go_on.ensures.alike c.sides_go_on.ensures.grows (c.args.event.now ∷ []) c.in_ok-encode_event.ensures.in_range (event_fits journal g.D.Disk.files vault gr E X holds c.fitting.ensures.event_as_set c.args.event.now fits) g.D.Disk.moment g.D.Disk.left_at c.try_append.new.disk c.deref.result.now spelled
-    (c.try_append.ensures.any_moment honest (start journal g.D.Disk.files vault gr E X holds) (payloads journal g.D.Disk.files vault gr E X holds) (holds.contents vault.journal.side) (holds.rests vault.journal.side) (is_at journal g.D.Disk.files vault gr E X holds))
-
-pub returns-in-Ok-clause-added : goal.returns-in-Ok-clause-added
-returns-in-Ok-clause-added g c honest gr E X holds fits =
-    let journal = c.sides_go_on.ensures.journal in
-    let vault = c.args.self.now in
-    let spelled = alone c.deref.result.now _ _ (event_bytes c.args.event.now) c.deref.ensures.value c.in_ok-encode_event.ensures.spelled c.clear.ensures.items in
-    let from = start journal g.D.Disk.files vault gr E X holds in
-    let before = payloads journal g.D.Disk.files vault gr E X holds in
-    let at = c.in-Ok.ensures.added honest from before (is_at_file journal g.D.Disk.files vault gr E X holds) in
-    holds_more journal g.D.Disk.files vault gr E X holds c.sides_go_on.ensures.alike c.sides_go_on.ensures.grows (c.args.event.now ∷ []) c.in_ok-encode_event.ensures.in_range (event_fits journal g.D.Disk.files vault gr E X holds c.fitting.ensures.event_as_set c.args.event.now fits) _
-    c.try_append.ensures.side refl refl _ (c.try_append.ensures.other honest) (c.in-Ok.ensures.file honest)
-    (subst (λ (p : List ℕ). IsAt c.try_append.new.self from (g.D.Disk.files c.try_append.new.disk vault.journal.side).content (before ++ p ∷ [])) spelled at)
-    (c.in-Ok.ensures.moved ∙ ap (λ (p : List ℕ). vault.journal.end + length (record_of p)) spelled)
-
-pub returns-then-self-clause-gates : goal.returns-then-self-clause-gates
-returns-then-self-clause-gates g c honest gr E X holds gates =
-    gates_before g.D.Disk.files g.D.Disk.moment g.D.Disk.left_at c.args.self.now gr E X holds gates (g.met.D.Disk.at_now honest)
-
-pub returns-in_err-encode_event-clause-gates : goal.returns-in_err-encode_event-clause-gates
-returns-in_err-encode_event-clause-gates g c honest gr E X holds gates =
-    gates_before g.D.Disk.files g.D.Disk.moment g.D.Disk.left_at c.args.self.now gr E X holds gates (g.met.D.Disk.at_now honest)
-
-pub returns-in-Ok-clause-gates : goal.returns-in-Ok-clause-gates
-returns-in-Ok-clause-gates g c honest gr E X holds gates =
-    let journal = c.sides_go_on.ensures.journal in
-    let vault = c.args.self.now in
-    gates_appended g.D.Disk.files g.D.Disk.moment g.D.Disk.left_at vault gr E X holds gates journal c.try_append.new.disk c.deref.result.now
-    (c.try_append.ensures.any_moment honest (start journal g.D.Disk.files vault gr E X holds) (payloads journal g.D.Disk.files vault gr E X holds) (holds.contents vault.journal.side) (holds.rests vault.journal.side) (is_at journal g.D.Disk.files vault gr E X holds))
-
-pub returns-in-Err-Before-clause-gates : goal.returns-in-Err-Before-clause-gates
-returns-in-Err-Before-clause-gates g c honest gr E X holds gates =
-    let journal = c.sides_go_on.ensures.journal in
-    let vault = c.args.self.now in
-    gates_appended g.D.Disk.files g.D.Disk.moment g.D.Disk.left_at vault gr E X holds gates journal c.try_append.new.disk c.deref.result.now
-    (c.try_append.ensures.any_moment honest (start journal g.D.Disk.files vault gr E X holds) (payloads journal g.D.Disk.files vault gr E X holds) (holds.contents vault.journal.side) (holds.rests vault.journal.side) (is_at journal g.D.Disk.files vault gr E X holds))
-
-pub returns-in-Err-Within-clause-gates : goal.returns-in-Err-Within-clause-gates
-returns-in-Err-Within-clause-gates g c honest gr E X holds gates =
-    let journal = c.sides_go_on.ensures.journal in
-    let vault = c.args.self.now in
-    gates_appended g.D.Disk.files g.D.Disk.moment g.D.Disk.left_at vault gr E X holds gates journal c.try_append.new.disk c.deref.result.now
-    (c.try_append.ensures.any_moment honest (start journal g.D.Disk.files vault gr E X holds) (payloads journal g.D.Disk.files vault gr E X holds) (holds.contents vault.journal.side) (holds.rests vault.journal.side) (is_at journal g.D.Disk.files vault gr E X holds))
-
-pub returns-in-Ok-clause-written : goal.returns-in-Ok-clause-written
-returns-in-Ok-clause-written g c honest =
-    let vault = c.args.self.now in
-    let spelled = alone c.deref.result.now _ _ (event_bytes c.args.event.now) c.deref.ensures.value c.in_ok-encode_event.ensures.spelled c.clear.ensures.items in
-    let other = c.try_append.ensures.other honest in
-    record {
-      written =
-          c.in-Ok.ensures.file honest
-          ∙ ap (λ (p : List ℕ). at_rest (overwritten (g.D.Disk.files vault.disk vault.journal.side).content vault.journal.end (record_of p ++ 0 ∷ []))) spelled;
-      other = other;
-      ready = λ working. appended_is_ready g.D.Disk.files vault _ c.deref.result.now (c.requires.store honest c.if-self.false) c.try_append.ensures.side c.in-Ok.ensures.moved (c.in-Ok.ensures.file honest) other;
-    }
+pub returns-clause-any_moment : goal.returns-clause-any_moment
+returns-clause-any_moment g c honest gr E X holds fits =
+    subst (λ (commit : Commit). LeavesOnly g.D.Disk.moment g.D.Disk.left_at c.args.self.now.disk c.append_all.new.self.disk (StandsBeforeOrAfter gr E X commit)) c.one.ensures
+    (c.append_all.ensures.any_moment honest gr E X holds (subst (FitAfter gr X) (sym c.one.ensures) (fits, tt)))

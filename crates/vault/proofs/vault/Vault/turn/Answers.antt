@@ -7,6 +7,7 @@ use Rattle.vault.proofs.FirstBytes.{gates_before, gates_turned}
 use Rattle.vault.proofs.TurnedLengths.{end_without_records}
 use Rattle.vault.proofs.TurnedStores.{held_moments, turning_moments, turned_holds}
 use Rattle.vault.proofs.vault.Vault.turn.Goals as goal
+use Rattle.sides.specs.declared.gate.TheConstants.{FORMAT}
 
 pub returns-then-self-clause-any_moment : goal.returns-then-self-clause-any_moment
 returns-then-self-clause-any_moment g c honest graph E X holds lists there =
@@ -22,7 +23,7 @@ returns-in-Ok-clause-any_moment g c honest graph E X holds lists there =
     turning_moments g.D.Disk.files c.sides_go_on.ensures.as_set c.sides_go_on.ensures.fits c.sides_go_on.ensures.begins c.fitting.ensures.state_as_set c.one_meaning_of_a_side.ensures.generation
     c.args.self.now graph E X c.args.image.now holds lists c.in_ok-generation.ensures.in_range short.1 short.0
     g.D.Disk.moment g.D.Disk.left_at c.write_side.new.disk c.other-side.result c.other-side.ensures c.deref-2.result.now
-    (c.deref-2.ensures.value ∙ c.in_ok-generation.ensures.spelled ∙ ap (λ (l : List ℕ). behind_gate (c.args.self.now.generation + 1) l (image_bytes c.args.image.now) (0 ∷ [])) c.deref.ensures.value)
+    (c.deref-2.ensures.value ∙ c.in_ok-generation.ensures.spelled ∙ ap (λ (l : List ℕ). behind_gate FORMAT (c.args.self.now.generation + 1) l (image_bytes c.args.image.now) (0 ∷ [])) c.deref.ensures.value)
     (c.write_side.ensures.any_moment honest (subst (λ (s : Side). (g.D.Disk.files c.args.self.now.disk s).content ≢ []) (sym c.other-side.ensures) there))
 
 pub returns-in-Err-clause-any_moment : goal.returns-in-Err-clause-any_moment
@@ -31,13 +32,13 @@ returns-in-Err-clause-any_moment g c honest graph E X holds lists there =
     turning_moments g.D.Disk.files c.sides_go_on.ensures.as_set c.sides_go_on.ensures.fits c.sides_go_on.ensures.begins c.fitting.ensures.state_as_set c.one_meaning_of_a_side.ensures.generation
     c.args.self.now graph E X c.args.image.now holds lists c.in_ok-generation.ensures.in_range short.1 short.0
     g.D.Disk.moment g.D.Disk.left_at c.write_side.new.disk c.other-side.result c.other-side.ensures c.deref-2.result.now
-    (c.deref-2.ensures.value ∙ c.in_ok-generation.ensures.spelled ∙ ap (λ (l : List ℕ). behind_gate (c.args.self.now.generation + 1) l (image_bytes c.args.image.now) (0 ∷ [])) c.deref.ensures.value)
+    (c.deref-2.ensures.value ∙ c.in_ok-generation.ensures.spelled ∙ ap (λ (l : List ℕ). behind_gate FORMAT (c.args.self.now.generation + 1) l (image_bytes c.args.image.now) (0 ∷ [])) c.deref.ensures.value)
     (c.write_side.ensures.any_moment honest (subst (λ (s : Side). (g.D.Disk.files c.args.self.now.disk s).content ≢ []) (sym c.other-side.ensures) there))
 
 pub returns-in-Ok-clause-turned : goal.returns-in-Ok-clause-turned
 returns-in-Ok-clause-turned g c honest graph E X holds lists =
     let short = c.in_ok-generation.ensures.short in
-    let spelled = c.deref-2.ensures.value ∙ c.in_ok-generation.ensures.spelled ∙ ap (λ (l : List ℕ). behind_gate (c.args.self.now.generation + 1) l (image_bytes c.args.image.now) (0 ∷ [])) c.deref.ensures.value in
+    let spelled = c.deref-2.ensures.value ∙ c.in_ok-generation.ensures.spelled ∙ ap (λ (l : List ℕ). behind_gate FORMAT (c.args.self.now.generation + 1) l (image_bytes c.args.image.now) (0 ∷ [])) c.deref.ensures.value in
     let long : c.len.result ≡ length c.deref-2.result.now = omega (arith, c.len.ensures, c.deref-2.ensures.len) in
     turned_holds g.D.Disk.files c.sides_go_on.ensures.as_set c.sides_go_on.ensures.fits c.sides_go_on.ensures.begins c.fitting.ensures.state_as_set c.one_meaning_of_a_side.ensures.generation
     c.args.self.now graph E X c.args.image.now holds lists c.in_ok-generation.ensures.in_range short.1 short.0 _ c.other-side.ensures
