@@ -45,6 +45,7 @@ pub mod Onward
 pub mod Operands
 pub mod Partials
 pub mod PreambleParts
+pub mod Returned
 pub mod Runs
 pub mod Sequence
 pub mod Signs

@@ -53,8 +53,7 @@ fn assigned<'a>(alloc: Global, cursor: &mut Cursor<'_, 'a>) -> Result<NamedBlock
     ensures stops { IfErr result (Stops assignment_expected (left cursor.old) (left cursor.new)) }
 {
     let variable = cursor.name()?;
-    let block = assignment(alloc, cursor, variable)?;
-    Ok(block)
+    assignment(alloc, cursor, variable)
 }
 
 // A statement that only this part has.
@@ -66,13 +65,11 @@ fn own<'a>(alloc: Global, cursor: &mut Cursor<'_, 'a>, part: Part) -> Result<Nam
     match part {
         Part::Reading => {
             cursor.keyword(Word::Get)?;
-            let block = get(alloc, cursor)?;
-            Ok(block)
+            get(alloc, cursor)
         }
         Part::Writing => {
             cursor.keyword(Word::Put)?;
-            let block = put(alloc, cursor)?;
-            Ok(block)
+            put(alloc, cursor)
         }
     }
 }

@@ -47,6 +47,5 @@ pub(crate) fn value<'a>(
     ensures fewer { OnOk result (length (left cursor.new) < length (left cursor.old)) }
     ensures stops { IfErr result (Stops (whole possible ∷ []) (left cursor.old) (left cursor.new)) }
 {
-    let tree = expression(alloc, cursor, true)?;
-    Ok(tree)
+    expression(alloc, cursor, true)
 }

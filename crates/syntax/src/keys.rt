@@ -55,8 +55,7 @@ pub(crate) fn item<'a>(alloc: Global, cursor: &mut Cursor<'_, 'a>) -> Result<Nam
     ensures fewer { OnOk result (length (left cursor.new) < length (left cursor.old)) }
     ensures stops { IfErr result (Stops (key_rest item_kind) (left cursor.old) (left cursor.new)) }
 {
-    let key = key(alloc, cursor, Symbol::CloseBracket)?;
-    Ok(key)
+    key(alloc, cursor, Symbol::CloseBracket)
 }
 
 /// A tag, after its opening bracket.
@@ -65,6 +64,5 @@ pub(crate) fn tag<'a>(alloc: Global, cursor: &mut Cursor<'_, 'a>) -> Result<Name
     ensures fewer { OnOk result (length (left cursor.new) < length (left cursor.old)) }
     ensures stops { IfErr result (Stops (key_rest tag_kind) (left cursor.old) (left cursor.new)) }
 {
-    let key = key(alloc, cursor, Symbol::Greater)?;
-    Ok(key)
+    key(alloc, cursor, Symbol::Greater)
 }

@@ -1,5 +1,6 @@
 //! Operands of expressions, and what operators make of them.
-ghost use Rattle.std.specs.Prelude.{◌≡◌, List, length, Option, IfOk};
+ghost use Rattle.std.specs.Prelude.{◌≡◌, List, length, Option, MatchOption, IfOk};
+ghost use Rattle.syntax.specs.declared.operand.Operand.TheVariants.{Kept, TooDeep};
 ghost use Rattle.syntax.specs.Grammar.{Position, Sum, Prod, Unary, Multiplication, multiplied, Addition, added, Comparison, compared};
 ghost use Rattle.syntax.specs.Tree.{IsUnary, multiplication_operator, addition_operator, comparison_operator};
 ghost use Rattle.syntax.specs.Expected.{Comparing, negated_by, product_of, sum_of, compared_of};
@@ -10,7 +11,6 @@ use std::alloc::{AllocError, Global};
 use steptree::{NamedExpression, Operator};
 
 /// An operand: its tree and its depth, or that it is too deep.
-#[derive(Drop)]
 pub(crate) enum Operand<'a> {
     Kept {
         tree: NamedExpression<'a>,
@@ -19,11 +19,30 @@ pub(crate) enum Operand<'a> {
     TooDeep,
 }
 
+impl<'a> Drop for Operand<'a> {
+    // Written by hand, so that dropping an operand is one call everywhere.
+    fn drop(self) {
+        match self {
+            Operand::Kept { tree: _, depth: _ } => {}
+            Operand::TooDeep => {}
+        }
+    }
+}
+
 /// A left operand and its operator, which wait for the right operand.
-#[derive(Drop)]
 pub(crate) struct Pending<'a> {
     pub(crate) left: Operand<'a>,
     pub(crate) operator: Operator,
+}
+
+impl<'a> Drop for Pending<'a> {
+    // Written by hand, so that dropping what waits is one call everywhere.
+    fn drop(self) {
+        let Pending {
+            left: _,
+            operator: _,
+        } = self;
+    }
 }
 
 impl<'a> Operand<'a> {
@@ -41,6 +60,16 @@ impl<'a> Operand<'a> {
                 Ok(Operand::Kept { tree, depth })
             }
             Operand::TooDeep => Ok(Operand::TooDeep),
+        }
+    }
+
+    /// The tree and the depth, unless the operand is too deep.
+    pub(crate) fn kept(self) -> Option<(NamedExpression<'a>, usize)>
+        ensures { MatchOption result (self.entry ≡ TooDeep) (λ kept. self.entry ≡ Kept kept.0 kept.1) }
+    {
+        match self {
+            Operand::Kept { tree, depth } => Some((tree, depth)),
+            Operand::TooDeep => None,
         }
     }
 }
@@ -71,14 +100,10 @@ impl<'a> Pending<'a> {
             → HoldsSum left self.entry.left → HoldsSum sum right.entry → HoldsExpr (compared left how sum) new) }
     {
         let Pending { left, operator } = self;
-        let Operand::Kept { tree: one, depth } = left else {
+        let Some((one, depth)) = left.kept() else {
             return Ok(Operand::TooDeep);
         };
-        let Operand::Kept {
-            tree: two,
-            depth: other,
-        } = right
-        else {
+        let Some((two, other)) = right.kept() else {
             return Ok(Operand::TooDeep);
         };
         if depth >= MOST_DEPTH || other >= MOST_DEPTH {

@@ -87,13 +87,11 @@ pub(crate) fn put<'a>(alloc: Global, cursor: &mut Cursor<'_, 'a>) -> Result<Name
     match cursor.front() {
         Token::Symbol(Symbol::OpenBracket) => {
             cursor.advance();
-            let block = put_item(alloc, cursor)?;
-            Ok(block)
+            put_item(alloc, cursor)
         }
         Token::Symbol(Symbol::Less) => {
             cursor.advance();
-            let block = put_tag(alloc, cursor)?;
-            Ok(block)
+            put_tag(alloc, cursor)
         }
         _ => Err(Stop::Syntax),
     }

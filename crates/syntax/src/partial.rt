@@ -79,8 +79,7 @@ impl<'a> Level<'a> {
         ensures { IfOk result (λ expression. (level : LevelRead) (prod : Prod) → IsLevel level self.old → HoldsProd prod product.entry → HoldsExpr (level_expr level prod) expression) }
     {
         let sum = sum(alloc, self.sum.take(), product)?;
-        let expression = comparison(alloc, self.comparison.take(), sum)?;
-        Ok(expression)
+        comparison(alloc, self.comparison.take(), sum)
     }
 
     /// A level before its first operand.
@@ -155,8 +154,7 @@ impl<'a> Partial<'a> {
     {
         let operand = operand.negated(alloc, self.level.negations)?;
         self.level.negations = 0;
-        let product = product(alloc, self.level.product.take(), operand)?;
-        Ok(product)
+        product(alloc, self.level.product.take(), operand)
     }
 
     /// Why the parser stops if the expression breaks off: the first limit passed within it, or else the next token.
@@ -268,8 +266,7 @@ impl<'a> Partial<'a> {
     {
         let expression = self.level.whole(alloc, product)?;
         self.level = around;
-        let product = self.product(alloc, expression)?;
-        Ok(product)
+        self.product(alloc, expression)
     }
 
     /// Takes the next token, after an operand that ends `product`, unless the expression is whole there.
@@ -331,7 +328,7 @@ impl<'a> Partial<'a> {
         ensures within { IfOk result (λ tree. (state : Expression) (expr : Expr) → self.now.first ≡ state.first → self.now.passed ≡ state.passed → HoldsExpr expr expression.entry → IsWithinLimits state expr tree) }
         ensures limits { IfErr result (λ stop. (state : Expression) (expr : Expr) → self.now.first ≡ state.first → self.now.passed ≡ state.passed → HoldsExpr expr expression.entry → TellsLimit stop (finished state expr)) }
     {
-        let Operand::Kept { tree, depth: _ } = expression else {
+        let Some((tree, _)) = expression.kept() else {
             return Err(Stop::TooLarge(self.first));
         };
         match self.passed {

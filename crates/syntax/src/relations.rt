@@ -104,8 +104,7 @@ fn item_relation<'a>(cursor: &mut Cursor<'_, 'a>, place: usize) -> Result<Relati
 {
     let item = cursor.name()?;
     cursor.sign(Symbol::CloseBracket)?;
-    let relation = behind_item(cursor, place, item)?;
-    Ok(relation)
+    behind_item(cursor, place, item)
 }
 
 // A prescription, after its first bracket.
@@ -116,8 +115,7 @@ fn tag_relation<'a>(cursor: &mut Cursor<'_, 'a>) -> Result<Relation<'a>, Stop>
 {
     let tag = cursor.name()?;
     cursor.sign(Symbol::Greater)?;
-    let relation = behind_tag(cursor, tag)?;
-    Ok(relation)
+    behind_tag(cursor, tag)
 }
 
 // What a step puts, after the bracket at `place`.

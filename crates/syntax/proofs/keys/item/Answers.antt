@@ -1,7 +1,10 @@
 use Rattle.std.proofs.Common.{refl}
 use Rattle.syntax.specs.Expected.{item}
-use Rattle.syntax.proofs.Stopping.{passed_on}
+use Rattle.syntax.proofs.Returned.{as_ok, as_err}
 use Rattle.syntax.proofs.keys.item.Goals as goal
 
-pub returns-in_err-key-clause-stops : goal.returns-in_err-key-clause-stops
-returns-in_err-key-clause-stops c = passed_on c.from_residual.result c.in_err-key.field-0.0 _ c.from_residual.ensures.1 (c.in_err-key.ensures.stops item refl)
+pub returns-clause-reads : goal.returns-clause-reads
+returns-clause-reads c = as_ok c.key.result _ _ c.key.ensures.reads (λ key read. read item refl)
+
+pub returns-clause-stops : goal.returns-clause-stops
+returns-clause-stops c = as_err c.key.result _ _ c.key.ensures.stops (λ stop stops. stops item refl)

@@ -1,9 +1,10 @@
 use Rattle.syntax.specs.Grammar.{bracketed}
 use Rattle.syntax.specs.Expected.{closed, level_expr}
+use Rattle.syntax.proofs.Returned.{as_ok}
 use Rattle.syntax.proofs.partial.Partial.close.Goals as goal
 
 pub returns : goal.returns
-returns c = λ state prod level place outer around holds.
-    c.in_ok-product.ensures (closed state level outer) (bracketed place (level_expr state.level prod))
+returns c = as_ok c.product.result _ _ c.product.ensures (λ new holds_product state prod level place outer around holds.
+    holds_product (closed state level outer) (bracketed place (level_expr state.level prod))
     (record { first = around.first; passed = around.passed; level = around.outside; outer = around.others })
-    (c.in_ok-expression.ensures state.level prod around.inner holds)
+    (c.in_ok-expression.ensures state.level prod around.inner holds))

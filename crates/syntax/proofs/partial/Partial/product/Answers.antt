@@ -1,10 +1,11 @@
 use Rattle.std.proofs.Common.{refl, subst, sym, inl, None}
 use Rattle.syntax.specs.Expected.{negated_by}
 use Rattle.syntax.specs.Partial.{WaitsInProduct}
+use Rattle.syntax.proofs.Returned.{as_ok}
 use Rattle.syntax.proofs.partial.Partial.product.Goals as goal
 
 pub returns : goal.returns
-returns c = λ state unary is holds.
+returns c = as_ok c.product.result _ _ c.product.ensures (λ new holds_product state unary is holds.
     let negated = c.in_ok-operand.ensures state.level.negations unary is.level.negations holds in (
       record {
         first = is.first;
@@ -18,5 +19,5 @@ returns c = λ state unary is holds.
         };
         outer = is.outer;
       },
-      c.in_ok-product.ensures state.level.product (negated_by state.level.negations unary) (subst (WaitsInProduct state.level.product) (sym c.take.ensures.value) is.level.product) negated,
-    )
+      holds_product state.level.product (negated_by state.level.negations unary) (subst (WaitsInProduct state.level.product) (sym c.take.ensures.value) is.level.product) negated,
+    ))
