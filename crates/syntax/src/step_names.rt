@@ -83,8 +83,7 @@ pub(crate) fn parameters<'a>(
     if no_parameters(cursor) {
         return Ok(Vec::new(alloc));
     }
-    let names = listed(alloc, cursor, MAX_COMPONENTS, Symbol::CloseRound)?;
-    Ok(names)
+    listed(alloc, cursor, MAX_COMPONENTS, Symbol::CloseRound)
 }
 
 /// The variables of a step that has `before` names before them.
@@ -102,6 +101,5 @@ pub(crate) fn variables<'a>(
         return Ok(Vec::new(alloc));
     }
     let most = MOST_NAMES.saturating_sub(before);
-    let names = listed(alloc, cursor, most, Symbol::Semicolon)?;
-    Ok(names)
+    listed(alloc, cursor, most, Symbol::Semicolon)
 }
