@@ -1,14 +1,25 @@
-//! Bytes of events and images: what they are read as, and whether encoding that gives the same bytes again.
-use crate::telling::{tell_event, tell_image};
-use codec::{CodecError, decode_event, decode_image, encode_event, encode_image};
+//! Bytes of events, payloads and images: what they are read as, and whether encoding that gives the same bytes again.
+use crate::telling::{tell_event, tell_events, tell_image};
+use codec::{
+    CodecError, decode_event, decode_image, decode_payload, encode_event, encode_image,
+    encode_payload,
+};
 use std::alloc::{AllocError, Global};
-use terms::same_event;
+use terms::{MAX_COMPONENTS, same_event};
+
+/// What bytes may spell.
+#[derive(Clone, Copy)]
+pub(crate) enum Spelled {
+    Event,
+    Payload,
+    Image,
+}
 
 /// The event that the bytes spell, or their fault. A clone of it is encoded again.
 pub(crate) fn event(alloc: Global, bytes: &[u8]) -> Result<String, AllocError> {
     let mut out = String::new(alloc);
     let mut again = Vec::new(alloc);
-    match decode_event(alloc, bytes) {
+    match decode_event(alloc, bytes, MAX_COMPONENTS) {
         Ok(event) => {
             tell_event(&mut out, &event)?;
             let clone = event.try_clone(alloc)?;
@@ -23,11 +34,27 @@ pub(crate) fn event(alloc: Global, bytes: &[u8]) -> Result<String, AllocError> {
     Ok(out)
 }
 
+/// The events of the commit that the bytes of a payload spell, or their fault.
+pub(crate) fn payload(alloc: Global, bytes: &[u8]) -> Result<String, AllocError> {
+    let mut out = String::new(alloc);
+    let mut again = Vec::new(alloc);
+    let mut commit = Vec::new(alloc);
+    match decode_payload(alloc, bytes, MAX_COMPONENTS, &mut commit) {
+        Ok(()) => {
+            tell_events(&mut out, &commit)?;
+            encode_payload(&mut again, &commit)?;
+            compare(&mut out, bytes, &again)?;
+        }
+        Err(fault) => writeln!(out, "{fault}")?,
+    }
+    Ok(out)
+}
+
 /// The image that the bytes spell, or their fault.
 pub(crate) fn image(alloc: Global, bytes: &[u8]) -> Result<String, AllocError> {
     let mut out = String::new(alloc);
     let mut again = Vec::new(alloc);
-    match decode_image(alloc, bytes) {
+    match decode_image(alloc, bytes, MAX_COMPONENTS) {
         Ok(image) => {
             tell_image(&mut out, &image)?;
             encode_image(&mut again, &image)?;
@@ -50,18 +77,24 @@ fn compare(out: &mut String, bytes: &[u8], again: &[u8]) -> Result<(), AllocErro
 pub(crate) fn beginnings(
     alloc: Global,
     bytes: &[u8],
-    are_events: bool,
+    spelled: Spelled,
 ) -> Result<String, AllocError> {
     let mut short = 0u64;
     for length in 0..bytes.len() {
-        let fault = if are_events {
-            decode_event(alloc, &bytes[..length]).err()
-        } else {
-            decode_image(alloc, &bytes[..length]).err()
-        };
-        if fault == Some(CodecError::Short) {
+        if fault_of(alloc, &bytes[..length], spelled) == Some(CodecError::Short) {
             short = short.saturating_add(1);
         }
     }
     format!(in alloc; "{short} of {} short\n", bytes.len())
+}
+
+// Why the bytes are refused, if they are.
+fn fault_of(alloc: Global, bytes: &[u8], spelled: Spelled) -> Option<CodecError> {
+    match spelled {
+        Spelled::Event => decode_event(alloc, bytes, MAX_COMPONENTS).err(),
+        Spelled::Payload => {
+            decode_payload(alloc, bytes, MAX_COMPONENTS, &mut Vec::new(alloc)).err()
+        }
+        Spelled::Image => decode_image(alloc, bytes, MAX_COMPONENTS).err(),
+    }
 }

@@ -3,7 +3,7 @@
 //! - `text NAME`, `bytes NAME`: gives the name to what stands below it
 //! - `tokens`, `parse`, `reads`, `graph`, `beginnings`, `refuses BYTES`: a graph text (`graphs`)
 //! - `run NAME`: instances of a graph's steps, with the values of what they get (`bodies`)
-//! - `event`, `image`, `short event`, `short image`: bytes that spell one (`codecs`)
+//! - `event`, `payload`, `image`, and `short event`, `short payload`, `short image`: bytes that spell one (`codecs`)
 //! - `rising KIND`: values that rise (`orders`)
 //! - `items`: calls on a map of items (`item_calls`)
 //! - `machine NAME CHOOSERS`: a story of a store in memory, once for each chooser (`states`)
@@ -17,6 +17,7 @@ use crate::{
     vaults,
 };
 use cases::{Names, texts};
+use codecs::Spelled;
 use std::alloc::{AllocError, Global};
 
 /// The result of a command with its input, with the names that a file has given.
@@ -79,9 +80,11 @@ fn answer_bytes(
     };
     match command {
         "event" => codecs::event(alloc, &bytes),
+        "payload" => codecs::payload(alloc, &bytes),
         "image" => codecs::image(alloc, &bytes),
-        "short event" => codecs::beginnings(alloc, &bytes, true),
-        "short image" => codecs::beginnings(alloc, &bytes, false),
+        "short event" => codecs::beginnings(alloc, &bytes, Spelled::Event),
+        "short payload" => codecs::beginnings(alloc, &bytes, Spelled::Payload),
+        "short image" => codecs::beginnings(alloc, &bytes, Spelled::Image),
         "first" => journals::first(alloc, &bytes),
         _ => String::from_str(alloc, "no such command\n"),
     }

@@ -1,5 +1,6 @@
-//! The laws of the crates below, each called once: they require nothing, and there is nothing to run.
+//! The laws of the crates below, each called once: there is nothing to run.
 use disk::{MemDisk, laws};
+use terms::MAX_COMPONENTS;
 
 /// Calls each law.
 pub(crate) fn hold() {
@@ -21,9 +22,16 @@ fn names_hold() {
     terms::puts_are_stated();
     terms::equals_are_one();
     terms::examples_of_facts();
-    codec::spellings_of_commits();
-    codec::spellings_of_events();
-    codec::spellings_of_images();
+    bytes_hold();
+}
+
+// For each greatest number of components.
+fn bytes_hold() {
+    for most in 0..=MAX_COMPONENTS {
+        codec::spellings_of_events(most);
+        codec::spellings_of_commits(most);
+        codec::spellings_of_images(most);
+    }
 }
 
 fn bodies_hold() {

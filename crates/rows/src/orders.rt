@@ -7,7 +7,7 @@ use crate::bytes::bytes_of;
 use cases::Names;
 use codec::{decode_event, decode_image};
 use std::alloc::{AllocError, Global};
-use terms::{Addr, Event, Inst, Producer, Put, Tag};
+use terms::{Addr, Event, Inst, MAX_COMPONENTS, Producer, Put, Tag};
 
 /// Whether the values of the lines rise.
 pub(crate) fn answer(
@@ -47,7 +47,7 @@ struct Values {
 
 impl Values {
     fn take_event(&mut self, alloc: Global, bytes: &[u8]) -> Result<(), AllocError> {
-        match decode_event(alloc, bytes) {
+        match decode_event(alloc, bytes, MAX_COMPONENTS) {
             Ok(Event::EnvItem(address, _)) => self.addresses.push(address)?,
             Ok(Event::EnvTag(tag)) => self.tags.push(tag)?,
             Ok(Event::Done(instance, puts)) => {
@@ -60,7 +60,7 @@ impl Values {
     }
 
     fn take_image(&mut self, alloc: Global, bytes: &[u8]) -> Result<(), AllocError> {
-        if let Ok(image) = decode_image(alloc, bytes) {
+        if let Ok(image) = decode_image(alloc, bytes, MAX_COMPONENTS) {
             for (_, _, producer) in image.items.as_slice() {
                 self.producers.push(*producer)?;
             }

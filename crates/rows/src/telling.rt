@@ -77,6 +77,21 @@ pub(crate) fn tell_event(out: &mut String, event: &Event) -> Result<(), AllocErr
     }
 }
 
+/// The events of a commit.
+pub(crate) fn tell_events(out: &mut String, events: &[Event]) -> Result<(), AllocError> {
+    let told = told_of(events);
+    if told.len() < events.len() {
+        write!(out, "{} events, the last ", events.len())?;
+    }
+    for (place, event) in told.iter().enumerate() {
+        if place > 0 {
+            out.push_str("; ")?;
+        }
+        tell_event(out, event)?;
+    }
+    Ok(())
+}
+
 fn tell_puts(out: &mut String, puts: &[Put]) -> Result<(), AllocError> {
     let told = told_of(puts);
     if told.len() < puts.len() {

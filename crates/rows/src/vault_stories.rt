@@ -4,7 +4,7 @@
 //! `length SIDE`, `read SIDE PLACE LENGTH`, `has SIDE BYTES`, `crash BYTES | BYTES`, `leave CHOICE`, a crash that leaves
 //! each touched byte as it was `synced`, as it was `written`, or as this number, `calls`, and those of `journals`.
 //! `fail NUMBER`: the call of the disk with this number, counted from now, fails. Calls of a store: `create NAME`,
-//! `open`, `facts`, `append BYTES`, and `turn`, which writes the image that the last `open` gave.
+//! `open`, `facts`, `append BYTES` of a payload, and `turn`, which writes the image that the last `open` gave.
 use crate::stories::World;
 use crate::{disks, vaults};
 use cases::Names;
@@ -30,7 +30,7 @@ impl World for Store {
             "create" => create(alloc, names, self, rest, told),
             "open" => vaults::open_store(alloc, self, told),
             "facts" => vaults::tell_facts(alloc, self, told),
-            "append" => vaults::append_event(alloc, names, self, rest, told),
+            "append" => vaults::append_commit(alloc, names, self, rest, told),
             "turn" => vaults::turn_over(alloc, self, told),
             "fail" if rest == "$" => vaults::fail(self, number, told),
             "fail" => vaults::fail(self, rest, told),

@@ -1,5 +1,7 @@
 //! The calls of a store.
-ghost use Rattle.std.specs.Prelude.{◌≡◌, true, false, IfOk};
+ghost use Rattle.std.specs.Prelude.{◌≡◌, ◌≤◌, true, false, length, IfOk};
+ghost use Rattle.std.specs.List.{AllByRecursion};
+ghost use Rattle.codec.specs.declared.payload.TheConstants.{MOST_EVENTS};
 ghost use Rattle.std.proofs.Props.{props};
 ghost use Rattle.codec.specs.Spelling.{HasFewPuts};
 ghost use Rattle.codec.specs.Image.{IsListed};
@@ -9,11 +11,11 @@ ghost use Rattle.vault.specs.Store.{IsCanonical, IsReady};
 use crate::bytes::bytes_of;
 use crate::telling::tell_image;
 use cases::Names;
-use codec::{Image, decode_event, decode_image, encode_image};
+use codec::{Image, decode_image, decode_payload, encode_image};
 use disk::MemDisk;
 use graph::{canonical, parse};
 use std::alloc::{AllocError, Global};
-use terms::Event;
+use terms::{Event, MAX_COMPONENTS};
 use vault::{Recovered, Refused, Vault, VaultError, create, open};
 
 /// A disk, or a store that is open on it.
@@ -151,7 +153,7 @@ pub(crate) fn tell_facts(
     told: &mut String,
 ) -> Result<World, AllocError> {
     match &world {
-        World::Open(live) => match decode_image(alloc, &live.image) {
+        World::Open(live) => match decode_image(alloc, &live.image, MAX_COMPONENTS) {
             Ok(image) => tell_image(told, &image)?,
             Err(fault) => write!(told, "{fault}")?,
         },
@@ -160,8 +162,8 @@ pub(crate) fn tell_facts(
     Ok(world)
 }
 
-/// Appends the event that these bytes spell.
-pub(crate) fn append_event(
+/// Appends the commit that these bytes of a payload spell: one event, or several.
+pub(crate) fn append_commit(
     alloc: Global,
     names: &Names,
     world: World,
@@ -169,24 +171,33 @@ pub(crate) fn append_event(
     told: &mut String,
 ) -> Result<World, AllocError> {
     let bytes = bytes_of(alloc, names, text)?.unwrap_or(Vec::new(alloc));
-    match (world, decode_event(alloc, &bytes)) {
-        (World::Open(live), Ok(event)) => {
-            let (live, error) = appended(live, &event);
+    let mut commit = Vec::new(alloc);
+    let read = decode_payload(alloc, &bytes, MAX_COMPONENTS, &mut commit);
+    match (world, read) {
+        (World::Open(live), Ok(())) => {
+            let (live, error) = appended(live, &commit);
             tell_answer(&live, error, "appended", told)?;
             Ok(World::Open(live))
         }
         (world, _) => {
-            told.push_str("not open, or no event")?;
+            told.push_str("not open, or no commit")?;
             Ok(world)
         }
     }
 }
 
-fn appended(live: Live, event: &Event) -> (Live, Option<VaultError>)
-    requires { HasFewPuts event.now }
+fn appended(live: Live, commit: &[Event]) -> (Live, Option<VaultError>)
+    requires some { 1 ≤ length commit.now }
+    requires few { length commit.now ≤ MOST_EVENTS }
+    requires puts { AllByRecursion HasFewPuts commit.now }
 {
     let Live { mut vault, image } = live;
-    match vault.append(event) {
+    let result = if commit.len() == 1 {
+        vault.append(&commit[0])
+    } else {
+        vault.append_all(commit)
+    };
+    match result {
         Ok(()) => (Live { vault, image }, None),
         Err(error) => (Live { vault, image }, Some(error)),
     }
@@ -218,7 +229,7 @@ pub(crate) fn turn_over(
 // The result of a turnover, if the bytes of the image can be read again.
 fn turned(alloc: Global, live: Live) -> (Live, Option<Result<u64, VaultError>>) {
     let Live { mut vault, image } = live;
-    let answer = match decode_image(alloc, &image) {
+    let answer = match decode_image(alloc, &image, MAX_COMPONENTS) {
         Ok(listed) => Some(vault.turn(&listed)),
         Err(_) => None,
     };
