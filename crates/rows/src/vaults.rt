@@ -6,7 +6,8 @@ ghost use Rattle.std.proofs.Props.{props};
 ghost use Rattle.codec.specs.Spelling.{HasFewPuts};
 ghost use Rattle.codec.specs.Image.{IsListed};
 ghost use Rattle.disk.specs.MemDisk.{files_of};
-ghost use Rattle.vault.specs.Store.{IsCanonical, IsReady};
+ghost use Rattle.sides.specs.Reading.{IsCanonical};
+ghost use Rattle.vault.specs.Store.{IsReady};
 
 use crate::bytes::bytes_of;
 use crate::telling::tell_image;

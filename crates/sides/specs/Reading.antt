@@ -39,6 +39,10 @@ HasNoneAt bytes at = (part rest : List ℕ) → length part < 2 ^ 32 → drop at
 abbrev pub IsTextOf : List ℕ → Graph → Type 0
 IsTextOf text g = Reads text g × (canonical g ≡ text)
 
+-- the text is the canonical text of some graph, and reads as it
+abbrev pub IsCanonical : List ℕ → Type 0
+IsCanonical text = (g : Graph) × IsTextOf text g
+
 -- the bytes spell the image, and it fits the graph
 abbrev pub IsImageOf : Graph → List ℕ → Image → Type 0
 IsImageOf g bytes image = SpellsImage MAX_COMPONENTS bytes image × FitsState g (environment_in image) (facts_in image)

@@ -1,7 +1,8 @@
 //! A store of Fibonacci numbers, made and filled as the environment and two instances would.
 ghost use Rattle.std.specs.Prelude.{◌≡◌, true, false, IfOk, IsTrue, OnOk};
 ghost use Rattle.codec.specs.Spelling.{HasFewPuts};
-ghost use Rattle.vault.specs.Store.{IsCanonical, IsReady};
+ghost use Rattle.sides.specs.Reading.{IsCanonical};
+ghost use Rattle.vault.specs.Store.{IsReady};
 
 use disk::Disk;
 use graph::{canonical, parse};

@@ -110,7 +110,3 @@ answer_of (Err refused) = Err refused.error
 -- the error says that the files stand for nothing
 abbrev pub SaysNothing : VaultError → Type 0
 SaysNothing error = (error ≡ NotAStore) ⊎ ((side : Side) × (place : ℕ) × (error ≡ Damaged side place))
-
--- the text is the canonical text of a graph
-abbrev pub IsCanonical : List ℕ → Type 0
-IsCanonical text = (g : Graph) × Reads text g × (text ≡ canonical g)

@@ -1,4 +1,4 @@
-use Rattle.std.proofs.Common.{◌≡◌, refl}
+use Rattle.std.proofs.Common.{◌≡◌, refl, sym}
 use Rattle.graph.specs.Graph.{Graph}
 use Rattle.graph.specs.Canonical.{canonical}
 use Rattle.graph.specs.Reads.{Reads}
@@ -19,7 +19,7 @@ returns-in-Ok-clause-created g c honest =
       holds = holds;
       a = c.in-Ok.ensures.a honest;
       b = c.in-Ok.ensures.b honest;
-      ready = held_is_ready files c.sides_go_on.ensures.journal _ it.0 _ _ (holds it.0 it.1 it.2);
+      ready = held_is_ready files c.sides_go_on.ensures.journal _ it.0 _ _ (holds it.0 it.1.0 (sym it.1.1));
     }
 
 pub returns-in-Err-clause-non_empty : goal.returns-in-Err-clause-non_empty
