@@ -164,8 +164,8 @@ fn created(rt: &HostRuntime, text: &str) -> Result<Core<FileDisk>, Error> {
     }
 }
 
-// The files, empty.
-fn emptied(rt: &HostRuntime) -> Result<FileDisk, Error> {
+/// The files, empty.
+pub(crate) fn emptied(rt: &HostRuntime) -> Result<FileDisk, Error> {
     fs::write(rt, "A", &[])?;
     fs::write(rt, "B", &[])?;
     Ok(FileDisk::open(rt.alloc(), rt, ".")?)
@@ -223,8 +223,8 @@ fn records(rt: &HostRuntime, tags: &[Key]) -> Result<f64, Error> {
     Ok(start.elapsed(rt)?.as_secs_f64())
 }
 
-// Writes one record, and returns where the next one begins.
-fn record(disk: &mut FileDisk, end: u64, payload: &[u8]) -> Result<u64, DiskError> {
+/// Writes one record, and returns where the next one begins.
+pub(crate) fn record(disk: &mut FileDisk, end: u64, payload: &[u8]) -> Result<u64, DiskError> {
     disk.write_at(Side::A, end.saturating_add(1), payload)?;
     disk.sync(Side::A)?;
     disk.write_at(Side::A, end, &[1])?;

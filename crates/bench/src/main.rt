@@ -9,6 +9,7 @@ mod machines;
 mod plain_disk;
 mod pools;
 mod stores;
+mod syncs;
 mod texts;
 
 use anyhow::Error;
@@ -23,7 +24,8 @@ const USAGE: &str = "usage: bench canonical FILE
        bench hub CALLS
        bench machine STEPS
        bench open RECORDS
-       bench pool STEPS";
+       bench pool STEPS
+       bench sync WRITES";
 
 fn main(rt: HostRuntime) -> Result<ExitCode, Error> {
     let words: Vec<String> = env::args(&rt)?.collect(rt.alloc())?;
@@ -39,6 +41,7 @@ fn main(rt: HostRuntime) -> Result<ExitCode, Error> {
             ("machine", Ok(count)) => return done(machines::measure(&rt, count)),
             ("open", Ok(count)) => return done(stores::measure(&rt, count)),
             ("pool", Ok(count)) => return done(pools::measure(&rt, &rt, count)),
+            ("sync", Ok(count)) => return done(syncs::measure(&rt, count)),
             _ => {}
         }
     }
