@@ -4,6 +4,7 @@ ghost use Rattle.commit.specs.Runs.{NoneRuns};
 ghost use Rattle.terms.specs.declared.key.TheConstants.{MAX_COMPONENTS};
 
 use crate::hubs::Handles;
+use crate::readings::seconds_between;
 use anyhow::{Error, bail};
 use codec::encode_event;
 use commit::{Core, RunError, Verdict};
@@ -12,13 +13,13 @@ use pool::{AlwaysGo, Driver};
 use std::alloc::Global;
 use std::fs;
 use std::io::Print;
-use std::time::Instant;
+use std::time::{Clock, Instant};
 use terms::{
     Addr, Event, Inst, ItemCollection, Key, Put, Puts, StepCollection, Tag, TagCollection,
 };
 
-/// A limit that no run meets.
-pub(crate) const LIMIT: u64 = 1_000_000_000;
+// A limit that no run meets.
+const LIMIT: u64 = 1_000_000_000;
 
 // Three graphs: each step needs nothing; each needs the one before; each needs two.
 const WIDE: &str =
@@ -101,14 +102,37 @@ pub(crate) fn report<R: Handles>(
     driver: &Driver<'_, R, AlwaysGo>,
 ) -> Result<(), Error> {
     let tags = load.tags(rt.alloc(), steps)?;
-    let core = prepared(rt, load, &tags, steps)?;
-    let start = Instant::now(rt)?;
+    compare(rt, load, &tags, steps, driver)
+}
+
+// The same for the steps with these tags.
+fn compare<R: Handles>(
+    rt: &HostRuntime,
+    load: Load,
+    tags: &[Key],
+    steps: u32,
+    driver: &Driver<'_, R, AlwaysGo>,
+) -> Result<(), Error> {
+    let core = prepared(rt, load, tags, steps)?;
+    let seconds = seconds_of(rt, core, driver)?;
+    let alone = records(rt, tags)?;
+    tell(rt, load, tags.len(), seconds, alone)
+}
+
+/// The seconds of a run of a store, in which nothing is left to do then.
+pub(crate) fn seconds_of<D: Disk + Drop + Send, C: Clock + AllocGlobal, R: Handles>(
+    rt: &C,
+    core: Core<D>,
+    driver: &Driver<'_, R, AlwaysGo>,
+) -> Result<f64, Error>
+    requires { NoneRuns core }
+{
+    let start = Instant::now(rt);
     let (core, verdict) = driver.run(rt.alloc(), core, LIMIT);
-    let seconds = start.elapsed(rt)?.as_secs_f64();
+    let end = Instant::now(rt);
     drop(core);
     is_complete(verdict)?;
-    let alone = records(rt, &tags)?;
-    tell(rt, load, tags.len(), seconds, alone)
+    seconds_between(start, end)
 }
 
 // The side of the greatest square that has at most `steps` cells.
@@ -137,8 +161,8 @@ fn tell(rt: &HostRuntime, load: Load, steps: usize, seconds: f64, alone: f64) ->
     Ok(())
 }
 
-/// Returns an error unless nothing was left to do.
-pub(crate) fn is_complete(verdict: Result<Verdict, RunError>) -> Result<(), Error> {
+// Returns an error unless nothing was left to do.
+fn is_complete(verdict: Result<Verdict, RunError>) -> Result<(), Error> {
     match verdict? {
         Verdict::Complete => Ok(()),
         other => bail!("the run ended as {other:?}"),
@@ -149,16 +173,19 @@ pub(crate) fn is_complete(verdict: Result<Verdict, RunError>) -> Result<(), Erro
 fn prepared(rt: &HostRuntime, load: Load, tags: &[Key], steps: u32) -> Result<Core<FileDisk>, Error>
     ensures { IfOk result NoneRuns }
 {
-    let items = load.items(rt.alloc(), steps)?;
-    let mut core = created(rt, load.text())?;
-    filled(&mut core, tags, &items)?;
+    let disk = emptied(rt)?;
+    let mut core = created(rt.alloc(), disk, load.text())?;
+    fill(rt.alloc(), &mut core, load, tags, steps)?;
     idle(core)
 }
 
-// A new store of a graph.
-fn created(rt: &HostRuntime, text: &str) -> Result<Core<FileDisk>, Error> {
-    let disk = emptied(rt)?;
-    match Core::create(rt.alloc(), disk, text.as_bytes()) {
+/// A new store of a graph.
+pub(crate) fn created<D: Disk + Drop>(
+    alloc: Global,
+    disk: D,
+    text: &str,
+) -> Result<Core<D>, Error> {
+    match Core::create(alloc, disk, text.as_bytes()) {
         Ok(core) => Ok(core),
         Err(refused) => bail!("no store was made: {:?}", refused.error),
     }
@@ -171,18 +198,36 @@ pub(crate) fn emptied(rt: &HostRuntime) -> Result<FileDisk, Error> {
     Ok(FileDisk::open(rt.alloc(), rt, ".")?)
 }
 
-// Puts the items, each with 0, and the tags.
-fn filled(core: &mut Core<FileDisk>, tags: &[Key], items: &[Key]) -> Result<(), Error> {
+// Puts the items of a load, and these tags.
+fn fill<D: Disk>(
+    alloc: Global,
+    core: &mut Core<D>,
+    load: Load,
+    tags: &[Key],
+    steps: u32,
+) -> Result<(), Error> {
+    let items = load.items(alloc, steps)?;
+    put_items(core, &items)?;
+    put_tags(core, tags)
+}
+
+// Puts the items, each with 0.
+fn put_items<D: Disk>(core: &mut Core<D>, items: &[Key]) -> Result<(), Error> {
     for key in items {
         put_item(core, *key)?;
     }
+    Ok(())
+}
+
+// Puts the tags.
+fn put_tags<D: Disk>(core: &mut Core<D>, tags: &[Key]) -> Result<(), Error> {
     for key in tags {
         put_tag(core, *key)?;
     }
     Ok(())
 }
 
-fn put_item(core: &mut Core<FileDisk>, key: Key) -> Result<(), Error> {
+fn put_item<D: Disk>(core: &mut Core<D>, key: Key) -> Result<(), Error> {
     let collection = ItemCollection(0);
     match core.put_item(Addr { collection, key }, 0) {
         Ok(()) => Ok(()),
@@ -211,16 +256,26 @@ pub(crate) fn idle<D: Disk + Drop>(core: Core<D>) -> Result<Core<D>, Error>
 
 // The seconds of a record for each of these steps, each with the bytes of the end of a step, and two syncs.
 fn records(rt: &HostRuntime, tags: &[Key]) -> Result<f64, Error> {
-    let mut disk = emptied(rt)?;
     let payload = payload_of(rt.alloc(), key_of(tags))?;
+    let mut disk = emptied(rt)?;
+    write_records(rt, &mut disk, tags.len(), &payload)
+}
+
+// The seconds of `count` records on an empty file.
+fn write_records(
+    rt: &HostRuntime,
+    disk: &mut FileDisk,
+    count: usize,
+    payload: &[u8],
+) -> Result<f64, Error> {
     disk.write_at(Side::A, 0, &[0])?;
     disk.sync(Side::A)?;
-    let start = Instant::now(rt)?;
+    let start = Instant::now(rt);
     let mut end = 0u64;
-    for _ in 0..tags.len() {
-        end = record(&mut disk, end, &payload)?;
+    for _ in 0..count {
+        end = record(disk, end, payload)?;
     }
-    Ok(start.elapsed(rt)?.as_secs_f64())
+    seconds_between(start, Instant::now(rt))
 }
 
 /// Writes one record, and returns where the next one begins.
@@ -235,6 +290,16 @@ pub(crate) fn record(disk: &mut FileDisk, end: u64, payload: &[u8]) -> Result<u6
 // The bytes of a record behind its gate, for the end of an instance with this key that puts one item: the length, the
 // event, and a closed gate.
 fn payload_of(alloc: Global, key: Key) -> Result<Vec<u8>, Error> {
+    let event = event_of(alloc, key)?;
+    let mut bytes = Vec::new(alloc);
+    bytes.extend_from_slice(&u32::try_from(event.len())?.to_le_bytes())?;
+    bytes.extend_from_slice(&event)?;
+    bytes.push(0)?;
+    Ok(bytes)
+}
+
+// The bytes of the event.
+fn event_of(alloc: Global, key: Key) -> Result<Vec<u8>, Error> {
     let instance = Inst {
         collection: StepCollection(0),
         key,
@@ -247,11 +312,7 @@ fn payload_of(alloc: Global, key: Key) -> Result<Vec<u8>, Error> {
     puts.push(Put::Item(address, 1))?;
     let mut event = Vec::new(alloc);
     encode_event(&mut event, &Event::Done(instance, Puts::new(puts)))?;
-    let mut bytes = Vec::new(alloc);
-    bytes.extend_from_slice(&u32::try_from(event.len())?.to_le_bytes())?;
-    bytes.extend_from_slice(&event)?;
-    bytes.push(0)?;
-    Ok(bytes)
+    Ok(event)
 }
 
 fn key_of(tags: &[Key]) -> Key {

@@ -1,4 +1,5 @@
 //! How long the evaluator takes for a number of statements.
+use crate::readings::seconds_between;
 use anyhow::Error;
 use std::alloc::{AllocError, Global};
 use std::io::Print;
@@ -19,13 +20,21 @@ pub(crate) fn measure<R: Clock + Print + AllocGlobal>(
     statements: u32,
 ) -> Result<(), Error> {
     let checked = sum(rt.alloc())?;
+    tell(rt, &checked, statements)
+}
+
+fn tell<R: Clock + Print + AllocGlobal>(
+    rt: &R,
+    checked: &Checked,
+    statements: u32,
+) -> Result<(), Error> {
     let runs = statements.div_ceil(2 * TURNS + 2);
-    let start = Instant::now(rt)?;
+    let start = Instant::now(rt);
     let mut puts = 0;
     for _ in 0..runs {
-        puts = made(rt.alloc(), &checked)?;
+        puts = made(rt.alloc(), checked)?;
     }
-    let seconds = start.elapsed(rt)?.as_secs_f64();
+    let seconds = seconds_between(start, Instant::now(rt))?;
     let count = u64::from(runs) * u64::from(2 * TURNS + 2);
     println!(rt; "{count} statements in {seconds} seconds, {puts} puts an instance")?;
     Ok(())
@@ -49,37 +58,8 @@ fn made(alloc: Global, checked: &Checked) -> Result<usize, AllocError> {
 
 // write { for b in 0 .. k { a = (a + b); } put [0] = a; }
 fn sum(alloc: Global) -> Result<Checked, AllocError> {
-    let total = Slot::new(1);
-    let turn = Slot::new(2);
-    let put = Block {
-        first: Statement::PutItem {
-            collection: ItemCollection(0),
-            components: Components::new(Vec::new(alloc)),
-            value: variable(total),
-            rest: Box::new(alloc, Block::end())?,
-        },
-    };
-    let operands = Box::new(alloc, (variable(total), variable(turn)))?;
-    let add = Block {
-        first: Statement::Assign {
-            variable: total,
-            value: Expression {
-                node: Node::Operation(Operator::Add, operands),
-            },
-            rest: Box::new(alloc, Block::end())?,
-        },
-    };
-    let write = Block {
-        first: Statement::For {
-            variable: turn,
-            from: Expression {
-                node: Node::Number(0),
-            },
-            to: variable(Slot::new(0)),
-            block: Box::new(alloc, add)?,
-            rest: Box::new(alloc, put)?,
-        },
-    };
+    let put = put_of(alloc)?;
+    let write = loop_of(alloc, put)?;
     Ok(Checked {
         names: Vec::new(alloc),
         parameters: 1,
@@ -88,6 +68,62 @@ fn sum(alloc: Global) -> Result<Checked, AllocError> {
             write,
         },
     })
+}
+
+// put [0] = a;
+fn put_of(alloc: Global) -> Result<Block, AllocError> {
+    let rest = Box::new(alloc, Block::end())?;
+    Ok(Block {
+        first: Statement::PutItem {
+            collection: ItemCollection(0),
+            components: Components::new(Vec::new(alloc)),
+            value: variable(total()),
+            rest,
+        },
+    })
+}
+
+// for b in 0 .. k { a = (a + b); }
+fn loop_of(alloc: Global, rest: Block) -> Result<Block, AllocError> {
+    let rest = Box::new(alloc, rest)?;
+    let add = add_of(alloc)?;
+    let block = Box::new(alloc, add)?;
+    Ok(Block {
+        first: Statement::For {
+            variable: turn(),
+            from: Expression {
+                node: Node::Number(0),
+            },
+            to: variable(Slot::new(0)),
+            block,
+            rest,
+        },
+    })
+}
+
+// a = (a + b);
+fn add_of(alloc: Global) -> Result<Block, AllocError> {
+    let operands = Box::new(alloc, (variable(total()), variable(turn())))?;
+    let rest = Box::new(alloc, Block::end())?;
+    Ok(Block {
+        first: Statement::Assign {
+            variable: total(),
+            value: Expression {
+                node: Node::Operation(Operator::Add, operands),
+            },
+            rest,
+        },
+    })
+}
+
+// The variable a.
+fn total() -> Slot {
+    Slot::new(1)
+}
+
+// The variable b.
+fn turn() -> Slot {
+    Slot::new(2)
 }
 
 fn variable(slot: Slot) -> Expression {

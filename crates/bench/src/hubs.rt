@@ -1,11 +1,13 @@
 //! How long the calls of a hub take on a disk in memory, compared with the same calls of a core under a lock of its own.
 ghost use Rattle.hub.specs.Whole.{IsNamedFor};
 
+use crate::cores;
+use crate::readings::seconds_between;
 use anyhow::{Error, bail};
 use commit::Core;
 use disk::{Disk, MemDisk};
 use hub::{Blank, EnvPass, Hub, Naming, cores_go, hubs_cross};
-use std::alloc::Global;
+use std::alloc::{AllocError, Global};
 use std::io::Print;
 use std::marker::Brand;
 use std::sync::{Mutex, Wait};
@@ -78,22 +80,38 @@ fn under_lock<D: Disk + Drop + Send, R: Handles>(
     threads: u8,
     count: u32,
 ) -> Result<f64, Error> {
-    let core = Mutex::new(created(rt, disk)?);
-    let shared = &core;
-    let mut firsts = Vec::new(rt.alloc());
-    for thread in 0..threads {
-        firsts.push(i64::from(thread).saturating_mul(i64::from(count)))?;
-    }
+    let core = Mutex::new(created(rt.alloc(), disk)?);
+    all_alone(rt, &core, call, threads, count)
+}
+
+// The seconds of the calls of all threads.
+fn all_alone<D: Disk + Drop + Send, R: Handles>(
+    rt: &R,
+    core: &Mutex<Core<D>>,
+    call: Call,
+    threads: u8,
+    count: u32,
+) -> Result<f64, Error> {
+    let firsts = firsts_of(rt.alloc(), threads, count)?;
     cores_go::<D>();
-    let start = Instant::now(rt)?;
+    let start = Instant::now(rt);
     let answers = thread::map_vec(
         rt,
         firsts,
-        &|first: i64| calls_alone(rt, shared, call, first, count),
+        &|first: i64| calls_alone(rt, core, call, first, count),
     )?;
-    let seconds = start.elapsed(rt)?.as_secs_f64();
+    let end = Instant::now(rt);
     are_all(answers.as_slice(), count)?;
-    Ok(seconds)
+    seconds_between(start, end)
+}
+
+// The first number of each thread.
+fn firsts_of(alloc: Global, threads: u8, count: u32) -> Result<Vec<i64>, AllocError> {
+    let mut firsts = Vec::new(alloc);
+    for thread in 0..threads {
+        firsts.push(i64::from(thread).saturating_mul(i64::from(count)))?;
+    }
+    Ok(firsts)
 }
 
 fn calls_alone<D: Disk, R: Handles>(
@@ -136,8 +154,8 @@ fn in_hub<D: Disk + Drop + Send, R: Handles>(
     threads: u8,
     count: u32,
 ) -> Result<f64, Error> {
+    let core = created(rt.alloc(), disk)?;
     let blank = Blank::new(rt.alloc(), threads, 0)?;
-    let core = created(rt, disk)?;
     hub_as::<Brand, D, R>(rt, core, blank, call, count)
 }
 
@@ -156,26 +174,54 @@ fn hub_as<J: Naming + Send + Sync, D: Disk + Drop + Send, R: Handles>(
 ) -> Result<f64, Error>
     requires { IsNamedFor D.files D.moment D.left_at D.failures D.refusals J.table J.passes J.envs J.opening J.left blank core }
 {
-    let Ok((hub, envs, _)) = Hub::<J, D>::open(rt.alloc(), core, blank) else {
-        bail!("no hub was opened")
-    };
+    let (hub, envs) = opened::<J, D>(rt.alloc(), core, blank)?;
+    all_of(rt, &hub, call, envs, count)
+}
+
+// A hub, and its passes.
+fn opened<J: Naming, D: Disk + Drop>(
+    alloc: Global,
+    core: Core<D>,
+    blank: Blank,
+) -> Result<(Hub<J, D>, Vec<EnvPass<J>>), Error>
+    requires { IsNamedFor D.files D.moment D.left_at D.failures D.refusals J.table J.passes J.envs J.opening J.left blank core }
+{
+    match Hub::<J, D>::open(alloc, core, blank) {
+        Ok((hub, envs, _)) => Ok((hub, envs)),
+        Err(_) => bail!("no hub was opened"),
+    }
+}
+
+// The seconds of the calls of all threads, each with a pass.
+fn all_of<J: Naming + Send + Sync, D: Disk + Drop + Send, R: Handles>(
+    rt: &R,
+    hub: &Hub<J, D>,
+    call: Call,
+    envs: Vec<EnvPass<J>>,
+    count: u32,
+) -> Result<f64, Error> {
+    let jobs = jobs_of(rt.alloc(), envs, count)?;
     hubs_cross::<J, D>();
-    let mut jobs = Vec::new(rt.alloc());
+    let start = Instant::now(rt);
+    let answers = thread::map_vec(rt, jobs, &|job: Job<J>| calls_of(rt, hub, call, job, count))?;
+    let end = Instant::now(rt);
+    are_all(answers.as_slice(), count)?;
+    seconds_between(start, end)
+}
+
+// The job of each thread.
+fn jobs_of<J: Naming>(
+    alloc: Global,
+    envs: Vec<EnvPass<J>>,
+    count: u32,
+) -> Result<Vec<Job<J>>, AllocError> {
+    let mut jobs = Vec::new(alloc);
     let mut first = 0i64;
     for pass in envs {
         jobs.push(Job { first, pass })?;
         first = first.saturating_add(i64::from(count));
     }
-    let shared = &hub;
-    let start = Instant::now(rt)?;
-    let answers = thread::map_vec(
-        rt,
-        jobs,
-        &|job: Job<J>| calls_of(rt, shared, call, job, count),
-    )?;
-    let seconds = start.elapsed(rt)?.as_secs_f64();
-    are_all(answers.as_slice(), count)?;
-    Ok(seconds)
+    Ok(jobs)
 }
 
 fn calls_of<J: Naming, D: Disk, R: Handles>(
@@ -203,8 +249,8 @@ fn calls_of<J: Naming, D: Disk, R: Handles>(
 // ---- without the lock
 
 fn beside<D: Disk + Drop, R: Handles>(rt: &R, disk: D, count: u32) -> Result<(), Error> {
+    let core = created(rt.alloc(), disk)?;
     let blank = Blank::new(rt.alloc(), 1, 0)?;
-    let core = created(rt, disk)?;
     beside_as::<Brand, D, R>(rt, core, blank, count)
 }
 
@@ -217,19 +263,27 @@ fn beside_as<J: Naming, D: Disk + Drop, R: Handles>(
 ) -> Result<(), Error>
     requires { IsNamedFor D.files D.moment D.left_at D.failures D.refusals J.table J.passes J.envs J.opening J.left blank core }
 {
-    let Ok((hub, mut envs, _)) = Hub::<J, D>::open(rt.alloc(), core, blank) else {
-        bail!("no hub was opened")
-    };
-    let Some(mut pass) = envs.pop() else {
-        bail!("no pass")
-    };
+    let (hub, envs) = opened::<J, D>(rt.alloc(), core, blank)?;
+    let mut envs = envs;
+    match envs.as_mut_slice().first_mut() {
+        Some(pass) => tell_beside(rt, &hub, pass, count),
+        None => bail!("no pass"),
+    }
+}
+
+fn tell_beside<J: Naming, D: Disk, R: Handles>(
+    rt: &R,
+    hub: &Hub<J, D>,
+    pass: &mut EnvPass<J>,
+    count: u32,
+) -> Result<(), Error> {
     let one = 1e9 / f64::from(count.max(1));
-    let start = Instant::now(rt)?;
-    let events = ask_commits(&hub, &mut pass, count);
-    let commits = start.elapsed(rt)?.as_secs_f64();
-    let start = Instant::now(rt)?;
-    let asked = ask_stops(&hub, &mut pass, count);
-    let stops = start.elapsed(rt)?.as_secs_f64();
+    let start = Instant::now(rt);
+    let events = ask_commits(hub, pass, count);
+    let commits = seconds_between(start, Instant::now(rt))?;
+    let start = Instant::now(rt);
+    let asked = ask_stops(hub, pass, count);
+    let stops = seconds_between(start, Instant::now(rt))?;
     println!(rt;
         "commits: {:.1} ns ({events} told); stop_asked: {:.1} ns ({asked} yes)",
         commits * one,
@@ -258,19 +312,18 @@ fn ask_stops<J: Naming, D: Disk>(hub: &Hub<J, D>, pass: &mut EnvPass<J>, count: 
 
 // ---- a store
 
-fn created<D: Disk + Drop, R: Handles>(rt: &R, disk: D) -> Result<Core<D>, Error> {
-    match Core::create(rt.alloc(), disk, GRAPH.as_bytes()) {
-        Ok(core) => filled(core),
-        Err(refused) => bail!("no store was made: {:?}", refused.error),
-    }
+// A new store with its items.
+fn created<D: Disk + Drop>(alloc: Global, disk: D) -> Result<Core<D>, Error> {
+    let mut core = cores::created(alloc, disk, GRAPH)?;
+    fill(&mut core)?;
+    Ok(core)
 }
 
-fn filled<D: Disk + Drop>(core: Core<D>) -> Result<Core<D>, Error> {
-    let mut core = core;
+fn fill<D: Disk>(core: &mut Core<D>) -> Result<(), Error> {
     for key in 0..HELD {
         core.put_item(out(i64::from(key)), 0)?;
     }
-    Ok(core)
+    Ok(())
 }
 
 // The address of the call with this number. An item is there for a get, and none for a put.

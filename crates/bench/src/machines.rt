@@ -8,6 +8,7 @@ ghost use Rattle.machine.specs.Legal.{IsLegal, Needs};
 ghost use Rattle.machine.specs.Machine.{facts, state_of};
 ghost use Rattle.machine.specs.Meaning.{BodyGives};
 
+use crate::readings::seconds_between;
 use anyhow::{Error, bail};
 use graph::{Graph, parse};
 use instances::Task;
@@ -37,64 +38,106 @@ step one(k) { var a; read { get a = [out: 0]; } write { } }";
 /// memory of an instance, measured by the memory of the process.
 pub(crate) fn measure(rt: &HostRuntime, steps: u32) -> Result<(), Error> {
     let graph = graph_of(rt.alloc(), TEXT)?;
-    let tagged = held(rt, &graph, steps, false)?;
-    let ended = held(rt, &graph, steps, true)?;
-    let whole = stepping(rt, &graph, steps)?;
-    let bodies = running(rt, &graph, steps)?;
+    compare(rt, &graph, steps)?;
+    let graph = graph_of(rt.alloc(), WAITING)?;
+    tell_waking(rt, &graph, steps / 10)?;
+    tell_waking(rt, &graph, steps)
+}
+
+// Prints what the steps take, and the maps.
+fn compare(rt: &HostRuntime, graph: &Arc<Graph>, steps: u32) -> Result<(), Error> {
+    let tagged = held(rt, graph, steps, false)?;
+    let ended = held(rt, graph, steps, true)?;
+    let whole = stepping(rt, graph, steps)?;
+    let bodies = running(rt, graph, steps)?;
     let tree = in_tree(rt, steps)?;
     let hashed = in_hash(rt, steps)?;
-    let one = 1e6 / f64::from(steps.max(1));
     println!(rt; "{steps} steps")?;
     println!(rt;
         "bytes: a ready instance and its tag {tagged}, a done one, its tag and its item {ended}"
     )?;
+    let one = 1e6 / f64::from(steps.max(1));
+    tell_steps(rt, one, whole, bodies)?;
+    tell_maps(rt, one, tree, hashed)?;
+    tell_ratios(rt, whole - bodies, tree, hashed)
+}
+
+// Prints what a step takes, and its body.
+fn tell_steps<R: Print>(rt: &R, one: f64, whole: f64, bodies: f64) -> Result<(), Error> {
     println!(rt;
         "steps {:.3} µs, their bodies {:.3} µs",
         whole * one,
         bodies * one
     )?;
+    Ok(())
+}
+
+// Prints what the puts and look-ups of a step take in maps.
+fn tell_maps<R: Print>(rt: &R, one: f64, tree: f64, hashed: f64) -> Result<(), Error> {
     println!(rt;
         "BTreeMap {:.3} µs, HashMap {:.3} µs",
         tree * one,
         hashed * one
     )?;
+    Ok(())
+}
+
+// Prints how many times as long as the maps the steps take without their bodies.
+fn tell_ratios<R: Print>(rt: &R, alone: f64, tree: f64, hashed: f64) -> Result<(), Error> {
     println!(rt;
         "steps without bodies: {:.2} BTreeMaps, {:.2} HashMaps",
-        (whole - bodies) / tree,
-        (whole - bodies) / hashed
+        alone / tree,
+        alone / hashed
     )?;
-    let graph = graph_of(rt.alloc(), WAITING)?;
-    for waiting in [steps / 10, steps] {
-        let seconds = waking(rt, &graph, waiting)?;
-        let one = 1e6 / f64::from(waiting.max(1));
-        println!(rt; "{waiting} woken by one put, {:.3} µs each", seconds * one)?;
-    }
+    Ok(())
+}
+
+// Prints what the put of an item takes for each of the instances that wait for it.
+fn tell_waking(rt: &HostRuntime, graph: &Arc<Graph>, waiting: u32) -> Result<(), Error> {
+    let seconds = waking(rt, graph, waiting)?;
+    let one = 1e6 / f64::from(waiting.max(1));
+    println!(rt; "{waiting} woken by one put, {:.3} µs each", seconds * one)?;
     Ok(())
 }
 
 fn graph_of(alloc: Global, text: &str) -> Result<Arc<Graph>, Error> {
-    let Ok(graph) = parse(alloc, text.as_bytes()) else {
-        bail!("the text is no graph")
-    };
-    Ok(Arc::new(alloc, graph)?)
+    match parse(alloc, text.as_bytes()) {
+        Ok(graph) => Ok(Arc::new(alloc, graph)?),
+        Err(_) => bail!("the text is no graph"),
+    }
+}
+
+// A machine of a graph, in which nothing is there.
+fn machine_of(alloc: Global, graph: &Arc<Graph>) -> Result<Machine, AllocError> {
+    Machine::new(alloc, Arc::clone(graph)?)
 }
 
 // The bytes that the process takes for each of `steps` instances with its tag, and with its item if it is ended.
 fn held(rt: &HostRuntime, graph: &Arc<Graph>, steps: u32, ends: bool) -> Result<u64, Error> {
-    let mut machine = Machine::new(rt.alloc(), Arc::clone(graph)?)?;
+    let mut machine = machine_of(rt.alloc(), graph)?;
+    grown(rt, &mut machine, steps, ends)
+}
+
+// The bytes that the process takes for each of these instances in a machine.
+fn grown(rt: &HostRuntime, machine: &mut Machine, steps: u32, ends: bool) -> Result<u64, Error> {
     let before = resident(rt)?;
     for number in 0..steps {
-        if ends {
-            step(rt.alloc(), &mut machine, i64::from(number))?;
-        } else {
-            put_tag(&mut machine, i64::from(number))?;
-        }
+        begin(rt.alloc(), machine, i64::from(number), ends)?;
     }
     let bytes = resident(rt)?.saturating_sub(before);
     if machine.ready() > steps as usize {
         bail!("more are ready than there are")
     }
     Ok(bytes / u64::from(steps.max(1)))
+}
+
+// Puts a tag, and takes its instance to its end if it is to end.
+fn begin(alloc: Global, machine: &mut Machine, number: i64, ends: bool) -> Result<(), Error> {
+    if ends {
+        step(alloc, machine, number)
+    } else {
+        put_tag(machine, number)
+    }
 }
 
 // The bytes of memory that the process has in use.
@@ -106,17 +149,25 @@ fn resident(rt: &HostRuntime) -> Result<u64, Error> {
 
 // The seconds that the steps take, with their bodies.
 fn stepping<R: Clock + AllocGlobal>(rt: &R, graph: &Arc<Graph>, steps: u32) -> Result<f64, Error> {
-    let mut machine = Machine::new(rt.alloc(), Arc::clone(graph)?)?;
-    let start = Instant::now(rt)?;
+    let mut machine = machine_of(rt.alloc(), graph)?;
+    take_steps(rt, &mut machine, steps)
+}
+
+fn take_steps<R: Clock + AllocGlobal>(
+    rt: &R,
+    machine: &mut Machine,
+    steps: u32,
+) -> Result<f64, Error> {
+    let start = Instant::now(rt);
     for number in 0..steps {
-        step(rt.alloc(), &mut machine, i64::from(number))?;
+        step(rt.alloc(), machine, i64::from(number))?;
     }
-    Ok(start.elapsed(rt)?.as_secs_f64())
+    seconds_between(start, Instant::now(rt))
 }
 
 // The seconds that their bodies take alone.
 fn running<R: Clock + AllocGlobal>(rt: &R, graph: &Arc<Graph>, steps: u32) -> Result<f64, Error> {
-    let start = Instant::now(rt)?;
+    let start = Instant::now(rt);
     for number in 0..steps {
         let instance = Inst {
             collection: StepCollection(0),
@@ -124,7 +175,7 @@ fn running<R: Clock + AllocGlobal>(rt: &R, graph: &Arc<Graph>, steps: u32) -> Re
         };
         let _puts = run(rt.alloc(), graph, instance)?;
     }
-    Ok(start.elapsed(rt)?.as_secs_f64())
+    seconds_between(start, Instant::now(rt))
 }
 
 // Puts a tag, and takes the instance that it prescribes from its claim to its end.
@@ -215,21 +266,31 @@ fn run(alloc: Global, graph: &Graph, instance: Inst) -> Result<Option<Puts>, All
 
 // The seconds that the put of an item takes for which `waiting` instances wait.
 fn waking<R: Clock + AllocGlobal>(rt: &R, graph: &Arc<Graph>, waiting: u32) -> Result<f64, Error> {
-    let mut machine = Machine::new(rt.alloc(), Arc::clone(graph)?)?;
+    let mut machine = machine_of(rt.alloc(), graph)?;
     for number in 0..waiting {
-        put_tag(&mut machine, i64::from(number))?;
-        let Some(task) = machine.claim(0) else {
-            bail!("no instance is ready")
-        };
-        wait(rt.alloc(), &mut machine, task)?;
+        begin_waiting(rt.alloc(), &mut machine, i64::from(number))?;
     }
-    let start = Instant::now(rt)?;
-    put_item(&mut machine)?;
-    let seconds = start.elapsed(rt)?.as_secs_f64();
+    wake(rt, &mut machine, waiting)
+}
+
+// The seconds that the put of the item takes.
+fn wake<R: Clock>(rt: &R, machine: &mut Machine, waiting: u32) -> Result<f64, Error> {
+    let start = Instant::now(rt);
+    put_item(machine)?;
+    let seconds = seconds_between(start, Instant::now(rt))?;
     if machine.ready() != waiting as usize {
         bail!("not all are woken")
     }
     Ok(seconds)
+}
+
+// Puts a tag, and lets the instance that it prescribes wait.
+fn begin_waiting(alloc: Global, machine: &mut Machine, number: i64) -> Result<(), Error> {
+    put_tag(machine, number)?;
+    let Some(task) = machine.claim(0) else {
+        bail!("no instance is ready")
+    };
+    wait(alloc, machine, task)
 }
 
 // Lets an instance wait for the item that it asks for first.
@@ -286,34 +347,55 @@ fn in_tree<R: Clock + AllocGlobal>(rt: &R, steps: u32) -> Result<f64, Error> {
     let mut tags = BTreeMap::new(rt.alloc());
     let mut instances = BTreeMap::new(rt.alloc());
     let mut items = BTreeMap::new(rt.alloc());
-    let start = Instant::now(rt)?;
+    fill_tree(rt, &mut tags, &mut instances, &mut items, steps)
+}
+
+fn fill_tree<R: Clock>(
+    rt: &R,
+    tags: &mut BTreeMap<Tag, bool>,
+    instances: &mut BTreeMap<Inst, u8>,
+    items: &mut BTreeMap<Addr, (i64, Producer)>,
+    steps: u32,
+) -> Result<f64, Error> {
+    let start = Instant::now(rt);
     for number in 0..steps {
-        let key = Key::new(&[i64::from(number)]);
-        let tag = Tag {
-            collection: TagCollection(0),
-            key,
-        };
-        let instance = Inst {
-            collection: StepCollection(0),
-            key,
-        };
-        let address = Addr {
-            collection: ItemCollection(0),
-            key,
-        };
-        if tags.get(&tag).is_none() {
-            tags.insert(tag, true)?;
-            instances.insert(instance, 0u8)?;
-        }
-        if instances.get(&instance).is_some() {
-            instances.insert(instance, 1u8)?;
-        }
-        if items.get(&address).is_none() {
-            items.insert(address, (i64::from(number), Producer::By(instance, 0)))?;
-        }
-        instances.insert(instance, 2u8)?;
+        step_in_tree(tags, instances, items, i64::from(number))?;
     }
-    Ok(start.elapsed(rt)?.as_secs_f64())
+    seconds_between(start, Instant::now(rt))
+}
+
+// The puts and look-ups of a step.
+fn step_in_tree(
+    tags: &mut BTreeMap<Tag, bool>,
+    instances: &mut BTreeMap<Inst, u8>,
+    items: &mut BTreeMap<Addr, (i64, Producer)>,
+    number: i64,
+) -> Result<(), AllocError> {
+    let key = Key::new(&[number]);
+    let tag = Tag {
+        collection: TagCollection(0),
+        key,
+    };
+    let instance = Inst {
+        collection: StepCollection(0),
+        key,
+    };
+    let address = Addr {
+        collection: ItemCollection(0),
+        key,
+    };
+    if tags.get(&tag).is_none() {
+        tags.insert(tag, true)?;
+        instances.insert(instance, 0u8)?;
+    }
+    if instances.get(&instance).is_some() {
+        instances.insert(instance, 1u8)?;
+    }
+    if items.get(&address).is_none() {
+        items.insert(address, (number, Producer::By(instance, 0)))?;
+    }
+    instances.insert(instance, 2u8)?;
+    Ok(())
 }
 
 // The same in hash maps, with keys that are only a number.
@@ -321,23 +403,44 @@ fn in_hash<R: Clock + AllocGlobal>(rt: &R, steps: u32) -> Result<f64, Error> {
     let mut tags = HashMap::new(rt.alloc());
     let mut instances = HashMap::new(rt.alloc());
     let mut items = HashMap::new(rt.alloc());
-    let start = Instant::now(rt)?;
+    fill_hash(rt, &mut tags, &mut instances, &mut items, steps)
+}
+
+fn fill_hash<R: Clock>(
+    rt: &R,
+    tags: &mut HashMap<u32, bool>,
+    instances: &mut HashMap<u32, u8>,
+    items: &mut HashMap<u32, (i64, Producer)>,
+    steps: u32,
+) -> Result<f64, Error> {
+    let start = Instant::now(rt);
     for number in 0..steps {
-        let instance = Inst {
-            collection: StepCollection(0),
-            key: Key::new(&[i64::from(number)]),
-        };
-        if tags.get(&number).is_none() {
-            tags.insert(number, true)?;
-            instances.insert(number, 0u8)?;
-        }
-        if instances.get(&number).is_some() {
-            instances.insert(number, 1u8)?;
-        }
-        if items.get(&number).is_none() {
-            items.insert(number, (i64::from(number), Producer::By(instance, 0)))?;
-        }
-        instances.insert(number, 2u8)?;
+        step_in_hash(tags, instances, items, number)?;
     }
-    Ok(start.elapsed(rt)?.as_secs_f64())
+    seconds_between(start, Instant::now(rt))
+}
+
+// The puts and look-ups of a step.
+fn step_in_hash(
+    tags: &mut HashMap<u32, bool>,
+    instances: &mut HashMap<u32, u8>,
+    items: &mut HashMap<u32, (i64, Producer)>,
+    number: u32,
+) -> Result<(), AllocError> {
+    let instance = Inst {
+        collection: StepCollection(0),
+        key: Key::new(&[i64::from(number)]),
+    };
+    if tags.get(&number).is_none() {
+        tags.insert(number, true)?;
+        instances.insert(number, 0u8)?;
+    }
+    if instances.get(&number).is_some() {
+        instances.insert(number, 1u8)?;
+    }
+    if items.get(&number).is_none() {
+        items.insert(number, (i64::from(number), Producer::By(instance, 0)))?;
+    }
+    instances.insert(number, 2u8)?;
+    Ok(())
 }

@@ -8,11 +8,13 @@ mod images;
 mod machines;
 mod plain_disk;
 mod pools;
+mod readings;
 mod stores;
 mod syncs;
 mod texts;
 
 use anyhow::Error;
+use hubs::Handles;
 use std::env;
 use std::process::ExitCode;
 
@@ -29,28 +31,49 @@ const USAGE: &str = "usage: bench canonical FILE
 
 fn main(rt: HostRuntime) -> Result<ExitCode, Error> {
     let words: Vec<String> = env::args(&rt)?.collect(rt.alloc())?;
+    asked(&rt, &rt, &words)
+}
+
+// Does what the words ask for: a command and its one argument.
+fn asked<R: Handles>(rt: &HostRuntime, threads: &R, words: &[String]) -> Result<ExitCode, Error> {
     if words.len() == 3 {
-        let count = words[2].parse::<u32>();
-        match (words[1].as_str(), count) {
-            ("canonical", _) => return texts::print_canonical(&rt, &words[2]),
-            ("parse", _) => return done(texts::measure(&rt, &words[2])),
-            ("codec", Ok(count)) => return done(images::measure(&rt, count)),
-            ("core", Ok(count)) => return done(cores::measure(&rt, &rt, count)),
-            ("evaluate", Ok(count)) => return done(evaluate::measure(&rt, count)),
-            ("hub", Ok(count)) => return done(hubs::measure(&rt, count)),
-            ("machine", Ok(count)) => return done(machines::measure(&rt, count)),
-            ("open", Ok(count)) => return done(stores::measure(&rt, count)),
-            ("pool", Ok(count)) => return done(pools::measure(&rt, &rt, count)),
-            ("sync", Ok(count)) => return done(syncs::measure(&rt, count)),
-            _ => {}
-        }
+        return match (words[1].as_str(), words[2].parse::<u32>()) {
+            ("core", Ok(count)) => done(cores::measure(rt, threads, count)),
+            ("hub", Ok(count)) => done(hubs::measure(threads, count)),
+            ("pool", Ok(count)) => done(pools::measure(rt, threads, count)),
+            (_, count) => without_threads(rt, words[1].as_str(), words[2].as_str(), count.ok()),
+        };
     }
     if words.len() > 1 {
-        eprintln!(rt; "{USAGE}")?;
-        return Ok(ExitCode::from(2));
+        return refused(rt);
     }
     println!(rt; "{USAGE}")?;
     Ok(ExitCode::from(0))
+}
+
+// A command that starts no threads, with its argument, and the number that it is.
+fn without_threads(
+    rt: &HostRuntime,
+    name: &str,
+    argument: &str,
+    count: Option<u32>,
+) -> Result<ExitCode, Error> {
+    match (name, count) {
+        ("canonical", _) => texts::print_canonical(rt, argument),
+        ("parse", _) => done(texts::measure(rt, argument)),
+        ("codec", Some(count)) => done(images::measure(rt, count)),
+        ("evaluate", Some(count)) => done(evaluate::measure(rt, count)),
+        ("machine", Some(count)) => done(machines::measure(rt, count)),
+        ("open", Some(count)) => done(stores::measure(rt, count)),
+        ("sync", Some(count)) => done(syncs::measure(rt, count)),
+        _ => refused(rt),
+    }
+}
+
+// Prints the usage as an error.
+fn refused(rt: &HostRuntime) -> Result<ExitCode, Error> {
+    eprintln!(rt; "{USAGE}")?;
+    Ok(ExitCode::from(2))
 }
 
 // Returns status 0 if the measurement succeeded.

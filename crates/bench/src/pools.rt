@@ -2,14 +2,15 @@
 ghost use Rattle.std.specs.Prelude.{◌≤◌, IfOk};
 ghost use Rattle.commit.specs.Runs.{NoneRuns};
 
-use crate::cores::{self, LIMIT, LOADS};
+use crate::cores::{self, LOADS, Load};
 use crate::hubs::Handles;
 use crate::plain_disk::PlainDisk;
+use crate::readings::seconds_between;
 use anyhow::{Error, bail};
 use commit::Core;
 use disk::Disk;
 use pool::{AlwaysGo, Crew, Driver};
-use std::alloc::Global;
+use std::alloc::{AllocError, Global};
 use std::io::Print;
 use std::thread;
 use std::time::Instant;
@@ -45,7 +46,7 @@ fn empty<R: Handles>(rt: &R, steps: u32) -> Result<(), Error> {
     let alone = seconds_of(rt, EMPTY, steps, &Driver::Alone)?;
     println!(rt; "empty steps: alone {:.2} µs", alone * one)?;
     for workers in COUNTS {
-        let seconds = seconds_of(rt, EMPTY, steps, &crew(rt, workers))?;
+        let seconds = by_crew(rt, EMPTY, steps, workers)?;
         println!(rt; "empty steps, {workers} workers: {:.2} µs", seconds * one)?;
     }
     Ok(())
@@ -63,36 +64,58 @@ fn heavy<R: Handles>(rt: &R, steps: u32) -> Result<(), Error> {
         "heavy steps, {COPIES} runs side by side: the machine gives {given:.2} processors"
     )?;
     for workers in COUNTS {
-        let seconds = seconds_of(rt, HEAVY, steps, &crew(rt, workers))?;
-        let faster = alone / seconds;
-        println!(rt;
-            "heavy steps, {workers} workers: {:.3} ms; {faster:.2} times as fast as alone; of {COPIES} processors that were given whole {:.2}",
-            seconds * one,
-            faster * f64::from(COPIES) / given
-        )?;
+        let seconds = by_crew(rt, HEAVY, steps, workers)?;
+        tell_heavy(rt, workers, seconds * one, alone / seconds, given)?;
     }
+    Ok(())
+}
+
+// Prints the milliseconds of a heavy step on several workers, and what they are beside those of the calling thread.
+fn tell_heavy<R: Print>(
+    rt: &R,
+    workers: u8,
+    milliseconds: f64,
+    faster: f64,
+    given: f64,
+) -> Result<(), Error> {
+    println!(rt;
+        "heavy steps, {workers} workers: {milliseconds:.3} ms; {faster:.2} times as fast as alone; of {COPIES} processors that were given whole {:.2}",
+        faster * f64::from(COPIES) / given
+    )?;
     Ok(())
 }
 
 // The seconds of `COPIES` runs side by side, of `steps` steps each.
 fn side_by_side<R: Handles>(rt: &R, steps: u32) -> Result<f64, Error> {
-    let mut copies = Vec::new(rt.alloc());
-    for copy in 0..COPIES {
-        copies.push(copy)?;
-    }
-    let start = Instant::now(rt)?;
+    let copies = numbered(rt.alloc())?;
+    let start = Instant::now(rt);
     let went = thread::map_vec(
         rt,
         copies,
         &|_copy: u8| seconds_of(rt, HEAVY, steps, &Driver::Alone).is_ok(),
     )?;
-    let seconds = start.elapsed(rt)?.as_secs_f64();
+    let end = Instant::now(rt);
+    are_ok(&went)?;
+    seconds_between(start, end)
+}
+
+// A number for each of the runs side by side.
+fn numbered(alloc: Global) -> Result<Vec<u8>, AllocError> {
+    let mut copies = Vec::new(alloc);
+    for copy in 0..COPIES {
+        copies.push(copy)?;
+    }
+    Ok(copies)
+}
+
+// Returns an error unless each of the runs side by side went well.
+fn are_ok(went: &[bool]) -> Result<(), Error> {
     for ok in went {
-        if !ok {
+        if !*ok {
             bail!("a run beside others failed")
         }
     }
-    Ok(seconds)
+    Ok(())
 }
 
 // The seconds of a run of `steps` steps of a graph.
@@ -103,12 +126,14 @@ fn seconds_of<R: Handles>(
     driver: &Driver<'_, R, AlwaysGo>,
 ) -> Result<f64, Error> {
     let core = created(rt.alloc(), PlainDisk::new(rt.alloc()), text, steps)?;
-    let start = Instant::now(rt)?;
-    let (core, verdict) = driver.run(rt.alloc(), core, LIMIT);
-    let seconds = start.elapsed(rt)?.as_secs_f64();
-    drop(core);
-    cores::is_complete(verdict)?;
-    Ok(seconds)
+    cores::seconds_of(rt, core, driver)
+}
+
+// The seconds of a run of `steps` steps of a graph by a crew of `workers` workers.
+fn by_crew<R: Handles>(rt: &R, text: &str, steps: u32, workers: u8) -> Result<f64, Error>
+    requires { (1 ≤ workers) × (workers ≤ 64) }
+{
+    seconds_of(rt, text, steps, &crew(rt, workers))
 }
 
 // A crew of `workers` workers.
@@ -122,20 +147,17 @@ fn crew<R: Handles>(rt: &R, workers: u8) -> Driver<'_, R, AlwaysGo>
 fn created<D: Disk + Drop>(alloc: Global, disk: D, text: &str, steps: u32) -> Result<Core<D>, Error>
     ensures { IfOk result NoneRuns }
 {
-    match Core::create(alloc, disk, text.as_bytes()) {
-        Ok(core) => tagged(core, steps),
-        Err(refused) => bail!("no store was made: {:?}", refused.error),
-    }
+    let mut core = cores::created(alloc, disk, text)?;
+    put_tags(&mut core, steps)?;
+    cores::idle(core)
 }
 
-fn tagged<D: Disk + Drop>(core: Core<D>, steps: u32) -> Result<Core<D>, Error>
-    ensures { IfOk result NoneRuns }
-{
-    let mut core = core;
+// Puts `steps` tags.
+fn put_tags<D: Disk>(core: &mut Core<D>, steps: u32) -> Result<(), Error> {
     for number in 0..steps {
-        cores::put_tag(&mut core, Key::new(&[i64::from(number)]))?;
+        cores::put_tag(core, Key::new(&[i64::from(number)]))?;
     }
-    cores::idle(core)
+    Ok(())
 }
 
 // ---- on files
@@ -144,9 +166,22 @@ fn tagged<D: Disk + Drop>(core: Core<D>, steps: u32) -> Result<Core<D>, Error>
 fn on_files<R: Handles>(rt: &HostRuntime, threads: &R, steps: u32) -> Result<(), Error> {
     for load in LOADS {
         for workers in COUNTS {
-            print!(rt; "{workers} workers, ")?;
-            cores::report(rt, load, steps, &crew(threads, workers))?;
+            by_crew_on_files(rt, threads, load, steps, workers)?;
         }
     }
     Ok(())
+}
+
+// The same by a crew of `workers` workers.
+fn by_crew_on_files<R: Handles>(
+    rt: &HostRuntime,
+    threads: &R,
+    load: Load,
+    steps: u32,
+    workers: u8,
+) -> Result<(), Error>
+    requires { (1 ≤ workers) × (workers ≤ 64) }
+{
+    print!(rt; "{workers} workers, ")?;
+    cores::report(rt, load, steps, &crew(threads, workers))
 }

@@ -1,9 +1,10 @@
 //! How long it takes to open a store on real files, compared with a read of the same bytes.
+use crate::readings::seconds_between;
 use anyhow::{Error, bail};
 use codec::{decode_image, encode_event};
-use disk::{Disk, FileDisk, Side};
+use disk::{Disk, DiskError, FileDisk, Side};
 use sides::spell_side;
-use std::alloc::Global;
+use std::alloc::{AllocError, Global};
 use std::fs;
 use std::io::Print;
 use std::time::Instant;
@@ -21,37 +22,59 @@ pub(crate) fn measure(rt: &HostRuntime, count: u32) -> Result<(), Error> {
         bail!("the files A and B of this folder are not empty");
     }
     let records = with_records(rt.alloc(), count)?;
-    opened(rt, "records", &records)?;
+    opened(rt, "records", records)?;
     let image = with_image(rt.alloc(), count)?;
-    opened(rt, "items", &image)
+    opened(rt, "items", image)
 }
 
 // Whether the files of the folder that this is run in are empty.
 fn is_free(rt: &HostRuntime) -> Result<bool, Error> {
     let mut disk = FileDisk::open(rt.alloc(), rt, ".")?;
+    Ok(is_empty(&mut disk)?)
+}
+
+fn is_empty(disk: &mut FileDisk) -> Result<bool, DiskError> {
     let a = disk.len(Side::A)?;
     let b = disk.len(Side::B)?;
     Ok(a == 0 && b == 0)
 }
 
 // Prints the milliseconds that it takes to open a store with this file A, and to read the file.
-fn opened(rt: &HostRuntime, told: &str, bytes: &[u8]) -> Result<(), Error> {
-    fs::write(rt, "A", bytes)?;
-    fs::write(rt, "B", &[0])?;
-    let start = Instant::now(rt)?;
-    let read = fs::read(rt, "A")?;
-    let reading = start.elapsed(rt)?.as_secs_f64();
-    let disk = FileDisk::open(rt.alloc(), rt, ".")?;
-    let start = Instant::now(rt)?;
-    let items = items_of(vault::open(rt.alloc(), disk))?;
-    let opening = start.elapsed(rt)?.as_secs_f64();
+fn opened(rt: &HostRuntime, told: &str, bytes: Vec<u8>) -> Result<(), Error> {
+    write(rt, bytes)?;
+    let (count, reading) = read(rt)?;
+    let (items, opening) = open(rt)?;
     println!(rt;
-        "{told}: {items} items, {} bytes, opened in {:.1} ms, read in {:.1} ms",
-        read.len(),
+        "{told}: {items} items, {count} bytes, opened in {:.1} ms, read in {:.1} ms",
         opening * 1e3,
         reading * 1e3
     )?;
     Ok(())
+}
+
+// Makes these bytes the file A.
+fn write(rt: &HostRuntime, bytes: Vec<u8>) -> Result<(), Error> {
+    fs::write(rt, "A", &bytes)?;
+    fs::write(rt, "B", &[0])?;
+    Ok(())
+}
+
+// How many bytes the file A has, and the seconds that it takes to read them.
+fn read(rt: &HostRuntime) -> Result<(usize, f64), Error> {
+    let start = Instant::now(rt);
+    let bytes = fs::read(rt, "A")?;
+    let end = Instant::now(rt);
+    let count = bytes.len();
+    drop(bytes);
+    Ok((count, seconds_between(start, end)?))
+}
+
+// How many items the store has, and the seconds that it takes to open it.
+fn open(rt: &HostRuntime) -> Result<(usize, f64), Error> {
+    let disk = FileDisk::open(rt.alloc(), rt, ".")?;
+    let start = Instant::now(rt);
+    let items = items_of(vault::open(rt.alloc(), disk))?;
+    Ok((items, seconds_between(start, Instant::now(rt))?))
 }
 
 // How many items an opened store holds.
@@ -75,19 +98,26 @@ fn side_of(alloc: Global, image: &[u8]) -> Result<Vec<u8>, Error> {
 fn with_records(alloc: Global, count: u32) -> Result<Vec<u8>, Error> {
     let mut side = side_of(alloc, &[0; 13])?;
     side.pop();
-    let mut payload = Vec::new(alloc);
-    for number in 0..count {
-        payload.clear();
-        encode_event(
-            &mut payload,
-            &Event::EnvItem(cell(number), i64::from(number)),
-        )?;
-        side.push(1)?;
-        side.extend_from_slice(&u32::try_from(payload.len())?.to_le_bytes())?;
-        side.extend_from_slice(&payload)?;
-    }
+    push_records(&mut side, &mut Vec::new(alloc), count)?;
     side.push(0)?;
     Ok(side)
+}
+
+// The records, each spelled in the same room first.
+fn push_records(side: &mut Vec<u8>, payload: &mut Vec<u8>, count: u32) -> Result<(), Error> {
+    for number in 0..count {
+        push_record(side, payload, number)?;
+    }
+    Ok(())
+}
+
+fn push_record(side: &mut Vec<u8>, payload: &mut Vec<u8>, number: u32) -> Result<(), Error> {
+    payload.clear();
+    encode_event(payload, &Event::EnvItem(cell(number), i64::from(number)))?;
+    side.push(1)?;
+    side.extend_from_slice(&u32::try_from(payload.len())?.to_le_bytes())?;
+    side.extend_from_slice(payload)?;
+    Ok(())
 }
 
 // A side with `count` items in its image.
@@ -96,14 +126,20 @@ fn with_image(alloc: Global, count: u32) -> Result<Vec<u8>, Error> {
     image.push(0)?;
     image.extend_from_slice(&count.to_le_bytes())?;
     for number in 0..count {
-        let value = i64::from(number).to_le_bytes();
-        image.extend_from_slice(&[0, 0, 1])?;
-        image.extend_from_slice(&value)?;
-        image.extend_from_slice(&value)?;
-        image.push(0)?;
+        push_item(&mut image, number)?;
     }
     image.extend_from_slice(&[0; 8])?;
     side_of(alloc, &image)
+}
+
+// The bytes of an item.
+fn push_item(image: &mut Vec<u8>, number: u32) -> Result<(), AllocError> {
+    let value = i64::from(number).to_le_bytes();
+    image.extend_from_slice(&[0, 0, 1])?;
+    image.extend_from_slice(&value)?;
+    image.extend_from_slice(&value)?;
+    image.push(0)?;
+    Ok(())
 }
 
 fn cell(number: u32) -> Addr {

@@ -1,5 +1,6 @@
 //! How long a write with its sync takes on a real file: one that grows, and one whose bytes are there already.
 use crate::cores::{emptied, record};
+use crate::readings::seconds_between;
 use anyhow::Error;
 use disk::{Disk, DiskError, FileDisk, Side, write_synced};
 use std::io::Print;
@@ -80,9 +81,9 @@ fn seconds_of(rt: &HostRuntime, manner: Manner, bytes: &[u8], writes: u32) -> Re
     if manner.is_over() {
         fill(&mut disk, bytes, writes)?;
     }
-    let start = Instant::now(rt)?;
+    let start = Instant::now(rt);
     write_all(&mut disk, manner, bytes, writes)?;
-    Ok(start.elapsed(rt)?.as_secs_f64())
+    seconds_between(start, Instant::now(rt))
 }
 
 // Makes the file long enough for all writes and one more, and syncs it.

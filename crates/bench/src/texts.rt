@@ -1,5 +1,6 @@
 //! Graph texts: their canonical text, and how fast one is parsed.
 use crate::images::copying;
+use crate::readings::seconds_between;
 use anyhow::Error;
 use graph::{GraphError, canonical, parse};
 use std::alloc::{AllocError, Global};
@@ -17,12 +18,17 @@ const BYTES: u32 = 20_000_000;
 pub(crate) fn print_canonical(rt: &HostRuntime, path: &str) -> Result<ExitCode, Error> {
     let text = fs::read(rt, path)?;
     let (status, told) = told(rt.alloc(), &text)?;
-    if status == 0 {
-        rt.stdout().write_all(&told)?;
-    } else {
-        rt.stderr().write_all(&told)?;
-    }
+    print(rt, status, &told)?;
     Ok(ExitCode::from(status))
+}
+
+fn print(rt: &HostRuntime, status: u8, told: &[u8]) -> Result<(), Error> {
+    if status == 0 {
+        rt.stdout().write_all(told)?;
+    } else {
+        rt.stderr().write_all(told)?;
+    }
+    Ok(())
 }
 
 // What is printed of a graph text, and the status.
@@ -43,16 +49,26 @@ fn told(alloc: Global, text: &[u8]) -> Result<(u8, Vec<u8>), AllocError> {
 /// handles in a second, and the ratio of the times. A text that is refused is parsed up to its fault.
 pub(crate) fn measure(rt: &HostRuntime, path: &str) -> Result<(), Error> {
     let text = fs::read(rt, path)?;
+    compare(rt, &text)
+}
+
+fn compare(rt: &HostRuntime, text: &[u8]) -> Result<(), Error> {
     let rounds = BYTES / u32::try_from(text.len())?.max(1) + 1;
-    let told = match parse(rt.alloc(), &text) {
-        Ok(_) => "accepted",
-        Err(_) => "refused",
+    let told = if parse(rt.alloc(), text).is_ok() {
+        "accepted"
+    } else {
+        "refused"
     };
-    let copy = copying(rt, &text, rounds)?;
-    let parse = parsing(rt, &text, rounds)?;
+    let copy = copying(rt, text, rounds)?;
+    let parse = parsing(rt, text, rounds)?;
     let megabytes = nearest_usize_to_f64(text.len()) * f64::from(rounds) / 1e6;
     println!(rt; "{} bytes, {told}, {rounds} rounds", text.len())?;
     println!(rt; "copy {:.0} MB/s", megabytes / copy)?;
+    tell(rt, megabytes, rounds, copy, parse)
+}
+
+// Prints what parsing takes.
+fn tell<R: Print>(rt: &R, megabytes: f64, rounds: u32, copy: f64, parse: f64) -> Result<(), Error> {
     println!(rt;
         "parse {:.1} MB/s, {:.3} milliseconds, {:.0} copies",
         megabytes / parse,
@@ -64,9 +80,9 @@ pub(crate) fn measure(rt: &HostRuntime, path: &str) -> Result<(), Error> {
 
 // The seconds that `rounds` rounds of parsing take.
 fn parsing(rt: &HostRuntime, text: &[u8], rounds: u32) -> Result<f64, Error> {
-    let start = Instant::now(rt)?;
+    let start = Instant::now(rt);
     for _ in 0..rounds {
         let _graph = parse(rt.alloc(), text);
     }
-    Ok(start.elapsed(rt)?.as_secs_f64())
+    seconds_between(start, Instant::now(rt))
 }
