@@ -6,6 +6,7 @@ use std::alloc::{AllocError, Global};
 use std::io::Print;
 use std::num::nearest_usize_to_f64;
 use std::time::{Clock, Instant};
+use terms::MAX_COMPONENTS;
 
 /// At least this number of items is encoded, decoded and copied, over as many rounds as that takes.
 const ITEMS: u32 = 4_000_000;
@@ -53,7 +54,7 @@ pub(crate) fn copying<R: Clock + AllocGlobal>(
 // The seconds that `rounds` encodings of the image that the bytes spell take.
 fn encoding<R: Clock + AllocGlobal>(rt: &R, bytes: &[u8], rounds: u32) -> Result<f64, Error> {
     let mut out = Vec::with_capacity(rt.alloc(), bytes.len())?;
-    let image = decode_image(rt.alloc(), bytes)?;
+    let image = decode_image(rt.alloc(), bytes, MAX_COMPONENTS)?;
     let start = Instant::now(rt);
     for _ in 0..rounds {
         out.clear();
@@ -66,7 +67,7 @@ fn encoding<R: Clock + AllocGlobal>(rt: &R, bytes: &[u8], rounds: u32) -> Result
 fn decoding<R: Clock + AllocGlobal>(rt: &R, bytes: &[u8], rounds: u32) -> Result<f64, Error> {
     let start = Instant::now(rt);
     for _ in 0..rounds {
-        let _image = decode_image(rt.alloc(), bytes)?;
+        let _image = decode_image(rt.alloc(), bytes, MAX_COMPONENTS)?;
     }
     seconds_between(start, Instant::now(rt))
 }

@@ -8,7 +8,7 @@ use std::alloc::{AllocError, Global};
 use std::fs;
 use std::io::Print;
 use std::time::Instant;
-use terms::{Addr, Event, ItemCollection, Key};
+use terms::{Addr, Event, ItemCollection, Key, MAX_COMPONENTS};
 use vault::{Recovered, Refused, VaultError};
 
 // A graph in which the environment may put items, and that has no steps. The text is canonical.
@@ -87,7 +87,7 @@ fn items_of<D: Disk + Drop>(opened: Result<Recovered<D>, Refused<D>>) -> Result<
 
 // A side with this image and no records.
 fn side_of(alloc: Global, image: &[u8]) -> Result<Vec<u8>, Error> {
-    let image = decode_image(alloc, image)?;
+    let image = decode_image(alloc, image, MAX_COMPONENTS)?;
     let mut side = Vec::new(alloc);
     side.push(1)?;
     spell_side(&mut side, 1, GRAPH.as_bytes(), &image)?;
