@@ -81,18 +81,23 @@ IsPut (event.EnvTag name) = ⊤
 IsPut (event.Done ended puts) = ⊥
 IsPut (event.Stopped ended kind) = ⊥
 
--- the puts of the event, and their number
+-- how many of these puts are items of a collection, and how many are tags of one
+abbrev pub items_to : ItemCollection → List Put → ℕ
+items_to collection [] = 0
+items_to collection (put.Item address value ∷ puts) = (if nat_eq address.collection.0 collection.0 then 1 else 0) + items_to collection puts
+items_to collection (put.Tag name ∷ puts) = items_to collection puts
+
+abbrev pub tags_to : TagCollection → List Put → ℕ
+tags_to collection [] = 0
+tags_to collection (put.Item address value ∷ puts) = tags_to collection puts
+tags_to collection (put.Tag name ∷ puts) = (if nat_eq name.collection.0 collection.0 then 1 else 0) + tags_to collection puts
+
+-- the puts of the event
 abbrev pub puts_of : Event → List Put
 puts_of (event.EnvItem address value) = put.Item address value ∷ []
 puts_of (event.EnvTag name) = put.Tag name ∷ []
 puts_of (event.Done ended puts) = puts
 puts_of (event.Stopped ended kind) = []
-
-abbrev pub count_of : Event → ℕ
-count_of (event.EnvItem address value) = 1
-count_of (event.EnvTag name) = 1
-count_of (event.Done ended puts) = length puts
-count_of (event.Stopped ended kind) = 0
 
 -- some item is at the address
 abbrev pub HasItem : Facts → Addr → Type 0
@@ -115,15 +120,15 @@ EndsAs new (event.Done ended puts) = state_of new ended ≡ Some Done
 EndsAs new (event.Stopped ended kind) = state_of new ended ≡ Some Ready
 
 -- The event is taken: its facts are added, and among them those that the environment put. Other instances go on. The room of each
--- collection shrinks by at most the number of the event's puts.
+-- collection shrinks by at most the number of the event's puts that go to it.
 pub record Takes (old new : Machine) (event : Event) : Type 0 where
   pub graph : new.graph ≡ old.graph
   pub facts : (fact : Fact) → facts new fact ≡ with_facts (facts old) (event_facts event) fact
   pub environment : (fact : Fact) → environment new fact ≡ with_facts (environment old) (environment_facts event) fact
   pub states : (instance : Inst) → (Ends event instance → ⊥) → GoesOn (facts_of new.memory) (state_of old instance) (state_of new instance)
   pub ends : EndsAs new event
-  pub item_room : (collection : ItemCollection) → item_room old collection ≤ item_room new collection + count_of event
-  pub tag_room : (collection : TagCollection) → tag_room old collection ≤ tag_room new collection + count_of event
+  pub item_room : (collection : ItemCollection) → item_room old collection ≤ item_room new collection + items_to collection (puts_of event)
+  pub tag_room : (collection : TagCollection) → tag_room old collection ≤ tag_room new collection + tags_to collection (puts_of event)
 
 -- one instance moves into a state: it is counted there, and no more in the state it had; no fact, no other instance and no room changes
 pub record Moves (old new : Machine) (instance : Inst) (to : State) : Type 0 where
@@ -142,14 +147,10 @@ LooksAgain old new instance address = (IsAbsent (facts old) address × Moves old
 
 -- ---- room
 
--- the collection of the put has room for `count` more
-abbrev pub HasRoomFor : Machine → ℕ → Put → Type 0
-HasRoomFor m count (put.Item address value) = count ≤ item_room m address.collection
-HasRoomFor m count (put.Tag name) = count ≤ tag_room m name.collection
-
--- there is room for all puts of the list
-abbrev pub HasRoom : Machine → List Put → Type 0
-HasRoom m puts = AllByRecursion (HasRoomFor m (length puts)) puts
+-- each collection has room for the puts of the list that go to it
+pub record HasRoom (m : Machine) (puts : List Put) : Type 0 where
+  pub items : (collection : ItemCollection) → items_to collection puts ≤ item_room m collection
+  pub tags : (collection : TagCollection) → tags_to collection puts ≤ tag_room m collection
 
 -- ---- refusals
 
