@@ -1,5 +1,5 @@
 -- What one item, or one tag, does to the facts of a store.
-use Rattle.std.proofs.Common.{◌≡◌, ◌⊎◌, ◌∙◌, ap, sym, refl, subst, inl, inr, ℕ, ℤ, ◌+◌, ◌==◌, ◌<◌, ◌≤◌, Bool, true, false, cond, ◌&&◌, ◌||◌, List, [], ◌∷◌, length, Option, Some, None, IsSome, is_some, arith}
+use Rattle.std.proofs.Common.{◌≡◌, ◌⊎◌, ◌∙◌, ap, sym, refl, subst, inl, inr, ℕ, ℤ, ◌+◌, ◌==◌, ◌<◌, ◌≤◌, Bool, true, false, if◌then◌else◌, nat_eq, cond, ◌&&◌, ◌||◌, List, [], ◌∷◌, length, Option, Some, None, IsSome, is_some, arith}
 use Rattle.std.proofs.lemmas.Bool.{false≢true}
 use Rattle.std.specs.Cmp.{unsigned_Decides}
 use Rattle.std.specs.Option.{unwrap_or}
@@ -24,9 +24,9 @@ use Rattle.instances.specs.declared.state.State.{State}
 use Rattle.instances.specs.declared.state.State.TheVariants.{Ready, Running, Waiting, Done}
 use Rattle.instances.specs.Known.{mark_of, state_at}
 use Rattle.machine.specs.declared.memory.Memory.{Memory}
-use Rattle.machine.specs.Memory.{is_item, is_done, is_fault, facts_of, environment_of, waits_at, AreListed, MovesOn, Grows}
+use Rattle.machine.specs.Memory.{is_item, is_done, is_fault, facts_of, environment_of, waits_at, AreListed, MovesOn}
 use Rattle.machine.specs.Waking.{Wakes}
-use Rattle.machine.specs.Coming.{given_by}
+use Rattle.machine.specs.Coming.{Grows, given_by}
 
 and_right : (a b : Bool) → (a && b) ≡ true → b ≡ true
 and_right true b both = both
@@ -258,14 +258,14 @@ module _ (told : OneFact) (old new : Memory) (a : Addr) (value : ℤ) (by : Prod
         few c true = tt
         few c false = listed.once c
 
-    room_of : (c : ItemCollection) (t : Bool) → (c.0 == a.collection.0) ≡ t → 0 < room_for old.items a.collection → room_for old.items c ≤ room_for new.items c + 1
+    room_of : (c : ItemCollection) (t : Bool) → nat_eq a.collection.0 c.0 ≡ t → 0 < room_for old.items a.collection → room_for old.items c ≤ room_for new.items c + ((if t then 1 else 0) + 0)
     room_of c true is room =
-        let one = same_number c.0 a.collection.0 is in
-        subst (λ (n : ℕ). room_at old.items.items n ≤ room_at new.items.items n + 1) (sym one) (omega (arith, adds.lower room))
+        let one = same_number a.collection.0 c.0 is in
+        subst (λ (n : ℕ). room_at old.items.items n ≤ room_at new.items.items n + 1) one (omega (arith, adds.lower room))
     room_of c false is room =
-        omega (arith, adds.other_room.others c.0 (λ one. false≢true (sym is ∙ ap (λ (n : ℕ). n == a.collection.0) one ∙ itself_number a.collection.0)))
+        omega (arith, adds.other_room.others c.0 (λ one. false≢true (sym is ∙ ap (λ (n : ℕ). a.collection.0 == n) one ∙ itself_number a.collection.0)))
 
-    pub item_comes : 0 < room_for old.items a.collection → Grows old new (item a value by ∷ []) (given_by by (put.Item a value)) 1
+    pub item_comes : 0 < room_for old.items a.collection → Grows old new (item a value by ∷ []) (given_by by (put.Item a value)) (put.Item a value ∷ [])
     item_comes room = record {
       facts = item_facts;
       environment = given by refl;
@@ -274,6 +274,6 @@ module _ (told : OneFact) (old new : Memory) (a : Addr) (value : ℤ) (by : Prod
       tag_collections = ap (λ (t : Numbered Bool). length t.room) wakes.tags;
       prescribers = wakes.prescribers;
       listed = still_listed;
-      item_room = λ c. room_of c (c.0 == a.collection.0) refl room;
+      item_room = λ c. room_of c (nat_eq a.collection.0 c.0) refl room;
       tag_room = λ c. omega (arith, wakes.room c);
     }

@@ -12,14 +12,9 @@ use Rattle.items.specs.Held as items
 use Rattle.instances.specs.Known as instances
 use Rattle.machine.specs.declared.memory.Memory.{Memory}
 use Rattle.machine.specs.Memory.{facts_of}
-use Rattle.machine.specs.Coming.{CanTake, CanTakeAll}
-use Rattle.machine.specs.Machine.{HasRoomFor}
+use Rattle.machine.specs.Coming.{AreFree, HasRoomFor, IsFree}
+use Rattle.machine.specs.Machine.{HasRoom, items_to, tags_to}
 use Rattle.machine.proofs.Growing.{in_later}
-
--- the collection of the put has room for `count` more
-abbrev pub RoomFor : Memory → ℕ → Put → Type 0
-RoomFor m count (put.Item address value) = count ≤ items.room_for m.items address.collection
-RoomFor m count (put.Tag name) = count ≤ instances.room_for m.instances name.collection
 
 within : {X : Type 0} (xs : List X) (n : ℕ) (x : X) → slice_get xs n ≡ Some x → n < length xs
 within [] n x is = absurd (nothing n is)
@@ -51,21 +46,20 @@ twice_later a (put.Item b value) puts is = (b ∷ is.0, is.1, is.2, ap (λ (l : 
 twice_later a (put.Tag name) puts is = is
 
 module _ (g : Graph) (m : Memory) (rooms : length m.items.items.room ≡ length g.items) where
-  one_can : (count : ℕ) (one : Put) → RoomFor m count one → PutIsOf g one → ((a : Addr) → IsIn a (addresses (one ∷ [])) → IsAbsent (facts_of m) a) → CanTake m count one
-  one_can count (put.Item a value) room of_graph absent = (
+  pub one_is_free : (one : Put) → PutIsOf g one → ((a : Addr) → IsIn a (addresses (one ∷ [])) → IsAbsent (facts_of m) a) → IsFree m one
+  one_is_free (put.Item a value) of_graph absent = (
     absent a ([], [], refl),
     subst (λ (n : ℕ). a.collection.0 < n) (sym rooms) (within g.items a.collection.0 of_graph.0 of_graph.1),
-    room,
   )
-  one_can count (put.Tag name) room of_graph absent = room
+  one_is_free (put.Tag name) of_graph absent = tt
 
-  pub can_take_all : (count : ℕ) (puts : List Put) → AllByRecursion (RoomFor m count) puts → AllByRecursion (PutIsOf g) puts
-      → ((a : Addr) → IsIn a (addresses puts) → IsAbsent (facts_of m) a) → ((a : Addr) → IsTwiceIn a (addresses puts) → ⊥) → CanTakeAll m count puts
-  can_take_all count [] room of_graph absent distinct = tt
-  can_take_all count (one ∷ puts) room of_graph absent distinct = (
-    one_can count one room.0 of_graph.0 (λ a is. absent a (its one a is)),
+  pub are_free : (puts : List Put) → AllByRecursion (PutIsOf g) puts
+      → ((a : Addr) → IsIn a (addresses puts) → IsAbsent (facts_of m) a) → ((a : Addr) → IsTwiceIn a (addresses puts) → ⊥) → AreFree m puts
+  are_free [] of_graph absent distinct = tt
+  are_free (one ∷ puts) of_graph absent distinct = (
+    one_is_free one of_graph.0 (λ a is. absent a (its one a is)),
     λ a here there. apart one a here there distinct,
-    can_take_all count puts room.1 of_graph.1 (λ a is. absent a (in_later a one puts is)) (λ a is. distinct a (twice_later a one puts is)),
+    are_free puts of_graph.1 (λ a is. absent a (in_later a one puts is)) (λ a is. distinct a (twice_later a one puts is)),
   )
     where
       its : (one : Put) (a : Addr) → IsIn a (addresses (one ∷ [])) → IsIn a (addresses (one ∷ puts))
@@ -85,9 +79,9 @@ module _ (g : Graph) (m : Memory) (rooms : length m.items.items.room ≡ length 
           nowhere (x ∷ before) none = cc
 
   -- the room stays if the items and the room of tags stay
-  pub with_room : (old : Memory) (count : ℕ) → m.items ≡ old.items → ((c : TagCollection) → instances.room_for m.instances c ≡ instances.room_for old.instances c)
-      → (puts : List Put) → AllByRecursion (HasRoomFor (record { graph = g; memory = old }) count) puts → AllByRecursion (RoomFor m count) puts
-  with_room old count items_same tags [] room = tt
-  with_room old count items_same tags (put.Item a value ∷ puts) room =
-      (subst (λ (h : Held). count ≤ items.room_for h a.collection) (sym items_same) room.0, with_room old count items_same tags puts room.1)
-  with_room old count items_same tags (put.Tag name ∷ puts) room = (subst (λ (n : ℕ). count ≤ n) (sym (tags name.collection)) room.0, with_room old count items_same tags puts room.1)
+  pub with_room : (old : Memory) → m.items ≡ old.items → ((c : TagCollection) → instances.room_for m.instances c ≡ instances.room_for old.instances c)
+      → (puts : List Put) → HasRoom (record { graph = g; memory = old }) puts → HasRoomFor m puts
+  with_room old items_same tags puts room = record {
+    items = λ c. subst (λ (h : Held). items_to c puts ≤ items.room_for h c) (sym items_same) (room.items c);
+    tags = λ c. subst (λ (n : ℕ). tags_to c puts ≤ n) (sym (tags c)) (room.tags c);
+  }

@@ -30,6 +30,7 @@ pub mod Roomier
 pub mod Rows
 pub mod Sets
 pub mod Tagging
+pub mod Tallied
 pub mod Taken
 pub mod TakenEvent
 pub mod Told

@@ -14,21 +14,19 @@ use Rattle.terms.specs.declared.fault.FaultKind.{FaultKind}
 use Rattle.terms.specs.declared.producer.Producer.{Producer}
 use Rattle.terms.specs.declared.producer.Producer.TheVariants.{Env, By}
 use Rattle.terms.specs.declared.put.Put.{Put}
-use Rattle.terms.specs.declared.put.Put.TheVariants as put
-use Rattle.terms.specs.declared.event.Event.{Event}
 use Rattle.terms.specs.Facts.{Fact, tag, item, done, bad}
 use Rattle.terms.specs.Sets.{Facts}
 use Rattle.maps.specs.Numbered.{place_cmp, OnlyMakesRoom as MapMakesRoom}
 use Rattle.graph.specs.Graph.{Graph}
+use Rattle.items.specs.Held as items
 use Rattle.items.specs.Held.{Held, place, item_at, waiters_at}
 use Rattle.items.specs.Once.{IsOnceEach, is_one_of}
 use Rattle.instances.specs.Known.{Known, mark_of, tag_place, state_at, prescriber_at}
 use Rattle.instances.specs.Known as instances
 use Rattle.machine.specs.declared.memory.Memory.{Memory}
-use Rattle.machine.specs.Machine.{Machine, HasRoomFor, item_room, tag_room}
 use Rattle.machine.specs.Legal.{IsLegal}
 use Rattle.machine.specs.Memory.{is_item, is_done, is_fault, waits_at, facts_of, environment_of, AreListed, IsOf}
-use Rattle.machine.specs.Room.{GivesRoom}
+use Rattle.machine.specs.Room.{GivesRoom, OnlyMakesRoom}
 use Rattle.machine.proofs.Worked.{same_is_of}
 
 module _ (old new : Memory) (same_items : (a : Addr) → item_at new.items a ≡ item_at old.items a) (marks : (name : Tag) → mark_of new.instances name ≡ mark_of old.instances name)
@@ -46,15 +44,6 @@ module _ (old new : Memory) (same_items : (a : Addr) → item_at new.items a ≡
   same_environment (done i) = refl
   same_environment (bad i kind) = refl
 
-  only_room : (g : Graph)
-      → ((c : ItemCollection) → item_room (record { graph = g; memory = old }) c ≤ item_room (record { graph = g; memory = new }) c)
-      → ((c : TagCollection) → tag_room (record { graph = g; memory = old }) c ≤ tag_room (record { graph = g; memory = new }) c)
-      → GivesRoom (record { graph = g; memory = old }) (record { graph = g; memory = new })
-  only_room g items_more tags_more = record { graph = refl; facts = same_facts; environment = same_environment; states = states; legal = still_legal; item_room = items_more; tag_room = tags_more }
-    where
-      still_legal : (event : Event) → IsLegal g (facts_of old) event → IsLegal g (facts_of new) event
-      still_legal event = subst (λ (X : Facts). IsLegal g X event) (λ i fact. sym (same_facts fact) i)
-
   same_listed : ((a : Addr) → waiters_at new.items a ≡ waiters_at old.items a) → AreListed old → AreListed new
   same_listed waiters listed = record {
     listed = λ i a. ap (is_one_of i) (waiters a) ∙ listed.listed i a ∙ ap (waits_at a) (sym (states i));
@@ -67,6 +56,21 @@ module _ (old new : Memory) (same_items : (a : Addr) → item_at new.items a ≡
   still_is_of g is waiters item_rooms tag_rooms prescribers =
       same_is_of g old new is same_facts same_environment item_rooms tag_rooms prescribers (λ i a here. is.needs i a (sym (states i) ∙ here)) (same_listed waiters is.listed)
 
+  only_room : ((a : Addr) → waiters_at new.items a ≡ waiters_at old.items a) → length new.items.items.room ≡ length old.items.items.room
+      → length new.instances.tags.room ≡ length old.instances.tags.room → ((number : ℕ) → prescriber_at new.instances number ≡ prescriber_at old.instances number)
+      → ((c : ItemCollection) → items.room_for old.items c ≤ items.room_for new.items c)
+      → ((c : TagCollection) → instances.room_for old.instances c ≤ instances.room_for new.instances c) → OnlyMakesRoom old new
+  only_room waiters item_rooms tag_rooms prescribers items_more tags_more = record {
+    facts = same_facts;
+    environment = same_environment;
+    states = states;
+    is_of = λ g is. still_is_of g is waiters item_rooms tag_rooms prescribers;
+    item_collections = item_rooms;
+    tag_collections = tag_rooms;
+    item_room = items_more;
+    tag_room = tags_more;
+  }
+
 -- if one number has no less and the others have as much, none has less
 not_less_at : (k n : ℕ) (old new : ℕ → ℕ) → old n ≤ new n → (k ≢ n → new k ≡ old k) → old k ≤ new k
 not_less_at k n old new here others = at (k == n) refl
@@ -75,7 +79,7 @@ not_less_at k n old new here others = at (k == n) refl
     at true is = subst (λ (j : ℕ). old j ≤ new j) (sym ((unsigned_Decides k n).0 is)) here
     at false is = (let same = others (λ one. false≢true (sym is ∙ (unsigned_Decides k n).1 one)) in omega (arith, same))
 
--- ---- items
+-- ---- one collection
 
 module _ (old : Memory) (held : Held) (collection : ItemCollection) (grows : MapMakesRoom old.items.items held.items collection.0) (waiting : held.waiting ≡ old.items.waiting) where
   abbrev pub with_items : Memory
@@ -84,17 +88,11 @@ module _ (old : Memory) (held : Held) (collection : ItemCollection) (grows : Map
   items_stay : (a : Addr) → item_at held a ≡ item_at old.items a
   items_stay a = ap (λ (m : FinMap place_cmp (ℤ × Producer)). get m (place a)) grows.items
 
-  pub items_is_of : (g : Graph) → IsOf g old → IsOf g with_items
-  items_is_of g is =
-      still_is_of old with_items items_stay (λ name. refl) (λ i. refl) refl g is
+  pub made_for_items : OnlyMakesRoom old with_items
+  made_for_items = only_room old with_items items_stay (λ name. refl) (λ i. refl) refl
       (λ a. ap (λ (w : FinMap place_cmp (List Inst)). unwrap_or (get w (place a)) []) waiting) grows.other_room.collections refl (λ n. refl)
-
-  pub items_give_room : (g : Graph) → GivesRoom (record { graph = g; memory = old }) (record { graph = g; memory = with_items })
-  items_give_room g = only_room old with_items items_stay (λ name. refl) (λ i. refl) refl g
       (λ c. not_less_at c.0 collection.0 (λ k. get_or old.items.items.room k 0) (λ k. get_or held.items.room k 0) grows.not_less (grows.other_room.others c.0))
       (λ c. omega arith)
-
--- ---- tags
 
 module _ (old : Memory) (known : Known) (collection : TagCollection) (grows : instances.OnlyMakesRoom old.instances known collection) where
   abbrev pub with_tags : Memory
@@ -103,43 +101,49 @@ module _ (old : Memory) (known : Known) (collection : TagCollection) (grows : in
   marks_stay : (name : Tag) → mark_of known name ≡ mark_of old.instances name
   marks_stay name = ap (λ (m : FinMap place_cmp Bool). get m (tag_place name)) grows.tags
 
-  pub tags_is_of : (g : Graph) → IsOf g old → IsOf g with_tags
-  tags_is_of g is =
-      still_is_of old with_tags (λ a. refl) marks_stay grows.states refl g is (λ a. refl) refl grows.tag_collections grows.prescribers
-
-  pub tags_give_room : (g : Graph) → GivesRoom (record { graph = g; memory = old }) (record { graph = g; memory = with_tags })
-  tags_give_room g = only_room old with_tags (λ a. refl) marks_stay grows.states refl g
+  pub made_for_tags : OnlyMakesRoom old with_tags
+  made_for_tags = only_room old with_tags (λ a. refl) marks_stay grows.states refl (λ a. refl) refl grows.tag_collections grows.prescribers
       (λ c. omega arith)
       (λ c. not_less_at c.0 collection.0 (λ (k : ℕ). instances.room_for old.instances (record { 0 = k })) (λ (k : ℕ). instances.room_for known (record { 0 = k })) grows.not_less (grows.other_room c))
 
 -- ---- one after the other
 
-pub no_room : (m : Machine) → GivesRoom m m
+pub no_room : (m : Memory) → OnlyMakesRoom m m
 no_room m = record {
-  graph = refl;
   facts = λ fact. refl;
   environment = λ fact. refl;
   states = λ i. refl;
-  legal = λ event is. is;
+  is_of = λ g is. is;
+  item_collections = refl;
+  tag_collections = refl;
   item_room = λ c. omega arith;
   tag_room = λ c. omega arith;
 }
 
-pub more_room : (old mid new : Machine) → GivesRoom old mid → GivesRoom mid new → GivesRoom old new
+pub more_room : (old mid new : Memory) → OnlyMakesRoom old mid → OnlyMakesRoom mid new → OnlyMakesRoom old new
 more_room old mid new first then_more = record {
-  graph = then_more.graph ∙ first.graph;
   facts = λ fact. then_more.facts fact ∙ first.facts fact;
   environment = λ fact. then_more.environment fact ∙ first.environment fact;
   states = λ i. then_more.states i ∙ first.states i;
-  legal = λ event is. then_more.legal event (first.legal event is);
+  is_of = λ g is. then_more.is_of g (first.is_of g is);
+  item_collections = then_more.item_collections ∙ first.item_collections;
+  tag_collections = then_more.tag_collections ∙ first.tag_collections;
   item_room = λ c. (let one = first.item_room c in let two = then_more.item_room c in omega (arith, one, two));
   tag_room = λ c. (let one = first.tag_room c in let two = then_more.tag_room c in omega (arith, one, two));
 }
 
--- what had room still has it
-pub room_stays : (old new : Machine) → GivesRoom old new → (count : ℕ) (one : Put) → HasRoomFor old count one → HasRoomFor new count one
-room_stays old new gives count (put.Item address value) has = (let more = gives.item_room address.collection in omega (arith, has, more))
-room_stays old new gives count (put.Tag name) has = (let more = gives.tag_room name.collection in omega (arith, has, more))
+-- ---- the machine
+
+pub gives_room : (g : Graph) (old new : Memory) → OnlyMakesRoom old new → GivesRoom (record { graph = g; memory = old }) (record { graph = g; memory = new })
+gives_room g old new made = record {
+  graph = refl;
+  facts = made.facts;
+  environment = made.environment;
+  states = made.states;
+  legal = λ event. subst (λ (X : Facts). IsLegal g X event) (λ i fact. sym (made.facts fact) i);
+  item_room = made.item_room;
+  tag_room = made.tag_room;
+}
 
 -- what holds of each put holds of the one at an index
 pub all_at : (P : Put → Type 0) (n : ℕ) (puts : List Put) (one : Put) → AllByRecursion P puts → n < length puts → one ≡ get_or puts n one → P one

@@ -1,5 +1,5 @@
 -- What a tag does to the facts of a store.
-use Rattle.std.proofs.Common.{◌≡◌, ◌∙◌, ap, sym, refl, subst, inl, inr, ℕ, ◌+◌, ◌==◌, ◌≤◌, Bool, true, false, cond, ◌||◌, [], ◌∷◌, length, Option, Some, None, is_some, arith}
+use Rattle.std.proofs.Common.{◌≡◌, ◌∙◌, ap, sym, refl, subst, inl, inr, ℕ, ◌+◌, ◌==◌, ◌≤◌, Bool, true, false, if◌then◌else◌, nat_eq, cond, ◌||◌, [], ◌∷◌, length, Option, Some, None, is_some, arith}
 use Rattle.std.proofs.lemmas.Bool.{false≢true}
 use Rattle.std.specs.Option.{unwrap_or}
 use Rattle.std.specs.Ordering.{is_eq}
@@ -23,8 +23,8 @@ use Rattle.instances.specs.declared.state.State.{State}
 use Rattle.instances.specs.declared.state.State.TheVariants.{Ready, Running, Waiting, Done}
 use Rattle.instances.specs.Known.{Prescribes, mark_of, state_at, tag_place, is_prescribed_by, room_for}
 use Rattle.machine.specs.declared.memory.Memory.{Memory}
-use Rattle.machine.specs.Memory.{is_item, is_done, is_fault, facts_of, environment_of, waits_at, AreListed, MovesOn, Grows}
-use Rattle.machine.specs.Coming.{IsNewTo, given_by}
+use Rattle.machine.specs.Memory.{is_item, is_done, is_fault, facts_of, environment_of, waits_at, AreListed, MovesOn}
+use Rattle.machine.specs.Coming.{Grows, IsNewTo, given_by}
 use Rattle.machine.proofs.Coming.{or_false, same_number, itself_number, still_waits}
 
 -- whether two tags are equal
@@ -61,7 +61,7 @@ pub no_mark : (mark : Option Bool) → is_some mark ≡ false → mark ≡ None
 no_mark None is = refl
 no_mark (Some mark) is = absurd (false≢true (sym is))
 
-pub tag_stays : (m : Memory) (name : Tag) → AreListed m → is_some (mark_of m.instances name) ≡ true → Grows m m (tag name ∷ []) [] 1
+pub tag_stays : (m : Memory) (name : Tag) → AreListed m → is_some (mark_of m.instances name) ≡ true → Grows m m (tag name ∷ []) [] (put.Tag name ∷ [])
 tag_stays m name listed there = record {
   facts = all;
   environment = λ fact. sym (or_false _);
@@ -159,13 +159,13 @@ module _ (old new : Memory) (name : Tag) (mark : Bool) (listed : AreListed old) 
     absent = λ i c is. (still_waits new (state_at old.instances i) (state_at new.instances i) c (goes i) is).1;
   }
 
-  tag_room_of : (c : TagCollection) (t : Bool) → (c.0 == name.collection.0) ≡ t → room_for old.instances c ≤ room_for new.instances c + 1
+  tag_room_of : (c : TagCollection) (t : Bool) → nat_eq name.collection.0 c.0 ≡ t → room_for old.instances c ≤ room_for new.instances c + ((if t then 1 else 0) + 0)
   tag_room_of c true is =
-      subst (λ (n : TagCollection). room_for old.instances n ≤ room_for new.instances n + 1) (λ i. record { 0 = sym (same_number c.0 name.collection.0 is) i }) (omega (arith, comes.room))
+      subst (λ (n : TagCollection). room_for old.instances n ≤ room_for new.instances n + 1) (λ i. record { 0 = same_number name.collection.0 c.0 is i }) (omega (arith, comes.room))
   tag_room_of c false is =
-      omega (arith, comes.other_room c (λ one. false≢true (sym is ∙ ap (λ (n : ℕ). n == name.collection.0) one ∙ itself_number name.collection.0)))
+      omega (arith, comes.other_room c (λ one. false≢true (sym is ∙ ap (λ (n : ℕ). name.collection.0 == n) one ∙ itself_number name.collection.0)))
 
-  pub tag_comes : (producer : Producer) → (producer ≡ Env → mark ≡ true) → ((i : Inst) (n : ℕ) → producer ≡ By i n → mark ≡ false) → Grows old new (tag name ∷ []) (given_by producer (put.Tag name)) 1
+  pub tag_comes : (producer : Producer) → (producer ≡ Env → mark ≡ true) → ((i : Inst) (n : ℕ) → producer ≡ By i n → mark ≡ false) → Grows old new (tag name ∷ []) (given_by producer (put.Tag name)) (put.Tag name ∷ [])
   tag_comes producer is other_is = record {
     facts = facts;
     environment = given producer is other_is;
@@ -174,11 +174,11 @@ module _ (old new : Memory) (name : Tag) (mark : Bool) (listed : AreListed old) 
     tag_collections = comes.tags.other_room.collections;
     prescribers = comes.prescribers;
     listed = still_listed;
-    item_room = λ c. subst (λ (h : Held). items_for old.items c ≤ items_for h c + 1) (sym items) (omega arith);
-    tag_room = λ c. tag_room_of c (c.0 == name.collection.0) refl;
+    item_room = λ c. subst (λ (h : Held). items_for old.items c ≤ items_for h c + 0) (sym items) (omega arith);
+    tag_room = λ c. tag_room_of c (nat_eq name.collection.0 c.0) refl;
   }
 
 -- a tag that is there may come again from an instance, and never from the environment
-pub tag_again : (m : Memory) (name : Tag) (producer : Producer) → AreListed m → IsNewTo m producer (put.Tag name) → is_some (mark_of m.instances name) ≡ true → Grows m m (tag name ∷ []) (given_by producer (put.Tag name)) 1
+pub tag_again : (m : Memory) (name : Tag) (producer : Producer) → AreListed m → IsNewTo m producer (put.Tag name) → is_some (mark_of m.instances name) ≡ true → Grows m m (tag name ∷ []) (given_by producer (put.Tag name)) (put.Tag name ∷ [])
 tag_again m name Env listed new there = absurd (false≢true (sym new ∙ there))
 tag_again m name (By i n) listed new there = tag_stays m name listed there

@@ -18,7 +18,7 @@ use Rattle.instances.specs.declared.state.State.{State}
 use Rattle.instances.specs.declared.state.State.TheVariants.{Ready, Running, Waiting, Done}
 use Rattle.instances.specs.Known.{state_at}
 use Rattle.machine.specs.declared.memory.Memory.{Memory}
-use Rattle.machine.specs.Machine.{Ends, EndsAs, GoesOn, HasItem, Takes, count_of, item_room, tag_room}
+use Rattle.machine.specs.Machine.{Ends, EndsAs, GoesOn, HasItem, Takes, item_room, items_to, puts_of, tag_room, tags_to}
 use Rattle.machine.specs.Memory.{is_item, facts_of, Comes, MovesOn}
 use Rattle.machine.proofs.Coming.{item_is_there}
 use Rattle.machine.proofs.Promised.{ended}
@@ -52,8 +52,8 @@ module _ (told : OneFact) where
   pub takes : (g : Graph) (old new : Memory) (event : Event) → Comes old new event
       → ((i : Inst) → (Ends event i → ⊥) → MovesOn new (state_at old.instances i) (state_at new.instances i))
       → EndsAs (record { graph = g; memory = new }) event
-      → ((c : ItemCollection) → item_room (record { graph = g; memory = old }) c ≤ item_room (record { graph = g; memory = new }) c + count_of event)
-      → ((c : TagCollection) → tag_room (record { graph = g; memory = old }) c ≤ tag_room (record { graph = g; memory = new }) c + count_of event)
+      → ((c : ItemCollection) → item_room (record { graph = g; memory = old }) c ≤ item_room (record { graph = g; memory = new }) c + items_to c (puts_of event))
+      → ((c : TagCollection) → tag_room (record { graph = g; memory = old }) c ≤ tag_room (record { graph = g; memory = new }) c + tags_to c (puts_of event))
       → Takes (record { graph = g; memory = old }) (record { graph = g; memory = new }) event
   takes g old new event comes moves back items_left tags_left = record {
     graph = refl;

@@ -24,7 +24,8 @@ use Rattle.instances.specs.declared.state.State.TheVariants.{Ready, Running, Wai
 use Rattle.instances.specs.Known.{Known, MovesOne, mark_of, state_at, prescriber_at}
 use Rattle.machine.specs.declared.memory.Memory.{Memory}
 use Rattle.machine.specs.Legal.{Needs}
-use Rattle.machine.specs.Memory.{is_item, is_done, is_fault, waits_at, facts_of, environment_of, AreListed, IsOf, MovesOn, Grows, Comes}
+use Rattle.machine.specs.Memory.{is_item, is_done, is_fault, waits_at, facts_of, environment_of, AreListed, IsOf, MovesOn, Comes}
+use Rattle.machine.specs.Coming.{Grows}
 use Rattle.machine.specs.Machine.{Moves}
 use Rattle.machine.proofs.Coming.{or_false, still_waits}
 use Rattle.machine.proofs.Growing.{either_way}
@@ -32,8 +33,8 @@ use Rattle.machine.proofs.Tagging.{unmoved}
 use Rattle.machine.proofs.Moved.{IsAwake, by_instance, facts_stay, environment_stays, done_comes, still_listed}
 
 -- if the facts of an event are added, the event comes
-pub comes_of : (old new : Memory) (event : Event) (n : ℕ) → Grows old new (event_facts event) (environment_facts event) n → Comes old new event
-comes_of old new event n grows = record {
+pub comes_of : (old new : Memory) (event : Event) (puts : List Put) → Grows old new (event_facts event) (environment_facts event) puts → Comes old new event
+comes_of old new event puts grows = record {
   facts = grows.facts;
   environment = grows.environment;
   waited = λ i a is. (still_waits new (state_at old.instances i) (state_at new.instances i) a (grows.states i) is).0;
@@ -110,8 +111,8 @@ module _ (total : IsTotalOrder inst_cmp) (tie : IsAntisymmetric inst_cmp) (old m
   ended_listed = mid_listed
 
   -- an instance is done, and then its puts are added
-  pub end_comes : (puts : List Put) (n : ℕ) → Grows mid new (put_facts i 0 puts) [] n → Comes old new (event.Done i puts)
-  end_comes puts n grows = record {
+  pub end_comes : (puts : List Put) → Grows mid new (put_facts i 0 puts) [] puts → Comes old new (event.Done i puts)
+  end_comes puts grows = record {
     facts = λ fact. grows.facts fact ∙ ap (λ b. b || among (put_facts i 0 puts) fact) (done_comes total tie old mid i Running Done was moves (same_items total tie old mid i Running Done was moves items fault) fault refl fact)
         ∙ either_way (facts_of old fact) (is_fact (done i) fact) (among (put_facts i 0 puts) fact);
     environment = λ fact. grows.environment fact ∙ ap (λ b. b || false) (environment_same total tie old mid i Running Done was moves items fault fact);

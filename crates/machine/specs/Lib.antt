@@ -20,4 +20,5 @@ pub mod State
 pub mod StateLaws
 pub mod Status
 pub mod Taking
+pub mod Tally
 pub mod Waking

@@ -1,11 +1,9 @@
 -- What a store holds in memory, as sets of facts, and what each change does to them.
-use Rattle.std.specs.Prelude.{◌≡◌, ◌⊎◌, ℕ, ℤ, ◌+◌, ◌<◌, ◌≤◌, Bool, true, false, ◌&&◌, ◌==◌, List, length, slice_get, Option, Some, None, IsSome, is_some}
+use Rattle.std.specs.Prelude.{◌≡◌, ◌⊎◌, ℕ, ℤ, ◌<◌, Bool, true, false, ◌&&◌, ◌==◌, length, slice_get, Option, Some, None, IsSome, is_some}
 use Rattle.std.specs.Option.{option_map, unwrap_or}
 use Rattle.std.specs.Ordering.{is_eq, int_eq}
 use Rattle.terms.specs.declared.name.Addr.{Addr}
 use Rattle.terms.specs.declared.name.Inst.{Inst}
-use Rattle.terms.specs.declared.name.ItemCollection.{ItemCollection}
-use Rattle.terms.specs.declared.name.TagCollection.{TagCollection}
 use Rattle.terms.specs.declared.fault.FaultKind.{FaultKind}
 use Rattle.terms.specs.declared.producer.Producer.{Producer}
 use Rattle.terms.specs.declared.producer.Producer.TheVariants.{Env, By}
@@ -20,12 +18,10 @@ use Rattle.terms.specs.Sets.{Facts, with_facts}
 use Rattle.graph.specs.Graph.{Graph, Step, IsGraph}
 use Rattle.graph.specs.Fits.{FitsState}
 use Rattle.items.specs.Held.{item_at, waiters_at}
-use Rattle.items.specs.Held as items
 use Rattle.items.specs.Once.{IsOnceEach, is_one_of}
 use Rattle.instances.specs.declared.state.State.{State}
 use Rattle.instances.specs.declared.state.State.TheVariants.{Ready, Running, Waiting, Done}
 use Rattle.instances.specs.Known.{mark_of, state_at, prescriber_at}
-use Rattle.instances.specs.Known as instances
 use Rattle.machine.specs.declared.memory.Memory.{Memory}
 use Rattle.machine.specs.Legal.{Needs}
 
@@ -105,18 +101,6 @@ MovesOn new (Some (Waiting address)) to = ((item_at new.items address ≡ None) 
 MovesOn new (Some Ready) to = to ≡ Some Ready
 MovesOn new (Some Running) to = to ≡ Some Running
 MovesOn new (Some Done) to = to ≡ Some Done
-
--- These facts are added; `given` are those that the environment put. The room of each collection shrinks by at most `count`.
-pub record Grows (old new : Memory) (more given : List Fact) (count : ℕ) : Type 0 where
-  pub facts : (fact : Fact) → facts_of new fact ≡ with_facts (facts_of old) more fact
-  pub environment : (fact : Fact) → environment_of new fact ≡ with_facts (environment_of old) given fact
-  pub states : (instance : Inst) → MovesOn new (state_at old.instances instance) (state_at new.instances instance)
-  pub item_collections : length new.items.items.room ≡ length old.items.items.room
-  pub tag_collections : length new.instances.tags.room ≡ length old.instances.tags.room
-  pub prescribers : (number : ℕ) → prescriber_at new.instances number ≡ prescriber_at old.instances number
-  pub listed : AreListed new
-  pub item_room : (collection : ItemCollection) → items.room_for old.items collection ≤ items.room_for new.items collection + count
-  pub tag_room : (collection : TagCollection) → instances.room_for old.instances collection ≤ instances.room_for new.instances collection + count
 
 -- the event comes: its facts are added, and among them those of the environment; no instance begins to wait because of it
 pub record Comes (old new : Memory) (event : Event) : Type 0 where

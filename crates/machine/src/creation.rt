@@ -2,6 +2,7 @@ ghost use Rattle.std.specs.Prelude.{◌≡◌, IfOk, map};
 
 use crate::Machine;
 use crate::memory::Memory;
+use crate::tally::Tally;
 use graph::Graph;
 use instances::Instances;
 use items::Items;
@@ -25,10 +26,12 @@ impl Machine {
     {
         let memory = Memory::new(alloc, &graph)?;
         let addresses = Vec::with_capacity(alloc, MOST_PUTS)?;
+        let tally = Tally::new(alloc, graph.item_count(), graph.tag_count())?;
         Ok(Machine {
             graph,
             memory,
             addresses,
+            tally,
         })
     }
 }

@@ -1,58 +1,90 @@
 use crate::Machine;
+use crate::memory::Memory;
+use crate::tally::Tally;
 use std::alloc::AllocError;
+use steptree::limits;
 use terms::{ItemCollection, Put, TagCollection};
 
 impl Machine {
-    ghost use Rattle.std.specs.Prelude.{◌≡◌, ◌<◌, ◌≤◌, OnErr, OnOk, length};
+    ghost use Rattle.std.specs.Prelude.{OnErr, OnOk};
     ghost use Rattle.std.specs.List.{AllByRecursion};
     ghost use Rattle.graph.specs.Fits.{PutIsOf};
-    ghost use Rattle.machine.specs.Machine.{HasRoom, HasRoomFor, item_room, tag_room};
+    ghost use Rattle.machine.specs.Machine.{HasRoom};
     ghost use Rattle.machine.specs.Room.{GivesRoom};
 
-    /// Makes room for all that these puts add: each of their collections gets room for as many entries as there are puts. It is
-    /// refused only if there was not as much room before.
+    /// Makes room for all that these puts add: each collection gets room for as many entries as there are puts that go to it. It
+    /// is refused only if some collection did not have that much room before.
+    ///
+    /// It goes through the puts once and through the collections of the graph once. It allocates no memory except for the room.
     pub fn make_room(&mut self, puts: &[Put]) -> Result<(), AllocError>
         requires { AllByRecursion (PutIsOf self.old.graph) puts.now }
         ensures ok { OnOk result (HasRoom self.new puts.now) }
         ensures grows { GivesRoom self.old self.new }
         ensures refused { OnErr result (HasRoom self.old puts.now → ⊥) }
     {
-        for number in 0..puts.len() {
-            self.make_room_for(puts[number], puts.len())?;
+        limits();
+        self.tally.count(puts);
+        self.memory.make_room(&self.tally)
+    }
+}
+
+impl Memory {
+    ghost use Rattle.std.specs.Prelude.{◌≡◌, ◌<◌, ◌≤◌, ◌^◌, OnErr, OnOk, get_or, length};
+    ghost use Rattle.terms.specs.declared.name.ItemCollection.{ItemCollection as OfItems};
+    ghost use Rattle.terms.specs.declared.name.TagCollection.{TagCollection as OfTags};
+    ghost use Rattle.items.specs.Held.{room_for};
+    ghost use Rattle.instances.specs.Known.{room_for as tags_for};
+    ghost use Rattle.machine.specs.Room.{OnlyMakesRoom};
+    ghost use Rattle.machine.specs.Tally.{HasRoomCounted};
+
+    // Makes room for the puts that were counted.
+    fn make_room(&mut self, tally: &Tally) -> Result<(), AllocError>
+        requires items { length tally.now.items.items ≡ length self.old.items.items.room }
+        requires tags { length tally.now.tags.items ≡ length self.old.instances.tags.room }
+        requires few_items { length tally.now.items.items ≤ 2 ^ 16 }
+        requires few_tags { length tally.now.tags.items ≤ 2 ^ 16 }
+        ensures ok { OnOk result (HasRoomCounted self.new tally.now) }
+        ensures grows { OnlyMakesRoom self.old self.new }
+        ensures refused { OnErr result (HasRoomCounted self.old tally.now → ⊥) }
+    {
+        self.make_item_room(&tally.items)?;
+        self.make_tag_room(&tally.tags)
+    }
+
+    // Makes room for these numbers of items, one for each collection.
+    fn make_item_room(&mut self, counts: &[usize]) -> Result<(), AllocError>
+        requires collections { length counts.now ≡ length self.old.items.items.room }
+        requires few { length counts.now ≤ 2 ^ 16 }
+        ensures ok { OnOk result ((collection : OfItems) → get_or counts.now collection.0 0 ≤ room_for self.new.items collection) }
+        ensures grows { OnlyMakesRoom self.old self.new }
+        ensures refused { OnErr result ((collection : OfItems) × (room_for self.old.items collection < get_or counts.now collection.0 0)) }
+    {
+        for number in 0..counts.len() {
+            let count = counts[number];
+            if count == 0 {
+                continue;
+            }
+            self.items.make_room(ItemCollection(number as u16), count)?;
         }
         Ok(())
     }
 
-    // Makes room for `count` puts to the collection of this put.
-    fn make_room_for(&mut self, put: Put, count: usize) -> Result<(), AllocError>
-        requires { PutIsOf self.old.graph put }
-        ensures ok { OnOk result (HasRoomFor self.new count put) }
-        ensures grows { GivesRoom self.old self.new }
-        ensures refused { OnErr result (HasRoomFor self.old count put → ⊥) }
+    // Makes room for these numbers of tags, one for each collection, with all that they prescribe.
+    fn make_tag_room(&mut self, counts: &[usize]) -> Result<(), AllocError>
+        requires collections { length counts.now ≡ length self.old.instances.tags.room }
+        requires few { length counts.now ≤ 2 ^ 16 }
+        ensures ok { OnOk result ((collection : OfTags) → get_or counts.now collection.0 0 ≤ tags_for self.new.instances collection) }
+        ensures grows { OnlyMakesRoom self.old self.new }
+        ensures refused { OnErr result ((collection : OfTags) × (tags_for self.old.instances collection < get_or counts.now collection.0 0)) }
     {
-        match put {
-            Put::Item(addr, _) => self.make_item_room(addr.collection, count),
-            Put::Tag(tag) => self.make_tag_room(tag.collection, count),
+        for number in 0..counts.len() {
+            let count = counts[number];
+            if count == 0 {
+                continue;
+            }
+            self.instances
+                .make_room(TagCollection(number as u16), count)?;
         }
-    }
-
-    // Makes room for `count` items of a collection.
-    fn make_item_room(&mut self, collection: ItemCollection, count: usize) -> Result<(), AllocError>
-        requires { collection.0 < length self.old.graph.items }
-        ensures ok { OnOk result (count ≤ item_room self.new collection) }
-        ensures grows { GivesRoom self.old self.new }
-        ensures refused { OnErr result (item_room self.old collection < count) }
-    {
-        self.memory.items.make_room(collection, count)
-    }
-
-    // Makes room for `count` tags of a collection, with all that they prescribe.
-    fn make_tag_room(&mut self, collection: TagCollection, count: usize) -> Result<(), AllocError>
-        requires { collection.0 < length self.old.graph.tags }
-        ensures ok { OnOk result (count ≤ tag_room self.new collection) }
-        ensures grows { GivesRoom self.old self.new }
-        ensures refused { OnErr result (tag_room self.old collection < count) }
-    {
-        self.memory.instances.make_room(collection, count)
+        Ok(())
     }
 }

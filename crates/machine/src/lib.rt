@@ -33,6 +33,7 @@ mod results;
 mod states;
 mod status;
 mod taking;
+mod tally;
 mod waking;
 mod working;
 

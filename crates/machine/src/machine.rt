@@ -1,4 +1,5 @@
 use crate::memory::Memory;
+use crate::tally::Tally;
 use graph::Graph;
 use std::marker::Model;
 use std::sync::Arc;
@@ -14,6 +15,8 @@ pub struct Machine {
     pub(crate) memory: Memory,
     // Room for the addresses of one list of puts.
     pub(crate) addresses: Vec<Addr>,
+    // The counts of one list of puts, for each collection of the graph.
+    pub(crate) tally: Tally,
 }
 
 impl Drop for Machine {
@@ -23,6 +26,7 @@ impl Drop for Machine {
             graph: _,
             memory: _,
             addresses: _,
+            tally: _,
         } = self;
     }
 }
@@ -35,6 +39,7 @@ impl Model for Machine {
     ghost use Rattle.graph.specs.contracts.graph.Graph as of_graph;
     ghost use Rattle.machine.specs.contracts.memory.Memory as of_memory;
     ghost use Rattle.machine.specs.Memory.{IsOf};
+    ghost use Rattle.machine.specs.Tally.{HasPlaces};
     ghost use Rattle.machine.specs.Machine.{Machine as Seen};
 
     ghost Value = { Seen };
@@ -43,5 +48,5 @@ impl Model for Machine {
 
     ghost view = { λ m. record { graph = m.graph.value; memory = m.memory } };
 
-    ghost invariant = { λ m. IsOf m.graph.value m.memory × (MOST_PUTS ≤ vec_capacity m.addresses) };
+    ghost invariant = { λ m. IsOf m.graph.value m.memory × ((MOST_PUTS ≤ vec_capacity m.addresses) × HasPlaces m.graph.value m.tally) };
 }

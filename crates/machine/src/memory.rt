@@ -22,15 +22,15 @@ impl Memory {
     ghost use Rattle.graph.specs.Fits.{IsAbsent};
     ghost use Rattle.items.specs.Held.{IsOfCollection, room_for};
     ghost use Rattle.instances.specs.Known.{room_for as tags_for};
-    ghost use Rattle.machine.specs.Memory.{AreListed, Grows, facts_of};
-    ghost use Rattle.machine.specs.Coming.{CanTake, CanTakeAll, IsNewTo, fact_of, given_by};
+    ghost use Rattle.machine.specs.Memory.{AreListed, facts_of};
+    ghost use Rattle.machine.specs.Coming.{CanTake, CanTakeAll, Grows, IsNewTo, fact_of, given_by};
 
     /// Puts what an instance put, one put after the other.
     pub(crate) fn put_all(&mut self, instance: Inst, puts: &[Put])
         requires listed { AreListed self.old }
-        requires new { CanTakeAll self.old (length puts.now) puts.now }
+        requires new { CanTakeAll self.old puts.now }
         requires few { length puts.now ≤ MOST_PUTS }
-        ensures { Grows self.old self.new (put_facts instance 0 puts.now) [] (length puts.now) }
+        ensures { Grows self.old self.new (put_facts instance 0 puts.now) [] puts.now }
     {
         facts_are_told_apart();
         for number in 0..puts.len() {
@@ -42,9 +42,9 @@ impl Memory {
     /// Puts an item that is not there, or a tag. A tag that is there stays as it is.
     pub(crate) fn put(&mut self, producer: Producer, put: Put)
         requires listed { AreListed self.old }
-        requires room { CanTake self.old 1 put }
+        requires room { CanTake self.old put }
         requires new { IsNewTo self.old producer put }
-        ensures { Grows self.old self.new (fact_of producer put ∷ []) (given_by producer put) 1 }
+        ensures { Grows self.old self.new (fact_of producer put ∷ []) (given_by producer put) (put ∷ []) }
     {
         match put {
             Put::Item(addr, value) => self.put_item(addr, value, producer),
@@ -58,7 +58,7 @@ impl Memory {
         requires absent { IsAbsent (facts_of self.old) addr }
         requires collection { IsOfCollection self.old.items addr.collection }
         requires room { 0 < room_for self.old.items addr.collection }
-        ensures { Grows self.old self.new (item addr value producer ∷ []) (given_by producer (Item addr value)) 1 }
+        ensures { Grows self.old self.new (item addr value producer ∷ []) (given_by producer (Item addr value)) (Item addr value ∷ []) }
     {
         facts_are_told_apart();
         orders_are_total();
@@ -73,7 +73,7 @@ impl Memory {
         requires listed { AreListed self.old }
         requires room { 0 < tags_for self.old.instances tag.collection }
         requires new { IsNewTo self.old producer (Name tag) }
-        ensures { Grows self.old self.new (name tag ∷ []) (given_by producer (Name tag)) 1 }
+        ensures { Grows self.old self.new (name tag ∷ []) (given_by producer (Name tag)) (Name tag ∷ []) }
     {
         self.instances.are_there_together();
         let name = tag;

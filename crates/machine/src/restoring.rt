@@ -7,6 +7,7 @@ ghost use Rattle.machine.specs.Restoring.{CanHold, CanPrescribe, PutsItems, Puts
 
 use crate::Machine;
 use crate::memory::Memory;
+use crate::tally::Tally;
 use codec::Image;
 use graph::Graph;
 use instances::Instances;
@@ -29,10 +30,12 @@ impl Machine {
     {
         let memory = Memory::of_image(alloc, &graph, image)?;
         let addresses = Vec::with_capacity(alloc, MOST_PUTS)?;
+        let tally = Tally::new(alloc, graph.item_count(), graph.tag_count())?;
         Ok(Machine {
             graph,
             memory,
             addresses,
+            tally,
         })
     }
 }

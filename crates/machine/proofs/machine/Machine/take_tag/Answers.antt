@@ -1,5 +1,6 @@
-use Rattle.std.proofs.Common.{sym, subst}
+use Rattle.std.proofs.Common.{sym, subst, [], ◌∷◌}
 use Rattle.terms.specs.declared.event.Event.TheVariants.{EnvTag}
+use Rattle.terms.specs.declared.put.Put.TheVariants.{Tag}
 use Rattle.machine.specs.Legal.{IsLegal}
 use Rattle.machine.specs.Machine.{Machine, Takes, facts}
 use Rattle.machine.proofs.TakenEvent.{takes}
@@ -10,7 +11,7 @@ pub invariant_of-self : goal.invariant_of-self
 invariant_of-self c =
     let event = EnvTag c.args.tag in
     let legal = subst (λ (m : Machine). IsLegal m.graph (facts m) event) (sym c.self.view_is) c.requires.legal in
-    (c.taking_keeps.ensures c.self.inside.graph.value c.self.inside.memory c.put.new.self event c.self.invariant.0 legal (comes_of c.self.inside.memory c.put.new.self event 1 c.put.ensures), c.self.invariant.1)
+    (c.taking_keeps.ensures c.self.inside.graph.value c.self.inside.memory c.put.new.self event c.self.invariant.0 legal (comes_of c.self.inside.memory c.put.new.self event (Tag c.args.tag ∷ []) c.put.ensures), c.self.invariant.1)
 
 pub returns : goal.returns
 returns c =
@@ -19,4 +20,4 @@ returns c =
     let event = EnvTag c.args.tag in
     let grows = c.put.ensures in
     subst (λ (m : Machine). Takes m (record { graph = g; memory = c.put.new.self }) event) c.self.view_is
-    (takes c.facts_are_told_apart.ensures.one g old c.put.new.self event (comes_of old c.put.new.self event 1 grows) (λ i other. grows.states i) tt grows.item_room grows.tag_room)
+    (takes c.facts_are_told_apart.ensures.one g old c.put.new.self event (comes_of old c.put.new.self event (Tag c.args.tag ∷ []) grows) (λ i other. grows.states i) tt grows.item_room grows.tag_room)

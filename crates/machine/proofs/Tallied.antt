@@ -1,0 +1,95 @@
+-- The puts of a list are counted one after the other, and then each collection gets room for its own.
+use Rattle.std.proofs.Common.{◌≡◌, ◌∙◌, ap, sym, refl, subst, ℕ, zero, suc, ◌+◌, ◌<◌, ◌≤◌, ◌^◌, ◌==◌, Bool, true, false, if◌then◌else◌, nat_eq, List, [], ◌∷◌, length, replicate, get_or, Result, Ok, Err, OnErr, arith}
+use native.Mathlib.Decide.{dec_lt}
+use Rattle.std.proofs.lemmas.Bool.{false≢true}
+use Rattle.std.proofs.lemmas.List.{get_or_past}
+use Rattle.std.specs.Cmp.{unsigned_Decides}
+use Rattle.terms.specs.declared.name.ItemCollection.{ItemCollection}
+use Rattle.terms.specs.declared.name.TagCollection.{TagCollection}
+use Rattle.terms.specs.declared.put.Put.{Put}
+use Rattle.terms.specs.declared.put.Put.TheVariants as put
+use Rattle.machine.specs.declared.tally.Tally.{Tally}
+use Rattle.machine.specs.Machine.{items_to, tags_to}
+use Rattle.machine.specs.Tally.{Adds, AreAsMany, HasPlace, IsBelowMost, items_counted, tags_counted}
+use Rattle.machine.proofs.Growing.{items_with, one_to_itself, tags_with}
+
+abbrev pub zeros : ℕ → List ℕ
+zeros n = replicate n 0
+
+pub many_zeros : (n : ℕ) → length (zeros n) ≡ n
+many_zeros zero = refl
+many_zeros (suc n) = ap suc (many_zeros n)
+
+pub none_counted : (n k : ℕ) → get_or (zeros n) k 0 ≡ zero
+none_counted zero k = refl
+none_counted (suc n) zero = refl
+none_counted (suc n) (suc k) = none_counted n k
+
+one_more_at_most : {m n : ℕ} (b : Bool) → m ≤ n → (if b then 1 else 0) + m ≤ suc n
+one_more_at_most true few = omega (arith, few)
+one_more_at_most false few = omega (arith, few)
+
+-- no more puts go to a collection than there are
+items_few : (c : ItemCollection) (puts : List Put) → items_to c puts ≤ length puts
+items_few c [] = omega arith
+items_few c (put.Item address value ∷ puts) = one_more_at_most (nat_eq address.collection.0 c.0) (items_few c puts)
+items_few c (put.Tag name ∷ puts) = omega (arith, items_few c puts)
+
+tags_few : (c : TagCollection) (puts : List Put) → tags_to c puts ≤ length puts
+tags_few c [] = omega arith
+tags_few c (put.Tag name ∷ puts) = one_more_at_most (nat_eq name.collection.0 c.0) (tags_few c puts)
+tags_few c (put.Item address value ∷ puts) = omega (arith, tags_few c puts)
+
+-- what was counted, and what is left of the list, are all puts of the list
+pub record IsOnTheWay (t : Tally) (left puts : List Put) : Type 0 where
+  pub items : (c : ItemCollection) → items_counted t c + items_to c left ≡ items_to c puts
+  pub tags : (c : TagCollection) → tags_counted t c + tags_to c left ≡ tags_to c puts
+
+pub begins : (t : Tally) (items tags : ℕ) (puts : List Put) → t.items.items ≡ replicate items 0 → t.tags.items ≡ replicate tags 0 → IsOnTheWay t puts puts
+begins t items tags puts no_items no_tags = record {
+  items = λ c. (let none = ap (λ (l : List ℕ). get_or l c.0 0) no_items ∙ none_counted items c.0 in omega (arith, none));
+  tags = λ c. (let none = ap (λ (l : List ℕ). get_or l c.0 0) no_tags ∙ none_counted tags c.0 in omega (arith, none));
+}
+
+pub goes_on : (old new : Tally) (one : Put) (left puts : List Put) → Adds old new one → IsOnTheWay old (one ∷ left) puts → IsOnTheWay new left puts
+goes_on old new one left puts adds way = record {
+  items = λ c. omega (arith, adds.items c, way.items c, items_with c one left);
+  tags = λ c. omega (arith, adds.tags c, way.tags c, tags_with c one left);
+}
+
+-- the next put can be counted
+pub is_below : (t : Tally) (one : Put) (left puts : List Put) → length puts < 2 ^ 64 → IsOnTheWay t (one ∷ left) puts → IsBelowMost t one
+is_below t (put.Item address value) left puts fits way =
+    let c = address.collection in omega (arith, fits, way.items c, items_few c puts, items_with c (put.Item address value) left, one_to_itself c.0)
+is_below t (put.Tag name) left puts fits way =
+    let c = name.collection in omega (arith, fits, way.tags c, tags_few c puts, tags_with c (put.Tag name) left, one_to_itself c.0)
+
+-- a place stays
+pub place_stays : (old new : Tally) (one : Put) → AreAsMany old new → HasPlace old one → HasPlace new one
+place_stays old new (put.Item address value) many has = subst (λ (n : ℕ). address.collection.0 < n) (sym many.items) has
+place_stays old new (put.Tag name) many has = subst (λ (n : ℕ). name.collection.0 < n) (sym many.tags) has
+
+-- ---- room for what was counted
+
+below : (k n : ℕ) → k < n + 1 → (k ≡ n → ⊥) → k < n
+below k n within other = elim (dec_lt k n) [ yes is ↦ is | no not ↦ absurd (other (omega (arith, within, not))) ]
+
+-- each of the first collections has room for what was counted for it; then so has the next one
+pub filled : (counts : List ℕ) (n : ℕ) (old new : ℕ → ℕ) → ((k : ℕ) → old k ≤ new k) → ((k : ℕ) → k < n → get_or counts k 0 ≤ old k) → get_or counts n 0 ≤ new n
+    → (k : ℕ) → k < n + 1 → get_or counts k 0 ≤ new k
+filled counts n old new more first next k within = at (k == n) refl
+  where
+    at : (b : Bool) → (k == n) ≡ b → get_or counts k 0 ≤ new k
+    at true is = subst (λ (j : ℕ). get_or counts j 0 ≤ new j) (sym ((unsigned_Decides k n).0 is)) next
+    at false is = (let less = below k n within (λ one. false≢true (sym is ∙ (unsigned_Decides k n).1 one)) in omega (arith, first k less, more k))
+
+-- after the last one, nothing was counted for any other
+pub all_filled : (counts : List ℕ) (n : ℕ) (room : ℕ → ℕ) → length counts ≤ n → ((k : ℕ) → k < n → get_or counts k 0 ≤ room k) → (k : ℕ) → get_or counts k 0 ≤ room k
+all_filled counts n room past first k = elim (dec_lt k n) [
+  | yes is ↦ first k is
+  | no not ↦ (let none = get_or_past counts k 0 (omega (arith, past, not)) in omega (arith, none))
+]
+
+pub on_err : {X E A : Type 0} (result : Result X E) → A → OnErr result A
+on_err (Ok done) it = tt
+on_err (Err error) it = it

@@ -1,0 +1,47 @@
+use Rattle.std.proofs.Common.{ℕ, arith}
+use Rattle.terms.specs.declared.name.TagCollection.{TagCollection}
+use Rattle.instances.specs.Known.{room_for}
+use Rattle.machine.specs.declared.memory.Memory.{Memory}
+use Rattle.machine.proofs.Roomier.{made_for_tags, more_room, no_room}
+use Rattle.machine.proofs.Tallied.{all_filled, filled, on_err}
+use Rattle.machine.proofs.memory.Memory.make_tag_room.Goals as goal
+
+pub loop-number-init : goal.loop-number-init
+loop-number-init c = (no_room c.args.self.now, λ k within. absurd (omega (arith, within)))
+
+pub loop-number-preserved-then-count-eq0 : goal.loop-number-preserved-then-count-eq0
+loop-number-preserved-then-count-eq0 c =
+    let room : ℕ → ℕ = λ k. room_for c.loop-number.self.instances (record { 0 = k }) in
+    (c.loop-number.invariant.0, filled c.args.counts.now c.loop-number.number room room (λ k. omega arith) c.loop-number.invariant.1 (let none = c.if-count-eq0.true in omega (arith, none)))
+
+pub make_room-requires : goal.make_room-requires
+make_room-requires c = omega (arith, c.loop-number-test.true, c.requires.collections, c.loop-number.invariant.0.tag_collections)
+
+pub returns-in_err-make_room-clause-grows : goal.returns-in_err-make_room-clause-grows
+returns-in_err-make_room-clause-grows c =
+    let now = c.loop-number.self in
+    let new : Memory = record { items = now.items; instances = c.make_room.new.self; fault = now.fault } in
+    more_room c.args.self.now now new c.loop-number.invariant.0 (made_for_tags now c.make_room.new.self (record { 0 = c.loop-number.number }) c.make_room.ensures.grows)
+
+pub returns-in_err-make_room-clause-refused : goal.returns-in_err-make_room-clause-refused
+returns-in_err-make_room-clause-refused c =
+    let it : TagCollection = record { 0 = c.loop-number.number } in
+    let less = c.in_err-make_room.ensures.refused in
+    let more = c.loop-number.invariant.0.tag_room it in
+    on_err c.from_residual.result (it, omega (arith, less, more))
+
+pub loop-number-preserved : goal.loop-number-preserved
+loop-number-preserved c =
+    let now = c.loop-number.self in
+    let new : Memory = record { items = now.items; instances = c.make_room.new.self; fault = now.fault } in
+    let made = made_for_tags now c.make_room.new.self (record { 0 = c.loop-number.number }) c.make_room.ensures.grows in (
+      more_room c.args.self.now now new c.loop-number.invariant.0 made,
+      filled c.args.counts.now c.loop-number.number (λ k. room_for now.instances (record { 0 = k })) (λ k. room_for new.instances (record { 0 = k })) (λ k. made.tag_room (record { 0 = k }))
+          c.loop-number.invariant.1 c.in_ok-make_room.ensures.ok,
+    )
+
+pub returns-clause-ok : goal.returns-clause-ok
+returns-clause-ok c = λ k. all_filled c.args.counts.now c.loop-number.number (λ n. room_for c.loop-number.self.instances (record { 0 = n })) (omega (arith, c.loop-number-test.false)) c.loop-number.invariant.1 k.0
+
+pub returns-clause-grows : goal.returns-clause-grows
+returns-clause-grows c = c.loop-number.invariant.0
