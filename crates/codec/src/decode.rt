@@ -1,7 +1,7 @@
 ghost use Rattle.std.specs.Prelude.{◌≡◌, ◌≤◌, ◌⊎◌, [], IfOk, OnOk, IsErrOf};
 ghost use Rattle.std.specs.List.{AllByRecursion};
 ghost use Rattle.terms.specs.declared.key.TheConstants.{MAX_COMPONENTS};
-ghost use Rattle.codec.specs.Answers.{filled, leaving, ReadsOrRefused};
+ghost use Rattle.codec.specs.Answers.{filled, ReadsOrRefused};
 ghost use Rattle.codec.specs.Commits.{SpellsCommit};
 ghost use Rattle.codec.specs.Image.{IsInOrder};
 ghost use Rattle.codec.specs.Spelling.{SpellsEvent, HasFewPuts, SpellsImage};
@@ -14,6 +14,9 @@ use crate::reader::Reader;
 use crate::{CodecError, Image, Instances, Items, Tags};
 use std::alloc::Global;
 use terms::{Event, MOST_PUTS, Puts};
+
+// The least number of bytes that spell an event: its kind, and a tag that has no component.
+const LEAST_EVENT: usize = 4;
 
 /// The event that these bytes spell, with at most `most` components a key, or the bytes' first fault from the left.
 ///
@@ -34,7 +37,8 @@ pub fn decode_event(alloc: Global, bytes: &[u8], most: usize) -> Result<Event, C
 /// Reads the commit that a record's payload spells, with at most `most` components a key, into `events`, or returns the payload's first
 /// fault from the left. What `events` held before is let go. After an error it holds a part of the payload or nothing.
 ///
-/// A vector with room for one event is enough for a payload of one event. Beyond that it allocates as `decode_event` does.
+/// For the events it allocates only if `events` has no room for them, and for no more of them than the bytes that are there could spell;
+/// for the puts of each as `decode_event` does.
 pub fn decode_payload(
     alloc: Global,
     bytes: &[u8],
@@ -157,7 +161,7 @@ fn read_group(
     if count < 2 || (MOST_EVENTS as u16) < count {
         return Err(CodecError::Range);
     }
-    events.reserve(usize::from(count))?;
+    events.reserve(usize::from(count).min(reader.rest.len() / LEAST_EVENT))?;
     for _ in 0..count {
         events.push(read_event(alloc, reader, most)?)?;
     }

@@ -4,7 +4,7 @@ ghost use Rattle.codec.specs.declared.error.CodecError.TheVariants.{NoMemory};
 use std::alloc::{AllocError, AllocFailed};
 use thiserror::Error;
 
-/// Why bytes do not spell an event or an image: the first fault from the left.
+/// Why bytes do not spell an event, a commit or an image: the first fault from the left.
 #[derive(Clone, Copy, Debug, PartialEq, Eq, Error)]
 pub enum CodecError {
     /// The bytes end too early.
@@ -13,7 +13,7 @@ pub enum CodecError {
     /// A kind, a mark, a producer or a kind of fault is outside its list.
     #[error("kind")]
     Kind,
-    /// A count of components or of puts, or the number of a put, is too large.
+    /// A count of components or of puts, or the number of a put, is too large; or the number of events of a group is not 2 to 64.
     #[error("range")]
     Range,
     /// An element does not come after the one before it.
