@@ -15,7 +15,7 @@ use terms::{Addr, Event, FaultKind, Inst, Producer, Put, Tag, facts_are_told_apa
 impl Holdings {
     /// Takes events one after another, and returns whether each fits after those before it. If one does not, or memory is
     /// refused, what is held afterwards is unspecified.
-    pub fn take_all(&mut self, graph: &Graph, events: &[Event]) -> Result<bool, AllocError>
+    pub(crate) fn take_all(&mut self, graph: &Graph, events: &[Event]) -> Result<bool, AllocError>
         requires { AllByRecursion HasFewPuts events.now }
         ensures fits { IfOk result (λ taken. IsTrue taken ↔ AllFit graph.now (image_facts self.old) events.now) }
         ensures grown { IfOk result (λ taken. IsTrue taken → Grows (environment events.now) (facts events.now) self.old self.new) }
@@ -34,7 +34,7 @@ impl Holdings {
 
     /// Takes an event if it fits what is held, and returns whether it fits. If it does not, or memory is refused, what is
     /// held afterwards is unspecified.
-    pub fn take(&mut self, graph: &Graph, event: &Event) -> Result<bool, AllocError>
+    fn take(&mut self, graph: &Graph, event: &Event) -> Result<bool, AllocError>
         requires { HasFewPuts event.now }
         ensures fits { IfOk result (λ taken. IsTrue taken ↔ Fits graph.now (facts_in self.old) event.now) }
         ensures grown { IfOk result (λ taken. IsTrue taken → IsGrownBy event.now self.old self.new) }

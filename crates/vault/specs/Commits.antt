@@ -1,7 +1,7 @@
 -- The commits of a store, and what is left of them from call to call: by a crash, by openings that were cut off, and by the opening that
 -- gives the store back.
 --
--- A commit is the events of one record: after a crash all of them are there, or none; today a record has one event. The commits of a
+-- A commit is the events of one record: after a crash all of them are there, or none. The commits of a
 -- store begin at a state: at nothing where it was created, at what an opening gave where it was opened. They are in the order of their
 -- appends, each of which opens the gate of its record. A commit is acknowledged if the call that made it returned `Ok`.
 use Rattle.std.specs.Prelude.{◌≡◌, ◌⊎◌, ◌≤◌, ℕ, true, false, List, [], ◌∷◌, ◌++◌}

@@ -26,7 +26,8 @@ use std::array;
 use terms::{Event, facts_are_told_apart};
 
 impl<D: Disk> Vault<D> {
-    /// Appends the commit of one event that fits what the store holds, as `append_all` does.
+    /// Appends the commit of one event that fits what the store holds, as `append_all` does: with the same errors, and the same after
+    /// each of them.
     pub fn append(&mut self, event: &Event) -> Result<(), VaultError>
         requires puts { HasFewPuts event.now }
         requires store { IsTrue D.is_honest → self.old.halted ≡ false → IsReady D.files self.old }
@@ -51,7 +52,7 @@ impl<D: Disk> Vault<D> {
         self.append_all(array::from_ref(event))
     }
 
-    /// Appends a commit whose events fit, one after another, what the store holds. After `Ok` it is acknowledged: every crash leaves
+    /// Appends a commit of 1 to 64 events that fit, one after another, what the store holds. After `Ok` it is acknowledged: every crash leaves
     /// all of it.
     ///
     /// The vault halts exactly if a call of the disk returned an error; then the whole commit may be there or nothing of it.

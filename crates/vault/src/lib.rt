@@ -1,8 +1,8 @@
 //! The two files of a store: creation, appends, turnovers and openings.
 //!
 //! The files stand for a graph and a set of facts (`Stands` of `specs/Stands.antt`), which a vault holds (`Holds` of
-//! `specs/Store.antt`). The layer above uses `create`, `open`, `Vault::append` and `Vault::turn`: what each leaves at each
-//! moment, and after `Ok`.
+//! `specs/Store.antt`). The layer above uses `create`, `open`, `Vault::append`, `Vault::append_all` and `Vault::turn`: what each
+//! leaves at each moment, and after `Ok`.
 #![tactic(auto)]
 
 mod append;

@@ -17,7 +17,7 @@ pub struct Vault<D: Disk> {
     pub(crate) text: Vec<u8>,
     // Whether a call of the disk returned an error before.
     pub(crate) halted: bool,
-    // Holds an event while it is appended, and a side while it is written.
+    // Holds a commit while it is appended, and a side while it is written.
     pub(crate) buffer: Vec<u8>,
 }
 
