@@ -12,9 +12,10 @@ use Rattle.items.specs.Held as items
 use Rattle.instances.specs.Known as instances
 use Rattle.machine.specs.declared.memory.Memory.{Memory}
 use Rattle.machine.specs.Memory.{facts_of}
-use Rattle.machine.specs.Coming.{AreFree, HasRoomFor, IsFree}
-use Rattle.machine.specs.Machine.{HasRoom, items_to, tags_to}
+use Rattle.machine.specs.Coming.{AreFree, IsFree}
+use Rattle.machine.specs.Machine.{HasRoom}
 use Rattle.machine.proofs.Growing.{in_later}
+use Rattle.machine.specs.Putting.{items_to, tags_to, HasRoomFor}
 
 within : {X : Type 0} (xs : List X) (n : ℕ) (x : X) → slice_get xs n ≡ Some x → n < length xs
 within [] n x is = absurd (nothing n is)

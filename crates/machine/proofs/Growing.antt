@@ -19,10 +19,10 @@ use Rattle.instances.specs.declared.state.State.TheVariants.{Ready, Running, Wai
 use Rattle.instances.specs.Known.{state_at}
 use Rattle.machine.specs.declared.memory.Memory.{Memory}
 use Rattle.machine.specs.Memory.{is_item, facts_of, environment_of, AreListed, MovesOn}
-use Rattle.machine.specs.Machine.{items_to, tags_to}
 use Rattle.machine.specs.Coming.{AreFree, CanTake, CanTakeAll, Grows, IsFree, fact_of}
 use Rattle.machine.proofs.Coming.{or_false, is_itself, itself_number, the_item}
 use Rattle.machine.proofs.Tagging.{unmoved}
+use Rattle.machine.specs.Putting.{items_to, tags_to}
 
 -- nothing is added
 pub grows_none : (m : Memory) → AreListed m → Grows m m [] [] []

@@ -18,11 +18,12 @@ use Rattle.instances.specs.declared.state.State.{State}
 use Rattle.instances.specs.declared.state.State.TheVariants.{Ready, Running, Waiting, Done}
 use Rattle.instances.specs.Known.{state_at}
 use Rattle.machine.specs.declared.memory.Memory.{Memory}
-use Rattle.machine.specs.Machine.{Ends, EndsAs, GoesOn, HasItem, Takes, item_room, items_to, puts_of, tag_room, tags_to}
+use Rattle.machine.specs.Machine.{Ends, EndsAs, GoesOn, HasItem, Takes, item_room, puts_of, tag_room}
 use Rattle.machine.specs.Memory.{is_item, facts_of, Comes, MovesOn}
 use Rattle.machine.proofs.Coming.{item_is_there}
 use Rattle.machine.proofs.Promised.{ended}
 use Rattle.machine.proofs.Sets.{or_left, or_right}
+use Rattle.machine.specs.Putting.{items_to, tags_to}
 
 -- whether an item is there, by the facts
 pub absent_of : (m : Memory) (a : Addr) → item_at m.items a ≡ None → IsAbsent (facts_of m) a

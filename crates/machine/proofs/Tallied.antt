@@ -9,9 +9,9 @@ use Rattle.terms.specs.declared.name.TagCollection.{TagCollection}
 use Rattle.terms.specs.declared.put.Put.{Put}
 use Rattle.terms.specs.declared.put.Put.TheVariants as put
 use Rattle.machine.specs.declared.tally.Tally.{Tally}
-use Rattle.machine.specs.Machine.{items_to, tags_to}
 use Rattle.machine.specs.Tally.{Adds, AreAsMany, HasPlace, IsBelowMost, items_counted, tags_counted}
 use Rattle.machine.proofs.Growing.{items_with, one_to_itself, tags_with}
+use Rattle.machine.specs.Putting.{items_to, tags_to}
 
 abbrev pub zeros : ℕ → List ℕ
 zeros n = replicate n 0

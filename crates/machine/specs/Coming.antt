@@ -16,8 +16,8 @@ use Rattle.items.specs.Held as items
 use Rattle.instances.specs.Known.{Known, state_at, prescriber_at}
 use Rattle.instances.specs.Known as instances
 use Rattle.machine.specs.declared.memory.Memory.{Memory}
-use Rattle.machine.specs.Machine.{items_to, tags_to}
 use Rattle.machine.specs.Memory.{facts_of, environment_of, AreListed, MovesOn}
+use Rattle.machine.specs.Putting.{items_to, tags_to, HasRoomFor}
 
 -- what a put by this producer states
 abbrev pub fact_of : Producer → Put → Fact
@@ -28,11 +28,6 @@ fact_of by (put.Tag name) = tag name
 abbrev pub given_by : Producer → Put → List Fact
 given_by Env one = fact_of Env one ∷ []
 given_by (By instance number) one = []
-
--- each collection has room for the puts of the list that go to it
-pub record HasRoomFor (m : Memory) (puts : List Put) : Type 0 where
-  pub items : (collection : ItemCollection) → items_to collection puts ≤ items.room_for m.items collection
-  pub tags : (collection : TagCollection) → tags_to collection puts ≤ instances.room_for m.instances collection
 
 -- the put can be made: if it is of an item, its address has none; and its collection has room for it
 abbrev pub CanTake : Memory → Put → Type 0

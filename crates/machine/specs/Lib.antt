@@ -12,6 +12,7 @@ pub mod Memory
 pub mod Mixed
 pub mod Producers
 pub mod Promise
+pub mod Putting
 pub mod Restored
 pub mod Restoring
 pub mod Results

@@ -1,5 +1,5 @@
 -- The state of a store in memory: its graph and what it holds; what each call does to it, and why a call is refused.
-use Rattle.std.specs.Prelude.{◌≡◌, ◌≢◌, ◌⊎◌, ⊤, ℕ, ℤ, ◌+◌, ◌≤◌, Bool, true, false, if◌then◌else◌, nat_eq, List, [], ◌∷◌, length, get_or, slice_get, Option, Some, None}
+use Rattle.std.specs.Prelude.{◌≡◌, ◌≢◌, ◌⊎◌, ⊤, ℕ, ℤ, ◌+◌, ◌≤◌, Bool, true, false, List, [], ◌∷◌, length, get_or, slice_get, Option, Some, None}
 use Rattle.terms.specs.declared.name.Addr.{Addr}
 use Rattle.terms.specs.declared.name.Tag.{Tag}
 use Rattle.terms.specs.declared.name.Inst.{Inst}
@@ -27,6 +27,7 @@ use Rattle.machine.specs.declared.refusal.Refusal.TheVariants.{NoSuchCollection,
 use Rattle.machine.specs.declared.end.End.{End}
 use Rattle.machine.specs.declared.end.End.TheVariants as end
 use Rattle.machine.specs.Meaning.{items}
+use Rattle.machine.specs.Putting.{items_to, tags_to, HasRoomFor}
 use Rattle.machine.specs.Memory.{facts_of, environment_of}
 
 pub record Machine : Type 0 where
@@ -79,17 +80,6 @@ IsPut (event.EnvItem address value) = ⊤
 IsPut (event.EnvTag name) = ⊤
 IsPut (event.Done ended puts) = ⊥
 IsPut (event.Stopped ended kind) = ⊥
-
--- how many of these puts are items of a collection, and how many are tags of one
-abbrev pub items_to : ItemCollection → List Put → ℕ
-items_to collection [] = 0
-items_to collection (put.Item address value ∷ puts) = (if nat_eq address.collection.0 collection.0 then 1 else 0) + items_to collection puts
-items_to collection (put.Tag name ∷ puts) = items_to collection puts
-
-abbrev pub tags_to : TagCollection → List Put → ℕ
-tags_to collection [] = 0
-tags_to collection (put.Item address value ∷ puts) = tags_to collection puts
-tags_to collection (put.Tag name ∷ puts) = (if nat_eq name.collection.0 collection.0 then 1 else 0) + tags_to collection puts
 
 -- the puts of the event
 abbrev pub puts_of : Event → List Put
@@ -147,9 +137,8 @@ LooksAgain old new instance address = (IsAbsent (facts old) address × Moves old
 -- ---- room
 
 -- each collection has room for the puts of the list that go to it
-pub record HasRoom (m : Machine) (puts : List Put) : Type 0 where
-  pub items : (collection : ItemCollection) → items_to collection puts ≤ item_room m collection
-  pub tags : (collection : TagCollection) → tags_to collection puts ≤ tag_room m collection
+abbrev pub HasRoom : Machine → List Put → Type 0
+HasRoom m puts = HasRoomFor m.memory puts
 
 -- ---- refusals
 

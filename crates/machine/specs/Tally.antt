@@ -9,7 +9,7 @@ use Rattle.items.specs.Held as items
 use Rattle.instances.specs.Known as instances
 use Rattle.machine.specs.declared.memory.Memory.{Memory}
 use Rattle.machine.specs.declared.tally.Tally.{Tally}
-use Rattle.machine.specs.Machine.{items_to, tags_to}
+use Rattle.machine.specs.Putting.{items_to, tags_to}
 
 -- what was counted for a collection; nothing, if the tally has no place for it
 abbrev pub items_counted : Tally → ItemCollection → ℕ

@@ -1,6 +1,7 @@
 //! Worked examples of what a graph means. Each is a contract, with nothing to run.
 ghost use Rattle.machine.specs.Examples.{FiveNumbers, OneNumber, Conflict, PutTwice, Refused};
 ghost use Rattle.machine.specs.Mixed.{MixedIsRefused};
+ghost use Rattle.machine.specs.Putting.{EachIsCounted};
 
 use steptree::ends_once;
 use terms::facts_are_told_apart;
@@ -39,3 +40,8 @@ pub fn meant_and_not_reached()
     facts_are_told_apart();
     ends_once();
 }
+
+/// The room that a list of puts needs is counted for each collection by itself.
+pub fn room_is_counted()
+    ensures { EachIsCounted }
+{}

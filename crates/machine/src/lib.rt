@@ -39,7 +39,9 @@ mod working;
 
 pub use counts::Counts;
 pub use end::End;
-pub use examples::{fibonacci_numbers, item_put_twice, meant_and_not_reached, refused_examples};
+pub use examples::{
+    fibonacci_numbers, item_put_twice, meant_and_not_reached, refused_examples, room_is_counted,
+};
 pub use items_of::ItemsOf;
 pub use keeping::given_are_of_graph;
 pub use laws::{

@@ -71,6 +71,7 @@ fn meanings_hold() {
     machine::item_put_twice();
     machine::refused_examples();
     machine::meant_and_not_reached();
+    machine::room_is_counted();
     machine::stays_within();
     machine::quiet_is_meaning();
     machine::stopped_is_not_clean();

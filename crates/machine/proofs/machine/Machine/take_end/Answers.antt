@@ -8,11 +8,12 @@ use Rattle.machine.specs.declared.memory.Memory.{Memory}
 use Rattle.machine.specs.Legal.{IsLegal}
 use Rattle.machine.specs.Memory.{MovesOn}
 use Rattle.machine.specs.Coming.{Grows}
-use Rattle.machine.specs.Machine.{Machine, HasRoom, Takes, facts, state_of, tags_to}
+use Rattle.machine.specs.Machine.{Machine, HasRoom, Takes, facts, state_of}
 use Rattle.machine.proofs.Ending.{are_free, with_room}
 use Rattle.machine.proofs.TakenEvent.{is_ended, takes}
 use Rattle.machine.proofs.Worked.{ended_listed, end_comes}
 use Rattle.machine.proofs.machine.Machine.take_end.Goals as goal
+use Rattle.machine.specs.Putting.{tags_to}
 
 pub put_all-requires-clause-listed : goal.put_all-requires-clause-listed
 put_all-requires-clause-listed c =
