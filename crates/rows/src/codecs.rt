@@ -1,4 +1,7 @@
 //! Bytes of events, payloads and images: what they are read as, and whether encoding that gives the same bytes again.
+ghost use Rattle.std.specs.Prelude.{◌≤◌};
+ghost use Rattle.terms.specs.declared.key.TheConstants.{MAX_COMPONENTS};
+
 use crate::telling::{tell_event, tell_events, tell_image};
 use codec::{
     CodecError, decode_event, decode_image, decode_payload, encode_event, encode_image,
@@ -15,11 +18,13 @@ pub(crate) enum Spelled {
     Image,
 }
 
-/// The event that the bytes spell, or their fault. A clone of it is encoded again.
-pub(crate) fn event(alloc: Global, bytes: &[u8]) -> Result<String, AllocError> {
+/// The event that the bytes spell, with at most `most` components a key, or their fault. A clone of it is encoded again.
+pub(crate) fn event(alloc: Global, bytes: &[u8], most: usize) -> Result<String, AllocError>
+    requires { most ≤ MAX_COMPONENTS }
+{
     let mut out = String::new(alloc);
     let mut again = Vec::new(alloc);
-    match decode_event(alloc, bytes, MAX_COMPONENTS) {
+    match decode_event(alloc, bytes, most) {
         Ok(event) => {
             tell_event(&mut out, &event)?;
             let clone = event.try_clone(alloc)?;
@@ -34,12 +39,14 @@ pub(crate) fn event(alloc: Global, bytes: &[u8]) -> Result<String, AllocError> {
     Ok(out)
 }
 
-/// The events of the commit that the bytes of a payload spell, or their fault.
-pub(crate) fn payload(alloc: Global, bytes: &[u8]) -> Result<String, AllocError> {
+/// The events of the commit that the bytes of a payload spell, with at most `most` components a key, or their fault.
+pub(crate) fn payload(alloc: Global, bytes: &[u8], most: usize) -> Result<String, AllocError>
+    requires { most ≤ MAX_COMPONENTS }
+{
     let mut out = String::new(alloc);
     let mut again = Vec::new(alloc);
     let mut commit = Vec::new(alloc);
-    match decode_payload(alloc, bytes, MAX_COMPONENTS, &mut commit) {
+    match decode_payload(alloc, bytes, most, &mut commit) {
         Ok(()) => {
             tell_events(&mut out, &commit)?;
             encode_payload(&mut again, &commit)?;
@@ -50,11 +57,13 @@ pub(crate) fn payload(alloc: Global, bytes: &[u8]) -> Result<String, AllocError>
     Ok(out)
 }
 
-/// The image that the bytes spell, or their fault.
-pub(crate) fn image(alloc: Global, bytes: &[u8]) -> Result<String, AllocError> {
+/// The image that the bytes spell, with at most `most` components a key, or their fault.
+pub(crate) fn image(alloc: Global, bytes: &[u8], most: usize) -> Result<String, AllocError>
+    requires { most ≤ MAX_COMPONENTS }
+{
     let mut out = String::new(alloc);
     let mut again = Vec::new(alloc);
-    match decode_image(alloc, bytes, MAX_COMPONENTS) {
+    match decode_image(alloc, bytes, most) {
         Ok(image) => {
             tell_image(&mut out, &image)?;
             encode_image(&mut again, &image)?;

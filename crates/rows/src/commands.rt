@@ -3,7 +3,8 @@
 //! - `text NAME`, `bytes NAME`: gives the name to what stands below it
 //! - `tokens`, `parse`, `reads`, `graph`, `beginnings`, `refuses BYTES`: a graph text (`graphs`)
 //! - `run NAME`: instances of a graph's steps, with the values of what they get (`bodies`)
-//! - `event`, `payload`, `image`, and `short event`, `short payload`, `short image`: bytes that spell one (`codecs`)
+//! - `event`, `payload`, `image`, and `short event`, `short payload`, `short image`: bytes that spell one (`codecs`).
+//!   `event of 2` reads keys of at most two components, and so with the other two
 //! - `rising KIND`: values that rise (`orders`)
 //! - `items`: calls on a map of items (`item_calls`)
 //! - `machine NAME CHOOSERS`: a story of a store in memory, once for each chooser (`states`)
@@ -12,6 +13,9 @@
 //!   (`crashes`)
 //! - `first`: bytes that begin with a record (`journals`)
 //! - `store NUMBERS`: a story of a store on a memory disk, once for each number (`vault_stories`)
+ghost use Rattle.std.specs.Prelude.{◌≤◌};
+ghost use Rattle.terms.specs.declared.key.TheConstants.{MAX_COMPONENTS};
+
 use crate::{
     bodies, bytes, codecs, cores, crashes, graphs, item_calls, journals, orders, states, stories,
     vaults,
@@ -19,6 +23,7 @@ use crate::{
 use cases::{Names, texts};
 use codecs::Spelled;
 use std::alloc::{AllocError, Global};
+use terms::MAX_COMPONENTS;
 
 /// The result of a command with its input, with the names that a file has given.
 pub(crate) fn answer(
@@ -78,14 +83,28 @@ fn answer_bytes(
     let Some(bytes) = bytes::bytes_of(alloc, names, input)? else {
         return String::from_str(alloc, "no bytes\n");
     };
-    match command {
-        "event" => codecs::event(alloc, &bytes),
-        "payload" => codecs::payload(alloc, &bytes),
-        "image" => codecs::image(alloc, &bytes),
+    let (kind, most) = limited(command);
+    match kind {
+        "event" => codecs::event(alloc, &bytes, most),
+        "payload" => codecs::payload(alloc, &bytes, most),
+        "image" => codecs::image(alloc, &bytes, most),
         "short event" => codecs::beginnings(alloc, &bytes, Spelled::Event),
         "short payload" => codecs::beginnings(alloc, &bytes, Spelled::Payload),
         "short image" => codecs::beginnings(alloc, &bytes, Spelled::Image),
         "first" => journals::first(alloc, &bytes),
         _ => String::from_str(alloc, "no such command\n"),
+    }
+}
+
+// A command without its limit of components, and that limit.
+fn limited(command: &str) -> (&str, usize)
+    ensures { result.1 ≤ MAX_COMPONENTS }
+{
+    match command.split_once(" of ") {
+        Some((kind, most)) => {
+            let most = most.parse::<usize>().unwrap_or(MAX_COMPONENTS);
+            (kind, most.min(MAX_COMPONENTS))
+        }
+        None => (command, MAX_COMPONENTS),
     }
 }
