@@ -1,4 +1,7 @@
+use Rattle.std.proofs.Common.{rules, subst}
 use Rattle.terms.specs.declared.event.Event.TheVariants.{EnvTag}
+use Rattle.machine.specs.Legal.{IsLegal}
+use Rattle.commit.specs.Core.{Core, facts, graph}
 use Rattle.commit.specs.Doubt.{events_in}
 use Rattle.commit.proofs.Allowed.{behind_room}
 use Rattle.commit.proofs.Taken.{kept_alike}
@@ -24,3 +27,9 @@ invariant_of-self-2 g c = (
 
 pub returns-clause-legal : goal.returns-clause-legal
 returns-clause-legal g c = c.make_room.ensures.grows.legal (EnvTag c.args.tag) (c.in_ok-may_put_tag.ensures.legal)
+
+pub returns-in_err-make_room-clause-refused : goal.returns-in_err-make_room-clause-refused
+returns-in_err-make_room-clause-refused g c =
+    let legal : IsLegal (graph c.args.self.now) (facts c.args.self.now) (EnvTag c.args.tag) =
+    subst (λ (old : Core g.row.D.Denot). IsLegal (graph old) (facts old) (EnvTag c.args.tag)) c.self.view_is c.in_ok-may_put_tag.ensures.legal
+    in search rules
