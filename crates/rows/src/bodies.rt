@@ -4,7 +4,7 @@
 use crate::telling::{tell_key, told_of};
 use graph::{Graph, parse};
 use std::alloc::{AllocError, Global};
-use steplang::{Checked, Run, Turn};
+use steplang::{Checked, Parked, Run, Turn};
 use terms::{Addr, Inst, Key, MAX_COMPONENTS, Put, StepCollection};
 
 /// The results of these instances, a line for each.
@@ -24,33 +24,61 @@ fn tell_runs(
     out: &mut String,
 ) -> Result<(), AllocError> {
     for line in lines.lines() {
-        let (instance, values) = line.split_once("<-").unwrap_or((line, ""));
-        let (name, key) = instance.split_once(' ').unwrap_or((instance, ""));
-        match (
-            graph.step_number(name),
-            numbers(alloc, key)?,
-            numbers(alloc, values)?,
-        ) {
-            (Some(step), Some(key), Some(values)) => {
-                tell_run(alloc, graph, step, &key, &values, out)?;
-            }
-            _ => out.push_str("no such step, or no number")?,
-        }
+        tell_line(alloc, graph, line, out)?;
         out.push_str("\n")?;
     }
     Ok(())
 }
 
+fn tell_line(alloc: Global, graph: &Graph, line: &str, out: &mut String) -> Result<(), AllocError> {
+    let (instance, values) = line.split_once("<-").unwrap_or((line, ""));
+    let (name, key) = instance.split_once(' ').unwrap_or((instance, ""));
+    match graph.step_number(name) {
+        Some(step) => tell_step(alloc, graph, step, key, values, out),
+        None => no_such(out),
+    }
+}
+
+fn tell_step(
+    alloc: Global,
+    graph: &Graph,
+    step: StepCollection,
+    key: &str,
+    values: &str,
+    out: &mut String,
+) -> Result<(), AllocError> {
+    let Some(key) = numbers(alloc, key)? else {
+        return no_such(out);
+    };
+    match numbers(alloc, values)? {
+        Some(values) => tell_run(alloc, graph, step, &key, &values, out),
+        None => no_such(out),
+    }
+}
+
+fn no_such(out: &mut String) -> Result<(), AllocError> {
+    out.push_str("no such step, or no number")
+}
+
 // The numbers in a text, with blanks between them, if each word is a number.
 fn numbers(alloc: Global, text: &str) -> Result<Option<Vec<i64>>, AllocError> {
     let mut numbers = Vec::new(alloc);
+    if push_numbers(text, &mut numbers)? {
+        Ok(Some(numbers))
+    } else {
+        Ok(None)
+    }
+}
+
+// Appends the numbers in a text, and returns whether each of its words is one.
+fn push_numbers(text: &str, numbers: &mut Vec<i64>) -> Result<bool, AllocError> {
     for word in text.split_whitespace() {
         match word.parse::<i64>() {
             Ok(number) => numbers.push(number)?,
-            Err(_) => return Ok(None),
+            Err(_) => return Ok(false),
         }
     }
-    Ok(Some(numbers))
+    Ok(true)
 }
 
 fn tell_run(
@@ -72,8 +100,8 @@ fn tell_run(
         key: Key::new(key),
     };
     let mut run = Run::start(alloc, checked, instance)?;
-    let turn = run.advance(None)?;
-    tell_turn(graph, &turn, out)?;
+    let turn = run.advance(None);
+    tell_next(graph, "", turn, out)?;
     go_on(graph, run, values, out)
 }
 
@@ -88,19 +116,39 @@ fn go_on(
         if run.pending().is_none() {
             return out.push_str(", a value is left");
         }
-        let turn = run.advance(Some(*value))?;
-        out.push_str(", ")?;
-        tell_turn(graph, &turn, out)?;
+        let turn = run.advance(Some(*value));
+        tell_next(graph, ", ", turn, out)?;
     }
     if run.pending().is_some() {
         let parked = run.park();
-        out.push_str(", parked at ")?;
-        tell_address(graph, &parked.address, out)?;
-        let instance = parked.instance;
-        write!(out, " behind {} reads of", parked.reads.as_slice().len())?;
-        tell_key(out, &instance.key)?;
+        tell_parked(graph, &parked, out)
+    } else {
+        Ok(())
     }
-    Ok(())
+}
+
+fn tell_parked(graph: &Graph, parked: &Parked<'_>, out: &mut String) -> Result<(), AllocError> {
+    out.push_str(", parked at ")?;
+    tell_address(graph, &parked.address, out)?;
+    let instance = parked.instance;
+    write!(out, " behind {} reads of", parked.reads.as_slice().len())?;
+    tell_key(out, &instance.key)
+}
+
+// Writes what comes before a turn, and the turn, unless memory was refused.
+fn tell_next(
+    graph: &Graph,
+    before: &str,
+    turn: Result<Turn<'_>, AllocError>,
+    out: &mut String,
+) -> Result<(), AllocError> {
+    match turn {
+        Ok(turn) => {
+            out.push_str(before)?;
+            tell_turn(graph, &turn, out)
+        }
+        Err(error) => Err(error),
+    }
 }
 
 fn tell_turn(graph: &Graph, turn: &Turn<'_>, out: &mut String) -> Result<(), AllocError> {

@@ -14,33 +14,58 @@ pub(crate) fn bytes_of(
     text: &str,
 ) -> Result<Option<Vec<u8>>, AllocError> {
     let mut bytes = Vec::new(alloc);
+    if push_text(alloc, names, text, &mut bytes)? {
+        Ok(Some(bytes))
+    } else {
+        Ok(None)
+    }
+}
+
+// Appends the bytes of these words and of those in brackets, and returns whether each of them is such a word.
+fn push_text(
+    alloc: Global,
+    names: &Names,
+    text: &str,
+    bytes: &mut Vec<u8>,
+) -> Result<bool, AllocError> {
     let mut rest = text;
     for _ in 0..text.len() {
         let Some((front, behind)) = rest.split_once('[') else {
             break;
         };
         let (within, after) = behind.split_once(']').unwrap_or((behind, ""));
-        let (words, count) = front
-            .rsplit_once(|letter: char| letter.is_whitespace())
-            .unwrap_or(("", front));
-        if !push_words(alloc, names, words, 0, &mut bytes)? {
-            return Ok(None);
-        }
-        let Ok(turns) = count.trim().parse::<u32>() else {
-            return Ok(None);
-        };
-        for turn in 0..turns {
-            if !push_words(alloc, names, within, turn, &mut bytes)? {
-                return Ok(None);
-            }
+        if !push_turns(alloc, names, front, within, bytes)? {
+            return Ok(false);
         }
         rest = after;
     }
-    if push_words(alloc, names, rest, 0, &mut bytes)? {
-        Ok(Some(bytes))
-    } else {
-        Ok(None)
+    push_words(alloc, names, rest, 0, bytes)
+}
+
+// Appends the bytes of the words in front of a bracket, whose last is a number, and of those in it, as often as that
+// number says.
+fn push_turns(
+    alloc: Global,
+    names: &Names,
+    front: &str,
+    within: &str,
+    bytes: &mut Vec<u8>,
+) -> Result<bool, AllocError> {
+    let (words, count) = front
+        .rsplit_once(|letter: char| letter.is_whitespace())
+        .unwrap_or(("", front));
+    if !push_words(alloc, names, words, 0, bytes)? {
+        return Ok(false);
     }
+    let Ok(turns) = count.trim().parse::<u32>() else {
+        return Ok(false);
+    };
+    for turn in 0..turns {
+        if !push_words(alloc, names, within, turn, bytes)? {
+            return Ok(false);
+        }
+    }
+    Ok(true)
 }
 
 // Appends the bytes of these words, and returns whether each of them is such a word.
@@ -52,50 +77,49 @@ fn push_words(
     bytes: &mut Vec<u8>,
 ) -> Result<bool, AllocError> {
     for word in words.split_whitespace() {
-        let is_one = if word == "turn" {
-            bytes.extend_from_slice(&i64::from(turn).to_le_bytes())?;
-            true
-        } else if let Some((kind, number)) = word.split_once(':') {
-            push_number(kind, number, bytes)?
-        } else {
-            push_digits(alloc, names, word, bytes)?
-        };
-        if !is_one {
+        if !push_word(alloc, names, word, turn, bytes)? {
             return Ok(false);
         }
     }
     Ok(true)
 }
 
+fn push_word(
+    alloc: Global,
+    names: &Names,
+    word: &str,
+    turn: u32,
+    bytes: &mut Vec<u8>,
+) -> Result<bool, AllocError> {
+    if word == "turn" {
+        return push_times(&i64::from(turn).to_le_bytes(), 1, bytes);
+    }
+    match word.split_once(':') {
+        Some((kind, number)) => push_number(kind, number, bytes),
+        None => push_digits(alloc, names, word, bytes),
+    }
+}
+
 fn push_number(kind: &str, number: &str, bytes: &mut Vec<u8>) -> Result<bool, AllocError> {
     match kind {
-        "u16" => {
-            let Ok(number) = number.parse::<u16>() else {
-                return Ok(false);
-            };
-            bytes.extend_from_slice(&number.to_le_bytes())?;
-        }
-        "u32" => {
-            let Ok(number) = number.parse::<u32>() else {
-                return Ok(false);
-            };
-            bytes.extend_from_slice(&number.to_le_bytes())?;
-        }
-        "u64" => {
-            let Ok(number) = number.parse::<u64>() else {
-                return Ok(false);
-            };
-            bytes.extend_from_slice(&number.to_le_bytes())?;
-        }
-        "i64" => {
-            let Ok(number) = number.parse::<i64>() else {
-                return Ok(false);
-            };
-            bytes.extend_from_slice(&number.to_le_bytes())?;
-        }
-        _ => return Ok(false),
+        "u16" => match number.parse::<u16>() {
+            Ok(number) => push_times(&number.to_le_bytes(), 1, bytes),
+            Err(_) => Ok(false),
+        },
+        "u32" => match number.parse::<u32>() {
+            Ok(number) => push_times(&number.to_le_bytes(), 1, bytes),
+            Err(_) => Ok(false),
+        },
+        "u64" => match number.parse::<u64>() {
+            Ok(number) => push_times(&number.to_le_bytes(), 1, bytes),
+            Err(_) => Ok(false),
+        },
+        "i64" => match number.parse::<i64>() {
+            Ok(number) => push_times(&number.to_le_bytes(), 1, bytes),
+            Err(_) => Ok(false),
+        },
+        _ => Ok(false),
     }
-    Ok(true)
 }
 
 // What has this name, or a prefix of it.
@@ -105,14 +129,10 @@ fn push_named(names: &Names, word: &str, bytes: &mut Vec<u8>) -> Result<bool, Al
         return Ok(false);
     };
     if end.is_empty() {
-        bytes.extend_from_slice(named)?;
-        return Ok(true);
+        return push_times(named, 1, bytes);
     }
     match end.parse::<usize>() {
-        Ok(count) if count <= named.len() => {
-            bytes.extend_from_slice(&named[..count])?;
-            Ok(true)
-        }
+        Ok(count) if count <= named.len() => push_times(&named[..count], 1, bytes),
         _ => Ok(false),
     }
 }
@@ -128,11 +148,19 @@ fn push_digits(
         return push_named(names, word, bytes);
     }
     let (digits, count) = word.split_once('*').unwrap_or((word, "1"));
-    let (Ok(part), Ok(count)) = (hex::decode(alloc, digits), count.parse::<u32>()) else {
+    let Ok(count) = count.parse::<u32>() else {
         return Ok(false);
     };
+    match hex::decode(alloc, digits) {
+        Ok(part) => push_times(&part, count, bytes),
+        Err(_) => Ok(false),
+    }
+}
+
+// Appends a part this many times.
+fn push_times(part: &[u8], count: u32, bytes: &mut Vec<u8>) -> Result<bool, AllocError> {
     for _ in 0..count {
-        bytes.extend_from_slice(&part)?;
+        bytes.extend_from_slice(part)?;
     }
     Ok(true)
 }

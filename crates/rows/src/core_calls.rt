@@ -1,9 +1,8 @@
 //! The calls of a store with its steps.
 
 use crate::bodies::tell_address;
-use crate::choosers::Chooser;
 use crate::named::{address_of, tag_of, tell_named};
-use commit::{Core, CoreError, CreateError, RunError, Status, Verdict, run_with};
+use commit::{Core, CoreError, CreateError, RunError, Status, Verdict};
 use disk::MemDisk;
 use std::alloc::{AllocError, Global};
 use terms::{Addr, FaultKind, Inst};
@@ -85,25 +84,16 @@ fn turn(alloc: Global, core: &mut Core<MemDisk>, told: &mut String) -> Result<()
     }
 }
 
-/// Runs the steps, at most a limit of them to their end, and writes how that ended.
-pub(crate) fn run(
-    alloc: Global,
-    core: Core<MemDisk>,
-    words: &str,
+/// Writes how a run ended, or that there was none.
+pub(crate) fn tell_ran(
+    core: &Core<MemDisk>,
+    ran: Option<Result<Verdict, RunError>>,
     told: &mut String,
-) -> Result<Core<MemDisk>, AllocError> {
-    let (name, limit) = words.split_once(' ').unwrap_or((words, "1000000000"));
-    let Some(mut chooser) = Chooser::named(alloc, name)? else {
-        told.push_str("no such chooser")?;
-        return Ok(core);
-    };
-    if core.running() != 0 {
-        told.push_str("an instance runs")?;
-        return Ok(core);
+) -> Result<(), AllocError> {
+    match ran {
+        Some(verdict) => tell_verdict(core, verdict, told),
+        None => told.push_str("an instance runs"),
     }
-    let (core, verdict) = run_with(alloc, core, &mut chooser, limit.parse::<u64>().unwrap_or(0));
-    tell_verdict(&core, verdict, told)?;
-    Ok(core)
 }
 
 fn tell_verdict(

@@ -77,11 +77,12 @@ fn record(
     told: &mut String,
 ) -> Result<(), AllocError> {
     let (failing, bytes) = text.split_once(' ').unwrap_or((text, ""));
-    match (failing.parse::<u64>(), bytes_of(alloc, names, bytes)?) {
-        (Ok(failing), Some(payload)) => {
-            journals::record(alloc, disk, place, failing, &payload, told)
-        }
-        _ => no_such("record", told),
+    let Ok(failing) = failing.parse::<u64>() else {
+        return no_such("record", told);
+    };
+    match bytes_of(alloc, names, bytes)? {
+        Some(payload) => journals::record(alloc, disk, place, failing, &payload, told),
+        None => no_such("record", told),
     }
 }
 
@@ -139,9 +140,19 @@ fn read(
     told: &mut String,
 ) -> Result<(), AllocError> {
     let mut buffer = vec![in alloc; 0; count]?;
+    read_to(disk, side, at, &mut buffer, told)
+}
+
+fn read_to(
+    disk: &mut MemDisk,
+    side: Side,
+    at: u64,
+    buffer: &mut [u8],
+    told: &mut String,
+) -> Result<(), AllocError> {
     match disk.len(side) {
-        Ok(length) if at <= length && count as u64 <= length - at => {
-            tell_call(disk.read(side, at, &mut buffer), told)?;
+        Ok(length) if at <= length && buffer.len() as u64 <= length - at => {
+            tell_call(disk.read(side, at, buffer), told)?;
             write!(told, "{buffer:?}")
         }
         Ok(_) => told.push_str("past the end"),
@@ -170,21 +181,30 @@ fn compare(
     told: &mut String,
 ) -> Result<(), AllocError> {
     match bytes_on(alloc, disk, side) {
-        Ok(bytes) if bytes.as_slice() == wanted => write!(told, "{side:?} is so"),
-        Ok(bytes) => {
-            let same = bytes
-                .iter()
-                .zip(wanted.iter())
-                .take_while(|(found, wanted)| found == wanted)
-                .count();
-            write!(
-                told,
-                "{side:?} has {} bytes, from {same} on others",
-                bytes.len()
-            )
-        }
+        Ok(bytes) => tell_compared(side, &bytes, wanted, told),
         Err(error) => write!(told, "{error}"),
     }
+}
+
+fn tell_compared(
+    side: Side,
+    bytes: &[u8],
+    wanted: &[u8],
+    told: &mut String,
+) -> Result<(), AllocError> {
+    if bytes == wanted {
+        return write!(told, "{side:?} is so");
+    }
+    let same = bytes
+        .iter()
+        .zip(wanted.iter())
+        .take_while(|(found, wanted)| found == wanted)
+        .count();
+    write!(
+        told,
+        "{side:?} has {} bytes, from {same} on others",
+        bytes.len()
+    )
 }
 
 // A crash that leaves these bytes of both files, if one may.
@@ -196,10 +216,13 @@ fn crash(
     told: &mut String,
 ) -> Result<(), AllocError> {
     let (a, b) = text.split_once('|').unwrap_or((text, ""));
-    let (Some(a), Some(b)) = (bytes_of(alloc, names, a)?, bytes_of(alloc, names, b)?) else {
+    let Some(a) = bytes_of(alloc, names, a)? else {
         return no_such("crash", told);
     };
-    crash_to(disk, Fill { a, b }, told)
+    match bytes_of(alloc, names, b)? {
+        Some(b) => crash_to(disk, Fill { a, b }, told),
+        None => no_such("crash", told),
+    }
 }
 
 // A crash that leaves each touched byte by a choice.

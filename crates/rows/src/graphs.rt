@@ -21,21 +21,32 @@ pub(crate) fn answer(
     text: &str,
 ) -> Result<String, AllocError> {
     let mut out = String::new(alloc);
+    tell(alloc, names, command, more, text, &mut out)?;
+    Ok(out)
+}
+
+fn tell(
+    alloc: Global,
+    names: &Names,
+    command: &str,
+    more: &str,
+    text: &str,
+    out: &mut String,
+) -> Result<(), AllocError> {
     match command {
-        "tokens" => tell_tokens(alloc, text, &mut out)?,
-        "parse" => tell_canonical(alloc, text.as_bytes(), &mut out)?,
+        "tokens" => tell_tokens(alloc, text, out),
+        "parse" => tell_canonical(alloc, text.as_bytes(), out),
         "reads" => {
-            tell_fault(alloc, text.as_bytes(), &mut out)?;
-            out.push_str("\n")?;
+            tell_fault(alloc, text.as_bytes(), out)?;
+            out.push_str("\n")
         }
-        "graph" => tell_graph(alloc, text.as_bytes(), &mut out)?,
-        "beginnings" => tell_beginnings(alloc, text.as_bytes(), &mut out)?,
+        "graph" => tell_graph(alloc, text.as_bytes(), out),
+        "beginnings" => tell_beginnings(alloc, text.as_bytes(), out),
         _ => match names.bytes(more) {
-            Some(bytes) => tell_changes(alloc, text.as_bytes(), bytes, &mut out)?,
-            None => out.push_str("no such name\n")?,
+            Some(bytes) => tell_changes(alloc, text.as_bytes(), bytes, out),
+            None => out.push_str("no such name\n"),
         },
     }
-    Ok(out)
 }
 
 #[tactic(auto, using(syntax::proofs::Runs::ascii_text))]
@@ -69,13 +80,14 @@ fn canonical_of(alloc: Global, text: &[u8]) -> Result<Option<Vec<u8>>, AllocErro
 
 fn tell_canonical(alloc: Global, text: &[u8], out: &mut String) -> Result<(), AllocError> {
     match parse(alloc, text) {
-        Ok(graph) => {
-            let canonical = canonical(alloc, &graph)?;
-            writeln!(out, "{} bytes", canonical.len())?;
-            out.push_str(str::from_utf8(&canonical).unwrap_or("not ASCII\n"))
-        }
+        Ok(graph) => tell_text(&canonical(alloc, &graph)?, out),
         Err(fault) => writeln!(out, "{fault}"),
     }
+}
+
+fn tell_text(text: &[u8], out: &mut String) -> Result<(), AllocError> {
+    writeln!(out, "{} bytes", text.len())?;
+    out.push_str(str::from_utf8(text).unwrap_or("not ASCII\n"))
 }
 
 // Whether a text is a graph, and its canonical text has itself as canonical text.
@@ -102,18 +114,24 @@ fn tell_changes(
     out: &mut String,
 ) -> Result<(), AllocError> {
     let mut changed = text.to_vec(alloc)?;
+    let taken = taken_of(alloc, &mut changed, bytes)?;
+    writeln!(out, "{taken} taken")
+}
+
+// At how many places one of these bytes can replace the one that is there.
+fn taken_of(alloc: Global, text: &mut [u8], bytes: &[u8]) -> Result<u64, AllocError> {
     let mut taken = 0u64;
-    for place in 0..changed.len() {
+    for place in 0..text.len() {
         for byte in bytes {
-            let old = changed[place];
-            changed[place] = *byte;
-            if is_graph(alloc, &changed)? {
+            let old = text[place];
+            text[place] = *byte;
+            if is_graph(alloc, text)? {
                 taken = taken.saturating_add(1);
             }
-            changed[place] = old;
+            text[place] = old;
         }
     }
-    writeln!(out, "{taken} taken")
+    Ok(taken)
 }
 
 fn tell_graph(alloc: Global, text: &[u8], out: &mut String) -> Result<(), AllocError> {

@@ -22,15 +22,39 @@ struct Three {
 /// The results of the calls.
 pub(crate) fn answer(alloc: Global, lines: &str) -> Result<String, AllocError> {
     let mut out = String::new(alloc);
+    tell_calls(alloc, lines, &mut out)?;
+    Ok(out)
+}
+
+fn tell_calls(alloc: Global, lines: &str, out: &mut String) -> Result<(), AllocError> {
     let mut three = Three {
         items: Items::new(alloc, 3)?,
     };
+    take_lines(alloc, &mut three, lines, out)
+}
+
+fn take_lines(
+    alloc: Global,
+    three: &mut Three,
+    lines: &str,
+    out: &mut String,
+) -> Result<(), AllocError> {
     for line in lines.lines() {
-        let mut told = String::new(alloc);
-        take(alloc, &mut three, line, &mut told)?;
-        writeln!(out, "{}", told.as_str())?;
+        take_line(alloc, three, line, out)?;
     }
-    Ok(out)
+    Ok(())
+}
+
+// One call, and its result as a line.
+fn take_line(
+    alloc: Global,
+    three: &mut Three,
+    line: &str,
+    out: &mut String,
+) -> Result<(), AllocError> {
+    let mut told = String::new(alloc);
+    take(alloc, three, line, &mut told)?;
+    writeln!(out, "{}", told.as_str())
 }
 
 // One call.
@@ -132,7 +156,11 @@ fn wait(
 
 fn take_waiters(three: &mut Three, address: Addr, told: &mut String) -> Result<(), AllocError> {
     let waiters = three.items.take_waiters(address);
-    for instance in waiters.as_slice() {
+    tell_waiters(waiters.as_slice(), told)
+}
+
+fn tell_waiters(waiters: &[Inst], told: &mut String) -> Result<(), AllocError> {
+    for instance in waiters {
         part(told)?;
         tell_instance(told, instance)?;
     }
@@ -175,14 +203,20 @@ fn name_of(alloc: Global, word: &str) -> Result<Option<(u16, Key)>, AllocError> 
         return Ok(None);
     };
     let mut components = Vec::new(alloc);
-    for component in words.split(',').filter(|component| !component.is_empty()) {
-        let Ok(component) = component.parse::<i64>() else {
-            return Ok(None);
-        };
-        components.push(component)?;
-    }
-    if components.len() > MAX_COMPONENTS {
+    let are_numbers = push_components(words, &mut components)?;
+    if !are_numbers || components.len() > MAX_COMPONENTS {
         return Ok(None);
     }
     Ok(Some((number, Key::new(components.as_slice()))))
+}
+
+// Appends the components in a text, and returns whether each of them is a number.
+fn push_components(words: &str, components: &mut Vec<i64>) -> Result<bool, AllocError> {
+    for component in words.split(',').filter(|component| !component.is_empty()) {
+        let Ok(component) = component.parse::<i64>() else {
+            return Ok(false);
+        };
+        components.push(component)?;
+    }
+    Ok(true)
 }

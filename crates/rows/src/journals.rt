@@ -5,18 +5,16 @@ ghost use Rattle.std.specs.Prelude.{◌<◌, length};
 ghost use Rattle.disk.specs.MemDisk.{files_of};
 
 use disk::{Disk, MemDisk, Side};
-use journal::{Journal, begins_closed, first_payload};
+use journal::{AppendError, Journal, Payloads, begins_closed, first_payload};
 use std::alloc::{AllocError, Global};
 
 /// What some bytes begin with.
 pub(crate) fn first(alloc: Global, bytes: &[u8]) -> Result<String, AllocError> {
-    let mut out = String::new(alloc);
     match first_payload(bytes) {
-        Some(payload) => writeln!(out, "record {payload:?}")?,
-        None if begins_closed(bytes) => out.push_str("closed\n")?,
-        None => out.push_str("neither\n")?,
+        Some(payload) => format!(in alloc; "record {payload:?}\n"),
+        None if begins_closed(bytes) => String::from_str(alloc, "closed\n"),
+        None => String::from_str(alloc, "neither\n"),
     }
-    Ok(out)
 }
 
 /// The payloads of the journal that begins at a place, and where it ends; or why there is none.
@@ -28,14 +26,16 @@ pub(crate) fn scan(
     out: &mut String,
 ) -> Result<(), AllocError> {
     match Journal::scan(alloc, disk, side, at) {
-        Ok((journal, payloads)) => {
-            for number in 0..payloads.len() {
-                write!(out, "{:?} ", payloads.get(number))?;
-            }
-            write!(out, "ends at {}", journal.end)
-        }
+        Ok((journal, payloads)) => tell_journal(journal.end, &payloads, out),
         Err(error) => write!(out, "{error}"),
     }
+}
+
+fn tell_journal(end: u64, payloads: &Payloads, out: &mut String) -> Result<(), AllocError> {
+    for number in 0..payloads.len() {
+        write!(out, "{:?} ", payloads.get(number))?;
+    }
+    write!(out, "ends at {end}")
 }
 
 /// Begins a journal at a place, and appends a record to it.
@@ -70,9 +70,18 @@ fn append(
     requires { journal.end < length (files_of disk.old journal.side).content }
 {
     disk.fail_call(failing);
-    match journal.try_append(disk, payload) {
+    let answer = journal.try_append(disk, payload);
+    tell_append(answer, journal.end, out)
+}
+
+fn tell_append(
+    answer: Result<(), AppendError>,
+    end: u64,
+    out: &mut String,
+) -> Result<(), AllocError> {
+    match answer {
         Ok(()) => out.push_str("appended")?,
         Err(error) => write!(out, "{error}")?,
     }
-    write!(out, ", ends at {}", journal.end)
+    write!(out, ", ends at {end}")
 }

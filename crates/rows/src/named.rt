@@ -57,14 +57,20 @@ fn name_of(text: &str) -> &str {
 fn key_of(alloc: Global, text: &str) -> Result<Option<Key>, AllocError> {
     let (_, words) = text.split_once(':').unwrap_or((text, ""));
     let mut components = Vec::new(alloc);
-    for word in words.split(',').filter(|word| !word.is_empty()) {
-        match word.trim().parse::<i64>() {
-            Ok(component) => components.push(component)?,
-            Err(_) => return Ok(None),
-        }
-    }
-    if components.len() > MAX_COMPONENTS {
+    let are_numbers = push_components(words, &mut components)?;
+    if !are_numbers || components.len() > MAX_COMPONENTS {
         return Ok(None);
     }
     Ok(Some(Key::new(components.as_slice())))
+}
+
+// Appends the components in a text, and returns whether each of them is a number.
+fn push_components(words: &str, components: &mut Vec<i64>) -> Result<bool, AllocError> {
+    for word in words.split(',').filter(|word| !word.is_empty()) {
+        match word.trim().parse::<i64>() {
+            Ok(component) => components.push(component)?,
+            Err(_) => return Ok(false),
+        }
+    }
+    Ok(true)
 }

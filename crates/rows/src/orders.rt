@@ -16,27 +16,14 @@ pub(crate) fn answer(
     kind: &str,
     lines: &str,
 ) -> Result<String, AllocError> {
-    let mut values = Values {
-        addresses: Vec::new(alloc),
-        tags: Vec::new(alloc),
-        instances: Vec::new(alloc),
-        puts: Vec::new(alloc),
-        producers: Vec::new(alloc),
-    };
-    for line in lines.lines() {
-        let Some(bytes) = bytes_of(alloc, names, line)? else {
-            return String::from_str(alloc, "no bytes\n");
-        };
-        if kind == "producers" {
-            values.take_image(alloc, &bytes)?;
-        } else {
-            values.take_event(alloc, &bytes)?;
-        }
+    let mut values = Values::new(alloc);
+    if values.take_lines(alloc, names, kind, lines)? {
+        values.told(alloc, kind)
+    } else {
+        String::from_str(alloc, "no bytes\n")
     }
-    values.told(alloc, kind)
 }
 
-#[derive(Drop)]
 struct Values {
     addresses: Vec<Addr>,
     tags: Vec<Tag>,
@@ -45,25 +32,85 @@ struct Values {
     producers: Vec<Producer>,
 }
 
+impl Drop for Values {
+    // By hand, so that dropping the values is one call, wherever they are dropped.
+    fn drop(self) {
+        let Values {
+            addresses: _,
+            tags: _,
+            instances: _,
+            puts: _,
+            producers: _,
+        } = self;
+    }
+}
+
 impl Values {
+    fn new(alloc: Global) -> Self {
+        Values {
+            addresses: Vec::new(alloc),
+            tags: Vec::new(alloc),
+            instances: Vec::new(alloc),
+            puts: Vec::new(alloc),
+            producers: Vec::new(alloc),
+        }
+    }
+
+    // Takes the values of the lines, and returns whether each of them has bytes.
+    fn take_lines(
+        &mut self,
+        alloc: Global,
+        names: &Names,
+        kind: &str,
+        lines: &str,
+    ) -> Result<bool, AllocError> {
+        for line in lines.lines() {
+            match bytes_of(alloc, names, line)? {
+                Some(bytes) => self.take(alloc, kind, &bytes)?,
+                None => return Ok(false),
+            }
+        }
+        Ok(true)
+    }
+
+    fn take(&mut self, alloc: Global, kind: &str, bytes: &[u8]) -> Result<(), AllocError> {
+        if kind == "producers" {
+            self.take_image(alloc, bytes)
+        } else {
+            self.take_event(alloc, bytes)
+        }
+    }
+
     fn take_event(&mut self, alloc: Global, bytes: &[u8]) -> Result<(), AllocError> {
         match decode_event(alloc, bytes, MAX_COMPONENTS) {
-            Ok(Event::EnvItem(address, _)) => self.addresses.push(address)?,
-            Ok(Event::EnvTag(tag)) => self.tags.push(tag)?,
-            Ok(Event::Done(instance, puts)) => {
-                self.instances.push(instance)?;
+            Ok(event) => self.take_names(&event),
+            Err(_) => Ok(()),
+        }
+    }
+
+    fn take_names(&mut self, event: &Event) -> Result<(), AllocError> {
+        match event {
+            Event::EnvItem(address, _) => self.addresses.push(*address)?,
+            Event::EnvTag(tag) => self.tags.push(*tag)?,
+            Event::Done(instance, puts) => {
+                self.instances.push(*instance)?;
                 self.puts.extend_from_slice(puts.as_slice())?;
             }
-            _ => {}
+            Event::Stopped(_, _) => {}
         }
         Ok(())
     }
 
     fn take_image(&mut self, alloc: Global, bytes: &[u8]) -> Result<(), AllocError> {
-        if let Ok(image) = decode_image(alloc, bytes, MAX_COMPONENTS) {
-            for (_, _, producer) in image.items.as_slice() {
-                self.producers.push(*producer)?;
-            }
+        match decode_image(alloc, bytes, MAX_COMPONENTS) {
+            Ok(image) => self.take_producers(image.items.as_slice()),
+            Err(_) => Ok(()),
+        }
+    }
+
+    fn take_producers(&mut self, items: &[(Addr, i64, Producer)]) -> Result<(), AllocError> {
+        for (_, _, producer) in items {
+            self.producers.push(*producer)?;
         }
         Ok(())
     }

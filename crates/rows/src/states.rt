@@ -17,7 +17,7 @@ use crate::reopening::reopened;
 use crate::running::run_ready;
 use cases::Names;
 use commit::Choose;
-use graph::parse;
+use graph::{Graph, parse};
 use machine::{Machine, Refusal};
 use std::alloc::{AllocError, Global};
 use std::sync::Arc;
@@ -35,10 +35,22 @@ pub(crate) fn answer(
         return String::from_str(alloc, "no such name\n");
     };
     let mut answers = Vec::new(alloc);
+    tell_stories(alloc, text, choosers, lines, &mut answers)?;
+    joined(alloc, &answers)
+}
+
+// The result of a story with each of the choosers.
+fn tell_stories(
+    alloc: Global,
+    text: &[u8],
+    choosers: &str,
+    lines: &str,
+    answers: &mut Vec<String>,
+) -> Result<(), AllocError> {
     for word in choosers.split_whitespace() {
         answers.push(story(alloc, text, word, lines)?)?;
     }
-    joined(alloc, &answers)
+    Ok(())
 }
 
 // One result if all are the same, else each of them.
@@ -46,32 +58,60 @@ fn joined(alloc: Global, answers: &[String]) -> Result<String, AllocError> {
     let Some((first, others)) = answers.split_first() else {
         return String::from_str(alloc, "no chooser\n");
     };
-    let mut out = String::new(alloc);
     if others.iter().all(|other| other.as_str() == first.as_str()) {
-        out.push_str(first.as_str())?;
-        return Ok(out);
+        return String::from_str(alloc, first.as_str());
     }
+    let mut out = String::new(alloc);
+    push_all(answers, &mut out)?;
+    Ok(out)
+}
+
+fn push_all(answers: &[String], out: &mut String) -> Result<(), AllocError> {
     out.push_str("the choosers differ\n")?;
     for told in answers {
         out.push_str(told.as_str())?;
     }
-    Ok(out)
+    Ok(())
 }
 
 // The result of a story with one chooser.
 fn story(alloc: Global, text: &[u8], chooser: &str, lines: &str) -> Result<String, AllocError> {
-    let Some(mut chooser) = Chooser::named(alloc, chooser)? else {
-        return String::from_str(alloc, "no such chooser\n");
-    };
     let mut out = String::new(alloc);
-    match parse(alloc, text) {
-        Ok(graph) => {
-            let mut machine = Machine::new(alloc, Arc::new(alloc, graph)?)?;
-            tell(alloc, &mut machine, &mut chooser, lines, &mut out)?;
-        }
-        Err(fault) => writeln!(out, "{fault}")?,
-    }
+    tell_story(alloc, text, chooser, lines, &mut out)?;
     Ok(out)
+}
+
+fn tell_story(
+    alloc: Global,
+    text: &[u8],
+    chooser: &str,
+    lines: &str,
+    out: &mut String,
+) -> Result<(), AllocError> {
+    match Chooser::named(alloc, chooser)? {
+        Some(mut chooser) => tell_of(alloc, text, &mut chooser, lines, out),
+        None => out.push_str("no such chooser\n"),
+    }
+}
+
+// Tells the story of a store in memory of the graph with this text.
+fn tell_of(
+    alloc: Global,
+    text: &[u8],
+    chooser: &mut Chooser,
+    lines: &str,
+    out: &mut String,
+) -> Result<(), AllocError> {
+    match parse(alloc, text) {
+        Ok(graph) => tell(alloc, &mut begun(alloc, graph)?, chooser, lines, out),
+        Err(fault) => writeln!(out, "{fault}"),
+    }
+}
+
+// A store in memory of this graph.
+fn begun(alloc: Global, graph: Graph) -> Result<Machine, AllocError> {
+    let graph = Arc::new(alloc, graph)?;
+    Machine::new(alloc, graph)
 }
 
 fn tell(
@@ -82,24 +122,37 @@ fn tell(
     out: &mut String,
 ) -> Result<(), AllocError> {
     for line in lines.lines() {
-        let (word, rest) = line.split_once(' ').unwrap_or((line, ""));
-        match word {
-            "tag" => put_tag(alloc, machine, rest, out)?,
-            "put" => put_item(alloc, machine, rest, out)?,
-            "get" => get(alloc, machine, rest, out)?,
-            "run" => {
-                run(alloc, machine, chooser)?;
-                tell_end(alloc, machine, out)?;
-            }
-            "reopen" => {
-                *machine = reopened(alloc, machine)?;
-                out.push_str("ok\n")?;
-            }
-            "report" => report(alloc, machine, rest, out)?,
-            _ => out.push_str("no such call\n")?,
-        }
+        take(alloc, machine, chooser, line, out)?;
     }
     Ok(())
+}
+
+// One call.
+fn take(
+    alloc: Global,
+    machine: &mut Machine,
+    chooser: &mut Chooser,
+    line: &str,
+    out: &mut String,
+) -> Result<(), AllocError> {
+    let (word, rest) = line.split_once(' ').unwrap_or((line, ""));
+    match word {
+        "tag" => put_tag(alloc, machine, rest, out),
+        "put" => put_item(alloc, machine, rest, out),
+        "get" => get(alloc, machine, rest, out),
+        "run" => {
+            run(alloc, machine, chooser)?;
+            tell_end(alloc, machine, out)
+        }
+        "reopen" => reopen(alloc, machine, out),
+        "report" => report(alloc, machine, rest, out),
+        _ => out.push_str("no such call\n"),
+    }
+}
+
+fn reopen(alloc: Global, machine: &mut Machine, out: &mut String) -> Result<(), AllocError> {
+    *machine = reopened(alloc, machine)?;
+    out.push_str("ok\n")
 }
 
 // Lets ready instances run until none is ready, or there is a fault.
@@ -146,12 +199,21 @@ fn tell_blocked(
 ) -> Result<(), AllocError> {
     writeln!(out, "blocked {}", blocked.len())?;
     for (instance, address) in blocked {
-        tell_named(machine.graph(), instance, out)?;
-        out.push_str(" waits at ")?;
-        tell_address(machine.graph(), address, out)?;
-        out.push_str("\n")?;
+        tell_wait(machine, instance, address, out)?;
     }
     Ok(())
+}
+
+fn tell_wait(
+    machine: &Machine,
+    instance: &Inst,
+    address: &Addr,
+    out: &mut String,
+) -> Result<(), AllocError> {
+    tell_named(machine.graph(), instance, out)?;
+    out.push_str(" waits at ")?;
+    tell_address(machine.graph(), address, out)?;
+    out.push_str("\n")
 }
 
 fn put_tag(
@@ -189,12 +251,12 @@ fn put_item(
     out: &mut String,
 ) -> Result<(), AllocError> {
     let (place, value) = text.split_once(" = ").unwrap_or((text, ""));
-    match (
-        address_of(alloc, machine.graph(), place)?,
-        value.parse::<i64>(),
-    ) {
-        (Some(address), Ok(value)) => put_value(machine, address, value, out),
-        _ => out.push_str("no item\n"),
+    let Some(address) = address_of(alloc, machine.graph(), place)? else {
+        return out.push_str("no item\n");
+    };
+    match value.parse::<i64>() {
+        Ok(value) => put_value(machine, address, value, out),
+        Err(_) => out.push_str("no item\n"),
     }
 }
 
@@ -245,15 +307,24 @@ fn report(
     out: &mut String,
 ) -> Result<(), AllocError> {
     for text in texts.split(';') {
-        match address_of(alloc, machine.graph(), text.trim())? {
-            Some(address) => {
-                let asked = address;
-                tell_value(machine, &address, machine.read(asked), out)?;
-            }
-            None => out.push_str("no address\n")?,
-        }
+        tell_read(alloc, machine, text.trim(), out)?;
     }
     tell_fault(machine, out)
+}
+
+fn tell_read(
+    alloc: Global,
+    machine: &Machine,
+    text: &str,
+    out: &mut String,
+) -> Result<(), AllocError> {
+    match address_of(alloc, machine.graph(), text)? {
+        Some(address) => {
+            let asked = address;
+            tell_value(machine, &address, machine.read(asked), out)
+        }
+        None => out.push_str("no address\n"),
+    }
 }
 
 fn tell_value(

@@ -10,13 +10,13 @@ pub(crate) trait World: Sized + Drop {
 
     /// Does one call, and writes its result.
     fn take(
-        self,
+        &mut self,
         alloc: Global,
         names: &Names,
         number: &str,
         line: &str,
         told: &mut String,
-    ) -> Result<Self, AllocError>;
+    ) -> Result<(), AllocError>;
 }
 
 /// The results of the calls of a story.
@@ -27,14 +27,26 @@ pub(crate) fn answer<W: World>(
     lines: &str,
 ) -> Result<String, AllocError> {
     let mut out = String::new(alloc);
+    tell_all::<W>(alloc, names, numbers, lines, &mut out)?;
+    Ok(out)
+}
+
+// Tells a story once for each of the numbers.
+fn tell_all<W: World>(
+    alloc: Global,
+    names: &Names,
+    numbers: &str,
+    lines: &str,
+    out: &mut String,
+) -> Result<(), AllocError> {
     if numbers.is_empty() {
-        tell_line::<W>(alloc, names, "0", lines, &mut out)?;
+        tell_line::<W>(alloc, names, "0", lines, out)?;
     }
     for number in numbers.split_whitespace() {
         write!(out, "{number}: ")?;
-        tell_line::<W>(alloc, names, number, lines, &mut out)?;
+        tell_line::<W>(alloc, names, number, lines, out)?;
     }
-    Ok(out)
+    Ok(())
 }
 
 // Tells a story from its beginning.
@@ -45,7 +57,7 @@ fn tell_line<W: World>(
     lines: &str,
     out: &mut String,
 ) -> Result<(), AllocError> {
-    let _world = tell(alloc, names, W::begin(alloc), number, lines, out)?;
+    tell(alloc, names, &mut W::begin(alloc), number, lines, out)?;
     out.push_str("\n")
 }
 
@@ -53,23 +65,43 @@ fn tell_line<W: World>(
 pub(crate) fn tell<W: World>(
     alloc: Global,
     names: &Names,
-    world: W,
+    world: &mut W,
     number: &str,
     lines: &str,
     out: &mut String,
-) -> Result<W, AllocError> {
-    let mut world = world;
+) -> Result<(), AllocError> {
     let mut is_first = true;
     for line in lines.lines() {
-        let mut told = String::new(alloc);
-        world = world.take(alloc, names, number, line, &mut told)?;
-        if !told.is_empty() {
-            if !is_first {
-                out.push_str("; ")?;
-            }
-            out.push_str(told.as_str())?;
+        if tell_call(alloc, names, world, number, line, is_first, out)? {
             is_first = false;
         }
     }
-    Ok(world)
+    Ok(())
+}
+
+// Does one call, and writes its result, if it has one. Returns whether it has.
+fn tell_call<W: World>(
+    alloc: Global,
+    names: &Names,
+    world: &mut W,
+    number: &str,
+    line: &str,
+    is_first: bool,
+    out: &mut String,
+) -> Result<bool, AllocError> {
+    let mut told = String::new(alloc);
+    world.take(alloc, names, number, line, &mut told)?;
+    if told.is_empty() {
+        return Ok(false);
+    }
+    push_result(out, is_first, told.as_str())?;
+    Ok(true)
+}
+
+// Writes a result; if it is not the first, a semicolon before it.
+fn push_result(out: &mut String, is_first: bool, told: &str) -> Result<(), AllocError> {
+    if !is_first {
+        out.push_str("; ")?;
+    }
+    out.push_str(told)
 }

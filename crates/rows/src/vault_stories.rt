@@ -6,7 +6,7 @@
 //! `fail NUMBER`: the call of the disk with this number, counted from now, fails. Calls of a store: `create NAME`,
 //! `open`, `facts`, `append BYTES` of a payload, and `turn`, which writes the image that the last `open` gave.
 use crate::stories::World;
-use crate::{disks, vaults};
+use crate::vaults;
 use cases::Names;
 use disk::MemDisk;
 use std::alloc::{AllocError, Global};
@@ -18,13 +18,13 @@ impl World for Store {
     }
 
     fn take(
-        self,
+        &mut self,
         alloc: Global,
         names: &Names,
         number: &str,
         line: &str,
         told: &mut String,
-    ) -> Result<Self, AllocError> {
+    ) -> Result<(), AllocError> {
         let (word, rest) = line.split_once(' ').unwrap_or((line, ""));
         match word {
             "create" => create(alloc, names, self, rest, told),
@@ -32,13 +32,9 @@ impl World for Store {
             "facts" => vaults::tell_facts(alloc, self, told),
             "append" => vaults::append_commit(alloc, names, self, rest, told),
             "turn" => vaults::turn_over(alloc, self, told),
-            "fail" if rest == "$" => vaults::fail(self, number, told),
-            "fail" => vaults::fail(self, rest, told),
-            _ => {
-                let mut disk = vaults::closed(self);
-                disks::take(alloc, names, &mut disk, word, rest, told)?;
-                Ok(Store::Closed(disk))
-            }
+            "fail" if rest == "$" => vaults::fail(alloc, self, number, told),
+            "fail" => vaults::fail(alloc, self, rest, told),
+            _ => vaults::on_disk(alloc, names, self, word, rest, told),
         }
     }
 }
@@ -47,15 +43,12 @@ impl World for Store {
 fn create(
     alloc: Global,
     names: &Names,
-    world: Store,
+    world: &mut Store,
     name: &str,
     told: &mut String,
-) -> Result<Store, AllocError> {
+) -> Result<(), AllocError> {
     match names.bytes(name) {
         Some(text) => vaults::create_store(alloc, world, text, told),
-        None => {
-            told.push_str("no such name")?;
-            Ok(world)
-        }
+        None => told.push_str("no such name"),
     }
 }

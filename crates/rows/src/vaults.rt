@@ -10,49 +10,158 @@ ghost use Rattle.sides.specs.Reading.{IsCanonical};
 ghost use Rattle.vault.specs.Store.{IsReady};
 
 use crate::bytes::bytes_of;
+use crate::disks;
 use crate::telling::tell_image;
 use cases::Names;
 use codec::{Image, decode_image, decode_payload, encode_image};
 use disk::MemDisk;
 use graph::{canonical, parse};
 use std::alloc::{AllocError, Global};
+use std::mem;
 use terms::{Event, MAX_COMPONENTS};
 use vault::{Recovered, Refused, Vault, VaultError, create, open};
 
 /// A disk, or a store that is open on it.
-#[derive(Drop)]
 pub(crate) enum World {
     Closed(MemDisk),
     Open(Live),
 }
 
+impl Drop for World {
+    // By hand, so that dropping a world is one call, wherever it is dropped.
+    fn drop(self) {
+        match self {
+            World::Closed(_) => {}
+            World::Open(_) => {}
+        }
+    }
+}
+
+impl World {
+    // Takes the world out, for a call that consumes it. Its caller puts another one back.
+    fn taken(&mut self, alloc: Global) -> World {
+        mem::replace(self, World::Closed(MemDisk::new(alloc)))
+    }
+
+    // The store, or the disk if none is open.
+    fn into_store(self) -> Result<Live, MemDisk> {
+        match self {
+            World::Closed(disk) => Err(disk),
+            World::Open(live) => Ok(live),
+        }
+    }
+
+    // The disk, closed.
+    fn into_disk(self) -> MemDisk {
+        match self {
+            World::Closed(disk) => disk,
+            World::Open(live) => live.into_disk(),
+        }
+    }
+}
+
 /// An open store, and the bytes that spell the image that its opening gave.
-#[derive(Drop)]
 pub(crate) struct Live {
     vault: Vault<MemDisk>,
     image: Vec<u8>,
     ghost is_ready: { vault.halted ≡ false → IsReady files_of vault } by { Prim.hlevel props },
 }
 
-/// The disk, closed.
-pub(crate) fn closed(world: World) -> MemDisk {
-    match world {
-        World::Closed(disk) => disk,
-        World::Open(live) => {
-            let Live { vault, image: _ } = live;
-            vault.into_disk()
+impl Drop for Live {
+    // By hand, so that dropping a store is one call, wherever it is dropped.
+    fn drop(self) {
+        let Live { vault: _, image: _ } = self;
+    }
+}
+
+impl Live {
+    // The disk, closed.
+    fn into_disk(self) -> MemDisk {
+        let Live { vault, image: _ } = self;
+        vault.into_disk()
+    }
+
+    // Appends a commit of one event, or of several.
+    fn appended(self, commit: &[Event]) -> (Live, Option<VaultError>)
+        requires some { 1 ≤ length commit.now }
+        requires few { length commit.now ≤ MOST_EVENTS }
+        requires puts { AllByRecursion HasFewPuts commit.now }
+    {
+        let Live { mut vault, image } = self;
+        let result = if commit.len() == 1 {
+            vault.append(&commit[0])
+        } else {
+            vault.append_all(commit)
+        };
+        match result {
+            Ok(()) => (Live { vault, image }, None),
+            Err(error) => (Live { vault, image }, Some(error)),
+        }
+    }
+
+    // The result of a turnover, if the bytes of the image can be read again.
+    fn turned(self, alloc: Global) -> (Live, Option<Result<u64, VaultError>>) {
+        let Live { mut vault, image } = self;
+        let answer = match decode_image(alloc, &image, MAX_COMPONENTS) {
+            Ok(listed) => Some(vault.turn(&listed)),
+            Err(_) => None,
+        };
+        (Live { vault, image }, answer)
+    }
+
+    // The result of a call of this store that returned this error, or none.
+    fn answer(&self, error: Option<VaultError>) -> Answer {
+        Answer {
+            error,
+            halts: self.vault.is_halted() && error != Some(VaultError::Halted),
         }
     }
 }
 
-/// Makes the call of the disk with this number, counted from now, fail.
-pub(crate) fn fail(world: World, number: &str, told: &mut String) -> Result<World, AllocError> {
-    let mut disk = closed(world);
+// The result of a call of a store.
+#[derive(Clone, Copy)]
+struct Answer {
+    error: Option<VaultError>,
+    // Whether the store is halted now, and the error does not say so.
+    halts: bool,
+}
+
+/// A call on the two files, which first closes an open store.
+pub(crate) fn on_disk(
+    alloc: Global,
+    names: &Names,
+    world: &mut World,
+    word: &str,
+    rest: &str,
+    told: &mut String,
+) -> Result<(), AllocError> {
+    let mut disk = world.taken(alloc).into_disk();
+    let done = disks::take(alloc, names, &mut disk, word, rest, told);
+    *world = World::Closed(disk);
+    done
+}
+
+/// Makes the call of the disk with this number, counted from now, fail. An open store is closed first.
+pub(crate) fn fail(
+    alloc: Global,
+    world: &mut World,
+    number: &str,
+    told: &mut String,
+) -> Result<(), AllocError> {
+    let mut disk = world.taken(alloc).into_disk();
+    let told = fail_on(&mut disk, number, told);
+    *world = World::Closed(disk);
+    told
+}
+
+fn fail_on(disk: &mut MemDisk, number: &str, told: &mut String) -> Result<(), AllocError> {
     match number.parse::<u64>() {
-        Ok(number) => disk.fail_call(number),
-        Err(_) => told.push_str("no number")?,
+        Ok(number) => {
+            disk.fail_call(number);
+            Ok(())
+        }
+        Err(_) => told.push_str("no number"),
     }
-    Ok(World::Closed(disk))
 }
 
 // Whether a text is the canonical text of the graph that it reads as.
@@ -68,51 +177,57 @@ fn is_canonical(alloc: Global, text: &[u8]) -> Result<bool, AllocError>
 /// Makes a store of the graph with this text.
 pub(crate) fn create_store(
     alloc: Global,
-    world: World,
+    world: &mut World,
     text: &[u8],
     told: &mut String,
-) -> Result<World, AllocError> {
-    let disk = closed(world);
+) -> Result<(), AllocError> {
+    close(alloc, world);
     if !is_canonical(alloc, text)? {
-        told.push_str("not canonical")?;
-        return Ok(World::Closed(disk));
+        return told.push_str("not canonical");
     }
-    let (world, error) = created(alloc, disk, text, vec![in alloc; 0; 13]?);
-    tell_error(error, "created", told)?;
-    Ok(world)
+    let error = created(alloc, world, text, vec![in alloc; 0; 13]?);
+    tell_error(error, "created", told)
+}
+
+fn close(alloc: Global, world: &mut World) {
+    let disk = world.taken(alloc).into_disk();
+    *world = World::Closed(disk);
 }
 
 // Makes a store, whose image has these bytes.
-fn created(alloc: Global, disk: MemDisk, text: &[u8], image: Vec<u8>) -> (World, Option<VaultError>)
+fn created(alloc: Global, world: &mut World, text: &[u8], image: Vec<u8>) -> Option<VaultError>
     requires { IsCanonical text.now }
 {
-    match create(alloc, disk, text) {
-        Ok(vault) => (World::Open(Live { vault, image }), None),
-        Err(refused) => handed_back(refused),
+    match create(alloc, world.taken(alloc).into_disk(), text) {
+        Ok(vault) => {
+            *world = World::Open(Live { vault, image });
+            None
+        }
+        Err(refused) => Some(put_back(world, refused)),
     }
 }
 
-fn handed_back(refused: Refused<MemDisk>) -> (World, Option<VaultError>) {
+// Puts back the disk that a call handed back, and returns why it did.
+fn put_back(world: &mut World, refused: Refused<MemDisk>) -> VaultError {
     let Refused { disk, error } = refused;
-    (World::Closed(disk), Some(error))
+    *world = World::Closed(disk);
+    error
 }
 
 /// Opens the store, and writes its generation.
 pub(crate) fn open_store(
     alloc: Global,
-    world: World,
+    world: &mut World,
     told: &mut String,
-) -> Result<World, AllocError> {
-    let (world, generation, error) = opened(alloc, closed(world))?;
-    tell_error(error, "generation ", told)?;
-    if error.is_none() {
-        write!(told, "{generation}")?;
+) -> Result<(), AllocError> {
+    match opened(alloc, world)? {
+        Ok(generation) => write!(told, "generation {generation}"),
+        Err(error) => write!(told, "{error}"),
     }
-    Ok(world)
 }
 
-fn opened(alloc: Global, disk: MemDisk) -> Result<(World, u64, Option<VaultError>), AllocError> {
-    match open(alloc, disk) {
+fn opened(alloc: Global, world: &mut World) -> Result<Result<u64, VaultError>, AllocError> {
+    match open(alloc, world.taken(alloc).into_disk()) {
         Ok(recovered) => {
             let Recovered {
                 vault,
@@ -120,13 +235,18 @@ fn opened(alloc: Global, disk: MemDisk) -> Result<(World, u64, Option<VaultError
                 image,
             } = recovered;
             let generation = vault.generation();
-            let image = spelled(alloc, &image)?;
-            Ok((World::Open(Live { vault, image }), generation, None))
+            match spelled(alloc, &image) {
+                Ok(image) => {
+                    *world = World::Open(Live { vault, image });
+                    Ok(Ok(generation))
+                }
+                Err(error) => {
+                    *world = World::Closed(vault.into_disk());
+                    Err(error)
+                }
+            }
         }
-        Err(refused) => {
-            let (world, error) = handed_back(refused);
-            Ok((world, 0, error))
-        }
+        Err(refused) => Ok(Err(put_back(world, refused))),
     }
 }
 
@@ -150,105 +270,109 @@ fn spelled(alloc: Global, image: &Image) -> Result<Vec<u8>, AllocError>
 /// Writes what the store held when it was opened.
 pub(crate) fn tell_facts(
     alloc: Global,
-    world: World,
+    world: &World,
     told: &mut String,
-) -> Result<World, AllocError> {
-    match &world {
+) -> Result<(), AllocError> {
+    match world {
         World::Open(live) => match decode_image(alloc, &live.image, MAX_COMPONENTS) {
-            Ok(image) => tell_image(told, &image)?,
-            Err(fault) => write!(told, "{fault}")?,
+            Ok(image) => tell_image(told, &image),
+            Err(fault) => write!(told, "{fault}"),
         },
-        World::Closed(_) => told.push_str("not open")?,
+        World::Closed(_) => told.push_str("not open"),
     }
-    Ok(world)
 }
 
 /// Appends the commit that these bytes of a payload spell: one event, or several.
 pub(crate) fn append_commit(
     alloc: Global,
     names: &Names,
-    world: World,
+    world: &mut World,
     text: &str,
     told: &mut String,
-) -> Result<World, AllocError> {
+) -> Result<(), AllocError> {
     let bytes = bytes_of(alloc, names, text)?.unwrap_or(Vec::new(alloc));
-    let mut commit = Vec::new(alloc);
-    let read = decode_payload(alloc, &bytes, MAX_COMPONENTS, &mut commit);
-    match (world, read) {
-        (World::Open(live), Ok(())) => {
-            let (live, error) = appended(live, &commit);
-            tell_answer(&live, error, "appended", told)?;
-            Ok(World::Open(live))
-        }
-        (world, _) => {
-            told.push_str("not open, or no commit")?;
-            Ok(world)
-        }
+    match append_payload(alloc, world, &bytes) {
+        Some(answer) => tell_answer(answer, "appended", told),
+        None => told.push_str("not open, or no commit"),
     }
 }
 
-fn appended(live: Live, commit: &[Event]) -> (Live, Option<VaultError>)
+// The result of the append of a payload, if it is one and a store is open.
+fn append_payload(alloc: Global, world: &mut World, bytes: &[u8]) -> Option<Answer> {
+    let mut commit = Vec::new(alloc);
+    match decode_payload(alloc, bytes, MAX_COMPONENTS, &mut commit) {
+        Ok(()) => append(alloc, world, &commit),
+        Err(_) => None,
+    }
+}
+
+// The result of an append, if a store is open.
+fn append(alloc: Global, world: &mut World, commit: &[Event]) -> Option<Answer>
     requires some { 1 ≤ length commit.now }
     requires few { length commit.now ≤ MOST_EVENTS }
     requires puts { AllByRecursion HasFewPuts commit.now }
 {
-    let Live { mut vault, image } = live;
-    let result = if commit.len() == 1 {
-        vault.append(&commit[0])
-    } else {
-        vault.append_all(commit)
-    };
-    match result {
-        Ok(()) => (Live { vault, image }, None),
-        Err(error) => (Live { vault, image }, Some(error)),
+    match world.taken(alloc).into_store() {
+        Ok(live) => {
+            let (live, error) = live.appended(commit);
+            let answer = live.answer(error);
+            *world = World::Open(live);
+            Some(answer)
+        }
+        Err(disk) => {
+            *world = World::Closed(disk);
+            None
+        }
     }
 }
 
 /// Turns the store over, and writes its generation.
 pub(crate) fn turn_over(
     alloc: Global,
-    world: World,
+    world: &mut World,
     told: &mut String,
-) -> Result<World, AllocError> {
-    match world {
-        World::Open(live) => {
-            let (live, answer) = turned(alloc, live);
-            match answer {
-                Some(Ok(generation)) => write!(told, "turned to generation {generation}")?,
-                Some(Err(error)) => tell_answer(&live, Some(error), "", told)?,
-                None => told.push_str("no image")?,
-            }
-            Ok(World::Open(live))
-        }
-        closed => {
-            told.push_str("not open")?;
-            Ok(closed)
-        }
+) -> Result<(), AllocError> {
+    match turn(alloc, world) {
+        Turned::To(generation) => write!(told, "turned to generation {generation}"),
+        Turned::Refused(answer) => tell_answer(answer, "", told),
+        Turned::NoImage => told.push_str("no image"),
+        Turned::NotOpen => told.push_str("not open"),
     }
 }
 
-// The result of a turnover, if the bytes of the image can be read again.
-fn turned(alloc: Global, live: Live) -> (Live, Option<Result<u64, VaultError>>) {
-    let Live { mut vault, image } = live;
-    let answer = match decode_image(alloc, &image, MAX_COMPONENTS) {
-        Ok(listed) => Some(vault.turn(&listed)),
-        Err(_) => None,
-    };
-    (Live { vault, image }, answer)
+// What became of a turnover.
+#[derive(Clone, Copy)]
+enum Turned {
+    To(u64),
+    Refused(Answer),
+    // The bytes of the image cannot be read again.
+    NoImage,
+    NotOpen,
+}
+
+fn turn(alloc: Global, world: &mut World) -> Turned {
+    match world.taken(alloc).into_store() {
+        Ok(live) => {
+            let (live, answer) = live.turned(alloc);
+            let turned = match answer {
+                Some(Ok(generation)) => Turned::To(generation),
+                Some(Err(error)) => Turned::Refused(live.answer(Some(error))),
+                None => Turned::NoImage,
+            };
+            *world = World::Open(live);
+            turned
+        }
+        Err(disk) => {
+            *world = World::Closed(disk);
+            Turned::NotOpen
+        }
+    }
 }
 
 // Writes a result, and whether the store is halted now.
-fn tell_answer(
-    live: &Live,
-    error: Option<VaultError>,
-    done: &str,
-    told: &mut String,
-) -> Result<(), AllocError> {
-    tell_error(error, done, told)?;
-    if live.vault.is_halted() && error != Some(VaultError::Halted) {
-        told.push_str(", halts")?;
-    }
-    Ok(())
+fn tell_answer(answer: Answer, done: &str, told: &mut String) -> Result<(), AllocError> {
+    tell_error(answer.error, done, told)?;
+    told.push_str(if answer.halts { ", halts" } else { "" })
 }
 
 fn tell_error(error: Option<VaultError>, done: &str, told: &mut String) -> Result<(), AllocError> {
