@@ -3,7 +3,6 @@ ghost use Rattle.hub.specs.Whole.{IsNamedFor};
 
 use crate::handles::Handles;
 use crate::held_disk::{Gate, HeldDisk};
-use crate::passes::two_of;
 use crate::stores::{created, fib};
 use anyhow::{Error, bail};
 use commit::{Core, CoreError};
@@ -16,14 +15,9 @@ use std::thread::join;
 
 /// Tries this on a new store.
 pub(crate) fn try_held<R: Handles>(rt: &R) -> Result<(), Error> {
-    println!(rt; "a put is within its sync")?;
     let gate = Arc::new(rt.alloc(), Gate::new())?;
-    hold_with(rt, &gate)
-}
-
-fn hold_with<R: Handles>(rt: &R, gate: &Arc<Gate>) -> Result<(), Error> {
-    let again = Arc::clone(gate)?;
-    hold_on(rt, HeldDisk::new(MemDisk::new(rt.alloc()), again), gate)?;
+    let disk = HeldDisk::new(MemDisk::new(rt.alloc()), Arc::clone(&gate)?);
+    hold_on(rt, disk, &gate)?;
     println!(rt; "  in time: {}", gate.was_in_time())?;
     Ok(())
 }
@@ -42,26 +36,19 @@ fn hold_as<J: Naming + Send + Sync, D: Disk + Drop + Send, R: Handles>(
 ) -> Result<(), Error>
     requires { IsNamedFor D.files D.moment D.left_at D.failures D.refusals J.table J.passes J.envs J.opening J.left blank core }
 {
-    match Hub::<J, D>::open(rt.alloc(), core, blank) {
-        Ok((hub, envs, _)) => put_and_ask(rt, &hub, envs, gate),
-        Err(_) => bail!("no hub was opened"),
-    }
-}
-
-// One thread puts, and one asks.
-fn put_and_ask<J: Naming + Send + Sync, D: Disk + Drop + Send, R: Handles>(
-    rt: &R,
-    hub: &Hub<J, D>,
-    envs: Vec<EnvPass<J>>,
-    gate: &Gate,
-) -> Result<(), Error> {
-    let (asker, putter) = two_of(envs)?;
+    let Ok((hub, mut envs, _)) = Hub::<J, D>::open(rt.alloc(), core, blank) else {
+        bail!("no hub was opened")
+    };
     hubs_cross::<J, D>();
+    let (Some(asker), Some(putter)) = (envs.pop(), envs.pop()) else {
+        bail!("no pass")
+    };
+    let shared = &hub;
     gate.arm();
     let (put, answers) = join(
         rt,
-        move || put(rt, hub, putter),
-        move || ask(hub, asker, gate),
+        move || put(rt, shared, putter),
+        move || ask(shared, asker, gate),
     );
     put?;
     println!(rt; "  commits: {}", answers.commits)?;

@@ -5,7 +5,6 @@
 mod handles;
 mod held;
 mod held_disk;
-mod passes;
 mod rows;
 mod stores;
 mod strangers;
@@ -13,10 +12,24 @@ mod task;
 mod twice;
 
 use anyhow::Error;
+use rows::{Row, try_row};
+use std::io::Print;
 
 fn main(rt: HostRuntime) -> Result<(), Error> {
-    rows::try_rows(&rt)?;
+    println!(rt; "one pass puts, gets, counts and asks for a stop")?;
+    try_row(&rt, Row::OnePass, 1)?;
+    println!(rt; "four threads put 16 items each")?;
+    try_row(&rt, Row::Apart, 4)?;
+    println!(rt; "four threads put their number at one address")?;
+    try_row(&rt, Row::Together, 4)?;
+    println!(rt; "a hub is closed without one of its passes")?;
+    try_row(&rt, Row::PassMissing, 1)?;
+    println!(rt; "a hub is closed while an instance runs")?;
+    try_row(&rt, Row::TaskOut, 1)?;
+    println!(rt; "a task of another hub is finished")?;
     strangers::try_foreign(&rt)?;
+    println!(rt; "a put is within its sync")?;
     held::try_held(&rt)?;
+    println!(rt; "two threads put an item each")?;
     twice::try_two(&rt)
 }

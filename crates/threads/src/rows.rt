@@ -8,17 +8,16 @@ use crate::task::keep;
 use anyhow::{Error, bail};
 use commit::{Core, CoreError};
 use disk::{Disk, MemDisk};
-use hub::{Blank, CloseError, EnvPass, Hub, Naming, NotClosed, TaskError, WorkPass, hubs_cross};
+use hub::{Blank, EnvPass, Hub, Naming, NotClosed, TaskError, WorkPass, hubs_cross};
 use instances::Task;
 use machine::Refusal;
-use std::alloc::{AllocError, Global};
 use std::io::Print;
 use std::marker::Brand;
 use std::thread;
 
 /// A row: what is tried.
 #[derive(Clone, Copy)]
-enum Row {
+pub(crate) enum Row {
     /// One pass puts, gets, counts and asks for a stop.
     OnePass,
     /// Each of four threads puts 16 items of its own.
@@ -31,22 +30,8 @@ enum Row {
     TaskOut,
 }
 
-/// Tries each row on a new store in memory.
-pub(crate) fn try_rows<R: Handles>(rt: &R) -> Result<(), Error> {
-    let one = "one pass puts, gets, counts and asks for a stop";
-    try_row(rt, one, Row::OnePass, 1)?;
-    try_row(rt, "four threads put 16 items each", Row::Apart, 4)?;
-    let together = "four threads put their number at one address";
-    try_row(rt, together, Row::Together, 4)?;
-    let missing = "a hub is closed without one of its passes";
-    try_row(rt, missing, Row::PassMissing, 1)?;
-    let out = "a hub is closed while an instance runs";
-    try_row(rt, out, Row::TaskOut, 1)
-}
-
-// Prints what is tried, and tries it.
-fn try_row<R: Handles>(rt: &R, told: &str, row: Row, passes: u8) -> Result<(), Error> {
-    println!(rt; "{told}")?;
+/// Tries a row on a new store in memory.
+pub(crate) fn try_row<R: Handles>(rt: &R, row: Row, passes: u8) -> Result<(), Error> {
     try_on(rt, MemDisk::new(rt.alloc()), row, passes)
 }
 
@@ -59,9 +44,11 @@ fn try_on<D: Disk + Drop + Send, R: Handles>(
     let core = created(rt.alloc(), disk)?;
     let blank = Blank::new(rt.alloc(), passes, 1)?;
     let core = try_as::<Brand, D, R>(rt, core, blank, row)?;
-    let items = core.counts().items;
-    let bytes = bytes(core)?;
-    println!(rt; "  {items} items, A has {bytes} bytes")?;
+    println!(rt;
+        "  {} items, A has {} bytes",
+        core.counts().items,
+        bytes(core)?
+    )?;
     Ok(())
 }
 
@@ -104,19 +91,10 @@ fn one_pass<J: Naming, D: Disk + Drop, R: Handles>(
     mut envs: Vec<EnvPass<J>>,
     workers: Vec<WorkPass<J>>,
 ) -> Result<Core<D>, Error> {
-    each_asks(rt, &hub, envs.as_mut_slice())?;
-    closed(hub, envs, workers)
-}
-
-fn each_asks<J: Naming, D: Disk, R: Handles>(
-    rt: &R,
-    hub: &Hub<J, D>,
-    envs: &mut [EnvPass<J>],
-) -> Result<(), Error> {
-    for pass in envs {
-        put_and_ask(rt, hub, pass)?;
+    for pass in envs.as_mut_slice() {
+        put_and_ask(rt, &hub, pass)?;
     }
-    Ok(())
+    closed(hub, envs, workers)
 }
 
 fn put_and_ask<J: Naming, D: Disk, R: Handles>(
@@ -124,22 +102,13 @@ fn put_and_ask<J: Naming, D: Disk, R: Handles>(
     hub: &Hub<J, D>,
     pass: &mut EnvPass<J>,
 ) -> Result<(), Error> {
-    put_and_get(rt, hub, pass)?;
+    hub.put_item(rt, pass, fib(0), 0)?;
+    let found = hub.get(rt, pass, fib(0))?;
+    println!(rt; "  put [fib: 0] = 0, and got {found:?}")?;
     println!(rt; "  at least 1 commit: {}", hub.commits(pass) >= 1)?;
     println!(rt; "  stop asked: {}", hub.stop_asked(pass))?;
     hub.ask_stop(pass);
     println!(rt; "  after it was asked: {}", hub.stop_asked(pass))?;
-    Ok(())
-}
-
-fn put_and_get<J: Naming, D: Disk, R: Handles>(
-    rt: &R,
-    hub: &Hub<J, D>,
-    pass: &mut EnvPass<J>,
-) -> Result<(), Error> {
-    hub.put_item(rt, pass, fib(0), 0)?;
-    let found = hub.get(rt, pass, fib(0))?;
-    println!(rt; "  put [fib: 0] = 0, and got {found:?}")?;
     Ok(())
 }
 
@@ -160,9 +129,8 @@ struct Came<J: Naming> {
     already: Option<i64>,
 }
 
-// The job of each thread.
-fn jobs<J: Naming>(alloc: Global, envs: Vec<EnvPass<J>>) -> Result<Vec<Job<J>>, AllocError> {
-    let mut jobs = Vec::new(alloc);
+fn jobs<J: Naming, R: Handles>(rt: &R, envs: Vec<EnvPass<J>>) -> Result<Vec<Job<J>>, Error> {
+    let mut jobs = Vec::new(rt.alloc());
     let mut number = 0i64;
     for pass in envs {
         jobs.push(Job { number, pass })?;
@@ -171,45 +139,24 @@ fn jobs<J: Naming>(alloc: Global, envs: Vec<EnvPass<J>>) -> Result<Vec<Job<J>>, 
     Ok(jobs)
 }
 
-// The passes of all threads.
-fn passes<J: Naming>(alloc: Global, came: Vec<Came<J>>) -> Result<Vec<EnvPass<J>>, AllocError> {
-    let mut envs = Vec::new(alloc);
-    for one in came {
-        envs.push(one.pass)?;
-    }
-    Ok(envs)
-}
-
 fn apart<J: Naming + Send + Sync, D: Disk + Drop + Send, R: Handles>(
     rt: &R,
     hub: Hub<J, D>,
     envs: Vec<EnvPass<J>>,
     workers: Vec<WorkPass<J>>,
 ) -> Result<Core<D>, Error> {
-    let envs = all_apart(rt, &hub, envs)?;
-    closed(hub, envs, workers)
-}
-
-// The passes, after each thread's puts.
-fn all_apart<J: Naming + Send + Sync, D: Disk + Drop + Send, R: Handles>(
-    rt: &R,
-    hub: &Hub<J, D>,
-    envs: Vec<EnvPass<J>>,
-) -> Result<Vec<EnvPass<J>>, Error> {
     hubs_cross::<J, D>();
-    let jobs = jobs(rt.alloc(), envs)?;
-    let came = thread::map_vec(rt, jobs, &|job: Job<J>| put_sixteen(rt, hub, job))?;
-    tell_ok(rt, came.as_slice())?;
-    Ok(passes(rt.alloc(), came)?)
-}
-
-fn tell_ok<J: Naming, R: Handles>(rt: &R, came: &[Came<J>]) -> Result<(), Error> {
+    let jobs = jobs(rt, envs)?;
+    let shared = &hub;
+    let came = thread::map_vec(rt, jobs, &|job: Job<J>| put_sixteen(rt, shared, job))?;
+    let mut envs = Vec::new(rt.alloc());
     let mut ok = 0usize;
     for one in came {
         ok = ok.saturating_add(one.ok);
+        envs.push(one.pass)?;
     }
     println!(rt; "  {ok} Ok")?;
-    Ok(())
+    closed(hub, envs, workers)
 }
 
 // Puts `[fib: 16 * number + j] = j` for each `j` below 16.
@@ -235,21 +182,16 @@ fn together<J: Naming + Send + Sync, D: Disk + Drop + Send, R: Handles>(
     envs: Vec<EnvPass<J>>,
     workers: Vec<WorkPass<J>>,
 ) -> Result<Core<D>, Error> {
-    let envs = all_together(rt, &hub, envs)?;
-    closed(hub, envs, workers)
-}
-
-// The passes, after each thread's put.
-fn all_together<J: Naming + Send + Sync, D: Disk + Drop + Send, R: Handles>(
-    rt: &R,
-    hub: &Hub<J, D>,
-    envs: Vec<EnvPass<J>>,
-) -> Result<Vec<EnvPass<J>>, Error> {
     hubs_cross::<J, D>();
-    let jobs = jobs(rt.alloc(), envs)?;
-    let came = thread::map_vec(rt, jobs, &|job: Job<J>| put_number(rt, hub, job))?;
+    let jobs = jobs(rt, envs)?;
+    let shared = &hub;
+    let came = thread::map_vec(rt, jobs, &|job: Job<J>| put_number(rt, shared, job))?;
     tell_winner(rt, came.as_slice())?;
-    Ok(passes(rt.alloc(), came)?)
+    let mut envs = Vec::new(rt.alloc());
+    for one in came {
+        envs.push(one.pass)?;
+    }
+    closed(hub, envs, workers)
 }
 
 // Puts `[fib: 0]` with the thread's own number.
@@ -297,28 +239,13 @@ fn pass_missing<J: Naming, D: Disk + Drop, R: Handles>(
     };
     match hub.close(envs, workers) {
         Ok(_) => bail!("closed without one of its passes"),
-        Err(not_closed) => close_with(rt, not_closed, kept_back),
+        Err(not_closed) => {
+            let (error, hub, mut envs, workers) = not_closed.into_parts();
+            println!(rt; "  {error}")?;
+            envs.push(kept_back)?;
+            closed(hub, envs, workers)
+        }
     }
-}
-
-fn close_with<J: Naming, D: Disk + Drop, R: Handles>(
-    rt: &R,
-    not_closed: NotClosed<J, D>,
-    kept_back: EnvPass<J>,
-) -> Result<Core<D>, Error> {
-    let (error, hub, mut envs, workers) = not_closed.into_parts();
-    put_back(rt, error, &mut envs, kept_back)?;
-    closed(hub, envs, workers)
-}
-
-fn put_back<J: Naming, R: Handles>(
-    rt: &R,
-    error: CloseError,
-    envs: &mut Vec<EnvPass<J>>,
-    kept_back: EnvPass<J>,
-) -> Result<(), Error> {
-    envs.push(kept_back)?;
-    tell_refusal(rt, error)
 }
 
 fn task_out<J: Naming, D: Disk + Drop, R: Handles>(
@@ -360,27 +287,11 @@ fn give_back<J: Naming, D: Disk + Drop, R: Handles>(
     task: Task,
 ) -> Result<Core<D>, Error> {
     let (error, hub, envs, mut workers) = not_closed.into_parts();
-    released(rt, &hub, workers.as_mut_slice(), task)?;
-    tell_refusal(rt, error)?;
-    closed(hub, envs, workers)
-}
-
-fn released<J: Naming, D: Disk, R: Handles>(
-    rt: &R,
-    hub: &Hub<J, D>,
-    workers: &mut [WorkPass<J>],
-    task: Task,
-) -> Result<(), Error> {
-    match workers.first_mut() {
-        Some(worker) => release(rt, hub, worker, task),
-        None => {
-            keep(rt, task);
-            bail!("no pass")
-        }
-    }
-}
-
-fn tell_refusal<R: Print>(rt: &R, error: CloseError) -> Result<(), Error> {
+    let Some(worker) = workers.as_mut_slice().first_mut() else {
+        keep(rt, task);
+        bail!("no pass")
+    };
+    release(rt, &hub, worker, task)?;
     println!(rt; "  {error}")?;
-    Ok(())
+    closed(hub, envs, workers)
 }

@@ -5,36 +5,29 @@ ghost use Rattle.hub.specs.Opening.{facts_behind};
 ghost use Rattle.hub.specs.Whole.{IsNamedFor};
 
 use crate::handles::Handles;
-use crate::passes::two_of;
 use crate::stores::{created, fib, number};
 use crate::task::keep;
 use anyhow::{Error, bail};
-use commit::{Came, Core, CoreError, Outcome};
+use commit::{Came, Core, Outcome};
 use disk::{Disk, MemDisk};
 use hub::{Blank, Hub, Naming, TaskError, WorkPass};
 use instances::Task;
-use std::alloc::{AllocError, Global};
 use std::io::Print;
 use std::marker::Brand;
 use terms::{Inst, equals_are_one};
 
 /// Tries this with two hubs, of stores with the same facts.
 pub(crate) fn try_foreign<R: Handles>(rt: &R) -> Result<(), Error> {
-    println!(rt; "a task of another hub is finished")?;
     open_both(rt, filled(rt)?, filled(rt)?)
 }
 
 // A store in which `(add: 2)` is ready.
 fn filled<R: Handles>(rt: &R) -> Result<Core<MemDisk>, Error> {
     let mut core = created(rt.alloc(), MemDisk::new(rt.alloc()))?;
-    fill(&mut core)?;
-    Ok(core)
-}
-
-fn fill<D: Disk>(core: &mut Core<D>) -> Result<(), CoreError> {
     core.put_item(fib(0), 0)?;
     core.put_item(fib(1), 1)?;
-    core.put_tag(number(2))
+    core.put_tag(number(2))?;
+    Ok(core)
 }
 
 fn open_both<D: Disk + Drop, R: Handles>(
@@ -42,14 +35,9 @@ fn open_both<D: Disk + Drop, R: Handles>(
     here: Core<D>,
     there: Core<D>,
 ) -> Result<(), Error> {
-    let (blank, other) = blanks(rt.alloc())?;
+    let blank = Blank::new(rt.alloc(), 0, 2)?;
+    let other = Blank::new(rt.alloc(), 0, 1)?;
     open_here::<Brand, D, R>(rt, here, blank, there, other)
-}
-
-fn blanks(alloc: Global) -> Result<(Blank, Blank), AllocError> {
-    let blank = Blank::new(alloc, 0, 2)?;
-    let other = Blank::new(alloc, 0, 1)?;
-    Ok((blank, other))
 }
 
 fn open_here<J: Naming, D: Disk + Drop, R: Handles>(
@@ -61,32 +49,22 @@ fn open_here<J: Naming, D: Disk + Drop, R: Handles>(
 ) -> Result<(), Error>
     requires { IsNamedFor D.files D.moment D.left_at D.failures D.refusals J.table J.passes J.envs J.opening J.left blank core }
 {
-    match Hub::<J, D>::open(rt.alloc(), core, blank) {
-        Ok((here, _, workers)) => {
-            let (mut runner, mut releaser) = two_of(workers)?;
-            run_here(
-                rt,
-                &here,
-                &mut runner,
-                &mut releaser,
-                other_core,
-                other_blank,
-            )
-        }
-        Err(_) => bail!("no hub was opened"),
-    }
-}
-
-fn run_here<J: Naming, D: Disk + Drop, R: Handles>(
-    rt: &R,
-    here: &Hub<J, D>,
-    runner: &mut WorkPass<J>,
-    releaser: &mut WorkPass<J>,
-    other_core: Core<D>,
-    other_blank: Blank,
-) -> Result<(), Error> {
-    let (instance, outcome) = outcome_here(rt, here, runner, releaser)?;
-    open_there::<J, Brand, D, R>(rt, here, runner, instance, outcome, other_core, other_blank)
+    let Ok((here, _, mut workers)) = Hub::<J, D>::open(rt.alloc(), core, blank) else {
+        bail!("no hub was opened")
+    };
+    let (Some(mut runner), Some(mut releaser)) = (workers.pop(), workers.pop()) else {
+        bail!("no pass")
+    };
+    let (instance, outcome) = outcome_here(rt, &here, &mut runner, &mut releaser)?;
+    open_there::<J, Brand, D, R>(
+        rt,
+        &here,
+        &mut runner,
+        instance,
+        outcome,
+        other_core,
+        other_blank,
+    )
 }
 
 // The outcome of the ready instance, which is ready again afterwards.
@@ -103,14 +81,10 @@ fn outcome_here<'a, J: Naming, D: Disk + Drop, R: Handles>(
     };
     let instance = task.inst();
     let came = here.run(rt, rt.alloc(), runner, &task);
-    if let Err(error) = release(rt, here, releaser, task) {
-        drop(came);
-        return Err(error);
-    }
-    match came {
-        Ok(Came::Ended(outcome)) => Ok((instance, outcome)),
-        Ok(Came::Waits(_)) => bail!("it waits"),
-        Err(error) => Err(error.into()),
+    release(rt, here, releaser, task)?;
+    match came? {
+        Came::Ended(outcome) => Ok((instance, outcome)),
+        Came::Waits(_) => bail!("it waits"),
     }
 }
 
@@ -126,53 +100,17 @@ fn open_there<J: Naming, K: Naming, D: Disk + Drop, R: Handles>(
     requires outcome { IsOutcomeIn J.opening.graph (facts_behind J.opening runner.old.seen) instance outcome }
     requires named { IsNamedFor D.files D.moment D.left_at D.failures D.refusals K.table K.passes K.envs K.opening K.left blank core }
 {
-    match Hub::<K, D>::open(rt.alloc(), core, blank) {
-        Ok((there, _, mut workers)) => match workers.as_mut_slice().first_mut() {
-            Some(stranger) => finish_here(rt, here, runner, instance, outcome, &there, stranger),
-            None => {
-                drop(outcome);
-                bail!("no pass")
-            }
-        },
-        Err(_) => {
-            drop(outcome);
-            bail!("no hub was opened")
-        }
-    }
-}
-
-fn finish_here<J: Naming, K: Naming, D: Disk + Drop, R: Handles>(
-    rt: &R,
-    here: &Hub<J, D>,
-    runner: &mut WorkPass<J>,
-    instance: Inst,
-    outcome: Outcome<'_>,
-    there: &Hub<K, D>,
-    stranger: &mut WorkPass<K>,
-) -> Result<(), Error>
-    requires { IsOutcomeIn J.opening.graph (facts_behind J.opening runner.old.seen) instance outcome }
-{
-    match claimed(rt, there, stranger, instance) {
-        Ok(task) => match foreign(rt, here, runner, task, outcome) {
-            Some(task) => came_back(rt, there, stranger, task),
-            None => bail!("it was finished here"),
-        },
-        Err(error) => {
-            drop(outcome);
-            Err(error)
-        }
-    }
-}
-
-// Gives a task that came back to its own hub.
-fn came_back<K: Naming, D: Disk, R: Handles>(
-    rt: &R,
-    there: &Hub<K, D>,
-    stranger: &mut WorkPass<K>,
-    task: Task,
-) -> Result<(), Error> {
-    let instance = task.inst();
-    release(rt, there, stranger, task)?;
+    let Ok((there, _, mut workers)) = Hub::<K, D>::open(rt.alloc(), core, blank) else {
+        bail!("no hub was opened")
+    };
+    let Some(mut stranger) = workers.pop() else {
+        bail!("no pass")
+    };
+    let task = claimed(rt, &there, &mut stranger, instance)?;
+    let Some(task) = foreign(rt, here, runner, task, outcome) else {
+        bail!("it was finished here")
+    };
+    release(rt, &there, &mut stranger, task)?;
     println!(rt; "  the task of {:?} came back", instance.key.components())?;
     Ok(())
 }

@@ -1,6 +1,6 @@
 use Rattle.std.proofs.Common.{◌+◌}
 use Rattle.hub.specs.Opening.{opening_of}
-use Rattle.threads.proofs.strangers.run_here.Given as goal
+use Rattle.threads.proofs.strangers.open_here.Given as goal
 
 abbrev pub ghosts-open_there : goal.ghosts-open_there
 ghosts-open_there g a = record {
