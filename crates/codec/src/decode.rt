@@ -157,7 +157,7 @@ fn read_group(
     requires empty { events.old.items ≡ [] }
     ensures { ReadsOrRefused reader.new.rest.now (filled events.new.items result) (group most reader.old.rest.now) }
 {
-    let count = reader.short()?;
+    let count = reader.two_bytes()?;
     if count < 2 || (MOST_EVENTS as u16) < count {
         return Err(CodecError::Range);
     }

@@ -9,7 +9,7 @@ ghost use Rattle.codec.specs.Spelling.{HasFewPuts, IsEvent, event_bytes, IsImage
 use crate::Image;
 use crate::payload::GROUP;
 use crate::writing::{
-    write_address, write_each, write_fault, write_instance, write_list, write_short, write_tag,
+    write_address, write_each, write_fault, write_instance, write_list, write_two_bytes, write_tag,
     write_value,
 };
 use std::alloc::AllocError;
@@ -62,7 +62,7 @@ pub fn encode_payload(out: &mut Vec<u8>, commit: &[Event]) -> Result<(), AllocEr
         return encode_event(out, &commit[0]);
     }
     out.push(GROUP)?;
-    write_short(out, commit.len() as u16)?;
+    write_two_bytes(out, commit.len() as u16)?;
     write_each(out, commit)
 }
 

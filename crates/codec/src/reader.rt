@@ -35,7 +35,7 @@ impl Reader<'_> {
     }
 
     /// The number of a collection, or of the events of a group.
-    pub(crate) fn short(&mut self) -> Result<u16, CodecError>
+    pub(crate) fn two_bytes(&mut self) -> Result<u16, CodecError>
         ensures { leaving self.new.rest.now result ≡ number 2 self.old.rest.now }
     {
         let bytes = self.rest;
@@ -90,7 +90,7 @@ impl Reader<'_> {
         requires { most ≤ MAX_COMPONENTS }
         ensures { leaving self.new.rest.now result ≡ address most self.old.rest.now }
     {
-        let collection = ItemCollection(self.short()?);
+        let collection = ItemCollection(self.two_bytes()?);
         let key = self.key(most)?;
         Ok(Addr { collection, key })
     }
@@ -99,7 +99,7 @@ impl Reader<'_> {
         requires { most ≤ MAX_COMPONENTS }
         ensures { leaving self.new.rest.now result ≡ tag most self.old.rest.now }
     {
-        let collection = TagCollection(self.short()?);
+        let collection = TagCollection(self.two_bytes()?);
         let key = self.key(most)?;
         Ok(Tag { collection, key })
     }
@@ -108,7 +108,7 @@ impl Reader<'_> {
         requires { most ≤ MAX_COMPONENTS }
         ensures { leaving self.new.rest.now result ≡ instance most self.old.rest.now }
     {
-        let collection = StepCollection(self.short()?);
+        let collection = StepCollection(self.two_bytes()?);
         let key = self.key(most)?;
         Ok(Inst { collection, key })
     }

@@ -12,7 +12,7 @@ use std::alloc::AllocError;
 use terms::{Addr, FaultKind, Inst, Key, Producer, Tag};
 
 /// The number of a collection, or of the events of a group.
-pub(crate) fn write_short(out: &mut Vec<u8>, number: u16) -> Result<(), AllocError>
+pub(crate) fn write_two_bytes(out: &mut Vec<u8>, number: u16) -> Result<(), AllocError>
     ensures spelled { OnOk result (out.new.items ≡ out.old.items ++ little_bytes 2 number) }
     ensures kept { take (length out.old.items) out.new.items ≡ out.old.items }
 {
@@ -106,7 +106,7 @@ fn write_name(out: &mut Vec<u8>, collection: u16, key: &Key) -> Result<(), Alloc
     ensures kept { take (length out.old.items) out.new.items ≡ out.old.items }
 {
     let components = key.components();
-    write_short(out, collection)?;
+    write_two_bytes(out, collection)?;
     out.push(components.len() as u8)?;
     write_each(out, components)
 }

@@ -4,9 +4,9 @@ use Rattle.std.specs.Prelude.{◌↔◌}
 use Rattle.std.proofs.lemmas.List.{append_assoc, append-nil}
 use Rattle.terms.specs.declared.event.Event.{Event}
 use Rattle.terms.specs.Facts.{Fact, facts, event_facts}
-use Rattle.terms.specs.Sets.{Facts, among, AmongBoth}
+use Rattle.terms.specs.Sets.{Facts, among, with_facts, AmongBoth}
 use Rattle.graph.specs.Graph.{Graph}
-use Rattle.graph.specs.Fits.{Fits, AllFit, FitsState}
+use Rattle.graph.specs.Fits.{Fits, AllFit, FitAfter, FitsState}
 use Rattle.graph.specs.FitLaws.{SameSet}
 
 parts : (g : Graph) (before : List Fact) (one two : List Event) → AllFit g before (one ++ two) → AllFit g before one × AllFit g (before ++ facts one) two
@@ -37,4 +37,12 @@ events_as_set both g before other (event ∷ events) same all = (
   event_as_set g (among before) (among other) event same all.0,
   events_as_set both g (before ++ event_facts event) (other ++ event_facts event) events
       (λ fact. both before (event_facts event) fact ∙ ap (λ (b : Bool). b || among (event_facts event) fact) (same fact) ∙ sym (both other (event_facts event) fact)) all.1,
+)
+
+pub fit_as_listed : AmongBoth → (g : Graph) (X : Facts) (before : List Fact) (events : List Event) → SameSet X (among before) → FitAfter g X events → AllFit g before events
+fit_as_listed both g X before [] same fits = tt
+fit_as_listed both g X before (event ∷ events) same fits = (
+  event_as_set g X (among before) event same fits.0,
+  fit_as_listed both g (with_facts X (event_facts event)) (before ++ event_facts event) events
+      (λ fact. ap (λ (b : Bool). b || among (event_facts event) fact) (same fact) ∙ sym (both before (event_facts event) fact)) fits.1,
 )

@@ -14,6 +14,7 @@ mod Faultless
 mod FirstFaults
 mod FitKept
 mod FitsInParts
+mod FittingTwo
 mod GraphsOfTrees
 mod Lists
 mod Made

@@ -4,7 +4,7 @@ use Rattle.terms.specs.declared.event.Event.{Event}
 use Rattle.terms.specs.Facts.{Fact, facts, environment, event_facts, environment_facts}
 use Rattle.terms.specs.Sets.{Facts, among, with_facts}
 use Rattle.graph.specs.Graph.{Graph}
-use Rattle.graph.specs.Fits.{Fits, AllFit, FitsState}
+use Rattle.graph.specs.Fits.{Fits, AllFit, FitAfter, FitsState}
 
 -- two sets with the same facts
 abbrev pub SameSet : Facts → Facts → Type 0
@@ -37,3 +37,7 @@ EventAsSet = (g : Graph) (X Y : Facts) (event : Event) → SameSet X Y → Fits 
 
 abbrev pub EventsAsSet : Type 0
 EventsAsSet = (g : Graph) (before other : List Fact) (events : List Event) → SameSet (among before) (among other) → AllFit g before events → AllFit g other events
+
+-- events that fit after a set of facts fit after these facts as they are listed
+abbrev pub FitAsListed : Type 0
+FitAsListed = (g : Graph) (X : Facts) (before : List Fact) (events : List Event) → SameSet X (among before) → FitAfter g X events → AllFit g before events

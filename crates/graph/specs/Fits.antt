@@ -13,7 +13,8 @@ use Rattle.terms.specs.declared.put.Put.TheVariants as put
 use Rattle.terms.specs.declared.event.Event.{Event}
 use Rattle.terms.specs.declared.event.Event.TheVariants.{EnvItem, EnvTag, Done, Stopped}
 use Rattle.terms.specs.Facts.{Fact, tag, item, done, bad, event_facts}
-use Rattle.terms.specs.Sets.{Facts, among}
+use Rattle.terms.specs.Commits.{Commit}
+use Rattle.terms.specs.Sets.{Facts, among, with_facts}
 use Rattle.graph.specs.Graph.{Graph, Step, IsStep, IsOf, Prescribes, EnvironmentMayPutItem, EnvironmentMayPutTag}
 
 -- ---- sets of facts
@@ -96,6 +97,11 @@ pub record Fits (g : Graph) (X : Facts) (event : Event) : Type 0 where
 abbrev pub AllFit : Graph → List Fact → List Event → Type 0
 AllFit g before [] = ⊤
 AllFit g before (event ∷ events) = Fits g (among before) event × AllFit g (before ++ event_facts event) events
+
+-- each event of a commit fits the facts X together with those of the events before it
+abbrev pub FitAfter : Graph → Facts → Commit → Type 0
+FitAfter g X [] = ⊤
+FitAfter g X (event ∷ events) = Fits g X event × FitAfter g (with_facts X (event_facts event)) events
 
 -- ---- states
 

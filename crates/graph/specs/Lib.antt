@@ -4,6 +4,7 @@ pub mod Collected
 pub mod Examples
 pub mod FaultText
 pub mod Faults
+pub mod FitExample
 pub mod FitLaws
 pub mod Fits
 pub mod Graph

@@ -1,5 +1,5 @@
 //! The laws about texts, graphs, and the events that fit a graph. Each is a contract, with nothing to run.
-ghost use Rattle.graph.specs.FitLaws.{StateKeeps, FitKeeps, AllFitKeep, AllFitInParts, StateAsSet, EventAsSet, EventsAsSet};
+ghost use Rattle.graph.specs.FitLaws.{StateKeeps, FitKeeps, AllFitKeep, AllFitInParts, StateAsSet, EventAsSet, EventsAsSet, FitAsListed};
 ghost use Rattle.std.specs.Prelude.{◌≡◌};
 ghost use Rattle.graph.specs.Prescribed.{PrescribesListed};
 ghost use Rattle.graph.specs.Textual.{CanonicalReads, OneGraph, OneReading, ReadsTextual, ReadsWithoutFault};
@@ -43,6 +43,7 @@ pub fn fitting()
     ensures state_as_set { StateAsSet }
     ensures event_as_set { EventAsSet }
     ensures events_as_set { EventsAsSet }
+    ensures as_listed { FitAsListed }
 {
     facts_are_told_apart();
 }

@@ -31,7 +31,7 @@ mod tables;
 
 pub use canonical_text::canonical;
 pub use crossing::{goes, graphs_cross, is_shared};
-pub use examples::canonical_example;
+pub use examples::{canonical_example, fitting_example};
 pub use fault::{GraphError, GraphFault};
 pub use graph::Graph;
 pub use law::{

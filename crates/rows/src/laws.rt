@@ -62,6 +62,7 @@ fn graphs_hold() {
     graph::reads_textual();
     graph::reads_without_fault();
     graph::canonical_example();
+    graph::fitting_example();
     graph::graphs_cross();
 }
 

@@ -21,7 +21,8 @@ use Rattle.terms.specs.contracts.fault.FaultKindEq.TheImpl.Laws as kind_laws
 use Rattle.terms.specs.contracts.producer.ProducerEq.TheImpl.Laws as producer_laws
 use Rattle.terms.specs.contracts.put.PutEq.TheImpl.Laws as put_laws
 use Rattle.terms.specs.contracts.event.EventEq.TheImpl.Laws as event_laws
-use Rattle.terms.specs.Equal.{TellsEqual, is_key, is_addr, is_tag, is_inst, is_kind, is_producer, is_put, are_puts, is_event}
+use Rattle.terms.specs.Same.{TellsEqual}
+use Rattle.terms.specs.Equal.{is_key, is_addr, is_tag, is_inst, is_kind, is_producer, is_put, are_puts, is_event}
 
 both : (a b : Bool) → (a && b) ≡ true → (a ≡ true) × (b ≡ true)
 both true b holds = (refl, holds)

@@ -1,5 +1,5 @@
--- What `==` computes of two values, and that it is true exactly when they are the same.
-use Rattle.std.specs.Prelude.{◌≡◌, ◌↔◌, ℤ, Bool, true, List}
+-- What `==` computes of two values.
+use Rattle.std.specs.Prelude.{ℤ, Bool, List}
 use Rattle.std.specs.Ordering.{int_eq}
 use Rattle.std.specs.Cmp.Lexicographic.{pointwise}
 use Rattle.terms.specs.declared.name.Addr.{Addr}
@@ -44,7 +44,3 @@ are_puts = pointwise is_put
 
 abbrev pub is_event : Event → Event → Bool
 is_event = (event_eq.ghosts).eq
-
--- the test is true exactly when the two values are the same
-abbrev pub TellsEqual : {X : Type 0} → (X → X → Bool) → Type 0
-TellsEqual {X} is_one = (one two : X) → (is_one one two ≡ true) ↔ (one ≡ two)

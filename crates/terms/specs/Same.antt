@@ -1,15 +1,19 @@
--- Whether two addresses are the same.
-use Rattle.std.specs.Prelude.{◌≡◌, Bool, true}
+-- Tests of equality, and the one for addresses that definitions use: maps and sets compare by the order, so it does too.
+use Rattle.std.specs.Prelude.{◌≡◌, ◌↔◌, Bool, true}
 use Rattle.std.specs.Ordering.{is_eq, nat_cmp, ordering_then}
 use Rattle.std.specs.declared.cmp.Ordering.{Ordering}
 use Rattle.std.specs.declared.cmp.Ordering.TheVariants.{Less, Equal, Greater}
 use Rattle.std.specs.Cmp.{IsTotalOrder, Equal-is}
 use Rattle.std.specs.FinMap.{int_cmp-IsAntisymmetric, nat_cmp-IsAntisymmetric, slice_cmp-IsAntisymmetric}
-use Rattle.std.proofs.Common.{refl, ap}
+use Rattle.std.proofs.Common.{refl, ap, subst}
 use Rattle.std.proofs.lemmas.Cmp.{tied_itself, nat_cmp_total, int_cmp_total, on_total, then_total, lists_total}
 use Rattle.terms.specs.declared.name.Addr.{Addr}
 use Rattle.terms.specs.Key.{key_cmp}
 use Rattle.terms.specs.Name.{addr_cmp}
+
+-- the test is true exactly when the two values are the same
+abbrev pub TellsEqual : {X : Type 0} → (X → X → Bool) → Type 0
+TellsEqual {X} is_one = (one two : X) → (is_one one two ≡ true) ↔ (one ≡ two)
 
 abbrev pub is_same : Addr → Addr → Bool
 is_same a b = is_eq (addr_cmp a b)
@@ -31,3 +35,6 @@ same_address a b same =
     let number = nat_cmp-IsAntisymmetric a.collection.0 b.collection.0 tie.0 in
     let key = slice_cmp-IsAntisymmetric int_cmp-IsAntisymmetric a.key b.key tie.1 in
     λ i. record { collection = record { 0 = number i }; key = key i }
+
+pub tells_same : TellsEqual is_same
+tells_same a b = (same_address a b, λ is. subst (λ (other : Addr). is_same a other ≡ true) is (same_itself a))

@@ -7,7 +7,7 @@
 //! The crates above rely on `cmp`. It is `key_cmp` for keys, and `addr_cmp`, `tag_cmp` and `inst_cmp` for addresses,
 //! tags and instances, where the collection's number comes first; then there are `put_cmp` and `producer_cmp`. The
 //! functions of `order` state the laws of these six orders. `equals_are_one` states that `==` is true exactly when the
-//! two values are the same. What events state is `facts` of `specs/Facts.antt`, and the functions of `facts` and
+//! two values are the same, and `is_same` of `specs/Same.antt`, which definitions use, when two addresses are. What events state is `facts` of `specs/Facts.antt`, and the functions of `facts` and
 //! `puts_stated` state its laws.
 #![tactic(auto)]
 

@@ -1,5 +1,5 @@
 -- What a store stands for while a commit is appended, and afterwards.
-use Rattle.std.proofs.Common.{◌≡◌, ◌≢◌, ◌+◌, ◌≤◌, ◌<◌, ℕ, Bool, ◌||◌, List, [], ◌∷◌, ◌++◌, length, take, drop, map, inl, inr, sym, ap, subst, ◌∙◌, arith, length-append, length-take, length-drop, take-append-drop}
+use Rattle.std.proofs.Common.{◌≡◌, ◌≢◌, ◌+◌, ◌≤◌, ◌<◌, ℕ, List, [], ◌∷◌, ◌++◌, length, take, drop, map, inl, inr, sym, ap, subst, ◌∙◌, arith, length-append, length-take, length-drop, take-append-drop}
 use Rattle.std.proofs.lemmas.List.{take-append-le}
 use Rattle.disk.specs.declared.side.Side.{Side}
 use Rattle.disk.specs.declared.side.Side.TheVariants.{A, B}
@@ -8,22 +8,21 @@ use Rattle.disk.specs.File.{File, MayLeave, at_rest, overwritten}
 use Rattle.disk.specs.Settled.{settled_only}
 use Rattle.disk.specs.Time.{Contents, MayLeaveNow, OtherStays, OtherMayBe, LeavesOnly}
 use Rattle.disk.specs.Moments.{weakened}
-use Rattle.terms.specs.declared.event.Event.{Event}
 use Rattle.terms.specs.Commits.{Commit}
-use Rattle.terms.specs.Facts.{Fact, facts, environment, event_facts}
-use Rattle.terms.specs.Sets.{Facts, among, with_facts, AmongBoth}
+use Rattle.terms.specs.Facts.{facts, environment}
+use Rattle.terms.specs.Sets.{Facts, with_facts}
 use Rattle.codec.specs.Commits.{commit_bytes, IsCommit}
 use Rattle.journal.specs.Records.{records, record_of}
 use Rattle.journal.specs.declared.journal.Journal.{Journal}
 use Rattle.journal.specs.Journal.{IsAt, BeforeOrAfter}
 use Rattle.graph.specs.Graph.{Graph}
-use Rattle.graph.specs.Fits.{AllFit}
-use Rattle.graph.specs.FitLaws.{EventAsSet, SameSet}
+use Rattle.graph.specs.Fits.{AllFit, FitAfter}
+use Rattle.graph.specs.FitLaws.{FitAsListed}
 use Rattle.sides.specs.Side.{IsSide, start_of, end_of, facts_of}
 use Rattle.sides.specs.SideLaws.{HasJournal, StaysAlike, GrowsByCommit}
 use Rattle.vault.specs.declared.vault.Vault.{Vault}
 use Rattle.vault.specs.Stands.{Stands, IsLive, IsBehind, other_side}
-use Rattle.vault.specs.Store.{Holds, FitAfter, StandsBeforeOrAfter}
+use Rattle.vault.specs.Store.{Holds, StandsBeforeOrAfter}
 use Rattle.terms.specs.declared.key.TheConstants.{MAX_COMPONENTS}
 
 other_differs : (side : Side) → other_side side ≢ side
@@ -84,19 +83,11 @@ module _ (has_journal : HasJournal) {D : Type 0} (files : D → Side → File) (
       let same : left there ≡ holds.contents there = settled_only (holds.contents there) (left there) (subst (λ (f : File). MayLeave f.durable (left there)) (holds.rests there) (others there (other_differs live))) in
       subst (λ (bytes : List ℕ). IsBehind bytes vault.generation) (sym same) holds.is_live.behind
 
-  -- events that fit after the facts fit after those of the side, as they are listed
-  pub commit_fits : EventAsSet → AmongBoth → (commit : Commit) → FitAfter g X commit → AllFit g (facts_of is_side) commit
-  commit_fits as_set both commit fits = by X (facts_of is_side) commit is_side.facts fits
-    where
-      by : (Y : Facts) (listed : List Fact) (events : List Event) → SameSet Y (among listed) → FitAfter g Y events → AllFit g listed events
-      by Y listed [] same fits = tt
-      by Y listed (event ∷ events) same fits = (
-        as_set g Y (among listed) event same fits.0,
-        by (with_facts Y (event_facts event)) (listed ++ event_facts event) events
-            (λ fact. ap (λ (b : Bool). b || among (event_facts event) fact) (same fact) ∙ sym (both listed (event_facts event) fact)) fits.1,
-      )
+  module _ (alike : StaysAlike) (grows : GrowsByCommit) (commit : Commit) (is_commit : IsCommit MAX_COMPONENTS commit) (as_listed : FitAsListed) (fits : FitAfter g X commit) where
+    -- the events fit after those of the side
+    fit : AllFit g (facts_of is_side) commit
+    fit = as_listed g X (facts_of is_side) commit is_side.facts fits
 
-  module _ (alike : StaysAlike) (grows : GrowsByCommit) (commit : Commit) (is_commit : IsCommit MAX_COMPONENTS commit) (fit : AllFit g (facts_of is_side) commit) where
     abbrev E_after : Facts
     E_after = with_facts E (environment commit)
 

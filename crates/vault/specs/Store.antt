@@ -1,17 +1,16 @@
 -- What a vault keeps between two calls, and what its calls leave.
-use Rattle.std.specs.Prelude.{◌≡◌, ◌≢◌, ◌⊎◌, ◌+◌, ◌≤◌, ◌<◌, ◌^◌, ⊤, ℕ, List, [], ◌∷◌, length, None, Result, Ok, Err}
+use Rattle.std.specs.Prelude.{◌≡◌, ◌≢◌, ◌⊎◌, ◌+◌, ◌≤◌, ◌<◌, ◌^◌, ℕ, List, [], ◌∷◌, length, None, Result, Ok, Err}
 use Rattle.disk.specs.declared.side.Side.{Side}
 use Rattle.disk.specs.declared.side.Side.TheVariants.{A, B}
 use Rattle.disk.specs.File.{File, at_rest}
 use Rattle.disk.specs.Time.{Contents}
 use Rattle.terms.specs.Commits.{Commit}
-use Rattle.terms.specs.Facts.{facts, environment, event_facts}
+use Rattle.terms.specs.Facts.{facts, environment}
 use Rattle.terms.specs.Sets.{Facts, among, with_facts}
 use Rattle.codec.specs.declared.image.Image.{Image}
 use Rattle.codec.specs.Spelling.{image_bytes}
 use Rattle.journal.specs.declared.journal.TheConstants.{LIMIT}
 use Rattle.graph.specs.Graph.{Graph}
-use Rattle.graph.specs.Fits.{Fits}
 use Rattle.graph.specs.Canonical.{canonical}
 use Rattle.graph.specs.Reads.{Reads}
 use Rattle.sides.specs.Side.{behind_gate, end_of}
@@ -54,11 +53,6 @@ pub record IsSame {D : Type 0} (old new : Vault D) : Type 0 where
   pub generation : new.generation ≡ old.generation
   pub text : new.text ≡ old.text
   pub halted : new.halted ≡ old.halted
-
--- each event of a commit fits after the facts X and those of the events before it
-abbrev pub FitAfter : Graph → Facts → Commit → Type 0
-FitAfter g X [] = ⊤
-FitAfter g X (event ∷ events) = Fits g X event × FitAfter g (with_facts X (event_facts event)) events
 
 -- ---- what a crash leaves
 

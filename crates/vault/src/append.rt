@@ -10,10 +10,10 @@ ghost use Rattle.journal.specs.Records.{record_of};
 ghost use Rattle.journal.specs.declared.error.JournalError.TheVariants as JournalError;
 ghost use Rattle.journal.specs.declared.journal.TheConstants.{LIMIT};
 ghost use Rattle.graph.specs.Graph.{Graph};
-ghost use Rattle.graph.specs.Fits.{Fits};
+ghost use Rattle.graph.specs.Fits.{Fits, FitAfter};
 ghost use Rattle.vault.specs.Calls.{Halts, Appended, WritesRecord, IsFullWhere};
 ghost use Rattle.vault.specs.Opened.{contents_of};
-ghost use Rattle.vault.specs.Store.{Holds, FitAfter, HasGates, IsReady, StandsBeforeOrAfter};
+ghost use Rattle.vault.specs.Store.{Holds, HasGates, IsReady, StandsBeforeOrAfter};
 ghost use Rattle.vault.specs.declared.error.VaultError.TheVariants.{NoMemory, Full};
 
 use crate::{Vault, VaultError};
@@ -23,7 +23,7 @@ use graph::fitting;
 use journal::{AppendError, JournalError};
 use sides::sides_go_on;
 use std::array;
-use terms::{Event, facts_are_told_apart};
+use terms::Event;
 
 impl<D: Disk> Vault<D> {
     /// Appends the commit of one event that fits what the store holds, as `append_all` does: with the same errors, and the same after
@@ -82,7 +82,6 @@ impl<D: Disk> Vault<D> {
         ensures halting { Halts D.failures D.refusals self.old self.new result }
     {
         fitting();
-        facts_are_told_apart();
         sides_go_on();
         if self.halted {
             return Err(VaultError::Halted);

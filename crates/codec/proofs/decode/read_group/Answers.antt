@@ -12,8 +12,8 @@ returns-in_err-read_event c =
     let count = c.in_ok-count.count in
     rw (p.1, p.2) (elim c.in_err-read_event.ensures [
       | inl refused ↦ inl (cc)
-      | inr read ↦ inr (group_read most c.args.reader.now.rest.now c.short.new.self.rest.now count _ c.in_ok-count.ensures (omega arith) (omega arith)
-          (fault_comes (event most) c.loop.events.items count c.loop.counter c.loop.reader.rest.now _ (several count (event most) c.short.new.self.rest.now) c.loop-test.true read c.loop.invariant))
+      | inr read ↦ inr (group_read most c.args.reader.now.rest.now c.two_bytes.new.self.rest.now count _ c.in_ok-count.ensures (omega arith) (omega arith)
+          (fault_comes (event most) c.loop.events.items count c.loop.counter c.loop.reader.rest.now _ (several count (event most) c.two_bytes.new.self.rest.now) c.loop-test.true read c.loop.invariant))
     ])
 
 pub loop-preserved : goal.loop-preserved

@@ -1,5 +1,5 @@
 use Rattle.graph.proofs.FitKept.{state_keeps, fit_keeps, all_fit_keep}
-use Rattle.graph.proofs.FitsInParts.{in_parts, state_as_set, event_as_set, events_as_set}
+use Rattle.graph.proofs.FitsInParts.{in_parts, state_as_set, event_as_set, events_as_set, fit_as_listed}
 use Rattle.graph.proofs.law.fitting.Goals as goal
 
 pub returns-clause-state_keeps : goal.returns-clause-state_keeps
@@ -22,3 +22,6 @@ returns-clause-event_as_set c = event_as_set
 
 pub returns-clause-events_as_set : goal.returns-clause-events_as_set
 returns-clause-events_as_set c = events_as_set c.facts_are_told_apart.ensures.among
+
+pub returns-clause-as_listed : goal.returns-clause-as_listed
+returns-clause-as_listed c = fit_as_listed c.facts_are_told_apart.ensures.among

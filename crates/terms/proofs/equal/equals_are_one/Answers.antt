@@ -1,3 +1,4 @@
+use Rattle.terms.specs.Same.{tells_same}
 use Rattle.terms.proofs.Equals as equals
 use Rattle.terms.proofs.equal.equals_are_one.Goals as goal
 
@@ -6,6 +7,9 @@ returns-clause-keys c = equals.keys
 
 pub returns-clause-addresses : goal.returns-clause-addresses
 returns-clause-addresses c = equals.addresses
+
+pub returns-clause-by_order : goal.returns-clause-by_order
+returns-clause-by_order c = tells_same
 
 pub returns-clause-tags : goal.returns-clause-tags
 returns-clause-tags c = equals.tags

@@ -4,7 +4,8 @@ use Rattle.disk.specs.Time.{LeavesOnly}
 use Rattle.terms.specs.Commits.{Commit}
 use Rattle.terms.specs.Facts.{facts, environment}
 use Rattle.terms.specs.Sets.{with_facts}
-use Rattle.vault.specs.Store.{Holds, FitAfter, StandsBeforeOrAfter}
+use Rattle.graph.specs.Fits.{FitAfter}
+use Rattle.vault.specs.Store.{Holds, StandsBeforeOrAfter}
 use Rattle.vault.proofs.vault.Vault.append.Goals as goal
 
 pub returns-clause-added : goal.returns-clause-added

@@ -4,7 +4,7 @@ use Rattle.disk.specs.Moments.{begun}
 use Rattle.codec.specs.Commits.{commit_bytes}
 use Rattle.journal.specs.Records.{record_of}
 use Rattle.journal.specs.Journal.{IsAt}
-use Rattle.vault.proofs.Appended.{alone, start, payloads, is_at, is_at_file, stands_now, moments, holds_more, commit_fits}
+use Rattle.vault.proofs.Appended.{alone, start, payloads, is_at, is_at_file, stands_now, moments, holds_more}
 use Rattle.vault.proofs.FirstBytes.{gates_before, gates_appended}
 use Rattle.vault.proofs.Ready.{appended_is_ready}
 use Rattle.vault.proofs.vault.Vault.append_all.Goals as goal
@@ -27,7 +27,7 @@ returns-in-Err-Before-clause-any_moment g c honest gr E X holds fits =
     let journal = c.sides_go_on.ensures.journal in
     let vault = c.args.self.now in
     let spelled = alone c.deref.result.now _ _ (commit_bytes c.args.commit.now) c.deref.ensures.value c.in_ok-encode_payload.ensures.spelled c.clear.ensures.items in
-    moments journal g.D.Disk.files vault gr E X holds c.sides_go_on.ensures.alike c.sides_go_on.ensures.grows c.args.commit.now c.in_ok-encode_payload.ensures.in_range (commit_fits journal g.D.Disk.files vault gr E X holds c.fitting.ensures.event_as_set c.facts_are_told_apart.ensures.among c.args.commit.now fits) g.D.Disk.moment g.D.Disk.left_at c.try_append.new.disk c.deref.result.now spelled
+    moments journal g.D.Disk.files vault gr E X holds c.sides_go_on.ensures.alike c.sides_go_on.ensures.grows c.args.commit.now c.in_ok-encode_payload.ensures.in_range c.fitting.ensures.as_listed fits g.D.Disk.moment g.D.Disk.left_at c.try_append.new.disk c.deref.result.now spelled
     (c.try_append.ensures.any_moment honest (start journal g.D.Disk.files vault gr E X holds) (payloads journal g.D.Disk.files vault gr E X holds) (holds.contents vault.journal.side) (holds.rests vault.journal.side) (is_at journal g.D.Disk.files vault gr E X holds))
 
 pub returns-in-Err-Within-clause-any_moment : goal.returns-in-Err-Within-clause-any_moment
@@ -35,7 +35,7 @@ returns-in-Err-Within-clause-any_moment g c honest gr E X holds fits =
     let journal = c.sides_go_on.ensures.journal in
     let vault = c.args.self.now in
     let spelled = alone c.deref.result.now _ _ (commit_bytes c.args.commit.now) c.deref.ensures.value c.in_ok-encode_payload.ensures.spelled c.clear.ensures.items in
-    moments journal g.D.Disk.files vault gr E X holds c.sides_go_on.ensures.alike c.sides_go_on.ensures.grows c.args.commit.now c.in_ok-encode_payload.ensures.in_range (commit_fits journal g.D.Disk.files vault gr E X holds c.fitting.ensures.event_as_set c.facts_are_told_apart.ensures.among c.args.commit.now fits) g.D.Disk.moment g.D.Disk.left_at c.try_append.new.disk c.deref.result.now spelled
+    moments journal g.D.Disk.files vault gr E X holds c.sides_go_on.ensures.alike c.sides_go_on.ensures.grows c.args.commit.now c.in_ok-encode_payload.ensures.in_range c.fitting.ensures.as_listed fits g.D.Disk.moment g.D.Disk.left_at c.try_append.new.disk c.deref.result.now spelled
     (c.try_append.ensures.any_moment honest (start journal g.D.Disk.files vault gr E X holds) (payloads journal g.D.Disk.files vault gr E X holds) (holds.contents vault.journal.side) (holds.rests vault.journal.side) (is_at journal g.D.Disk.files vault gr E X holds))
 
 pub returns-in-Ok-clause-any_moment : goal.returns-in-Ok-clause-any_moment
@@ -43,7 +43,7 @@ returns-in-Ok-clause-any_moment g c honest gr E X holds fits =
     let journal = c.sides_go_on.ensures.journal in
     let vault = c.args.self.now in
     let spelled = alone c.deref.result.now _ _ (commit_bytes c.args.commit.now) c.deref.ensures.value c.in_ok-encode_payload.ensures.spelled c.clear.ensures.items in
-    moments journal g.D.Disk.files vault gr E X holds c.sides_go_on.ensures.alike c.sides_go_on.ensures.grows c.args.commit.now c.in_ok-encode_payload.ensures.in_range (commit_fits journal g.D.Disk.files vault gr E X holds c.fitting.ensures.event_as_set c.facts_are_told_apart.ensures.among c.args.commit.now fits) g.D.Disk.moment g.D.Disk.left_at c.try_append.new.disk c.deref.result.now spelled
+    moments journal g.D.Disk.files vault gr E X holds c.sides_go_on.ensures.alike c.sides_go_on.ensures.grows c.args.commit.now c.in_ok-encode_payload.ensures.in_range c.fitting.ensures.as_listed fits g.D.Disk.moment g.D.Disk.left_at c.try_append.new.disk c.deref.result.now spelled
     (c.try_append.ensures.any_moment honest (start journal g.D.Disk.files vault gr E X holds) (payloads journal g.D.Disk.files vault gr E X holds) (holds.contents vault.journal.side) (holds.rests vault.journal.side) (is_at journal g.D.Disk.files vault gr E X holds))
 
 pub returns-in-Ok-clause-added : goal.returns-in-Ok-clause-added
@@ -54,7 +54,7 @@ returns-in-Ok-clause-added g c honest gr E X holds fits =
     let from = start journal g.D.Disk.files vault gr E X holds in
     let before = payloads journal g.D.Disk.files vault gr E X holds in
     let at = c.in-Ok.ensures.added honest from before (is_at_file journal g.D.Disk.files vault gr E X holds) in
-    holds_more journal g.D.Disk.files vault gr E X holds c.sides_go_on.ensures.alike c.sides_go_on.ensures.grows c.args.commit.now c.in_ok-encode_payload.ensures.in_range (commit_fits journal g.D.Disk.files vault gr E X holds c.fitting.ensures.event_as_set c.facts_are_told_apart.ensures.among c.args.commit.now fits) _
+    holds_more journal g.D.Disk.files vault gr E X holds c.sides_go_on.ensures.alike c.sides_go_on.ensures.grows c.args.commit.now c.in_ok-encode_payload.ensures.in_range c.fitting.ensures.as_listed fits _
     c.try_append.ensures.side refl refl _ (c.try_append.ensures.other honest) (c.in-Ok.ensures.file honest)
     (subst (λ (p : List ℕ). IsAt c.try_append.new.self from (g.D.Disk.files c.try_append.new.disk vault.journal.side).content (before ++ p ∷ [])) spelled at)
     (c.in-Ok.ensures.moved ∙ ap (λ (p : List ℕ). vault.journal.end + length (record_of p)) spelled)

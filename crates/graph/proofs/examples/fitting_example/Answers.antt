@@ -1,0 +1,5 @@
+use Rattle.graph.proofs.FittingTwo.{fitting_example}
+use Rattle.graph.proofs.examples.fitting_example.Goals as goal
+
+pub returns : goal.returns
+returns c = fitting_example
