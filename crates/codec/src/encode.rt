@@ -9,7 +9,7 @@ ghost use Rattle.codec.specs.Spelling.{HasFewPuts, IsEvent, event_bytes, IsImage
 use crate::Image;
 use crate::payload::GROUP;
 use crate::writing::{
-    write_address, write_each, write_fault, write_instance, write_list, write_two_bytes, write_tag,
+    write_address, write_each, write_fault, write_instance, write_list, write_tag, write_two_bytes,
     write_value,
 };
 use std::alloc::AllocError;
