@@ -2,8 +2,8 @@ pub mod Allowed
 pub mod Answered
 pub mod Counted
 pub mod Driven
+pub mod Ended
 pub mod Found
-pub mod Histories
 pub mod Idle
 pub mod Joined
 pub mod Lists

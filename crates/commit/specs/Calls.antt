@@ -117,3 +117,18 @@ pub record Commits {D T : Type 0} (files : D → Side → File) (moment : D → 
   pub full : TellsFull old event result
   pub doubt : IsInDoubt old new event result
   pub moments : honest → is_halted old ≡ false → CrashLeaves files moment left_at old new (event ∷ [])
+
+-- The whole of such a call: it also says what is unchanged at an error, and when it halts.
+pub record CommitsAs {D T : Type 0} (files : D → Side → File) (moment : D → ℕ) (left_at : D → ℕ → Contents → Type 0) (failures refusals : D → ℕ) (honest : Type 0) (old new : Core D) (why : Refusal → Type 0) (event : Event) (result : Result T CoreError) : Type 0 where
+  pub commits : Commits files moment left_at honest old new why event result
+  pub unchanged : OnErr result (IsUnchanged old new)
+  pub halts : Halts failures refusals old new result
+
+-- no fact has changed, nothing on the disk, and nothing in doubt: such is each claim, park, release and allowance, and each call of a halted core
+pub record KeepsStore {D : Type 0} (old new : Core D) : Type 0 where
+  pub graph : graph new ≡ graph old
+  pub facts : (fact : Fact) → facts new fact ≡ facts old fact
+  pub environment : (fact : Fact) → environment new fact ≡ environment old fact
+  pub disk : new.vault.disk ≡ old.vault.disk
+  pub halted : is_halted new ≡ is_halted old
+  pub in_doubt : new.in_doubt ≡ old.in_doubt

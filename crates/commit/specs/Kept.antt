@@ -1,9 +1,11 @@
 -- What a core keeps from call to call.
-use Rattle.std.specs.Prelude.{◌≡◌, true, false, []}
+use Rattle.std.specs.Prelude.{◌≡◌, ◌≤◌, true, false, []}
 use Rattle.disk.specs.declared.side.Side.{Side}
 use Rattle.disk.specs.File.{File}
 use Rattle.disk.specs.Time.{Contents, MayLeaveNow}
 use Rattle.vault.specs.Store.{Holds, StandsBeforeOrAfter}
+use Rattle.machine.specs.Machine.{running_count}
+use Rattle.machine.specs.Promise.{IsKept as KeepsMachine}
 use Rattle.commit.specs.Core.{Core, graph, facts, environment, is_halted}
 
 -- a turnover halted the core: it is halted, and no event is in doubt
@@ -15,3 +17,11 @@ IsHaltedByTurn c = (is_halted c ≡ true) × (c.in_doubt ≡ [])
 pub record IsKept {D : Type 0} (files : D → Side → File) (c : Core D) : Type 0 where
   pub holds : is_halted c ≡ false → Holds files c.vault (graph c) (environment c) (facts c)
   pub left : (IsHaltedByTurn c → ⊥) → (contents : Contents) → MayLeaveNow (files c.vault.disk) contents → StandsBeforeOrAfter (graph c) (environment c) (facts c) c.in_doubt contents
+
+-- All that a core keeps: on an honest disk its files hold what it has, nothing is in doubt unless it is halted, its state in memory is sound, and no
+-- more instances run than it may commit steps.
+pub record Keeps {D : Type 0} (files : D → Side → File) (honest : Type 0) (c : Core D) : Type 0 where
+  pub kept : honest → IsKept files c
+  pub settled : is_halted c ≡ false → c.in_doubt ≡ []
+  pub machine : KeepsMachine c.machine
+  pub allowed : running_count c.machine ≤ c.allowance

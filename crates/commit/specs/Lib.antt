@@ -5,8 +5,6 @@ pub mod Created
 pub mod Doubt
 pub mod Gets
 pub mod Kept
-pub mod MoveLaws
-pub mod Moves
 pub mod Opened
 pub mod Outcome
 pub mod Room

@@ -1,7 +1,8 @@
 -- What an opening and a creation return.
-use Rattle.std.specs.Prelude.{◌≡◌, false, [], Some, Result, Ok, Err}
+use Rattle.std.specs.Prelude.{◌≡◌, ℕ, false, [], Some, Result, Ok, Err, IfOk, IfErr}
 use Rattle.disk.specs.declared.side.Side.{Side}
 use Rattle.disk.specs.File.{File}
+use Rattle.disk.specs.Time.{Contents, HasCauses, HasErred}
 use Rattle.terms.specs.declared.name.Inst.{Inst}
 use Rattle.terms.specs.Facts.{done}
 use Rattle.graph.specs.Fits.{IsPrescribed}
@@ -10,9 +11,10 @@ use Rattle.machine.specs.Restored.{IsReadyOrDone}
 use Rattle.codec.specs.Image.{Lists}
 use Rattle.vault.specs.declared.opening.Recovered.{Recovered}
 use Rattle.vault.specs.declared.refused.Refused.{Refused}
-use Rattle.vault.specs.Opened.{contents_of}
+use Rattle.vault.specs.Opened.{IsOfOpening, OnlyReads, TellsWhy, contents_of}
+use Rattle.vault.specs.Store.{answer_of}
+use Rattle.vault.specs.declared.error.VaultError.TheVariants.{Device, NoMemory}
 use Rattle.vault.specs.Stands.{Stands}
-use Rattle.commit.specs.declared.commit_core.TheConstants.{FIRST_ALLOWANCE}
 use Rattle.commit.specs.Core.{Core, graph, facts, environment, state_of, is_halted}
 
 -- the disk that a result gives back
@@ -20,12 +22,12 @@ abbrev pub disk_of : {D : Type 0} → Result (Core D) (Refused D) → D
 disk_of (Ok core) = core.vault.disk
 disk_of (Err refused) = refused.disk
 
--- It is not halted, nothing is in doubt, and it has the first allowance. No instance runs or waits: each that is prescribed and not done is
+-- It is not halted, nothing is in doubt, and it may commit 1,000,000,000 steps. No instance runs or waits: each that is prescribed and not done is
 -- ready.
 pub record IsOpened {D : Type 0} (c : Core D) : Type 0 where
   pub working : is_halted c ≡ false
   pub in_doubt : c.in_doubt ≡ []
-  pub allowance : c.allowance ≡ FIRST_ALLOWANCE
+  pub allowance : c.allowance ≡ 1000000000
   pub instances : (instance : Inst) → IsReadyOrDone (state_of c instance)
   pub ready : (instance : Inst) → IsPrescribed (graph c) (facts c) instance → facts c (done instance) ≡ false → state_of c instance ≡ Some Ready
 
@@ -38,3 +40,12 @@ pub record IsCoreOf {D : Type 0} (recovered : Recovered D) (c : Core D) : Type 0
 -- it has the graph and the facts that the files stood for when they were opened
 abbrev pub Finds : {D : Type 0} → (D → Side → File) → D → Core D → Type 0
 Finds files disk c = Stands (contents_of (files disk)) (graph c) (environment c) (facts c)
+
+-- What an opening promises: a core that has what the files stand for; or why there is none, and the disk back. It only reads.
+pub record OpensAs {D : Type 0} (files : D → Side → File) (moment : D → ℕ) (left_at : D → ℕ → Contents → Type 0) (failures refusals : D → ℕ) (honest : Type 0) (disk : D) (result : Result (Core D) (Refused D)) : Type 0 where
+  pub opened : IfOk result IsOpened
+  pub finds : honest → IfOk result (Finds files disk)
+  pub tells : honest → TellsWhy (contents_of (files disk)) (HasErred failures refusals disk (disk_of result)) (answer_of result)
+  pub only_reads : honest → OnlyReads files moment left_at disk (disk_of result)
+  pub errors : IfErr result (λ refused. IsOfOpening refused.error)
+  pub causes : HasCauses failures refusals Device NoMemory disk (disk_of result) (answer_of result)

@@ -32,6 +32,13 @@ abbrev pub IsEndOf : Outcome → Inst → Event → Type 0
 IsEndOf (Gave given) instance end = IsEndOfGiven instance given.puts end
 IsEndOf (Fault bad) instance end = end ≡ event.Stopped instance bad.kind
 
+-- What a finish commits when it returns this: that the instance is done, with the puts that its body gave, or that it is at fault. (`Done` is never
+-- returned for an instance whose body is at fault.)
+abbrev pub end_of : Committed → Inst → Outcome → Event
+end_of Done instance (Gave given) = event.Done instance given.puts
+end_of Done instance (Fault bad) = event.Stopped instance bad.kind
+end_of (Stopped kind) instance outcome = event.Stopped instance kind
+
 -- the result says what was committed
 abbrev pub Tells : Committed → Event → Type 0
 Tells Done end = (instance : Inst) × (puts : List Put) × (end ≡ event.Done instance puts)

@@ -1,5 +1,5 @@
 -- A run of the steps of a core: the ends of instances that it commits, and what it returns.
-use Rattle.std.specs.Prelude.{◌≡◌, ◌≢◌, ◌⊎◌, ◌↔◌, ◌+◌, ◌<◌, ◌≤◌, ⊤, ℕ, Bool, true, false, List, [], ◌∷◌, ◌++◌, map, length, Some, Result, Ok, Err}
+use Rattle.std.specs.Prelude.{◌≡◌, ◌≢◌, ◌⊎◌, ◌↔◌, ◌+◌, ◌<◌, ◌≤◌, ⊤, ℕ, Bool, true, false, List, [], ◌∷◌, ◌++◌, map, length, Some, Result, Ok, Err, OnErr}
 use Rattle.std.specs.List.{AllByRecursion}
 use Rattle.disk.specs.declared.side.Side.{Side}
 use Rattle.disk.specs.File.{File}
@@ -29,8 +29,8 @@ use Rattle.commit.specs.declared.verdict.RunError.{RunError}
 use Rattle.commit.specs.declared.verdict.RunError.TheVariants.{Spawn, NoMemory, Full}
 use Rattle.commit.specs.declared.outcome.Outcome.{Outcome}
 use Rattle.commit.specs.declared.outcome.Committed.{Committed}
-use Rattle.commit.specs.Calls.{IsTooLong}
-use Rattle.commit.specs.Outcome.{IsEndOf, Tells}
+use Rattle.commit.specs.Calls.{GivesBack, Halts, IsTooLong}
+use Rattle.commit.specs.Outcome.{Finishes, IsEndOf, Tells}
 use Rattle.commit.specs.Core.{Core, graph, facts, state_of, is_halted}
 use Rattle.commit.specs.Core as core
 use Rattle.commit.specs.Status.{TellsStatus, IsMeantIfQuiet}
@@ -142,3 +142,10 @@ pub record RunsOn {D : Type 0} (files : D → Side → File) (moment : D → ℕ
 abbrev pub EndRuns : {D : Type 0} → (D → Side → File) → (D → ℕ) → (D → ℕ → Contents → Type 0) → (failures refusals : D → ℕ) → Type 0 → (old new : Core D) → Inst → Outcome → Result Committed CoreError → Type 0
 EndRuns files moment left_at failures refusals honest old new instance outcome (Ok committed) = (end : Event) × IsEndOf outcome instance end × Tells committed end × Runs files moment left_at failures refusals honest old new (end ∷ [])
 EndRuns files moment left_at failures refusals honest old new instance outcome (Err error) = Runs files moment left_at failures refusals honest old new []
+
+-- What a finish promises: an end of the instance is committed, or refused; at an error the instance is ready; and it is a run by itself.
+pub record Ends {D : Type 0} (files : D → Side → File) (moment : D → ℕ) (left_at : D → ℕ → Contents → Type 0) (failures refusals : D → ℕ) (honest : Type 0) (old new : Core D) (task : Inst) (outcome : Outcome) (result : Result Committed CoreError) : Type 0 where
+  pub finishes : Finishes files moment left_at honest old new task outcome result
+  pub err : OnErr result (GivesBack old new task)
+  pub halts : Halts failures refusals old new result
+  pub runs : is_halted old ≡ false → EndRuns files moment left_at failures refusals honest old new task outcome result

@@ -1,10 +1,10 @@
 -- Instances that are claimed, parked and given back.
-use Rattle.std.specs.Prelude.{◌≡◌, ◌⊎◌, ◌<◌, ◌-◌, ◌^◌, min, max, ℕ, false, true, Result, IfErr, IsErrOf}
+use Rattle.std.specs.Prelude.{◌≡◌, ◌⊎◌, ◌<◌, ◌-◌, ◌^◌, min, max, ℕ, false, true, Option, None, Some, Result, IfOk, IfErr, IfSome, IsSome, IsErrOf, OnOk, OnErr}
 use Rattle.terms.specs.declared.name.Addr.{Addr}
 use Rattle.terms.specs.declared.name.Inst.{Inst}
 use Rattle.graph.specs.Fits.{HasNoFault, IsAbsent}
 use Rattle.instances.specs.declared.state.State.{State}
-use Rattle.instances.specs.declared.state.State.TheVariants.{Ready, Waiting}
+use Rattle.instances.specs.declared.state.State.TheVariants.{Ready, Running, Waiting}
 use Rattle.steplang.specs.declared.outcome.Parked.{Parked}
 use Rattle.machine.specs.Machine.{HasItem}
 use Rattle.machine.specs.Machine as machine
@@ -12,7 +12,8 @@ use Rattle.commit.specs.Came.{IsParkedIn}
 use Rattle.vault.specs.declared.error.VaultError.TheVariants.{Halted, NoMemory}
 use Rattle.commit.specs.declared.error.CoreError.{CoreError}
 use Rattle.commit.specs.declared.error.CoreError.TheVariants.{Store}
-use Rattle.commit.specs.Core.{Core, graph, facts, is_halted}
+use Rattle.commit.specs.Calls.{GivesBack}
+use Rattle.commit.specs.Core.{Core, graph, facts, state_of, is_halted}
 
 -- how many instances are ready
 abbrev pub ready_count : {D : Type 0} → Core D → ℕ
@@ -60,3 +61,23 @@ pub record RefusesPark {D T : Type 0} (old new : Core D) (address : Addr) (resul
   pub causes : IfErr result (λ error. ((is_halted old ≡ true) × (error ≡ Store Halted)) ⊎ ((is_halted old ≡ false) × IsAbsent (facts old) address × (error ≡ Store NoMemory)))
   pub vault : new.vault ≡ old.vault
   pub in_doubt : new.in_doubt ≡ old.in_doubt
+
+-- ---- the calls
+
+-- the allowance is set, unless the core is halted
+pub record SetsAllowance {D T : Type 0} (old new : Core D) (count : ℕ) (result : Result T CoreError) : Type 0 where
+  pub ok : OnOk result ((is_halted old ≡ false) × Allows old new count)
+  pub err : OnErr result (IsHalted old new result)
+
+-- A ready instance runs, if the one with this number may be claimed; otherwise nothing changes.
+pub record Claims {D : Type 0} (old new : Core D) (at : ℕ) (result : Result (Option Inst) CoreError) : Type 0 where
+  pub some : IfOk result (λ claimed. MayClaim old at → IsSome claimed)
+  pub claimed : IfOk result (λ claimed. IfSome claimed (λ task. MayClaim old at × (state_of old task ≡ Some Ready) × Moves old new task Running))
+  pub none : IfOk result (λ claimed. (is_halted old ≡ false) × (claimed ≡ None → new ≡ old))
+  pub err : OnErr result (IsHalted old new result)
+
+-- The instance waits, or is ready if the item is there by now; if the park is refused, it is ready.
+pub record Parks {D T : Type 0} (old new : Core D) (task : Inst) (address : Addr) (result : Result T CoreError) : Type 0 where
+  pub ok : OnOk result ((is_halted old ≡ false) × LooksAgain old new task address)
+  pub err : OnErr result (GivesBack old new task)
+  pub refused : RefusesPark old new address result

@@ -1,4 +1,4 @@
-ghost use Rattle.std.specs.Prelude.{◌<◌};
+ghost use Rattle.std.specs.Prelude.{◌≡◌, ◌<◌};
 
 /// Picks which of the ready instances runs next. What a run comes to doesn't depend on the choice, except which fault is
 /// reported and where a limit is met.
@@ -14,7 +14,11 @@ pub trait Choose {
 pub struct First;
 
 impl Choose for First {
-    fn pick(&mut self, _ready: usize) -> usize {
+    fn pick(&mut self, _ready: usize) -> usize
+        requires { 0 < _ready }
+        ensures below { result < _ready }
+        ensures first { result ≡ 0 }
+    {
         0
     }
 }

@@ -19,9 +19,9 @@ impl<D: Disk> Core<D> {
     ghost use Rattle.commit.specs.declared.outcome.Committed.TheVariants as committed;
     ghost use Rattle.commit.specs.Core.{facts, graph, is_halted, state_of};
     ghost use Rattle.commit.specs.Calls.{Commits, GivesBack, Halts, NoCause};
-    ghost use Rattle.commit.specs.Outcome.{Finishes, EndsGiven, IsOutcomeOf};
+    ghost use Rattle.commit.specs.Outcome.{EndsGiven, IsOutcomeOf};
     ghost use Rattle.commit.specs.Room.{GivesRoom};
-    ghost use Rattle.commit.specs.Runs.{EndRuns};
+    ghost use Rattle.commit.specs.Runs.{Ends};
     ghost use Rattle.commit.specs.Steps.{Moves};
 
     /// Commits what the body of an instance came to. Either the instance is done, with its puts, or it is at fault, which
@@ -34,10 +34,7 @@ impl<D: Disk> Core<D> {
     pub fn finish(&mut self, task: Task, outcome: Outcome<'_>) -> Result<Committed, CoreError>
         requires running { state_of self.old task ≡ Some Running }
         requires outcome { IsOutcomeOf self.old task outcome }
-        ensures finishes { Finishes D.files D.moment D.left_at (IsTrue D.is_honest) self.old self.new task outcome.entry result }
-        ensures err { OnErr result (GivesBack self.old self.new task) }
-        ensures halts { Halts D.failures D.refusals self.old self.new result }
-        ensures runs { is_halted self.old ≡ false → EndRuns D.files D.moment D.left_at D.failures D.refusals (IsTrue D.is_honest) self.old self.new task outcome.entry result }
+        ensures { Ends D.files D.moment D.left_at D.failures D.refusals (IsTrue D.is_honest) self.old self.new task outcome.entry result }
     {
         results_are_meant();
         stores_go_on::<D>();

@@ -14,24 +14,18 @@ use std::sync::Arc;
 use vault::{Recovered, Refused, VaultError, stores_go_on};
 
 impl<D: Disk> Core<D> {
-    ghost use Rattle.std.specs.Prelude.{◌≡◌, false, [], IfErr, IfOk, IsTrue};
-    ghost use Rattle.disk.specs.Time.{HasCauses, HasErred};
-    ghost use Rattle.vault.specs.Opened.{OnlyReads, TellsWhy, contents_of, IsOfOpening, IsSound};
-    ghost use Rattle.vault.specs.Store.{answer_of, Holds};
-    ghost use Rattle.vault.specs.declared.error.VaultError.TheVariants.{Device, NoMemory};
-    ghost use Rattle.commit.specs.Opened.{IsOpened, IsCoreOf, Finds, disk_of};
+    ghost use Rattle.std.specs.Prelude.{◌≡◌, false, IfErr, IfOk, IsTrue};
+    ghost use Rattle.vault.specs.Opened.{IsSound};
+    ghost use Rattle.vault.specs.Store.{Holds};
+    ghost use Rattle.vault.specs.declared.error.VaultError.TheVariants.{NoMemory};
+    ghost use Rattle.commit.specs.Opened.{IsOpened, IsCoreOf, OpensAs, disk_of};
 
     /// Opens the store on two files. It holds what they stand for, and each prescribed instance that is not done is ready.
     ///
     /// It returns `Damaged` and `NotAStore` only if the files stand for nothing, and hands the disk back with each error.
     /// Nothing is written, whatever is returned.
     pub fn open(alloc: Global, disk: D) -> Result<Core<D>, Refused<D>>
-        ensures opened { IfOk result IsOpened }
-        ensures finds { IsTrue D.is_honest → IfOk result (Finds D.files disk) }
-        ensures tells { IsTrue D.is_honest → TellsWhy (contents_of (D.files disk)) (HasErred D.failures D.refusals disk (disk_of result)) (answer_of result) }
-        ensures only_reads { IsTrue D.is_honest → OnlyReads D.files D.moment D.left_at disk (disk_of result) }
-        ensures errors { IfErr result (λ refused. IsOfOpening refused.error) }
-        ensures causes { HasCauses D.failures D.refusals Device NoMemory disk (disk_of result) (answer_of result) }
+        ensures { OpensAs D.files D.moment D.left_at D.failures D.refusals (IsTrue D.is_honest) disk result }
     {
         stores_go_on::<D>();
         match vault::open(alloc, disk) {

@@ -5,13 +5,13 @@ use terms::{Addr, Event, Put, Tag};
 use vault::{VaultError, stores_go_on};
 
 impl<D: Disk> Core<D> {
-    ghost use Rattle.std.specs.Prelude.{◌≡◌, false, [], ◌∷◌, IsTrue, IfErr, OnErr, OnOk};
+    ghost use Rattle.std.specs.Prelude.{◌≡◌, false, [], ◌∷◌, IsTrue, IfErr, OnOk};
     ghost use Rattle.terms.specs.declared.event.Event.TheVariants.{EnvItem, EnvTag};
     ghost use Rattle.terms.specs.declared.put.Put.TheVariants.{Item, Tag as Name};
     ghost use Rattle.machine.specs.Legal.{IsLegal};
     ghost use Rattle.machine.specs.Machine.{HasRoom, RefusesItem, RefusesTag};
     ghost use Rattle.commit.specs.Core.{facts, graph, is_halted};
-    ghost use Rattle.commit.specs.Calls.{Takes, IsUnchanged, Refuses, TellsFull, Halts, IsInDoubt, CrashLeaves};
+    ghost use Rattle.commit.specs.Calls.{CommitsAs};
     ghost use Rattle.commit.specs.Room.{GivesRoom, RefusesFirst};
 
     /// Puts an item of the environment.
@@ -20,13 +20,7 @@ impl<D: Disk> Core<D> {
     /// of the environment in this graph; a fault stopped the store; the item is there already; `Full`. An error that does
     /// not halt leaves everything as it was.
     pub fn put_item(&mut self, addr: Addr, value: i64) -> Result<(), CoreError>
-        ensures ok { OnOk result (Takes self.old self.new (EnvItem addr value)) }
-        ensures err { OnErr result (IsUnchanged self.old self.new) }
-        ensures refused { IfErr result (Refuses self.old (RefusesItem (graph self.old) (facts self.old) addr) (EnvItem addr value)) }
-        ensures full { TellsFull self.old (EnvItem addr value) result }
-        ensures halts { Halts D.failures D.refusals self.old self.new result }
-        ensures doubt { IsInDoubt self.old self.new (EnvItem addr value) result }
-        ensures moments { IsTrue D.is_honest → is_halted self.old ≡ false → CrashLeaves D.files D.moment D.left_at self.old self.new (EnvItem addr value ∷ []) }
+        ensures { CommitsAs D.files D.moment D.left_at D.failures D.refusals (IsTrue D.is_honest) self.old self.new (RefusesItem (graph self.old) (facts self.old) addr) (EnvItem addr value) result }
     {
         stores_go_on::<D>();
         self.is_kept();
@@ -43,13 +37,7 @@ impl<D: Disk> Core<D> {
     /// of the environment in this graph; a fault stopped the store; the tag is there already; `Full`. An error that does
     /// not halt leaves everything as it was.
     pub fn put_tag(&mut self, tag: Tag) -> Result<(), CoreError>
-        ensures ok { OnOk result (Takes self.old self.new (EnvTag tag)) }
-        ensures err { OnErr result (IsUnchanged self.old self.new) }
-        ensures refused { IfErr result (Refuses self.old (RefusesTag (graph self.old) (facts self.old) tag) (EnvTag tag)) }
-        ensures full { TellsFull self.old (EnvTag tag) result }
-        ensures halts { Halts D.failures D.refusals self.old self.new result }
-        ensures doubt { IsInDoubt self.old self.new (EnvTag tag) result }
-        ensures moments { IsTrue D.is_honest → is_halted self.old ≡ false → CrashLeaves D.files D.moment D.left_at self.old self.new (EnvTag tag ∷ []) }
+        ensures { CommitsAs D.files D.moment D.left_at D.failures D.refusals (IsTrue D.is_honest) self.old self.new (RefusesTag (graph self.old) (facts self.old) tag) (EnvTag tag) result }
     {
         stores_go_on::<D>();
         self.is_kept();

@@ -8,22 +8,19 @@ use steplang::Parked;
 use vault::VaultError;
 
 impl<D: Disk> Core<D> {
-    ghost use Rattle.std.specs.Prelude.{◌≡◌, ◌<◌, false, None, Some, IfOk, IfSome, IsSome, OnErr, OnOk, Err};
+    ghost use Rattle.std.specs.Prelude.{◌≡◌, Some, IfOk, OnErr, Err};
     ghost use Rattle.instances.specs.declared.state.State.TheVariants.{Ready, Running};
-    ghost use Rattle.graph.specs.Fits.{HasNoFault};
     ghost use Rattle.vault.specs.declared.error.VaultError.TheVariants.{NoMemory};
     ghost use Rattle.commit.specs.declared.error.CoreError.TheVariants.{Store};
     ghost use Rattle.commit.specs.Came.{CameTo};
-    ghost use Rattle.commit.specs.Core.{facts, graph as graph_of, state_of, is_halted};
-    ghost use Rattle.commit.specs.Steps.{Allows, MayClaim, Moves, LooksAgain, IsHalted, RefusesPark, IsParkedOf, ready_count};
-    ghost use Rattle.commit.specs.Calls.{GivesBack};
+    ghost use Rattle.commit.specs.Core.{graph as graph_of, state_of};
+    ghost use Rattle.commit.specs.Steps.{Claims, IsParkedOf, Moves, Parks, SetsAllowance};
 
     /// Lets `count` steps be committed from now on, or as many as run now if these are more.
     ///
     /// Before the first call the number is 1,000,000,000.
     pub fn allow(&mut self, count: u64) -> Result<(), CoreError>
-        ensures ok { OnOk result ((is_halted self.old ≡ false) × Allows self.old self.new count) }
-        ensures err { OnErr result (IsHalted self.old self.new result) }
+        ensures { SetsAllowance self.old self.new count result }
     {
         if self.vault.is_halted() {
             return Err(CoreError::Store(VaultError::Halted));
@@ -43,10 +40,7 @@ impl<D: Disk> Core<D> {
     /// Returns `None` if the number is not below theirs, if those that run use up what is left of the allowance, and in a
     /// store that a fault stopped.
     pub fn claim(&mut self, at: usize) -> Result<Option<Task>, CoreError>
-        ensures some { IfOk result (λ claimed. MayClaim self.old at → IsSome claimed) }
-        ensures claimed { IfOk result (λ claimed. IfSome claimed (λ task. MayClaim self.old at × (state_of self.old task ≡ Some Ready) × Moves self.old self.new task Running)) }
-        ensures none { IfOk result (λ claimed. (is_halted self.old ≡ false) × (claimed ≡ None → self.new ≡ self.old)) }
-        ensures err { OnErr result (IsHalted self.old self.new result) }
+        ensures { Claims self.old self.new at result }
     {
         if self.vault.is_halted() {
             return Err(CoreError::Store(VaultError::Halted));
@@ -66,9 +60,7 @@ impl<D: Disk> Core<D> {
     pub fn park(&mut self, task: Task, parked: Parked<'_>) -> Result<(), CoreError>
         requires running { state_of self.old task ≡ Some Running }
         requires result { IsParkedOf self.old task parked }
-        ensures ok { OnOk result ((is_halted self.old ≡ false) × LooksAgain self.old self.new task parked.entry.address) }
-        ensures err { OnErr result (GivesBack self.old self.new task) }
-        ensures refused { RefusesPark self.old self.new parked.entry.address result }
+        ensures { Parks self.old self.new task parked.entry.address result }
     {
         results_are_meant();
         if self.vault.is_halted() {

@@ -4,23 +4,15 @@ use std::alloc::Global;
 use vault::{VaultError, stores_go_on};
 
 impl<D: Disk> Core<D> {
-    ghost use Rattle.std.specs.Prelude.{◌≡◌, false, IsTrue, IfErr, IfOk, OnErr};
-    ghost use Rattle.commit.specs.Core.{is_halted};
-    ghost use Rattle.commit.specs.Calls.{Halts, IsUnchanged};
-    ghost use Rattle.commit.specs.Turning.{RefusesTurn, TellsLast, TurnLeaves, Turns};
+    ghost use Rattle.std.specs.Prelude.{IsTrue};
+    ghost use Rattle.commit.specs.Turning.{TurnsAs};
 
     /// Turns over: writes the other side anew, one generation greater, with all that the store holds and no record, and
     /// makes it live. Returns the new generation. A store that a fault stopped is turned over too.
     ///
     /// The causes of a refusal, in their order: `Halted`, `Full`. An error that does not halt leaves everything as it was.
     pub fn turn(&mut self, alloc: Global) -> Result<u64, CoreError>
-        ensures ok { IfOk result (Turns self.old self.new) }
-        ensures err { OnErr result (IsUnchanged self.old self.new) }
-        ensures refused { IfErr result (RefusesTurn self.old) }
-        ensures full { TellsLast self.old result }
-        ensures halts { Halts D.failures D.refusals self.old self.new result }
-        ensures doubt { self.new.in_doubt ≡ self.old.in_doubt }
-        ensures moments { IsTrue D.is_honest → is_halted self.old ≡ false → TurnLeaves D.files D.moment D.left_at self.old self.new }
+        ensures { TurnsAs D.files D.moment D.left_at D.failures D.refusals (IsTrue D.is_honest) self.old self.new result }
     {
         stores_go_on::<D>();
         if self.vault.is_halted() {

@@ -1,8 +1,7 @@
 -- A worked example of events that fit one after another, and of the same events in an order in which they don't.
-use Rattle.std.specs.Prelude.{ℕ, ℤ, pos, List, [], ◌∷◌}
+use Rattle.std.specs.Prelude.{pos, [], ◌∷◌}
 use Rattle.terms.specs.declared.name.Tag.{Tag}
 use Rattle.terms.specs.declared.name.Inst.{Inst}
-use Rattle.terms.specs.declared.event.Event.{Event}
 use Rattle.terms.specs.declared.event.Event.TheVariants.{EnvTag, Done}
 use Rattle.terms.specs.Sets.{among}
 use Rattle.graph.specs.Fits.{FitAfter}

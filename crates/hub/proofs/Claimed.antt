@@ -13,12 +13,11 @@ use Rattle.commit.specs.declared.error.CoreError.{CoreError}
 use Rattle.commit.specs.Core.{Core, state_of}
 use Rattle.commit.specs.Core as core
 use Rattle.commit.proofs.Ran.{instance_is_of}
-use Rattle.commit.specs.Steps.{MayClaim, Moves}
+use Rattle.commit.specs.Steps.{MayClaim, Moves, Claims}
 use Rattle.hub.specs.Known.{Known, Made, Desk, events}
 use Rattle.hub.specs.Opening.{Opening, facts_behind, IsBehind}
 use Rattle.hub.specs.Kept.{IsKept}
 use Rattle.hub.specs.Replies.{MayRun, Shows}
-use Rattle.hub.specs.Tasks.{Claims}
 use Rattle.hub.proofs.Keeping.{RanStays, kept_moved}
 use Rattle.hub.proofs.Telling.{known_state}
 

@@ -10,11 +10,11 @@ use Rattle.commit.specs.Core.{Core}
 use Rattle.commit.specs.Calls.{Takes}
 use Rattle.commit.specs.Outcome.{IsEndOf, Tells}
 use Rattle.hub.specs.Known.{Known, Desk, events, writing_by}
-use Rattle.hub.specs.Ends.{end_of}
+use Rattle.commit.specs.Outcome.{end_of}
 use Rattle.hub.specs.Opening.{Opening}
 use Rattle.hub.specs.Kept.{IsKept}
 use Rattle.hub.specs.Replies.{Shows, Writes}
-use Rattle.hub.proofs.Ended.{end_is_told}
+use Rattle.commit.proofs.Ended.{end_is_told}
 use Rattle.hub.proofs.Keeping.{kept_more}
 use Rattle.hub.proofs.Telling.{writes_from}
 

@@ -9,7 +9,7 @@ use Rattle.terms.specs.Sets.{AmongBoth}
 use Rattle.machine.specs.declared.refusal.Refusal.{Refusal}
 use Rattle.commit.specs.declared.error.CoreError.{CoreError}
 use Rattle.commit.specs.Core.{Core, facts, is_halted}
-use Rattle.commit.specs.Calls.{Takes, Halts, Stays, IsInDoubt}
+use Rattle.commit.specs.Calls.{Takes, Halts, Stays, IsInDoubt, CommitsAs}
 use Rattle.commit.specs.Kept.{IsHaltedByTurn}
 use Rattle.commit.specs.Kept.{IsKept as KeepsFiles}
 use Rattle.terms.specs.Sets.{Facts}
@@ -25,7 +25,7 @@ use Rattle.terms.specs.declared.name.Inst.{Inst}
 use Rattle.vault.specs.declared.vault.Vault.{Vault}
 use Rattle.hub.specs.Known.{Desk, Made, events, writing_by}
 use Rattle.hub.specs.Opening.{Opening, WasTurned, AreLegalBehind, IsBehind}
-use Rattle.hub.specs.Kept.{IsKept, CommitsAs, CrashLeavesHistory}
+use Rattle.hub.specs.Kept.{IsKept, CrashLeavesHistory}
 use Rattle.hub.proofs.Lists.{events_append}
 use Rattle.hub.proofs.States.{legal_more, behind_more, behind_same}
 

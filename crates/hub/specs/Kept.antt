@@ -1,13 +1,10 @@
 -- What the lock of a hub keeps.
-use Rattle.std.specs.Prelude.{◌≡◌, ◌≤◌, ℕ, false, List, length, Result, OnErr, None}
+use Rattle.std.specs.Prelude.{◌≡◌, ◌≤◌, ℕ, false, List, length, None}
 use Rattle.disk.specs.declared.side.Side.{Side}
 use Rattle.disk.specs.File.{File}
 use Rattle.disk.specs.Time.{Contents, MayLeaveNow}
 use Rattle.terms.specs.declared.event.Event.{Event}
-use Rattle.machine.specs.declared.refusal.Refusal.{Refusal}
 use Rattle.vault.specs.Store.{StandsBeforeOrAfter}
-use Rattle.commit.specs.declared.error.CoreError.{CoreError}
-use Rattle.commit.specs.Calls.{Commits, Halts, IsUnchanged}
 use Rattle.commit.specs.Core.{Core, is_halted}
 use Rattle.commit.specs.Kept.{IsHaltedByTurn}
 use Rattle.commit.specs.Runs.{RunsSince}
@@ -38,9 +35,3 @@ pub record IsKept {D : Type 0} (Ran : List Event → Core D → Type 0) (opening
 abbrev pub CrashLeavesHistory : {D : Type 0} → (D → Side → File) → Opening → Kept D → Type 0
 CrashLeavesHistory files opening kept = (contents : Contents) → MayLeaveNow (files kept.core.vault.disk) contents
     → StandsBeforeOrAfter opening.graph (environment_behind opening (events kept.history)) (facts_behind opening (events kept.history)) kept.core.in_doubt contents
-
--- A call of the core that commits this event at `Ok`: what it commits or why it is refused, what is unchanged at `Err`, and when it halts.
-pub record CommitsAs {D T : Type 0} (files : D → Side → File) (moment : D → ℕ) (left_at : D → ℕ → Contents → Type 0) (failures refusals : D → ℕ) (honest : Type 0) (old new : Core D) (why : Refusal → Type 0) (event : Event) (result : Result T CoreError) : Type 0 where
-  pub commits : Commits files moment left_at honest old new why event result
-  pub unchanged : OnErr result (IsUnchanged old new)
-  pub halts : Halts failures refusals old new result

@@ -44,7 +44,8 @@ impl<J: Naming, D: Disk> Hub<J, D> {
     ghost use Rattle.hub.specs.Steps.{IsCountFor, heard_of};
     ghost use Rattle.hub.specs.Opening.{facts_behind};
     ghost use Rattle.commit.specs.Came.{IsOutcomeIn, IsParkedIn};
-    ghost use Rattle.hub.specs.Ends.{MayAnswer, end_of};
+    ghost use Rattle.commit.specs.Outcome.{end_of};
+    ghost use Rattle.hub.specs.Ends.{MayAnswer};
     ghost use Rattle.hub.specs.Replies.{Adds, AddsNothing, MayRun, RefusesEvent, RefusesQuestion, RefusesWait, SaysHalted, Sees};
     ghost use Rattle.hub.specs.Tasks.{OnTask, RefusesEndOf};
 

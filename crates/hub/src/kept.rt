@@ -51,14 +51,17 @@ impl<J: Naming, D: Disk> Kept<J, D> {
     ghost use Rattle.commit.specs.Core.{facts, graph, is_halted};
     ghost use Rattle.hub.specs.Known.{events};
     ghost use Rattle.hub.specs.Opening.{AreLegalBehind, IsBehind, WasTurned, facts_behind};
-    ghost use Rattle.hub.specs.Kept.{CommitsAs, CrashLeavesHistory, HasRun, IsKept};
-    ghost use Rattle.hub.specs.Ends.{MayAnswer, end_of};
+    ghost use Rattle.hub.specs.Kept.{CrashLeavesHistory, HasRun, IsKept};
+    ghost use Rattle.commit.specs.Outcome.{end_of};
+    ghost use Rattle.hub.specs.Ends.{MayAnswer};
     ghost use Rattle.hub.specs.Replies.{Adds, AddsNothing, MayRun, RefusesEvent, RefusesQuestion, RefusesWait, SaysHalted, Sees, Shows, Writes};
-    ghost use Rattle.hub.specs.Tasks.{Claims, Ends, Gets, IsForeign, IsMade, OnTask, Parks, RefusesEndOf};
+    ghost use Rattle.hub.specs.Tasks.{IsForeign, IsMade, OnTask, RefusesEndOf};
     ghost use Rattle.instances.specs.declared.state.State.TheVariants.{Ready};
-    ghost use Rattle.commit.specs.Calls.{IsUnchanged};
+    ghost use Rattle.commit.specs.Calls.{CommitsAs, IsUnchanged};
+    ghost use Rattle.commit.specs.Gets.{Gets};
+    ghost use Rattle.commit.specs.Runs.{Ends};
     ghost use Rattle.commit.specs.Came.{IsOutcomeIn, IsParkedIn};
-    ghost use Rattle.commit.specs.Steps.{Moves};
+    ghost use Rattle.commit.specs.Steps.{Claims, Moves, Parks};
 
     // Takes it apart.
     pub(crate) fn into_parts(self) -> (Core<D>, Desk<J>)

@@ -3,7 +3,7 @@
 ghost use Rattle.std.specs.Prelude.{◌≡◌, ◌+◌, ◌<◌, ◌^◌, None, length};
 ghost use Rattle.hub.specs.Known.{up_to_date, with_event, writing_by};
 ghost use Rattle.hub.specs.Rule.{IsInHistory};
-ghost use Rattle.hub.specs.Ends.{end_of};
+ghost use Rattle.commit.specs.Outcome.{end_of};
 ghost use Rattle.hub.specs.Replies.{Shows, Writes};
 ghost use Rattle.terms.specs.declared.event.Event.TheVariants.{EnvItem, EnvTag};
 

@@ -20,10 +20,9 @@ use Rattle.vault.specs.Commits.{AppendLeaves, GatesRest, GatesStay, RestLeaves, 
 use Rattle.vault.specs.Stands.{Stands}
 use Rattle.vault.specs.Store.{HasGates}
 use Rattle.commit.specs.declared.error.CoreError.{CoreError}
-use Rattle.commit.specs.Calls.{CrashLeaves, Halts, IsInDoubt, IsUnchanged, Refuses, Takes}
+use Rattle.commit.specs.Calls.{CrashLeaves, Halts, IsInDoubt, IsUnchanged, Refuses, Takes, KeepsStore}
 use Rattle.commit.specs.Core.{Core, graph, facts, environment, is_halted}
 use Rattle.commit.specs.Kept.{IsKept}
-use Rattle.commit.specs.MoveLaws.{KeepsStore}
 use Rattle.commit.specs.Runs.{Runs, one_by_one, with_allowance}
 use Rattle.commit.proofs.Lists.{with_nothing, with_both, one_by_one_joined, facts_joined, environment_joined, first_ends, put_nothing, legal_joined}
 use Rattle.commit.proofs.Running.{begins, legal_in_doubt, rests}

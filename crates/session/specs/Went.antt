@@ -12,10 +12,9 @@ use Rattle.machine.specs.State.{AreLegalFrom}
 use Rattle.vault.specs.Commits.{StandsForBeginning}
 use Rattle.vault.specs.Opened.{contents_of}
 use Rattle.vault.specs.Store.{HasGates}
-use Rattle.commit.specs.Calls.{IsTooLong}
+use Rattle.commit.specs.Calls.{IsTooLong, KeepsStore}
 use Rattle.commit.specs.Core.{Core, is_halted}
 use Rattle.commit.specs.Core as core
-use Rattle.commit.specs.MoveLaws.{KeepsStore}
 use Rattle.commit.specs.Runs.{IsFull, one_by_one}
 use Rattle.script.specs.declared.command.Command.{Command}
 use Rattle.script.specs.declared.command.Command.TheVariants.{Put, Tag, Get, Run}

@@ -4,9 +4,10 @@ use Rattle.machine.specs.Machine.{RefusesEnd}
 use Rattle.commit.specs.Core.{is_halted}
 use Rattle.commit.specs.Runs.{Runs}
 use Rattle.hub.specs.Known.{Desk, events}
-use Rattle.hub.specs.Ends.{end_of}
+use Rattle.commit.specs.Outcome.{end_of}
 use Rattle.hub.specs.Kept.{HasRun, IsKept}
-use Rattle.hub.proofs.Ended.{end_is_told, may_answer}
+use Rattle.commit.proofs.Ended.{end_is_told}
+use Rattle.hub.proofs.Ended.{may_answer}
 use Rattle.hub.proofs.Finished.{kept_ended, writes_end}
 use Rattle.hub.proofs.Keeping.{kept_same}
 use Rattle.hub.proofs.Since.{ran_more, ran_refused}

@@ -1,4 +1,4 @@
-use Rattle.hub.specs.Ends.{end_of}
+use Rattle.commit.specs.Outcome.{end_of}
 use Rattle.hub.proofs.kept.Kept.finish.Given as goal
 
 -- the end that was committed

@@ -1,0 +1,7 @@
+mod Orders
+mod Known
+mod Kept
+mod Calls
+mod Openings
+mod Meant
+mod Induction

@@ -1,0 +1,87 @@
+-- What a store means after moves.
+use Rattle.std.proofs.Common.{◌≡◌, ◌∙◌, ◌⊎◌, ◌↔◌, ap, sym, refl, subst, inl, inr, ℕ, true, false, List, [], ◌∷◌, ◌++◌, Option, None, Some}
+use Rattle.std.proofs.lemmas.Bool.{false≢true}
+use Rattle.std.proofs.lemmas.List.{append_assoc}
+use Rattle.std.specs.Prelude.{is_some}
+use Rattle.std.specs.FinMap.{find}
+use Rattle.disk.specs.declared.side.Side.{Side}
+use Rattle.disk.specs.File.{File}
+use Rattle.disk.specs.Time.{Contents, MayLeaveNow}
+use Rattle.terms.specs.declared.name.Addr.{Addr}
+use Rattle.terms.specs.declared.name.Inst.{Inst}
+use Rattle.terms.specs.declared.fault.FaultKind.{FaultKind}
+use Rattle.terms.specs.declared.event.Event.{Event}
+use Rattle.terms.specs.Name.{inst_cmp}
+use Rattle.terms.specs.Commits.{Commit, events_of, facts_behind, environment_behind}
+use Rattle.terms.specs.Facts.{Fact, bad, done}
+use Rattle.terms.specs.Sets.{Facts, among, put_by_environment, stated}
+use Rattle.graph.specs.Graph.{Graph}
+use Rattle.graph.specs.Fits.{HasNoFault, IsPrescribed}
+use Rattle.instances.specs.declared.state.State.{State}
+use Rattle.instances.specs.declared.state.State.TheVariants.{Ready, Running, Waiting, Done}
+use Rattle.machine.specs.Legal.{AreLegal, IsBlocked, IsQuiet}
+use Rattle.machine.specs.Machine.{Machine, environment as environment_of, facts as facts_of, state_of}
+use Rattle.machine.specs.Meaning.{IsClean, Meaning}
+use Rattle.machine.specs.Promise.{IsKept as KeepsMachine}
+use Rattle.machine.specs.State.{AreLegalFrom, IsMeaning, IsReached, IsUnfinished}
+use Rattle.machine.specs.StateLaws.{LegalAsSet, ReachedIsMeaning, ReachedIsWithin, ReachedStoppedOrQuiet}
+use Rattle.machine.specs.Status.{AreUnfinished, NoneIsActive}
+use Rattle.vault.specs.Stands.{OneStore, Stands}
+use Rattle.vault.specs.Store.{nothing}
+use Rattle.commit.specs.declared.status.Status.TheVariants.{Quiet, Stopped}
+use Rattle.commit.specs.Core.{Core, graph, facts, environment}
+use Rattle.commit.specs.Status.{TellsStatus}
+use Rattle.moves.specs.Every.{NoneIsQuiet, StandsWithin, TellsMeaning}
+use Rattle.moves.specs.Order.{History}
+use Rattle.moves.specs.There.{Has, Leaves}
+use Rattle.moves.proofs.Known.{IsLegal, prefix_legal}
+
+-- a machine of which no instance is ready or runs, and which has no fault, is quiet
+pub is_quiet : (m : Machine) → KeepsMachine m → HasNoFault (facts_of m) → NoneIsActive m → IsQuiet m.graph (facts_of m)
+is_quiet m kept none idle = record { no_fault = none; done_or_blocked = λ instance prescribed. at instance (state_of m instance) refl ((kept.prescribed instance).1 prescribed) }
+  where
+    at : (instance : Inst) (state : Option State) → state_of m instance ≡ state → is_some (state_of m instance) ≡ true → (facts_of m (done instance) ≡ true) ⊎ IsBlocked m.graph (facts_of m) instance
+    at instance None is has = absurd (false≢true (sym (ap is_some is) ∙ has))
+    at instance (Some Ready) is has = absurd ((idle instance).0 is)
+    at instance (Some Running) is has = absurd ((idle instance).1 is)
+    at instance (Some (Waiting address)) is has = inr (address, (kept.waits instance address is).needs)
+    at instance (Some Done) is has = inl ((kept.done instance).0 is)
+
+module _ (as_set : LegalAsSet) (is_within : ReachedIsWithin) (meaning : ReachedIsMeaning) (stopped_or_quiet : ReachedStoppedOrQuiet) (g : Graph) where
+  -- the state after commits that are legal is reached
+  reached : (made : List Commit) (E X : Facts) → AreLegalFrom g nothing (events_of made) → ((fact : Fact) → X fact ≡ facts_behind nothing made fact) → ((fact : Fact) → E fact ≡ environment_behind nothing made fact) → IsReached g E X
+  reached made E X legal all given = record {
+    events = events_of made;
+    legal = (as_set g [] (events_of made)).1 legal;
+    facts = λ fact. sym (all fact);
+    environment = λ fact. sym (given fact);
+  }
+
+  pub means : {D : Type 0} (h : History) (c : Core D) → Has g h c → KeepsMachine c.machine → IsLegal g h → TellsMeaning g c
+  means h c has kept legal =
+      let made = prefix_legal g h.made h.doubt (h.made ++ h.doubt) refl legal in
+      let here : IsReached g (environment c) (facts c) = reached h.made (environment c) (facts c) made has.facts has.environment in
+      let quiet : (blocked : ℕ) → TellsStatus c (Quiet blocked) → IsQuiet g (facts c) = λ blocked told.
+          subst (λ (k : Graph). IsQuiet k (facts c)) has.graph (is_quiet c.machine kept told.0 told.1) in
+      record {
+        within = is_within g (environment c) (facts c) here;
+        quiet = λ blocked told. let it = quiet blocked told in (it, (meaning g (environment c) (facts c) here it));
+        unfinished = λ blocked list told unfinished.
+            subst (λ (k : Graph). (instance : Inst) (address : Addr) → (find inst_cmp instance list ≡ Some address) ↔ IsUnfinished k (environment c) instance address) has.graph
+            (unfinished told.0 told.1 (subst (λ (k : Graph). IsReached k (environment c) (facts c)) (sym has.graph) here));
+        stopped = λ instance kind told. (
+          is_within g (environment c) (facts c) here (bad instance kind) told,
+          λ events other same none.
+          stopped_or_quiet g (environment c) (facts c) (stated events) instance kind here told (record { events = events; legal = other; facts = λ fact. refl; environment = same }) none,
+        );
+      }
+
+  pub stands_within : {D : Type 0} (files : D → Side → File) (moment : D → ℕ) (left_at : D → ℕ → Contents → Type 0) (failures refusals : D → ℕ) (honest : Type 0)
+      → OneStore → (h : History) (disk : D) → Leaves files g h disk → IsLegal g h → StandsWithin files moment left_at failures refusals honest g disk
+  stands_within files moment left_at failures refusals honest one h disk leaves legal contents other E X may stands =
+      let it = (leaves contents may).0 in
+      let made = h.made ++ it.made in
+      let same = one contents g other (environment_behind nothing made) E (facts_behind nothing made) X it.stands stands in
+      let whole : h.made ++ h.doubt ≡ made ++ it.later = ap (λ (doubt : List Commit). h.made ++ doubt) it.beginning ∙ sym (append_assoc h.made it.made it.later) in
+      let here = reached made E X (prefix_legal g made it.later (h.made ++ h.doubt) whole legal) (λ fact. sym (same.2 fact)) (λ fact. sym (same.1 fact)) in
+      (sym same.0, is_within g E X here)

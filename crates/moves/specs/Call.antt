@@ -1,0 +1,74 @@
+-- The calls of a core that change it, each with its arguments and what it returned; and the commits that they acknowledge.
+use Rattle.std.specs.Prelude.{◌≡◌, ℕ, ℤ, List, [], ◌∷◌, Option, Result, Ok, Err}
+use Rattle.disk.specs.declared.side.Side.{Side}
+use Rattle.disk.specs.File.{File}
+use Rattle.disk.specs.Time.{Contents}
+use Rattle.terms.specs.declared.name.Addr.{Addr}
+use Rattle.terms.specs.declared.name.Tag.{Tag}
+use Rattle.terms.specs.declared.name.Inst.{Inst}
+use Rattle.terms.specs.declared.event.Event.{Event}
+use Rattle.terms.specs.declared.event.Event.TheVariants.{EnvItem, EnvTag}
+use Rattle.terms.specs.Commits.{Commit}
+use Rattle.instances.specs.declared.state.State.TheVariants.{Ready}
+use Rattle.machine.specs.Machine.{RefusesItem, RefusesTag}
+use Rattle.commit.specs.declared.error.CoreError.{CoreError}
+use Rattle.commit.specs.declared.outcome.Outcome.{Outcome}
+use Rattle.commit.specs.declared.outcome.Committed.{Committed}
+use Rattle.commit.specs.Calls.{CommitsAs}
+use Rattle.commit.specs.Core.{Core, graph, facts}
+use Rattle.commit.specs.Outcome.{IsEndOf, end_of}
+use Rattle.commit.specs.Runs.{Ends}
+use Rattle.commit.specs.Steps.{Claims, Moves, Parks, SetsAllowance}
+use Rattle.commit.specs.Turning.{TurnsAs}
+
+-- `put_item`, `put_tag`, `claim`, `park`, `release`, `finish`, `turn` and `allow`
+pub data Call : Type 0 where
+  puts_item : Addr → ℤ → Result (Unit {0}) CoreError → Call
+  puts_tag : Tag → Result (Unit {0}) CoreError → Call
+  claims : ℕ → Result (Option Inst) CoreError → Call
+  parks : Inst → Addr → Result (Unit {0}) CoreError → Call
+  releases : Inst → Call
+  finishes : Inst → Outcome → Result Committed CoreError → Call
+  turns : Result ℕ CoreError → Call
+  allows : ℕ → Result (Unit {0}) CoreError → Call
+
+-- ---- what they do
+
+-- The call does what its contract says, from one core to the next.
+module _ {D : Type 0} (files : D → Side → File) (moment : D → ℕ) (left_at : D → ℕ → Contents → Type 0) (failures refusals : D → ℕ) (honest : Type 0) where
+  abbrev pub Does : Call → (old new : Core D) → Type 0
+  Does (puts_item address value result) old new = CommitsAs files moment left_at failures refusals honest old new (RefusesItem (graph old) (facts old) address) (EnvItem address value) result
+  Does (puts_tag name result) old new = CommitsAs files moment left_at failures refusals honest old new (RefusesTag (graph old) (facts old) name) (EnvTag name) result
+  Does (claims at result) old new = Claims old new at result
+  Does (parks instance address result) old new = Parks old new instance address result
+  Does (releases instance) old new = Moves old new instance Ready
+  Does (finishes instance outcome result) old new = Ends files moment left_at failures refusals honest old new instance outcome result
+  Does (turns result) old new = TurnsAs files moment left_at failures refusals honest old new result
+  Does (allows count result) old new = SetsAllowance old new count result
+
+-- ---- what they commit
+
+-- The commit that a call acknowledged: its event, by itself, if it returned `Ok`. The other calls acknowledge none.
+abbrev pub acknowledged : Call → List Commit
+acknowledged (puts_item address value (Ok done)) = (EnvItem address value ∷ []) ∷ []
+acknowledged (puts_item address value (Err error)) = []
+acknowledged (puts_tag name (Ok done)) = (EnvTag name ∷ []) ∷ []
+acknowledged (puts_tag name (Err error)) = []
+acknowledged (claims at result) = []
+acknowledged (parks instance address result) = []
+acknowledged (releases instance) = []
+acknowledged (finishes instance outcome (Ok committed)) = (end_of committed instance outcome ∷ []) ∷ []
+acknowledged (finishes instance outcome (Err error)) = []
+acknowledged (turns result) = []
+acknowledged (allows count result) = []
+
+-- the commit that a call tries to make, whatever it returned
+abbrev pub Tries : Call → Commit → Type 0
+Tries (puts_item address value result) commit = commit ≡ EnvItem address value ∷ []
+Tries (puts_tag name result) commit = commit ≡ EnvTag name ∷ []
+Tries (claims at result) commit = ⊥
+Tries (parks instance address result) commit = ⊥
+Tries (releases instance) commit = ⊥
+Tries (finishes instance outcome result) commit = (end : Event) × IsEndOf outcome instance end × (commit ≡ end ∷ [])
+Tries (turns result) commit = ⊥
+Tries (allows count result) commit = ⊥

@@ -1,0 +1,5 @@
+pub mod Call
+pub mod Move
+pub mod Order
+pub mod There
+pub mod Every
