@@ -90,7 +90,8 @@ impl Instances {
 
     /// The instances that wait, each with its address, by step and then by key.
     pub fn blocked(&self, alloc: Global) -> Result<Vec<(Inst, Addr)>, AllocError>
-        ensures { IfOk result (λ list. AreTheWaiting self.now list.items) }
+        ensures waiting { IfOk result (λ list. AreTheWaiting self.now list.items) }
+        ensures counted { IfOk result (λ list. length list.items ≡ total is_waiting self.now) }
     {
         listing::waiting(self.walk(), alloc)
     }

@@ -5,7 +5,7 @@ use steptree::ends_once;
 use terms::{Addr, FaultKind, Inst, facts_are_told_apart, orders_are_total};
 
 impl Machine {
-    ghost use Rattle.std.specs.Prelude.{◌≡◌, ◌↔◌, ◌-◌, ◌^◌, IfOk, IsTrue, min};
+    ghost use Rattle.std.specs.Prelude.{◌≡◌, ◌↔◌, ◌-◌, ◌^◌, IfOk, IsTrue, length, min};
     ghost use Rattle.graph.specs.Fits.{HasNoFault};
     ghost use Rattle.machine.specs.Legal.{IsQuiet};
     ghost use Rattle.machine.specs.Machine.{facts, ready_count, running_count, waiting_count};
@@ -58,6 +58,7 @@ impl Machine {
     pub fn blocked(&self, alloc: Global) -> Result<Vec<(Inst, Addr)>, AllocError>
         ensures blocked { IfOk result (λ list. AreBlocked self.now list.items) }
         ensures unfinished { IfOk result (λ list. AreUnfinished self.now list.items) }
+        ensures counted { IfOk result (λ list. length list.items ≡ waiting_count self.now) }
     {
         facts_are_told_apart();
         orders_are_total();
