@@ -1,5 +1,5 @@
 -- What a command did with a store, what it wrote, and what it came to.
-use Rattle.std.specs.Prelude.{◌≡◌, ◌⊎◌, ◌<◌, ◌↔◌, ℕ, true, false, List, ◌++◌, codes, Option, Result, Ok, Err, MatchResult, IfOk, IfErr, OnErr, OnOk}
+use Rattle.std.specs.Prelude.{◌≡◌, ◌⊎◌, ◌<◌, ◌↔◌, ℕ, true, false, List, ◌++◌, codes, Option, Result, Ok, Err, MatchResult, IfOk, OnOk}
 use Rattle.std.specs.Fmt.{decimal}
 use Rattle.std.specs.Io.KnownBytes.{Appends}
 use Rattle.disk.specs.declared.side.Side.{Side}
@@ -20,11 +20,10 @@ use Rattle.vault.specs.declared.error.VaultError.TheVariants as vault
 use Rattle.commit.specs.declared.creation.CreateError.TheVariants as creation
 use Rattle.commit.specs.declared.creation.NotCreated.{NotCreated}
 use Rattle.commit.specs.declared.error.CoreError.{CoreError}
-use Rattle.commit.specs.Core.{Core, facts, graph, is_halted}
+use Rattle.commit.specs.Core.{Core, facts, graph}
 use Rattle.commit.specs.Created.{IsCreated, LeavesOthers, TellsCreation, answer_of, disk_of}
-use Rattle.commit.specs.Calls.{Halts, IsUnchanged}
 use Rattle.commit.specs.Opened.{Finds, IsOpened}
-use Rattle.commit.specs.Turning.{RefusesTurn, TellsLast, TurnLeaves, Turns}
+use Rattle.commit.specs.Turning.{TurnsAs}
 use Rattle.report.specs.declared.error.ReportError.{ReportError}
 use Rattle.report.specs.ReportText.{IsReport, line}
 use Rattle.session.specs.declared.ending.Ending.{Ending}
@@ -151,12 +150,7 @@ module _ {D : Type 0} (files : D → Side → File) (moment : D → ℕ) (left_a
     pub last : Core D
     pub opened : WasOpened old first
     pub answer : Result ℕ CoreError
-    pub turns : IfOk answer (Turns first last)
-    pub unchanged : OnErr answer (IsUnchanged first last)
-    pub refused : IfErr answer (RefusesTurn first)
-    pub full : TellsLast first answer
-    pub halts : Halts failures refusals first last answer
-    pub moments : honest → is_halted first ≡ false → TurnLeaves files moment left_at first last
+    pub turns : TurnsAs files moment left_at failures refusals honest first last answer
     pub told : TellsTurn before behind answer outcome
     pub disk : new ≡ last.vault.disk
 

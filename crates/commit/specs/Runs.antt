@@ -33,7 +33,7 @@ use Rattle.commit.specs.Calls.{GivesBack, Halts, IsTooLong}
 use Rattle.commit.specs.Outcome.{Finishes, IsEndOf, Tells}
 use Rattle.commit.specs.Core.{Core, graph, facts, state_of, is_halted}
 use Rattle.commit.specs.Core as core
-use Rattle.commit.specs.Status.{TellsStatus, IsMeantIfQuiet}
+use Rattle.commit.specs.Status.{TellsStatus, SaysOfMeaning}
 
 -- no instance runs
 abbrev pub NoneRuns : {D : Type 0} → Core D → Type 0
@@ -100,7 +100,7 @@ Runs files moment left_at failures refusals honest old new ends = RunsSince mome
 
 -- the core is not halted, and this is how far it is
 abbrev pub IsAt : {D : Type 0} → Core D → Status → Type 0
-IsAt c status = (is_halted c ≡ false) × TellsStatus c status × IsMeantIfQuiet c status
+IsAt c status = (is_halted c ≡ false) × TellsStatus c status × SaysOfMeaning c status
 
 -- some end of an instance may come, and its record does not fit
 abbrev pub IsFull : {D : Type 0} → Core D → Type 0

@@ -2,6 +2,7 @@ use crate::{Core, CoreError};
 use disk::Disk;
 use graph::Graph;
 use instances::{State, Task};
+use machine::{reached_and_quiet, reached_within};
 use std::alloc::Global;
 use std::sync::Arc;
 use terms::{Addr, FaultKind, Inst};
@@ -19,28 +20,32 @@ pub enum Status {
 }
 
 impl<D: Disk> Core<D> {
-    ghost use Rattle.std.specs.Prelude.{◌≡◌, ◌↔◌, ◌-◌, ◌^◌, false, true, Some, IfErr, IfOk, IsTrue, OnErr, OnOk, min};
+    ghost use Rattle.std.specs.Prelude.{◌≡◌, ◌↔◌, ◌-◌, ◌^◌, false, true, Some, IfErr, IfOk, IsTrue, OnErr, OnOk, length, min};
     ghost use Rattle.instances.specs.declared.state.State.TheVariants.{Running};
+    ghost use Rattle.machine.specs.Machine.{waiting_count};
     ghost use Rattle.machine.specs.Status.{AreBlocked, AreUnfinished, TellsFault};
     ghost use Rattle.vault.specs.declared.error.VaultError.TheVariants.{NoMemory};
     ghost use Rattle.commit.specs.declared.error.CoreError.TheVariants.{Store};
     ghost use Rattle.commit.specs.Core.{graph, is_halted, state_of};
     ghost use Rattle.commit.specs.Gets.{SaysHalted};
     ghost use Rattle.commit.specs.Runs.{NoneRuns};
-    ghost use Rattle.commit.specs.Status.{TellsStatus, IsMeantIfQuiet};
+    ghost use Rattle.commit.specs.Status.{TellsStatus, SaysOfMeaning};
     ghost use Rattle.commit.specs.Steps.{ready_count, running_count};
 
-    /// How far the store is. If it is quiet nothing is left to do, and if legal events led there, its facts are the
-    /// meaning of the graph on what the environment put. It takes no memory.
+    /// How far the store is. If legal events led there: a quiet store has nothing left to do, and its facts are the
+    /// meaning of the graph on what the environment put; that meaning has the fault of a stopped one. It takes no memory.
     pub fn status(&self) -> Result<Status, CoreError>
         ensures told { IfOk result (TellsStatus self.now) }
-        ensures quiet { IfOk result (IsMeantIfQuiet self.now) }
+        ensures meaning { IfOk result (SaysOfMeaning self.now) }
         ensures working { OnOk result (is_halted self.now ≡ false) }
         ensures halted { IfErr result (SaysHalted self.now) }
     {
         if self.vault.is_halted() {
             return Err(CoreError::Store(VaultError::Halted));
         }
+        // What is known of a fault of a state that legal events led to.
+        reached_within();
+        reached_and_quiet();
         if let Some((instance, kind)) = self.machine.fault() {
             return Ok(Status::Stopped(instance, kind));
         }
@@ -52,10 +57,12 @@ impl<D: Disk> Core<D> {
         }
     }
 
-    /// The instances that wait, each with the address of the item that it needs, by step and then by key.
+    /// The instances that wait, each with the address of the item that it needs, by step and then by key. They are as many
+    /// as `status` says are blocked.
     pub fn blocked(&self, alloc: Global) -> Result<Vec<(Inst, Addr)>, CoreError>
         ensures blocked { IfOk result (λ list. AreBlocked self.now.machine list.items) }
         ensures unfinished { IfOk result (λ list. AreUnfinished self.now.machine list.items) }
+        ensures counted { IfOk result (λ list. length list.items ≡ waiting_count self.now.machine) }
         ensures working { OnOk result (is_halted self.now ≡ false) }
         ensures refused { IfErr result (λ error. (is_halted self.now ≡ false → error ≡ Store NoMemory) × (is_halted self.now ≡ true → SaysHalted self.now error)) }
     {

@@ -45,221 +45,221 @@ module _
     (now : (disk : D) (contents : Contents) → left_at disk (moment disk) contents ↔ MayLeaveNow (files disk) contents) (reads : (disk : D) → MayLeaveNow (files disk) (contents_of (files disk)))
     (held : HeldLeaves files moment left_at) (appends : AppendLeaves files moment left_at) (g : Graph)
   where
-  -- what is known while a core is open
-  pub record Stood (h : History) (c : Core D) : Type 0 where
-    pub has : Has g h c
-    pub leaves : Leaves files g h c.vault.disk
-    pub settled : is_halted c ≡ false → h.doubt ≡ []
-    pub keeps : Keeps files honest c
+    -- what is known while a core is open
+    pub record Stood (h : History) (c : Core D) : Type 0 where
+      pub has : Has g h c
+      pub leaves : Leaves files g h c.vault.disk
+      pub settled : is_halted c ≡ false → h.doubt ≡ []
+      pub keeps : Keeps files honest c
 
-  -- what a crash leaves at each moment of a call
-  abbrev pub LeavesAt : History → (old new : D) → Type 0
-  LeavesAt h old new = LeavesOnly moment left_at old new (λ contents. MayStand g h contents × HasGates contents)
+    -- what a crash leaves at each moment of a call
+    abbrev pub LeavesAt : History → (old new : D) → Type 0
+    LeavesAt h old new = LeavesOnly moment left_at old new (λ contents. MayStand g h contents × HasGates contents)
 
-  both_hold : (old new : D) (P Q : Contents → Type 0) → LeavesOnly moment left_at old new P → LeavesOnly moment left_at old new Q → LeavesOnly moment left_at old new (λ c. P c × Q c)
-  both_hold old new P Q p q = record { later = p.later; each = λ t c from to left. (p.each t c from to left, q.each t c from to left); stays = p.stays }
+    both_hold : (old new : D) (P Q : Contents → Type 0) → LeavesOnly moment left_at old new P → LeavesOnly moment left_at old new Q → LeavesOnly moment left_at old new (λ c. P c × Q c)
+    both_hold old new P Q p q = record { later = p.later; each = λ t c from to left. (p.each t c from to left, q.each t c from to left); stays = p.stays }
 
-  gated : (h : History) (disk : D) → Leaves files g h disk → HasGates (contents_of (files disk))
-  gated h disk leaves = (leaves (contents_of (files disk)) (reads disk)).1
+    gated : (h : History) (disk : D) → Leaves files g h disk → HasGates (contents_of (files disk))
+    gated h disk leaves = (leaves (contents_of (files disk)) (reads disk)).1
 
-  -- what is left at the end of a call
-  left_at_end : (h : History) (old new : D) → LeavesAt h old new → Leaves files g h new
-  left_at_end h old new leaving contents may = at_end files moment left_at now old new (λ c. MayStand g h c × HasGates c) leaving contents may
+    -- what is left at the end of a call
+    left_at_end : (h : History) (old new : D) → LeavesAt h old new → Leaves files g h new
+    left_at_end h old new leaving contents may = at_end files moment left_at now old new (λ c. MayStand g h c × HasGates c) leaving contents may
 
-  pub rest_leaves : (h : History) (disk : D) → Leaves files g h disk → LeavesAt h disk disk
-  rest_leaves h disk leaves = begun moment left_at disk (λ contents. MayStand g h contents × HasGates contents) (λ contents left. leaves contents ((now disk contents).0 left))
+    pub rest_leaves : (h : History) (disk : D) → Leaves files g h disk → LeavesAt h disk disk
+    rest_leaves h disk leaves = begun moment left_at disk (λ contents. MayStand g h contents × HasGates contents) (λ contents left. leaves contents ((now disk contents).0 left))
 
-  -- a core that is not halted has files that stand for what was made
-  pub held_now : (h : History) (c : Core D) → Has g h c → Keeps files honest c → is_halted c ≡ false → ((contents : Contents) → MayLeaveNow (files c.vault.disk) contents → HasGates contents) → Leaves files g h c.vault.disk
-  held_now h c has keeps goes gates contents may = (
-    stands_now g h c has h.doubt contents
-        (at_end files moment left_at now c.vault.disk c.vault.disk (λ k. Stands k (graph c) (environment c) (facts c)) (held c.vault (graph c) (environment c) (facts c) ((keeps.kept on).holds goes)) contents may),
-    gates contents may,
-  )
+    -- a core that is not halted has files that stand for what was made
+    pub held_now : (h : History) (c : Core D) → Has g h c → Keeps files honest c → is_halted c ≡ false → ((contents : Contents) → MayLeaveNow (files c.vault.disk) contents → HasGates contents) → Leaves files g h c.vault.disk
+    held_now h c has keeps goes gates contents may = (
+      stands_now g h c has h.doubt contents
+          (at_end files moment left_at now c.vault.disk c.vault.disk (λ k. Stands k (graph c) (environment c) (facts c)) (held c.vault (graph c) (environment c) (facts c) ((keeps.kept on).holds goes)) contents may),
+      gates contents may,
+    )
 
-  -- ---- nothing has changed
+    -- ---- nothing has changed
 
-  pub rests : (h : History) (old new : Core D) → Stood h old → Keeps files honest new → KeepsStore old new → Stood h new × LeavesAt h old.vault.disk new.vault.disk
-  rests h old new stood keeps same = (
-    record {
-      has = record {
-        graph = same.graph ∙ stood.has.graph;
-        facts = λ fact. same.facts fact ∙ stood.has.facts fact;
-        environment = λ fact. same.environment fact ∙ stood.has.environment fact;
-      };
-      leaves = subst (λ (d : D). Leaves files g h d) (sym same.disk) stood.leaves;
-      settled = λ goes. stood.settled (sym same.halted ∙ goes);
-      keeps = keeps;
-    },
-    subst (λ (d : D). LeavesAt h old.vault.disk d) (sym same.disk) (rest_leaves h old.vault.disk stood.leaves),
-  )
+    pub rests : (h : History) (old new : Core D) → Stood h old → Keeps files honest new → KeepsStore old new → Stood h new × LeavesAt h old.vault.disk new.vault.disk
+    rests h old new stood keeps same = (
+      record {
+        has = record {
+          graph = same.graph ∙ stood.has.graph;
+          facts = λ fact. same.facts fact ∙ stood.has.facts fact;
+          environment = λ fact. same.environment fact ∙ stood.has.environment fact;
+        };
+        leaves = subst (λ (d : D). Leaves files g h d) (sym same.disk) stood.leaves;
+        settled = λ goes. stood.settled (sym same.halted ∙ goes);
+        keeps = keeps;
+      },
+      subst (λ (d : D). LeavesAt h old.vault.disk d) (sym same.disk) (rest_leaves h old.vault.disk stood.leaves),
+    )
 
-  -- an error that did not halt the core
-  unchanged : {T : Type 0} (h : History) (old new : Core D) (error : CoreError) → Stood h old → Keeps files honest new → Stays old new → Halts {T = T} failures refusals old new (Err error) → is_halted new ≡ is_halted old
-      → Stood h new × LeavesAt h old.vault.disk new.vault.disk
-  unchanged h old new error stood keeps stays halts halted =
-      let same = halts.same halted in
-      rests h old new stood keeps (stayed old new stays same.0.disk halted same.1)
+    -- an error that did not halt the core
+    unchanged : {T : Type 0} (h : History) (old new : Core D) (error : CoreError) → Stood h old → Keeps files honest new → Stays old new → Halts {T = T} failures refusals old new (Err error) → is_halted new ≡ is_halted old
+        → Stood h new × LeavesAt h old.vault.disk new.vault.disk
+    unchanged h old new error stood keeps stays halts halted =
+        let same = halts.same halted in
+        rests h old new stood keeps (stayed old new stays same.0.disk halted same.1)
 
-  -- ---- a call that commits an event
+    -- ---- a call that commits an event
 
-  -- what such a call comes to, by its result
-  abbrev pub Comes : {T : Type 0} → History → Commit → Core D → Result T CoreError → Type 0
-  Comes h commit new (Ok value) = Stood (with_commit h commit) new × IsLegal g (with_commit h commit)
-  Comes h commit new (Err error) = Stood h new ⊎ ((h.doubt ≡ []) × Stood (with_doubt h commit) new × IsLegal g (with_doubt h commit))
+    -- what such a call comes to, by its result
+    abbrev pub Comes : {T : Type 0} → History → Commit → Core D → Result T CoreError → Type 0
+    Comes h commit new (Ok value) = Stood (with_commit h commit) new × IsLegal g (with_commit h commit)
+    Comes h commit new (Err error) = Stood h new ⊎ ((h.doubt ≡ []) × Stood (with_doubt h commit) new × IsLegal g (with_doubt h commit))
 
-  -- what a crash leaves at each moment of it
-  abbrev pub Leaving : History → Commit → Core D → Core D → Type 0
-  Leaving h commit old new = LeavesAt h old.vault.disk new.vault.disk ⊎ ((h.doubt ≡ []) × IsLegal g (with_doubt h commit) × LeavesAt (with_doubt h commit) old.vault.disk new.vault.disk)
+    -- what a crash leaves at each moment of it
+    abbrev pub Leaving : History → Commit → Core D → Core D → Type 0
+    Leaving h commit old new = LeavesAt h old.vault.disk new.vault.disk ⊎ ((h.doubt ≡ []) × IsLegal g (with_doubt h commit) × LeavesAt (with_doubt h commit) old.vault.disk new.vault.disk)
 
-  module _ {T : Type 0} (h : History) (old new : Core D) (event : Event) (why : Refusal → Type 0) (stood : Stood h old) (keeps : Keeps files honest new) (legal : IsLegal g h) where
-    abbrev commit : Commit
-    commit = event ∷ []
+    module _ {T : Type 0} (h : History) (old new : Core D) (event : Event) (why : Refusal → Type 0) (stood : Stood h old) (keeps : Keeps files honest new) (legal : IsLegal g h) where
+      abbrev commit : Commit
+      commit = event ∷ []
 
-    made_legal : AreLegalFrom g nothing (events_of h.made)
-    made_legal = prefix_legal g h.made h.doubt (h.made ++ h.doubt) refl legal
+      made_legal : AreLegalFrom g nothing (events_of h.made)
+      made_legal = prefix_legal g h.made h.doubt (h.made ++ h.doubt) refl legal
 
-    -- one event more is legal
-    doubt_legal : AreLegalFrom (graph old) (facts old) commit → IsLegal g (with_doubt h commit)
-    doubt_legal one = more_legal both g h.made commit made_legal (legal_after g h old stood.has commit one)
+      -- one event more is legal
+      doubt_legal : AreLegalFrom (graph old) (facts old) commit → IsLegal g (with_doubt h commit)
+      doubt_legal one = more_legal both g h.made commit made_legal (legal_after g h old stood.has commit one)
 
-    commit_legal : h.doubt ≡ [] → AreLegalFrom (graph old) (facts old) commit → IsLegal g (with_commit h commit)
-    commit_legal none one =
-        subst (λ (commits : List Commit). AreLegalFrom g nothing (events_of commits)) (sym (append-nil (h.made ++ commit ∷ [])) ∙ ap (λ (doubt : List Commit). (h.made ++ commit ∷ []) ++ doubt) (sym none))
-        (doubt_legal one)
+      commit_legal : h.doubt ≡ [] → AreLegalFrom (graph old) (facts old) commit → IsLegal g (with_commit h commit)
+      commit_legal none one =
+          subst (λ (commits : List Commit). AreLegalFrom g nothing (events_of commits)) (sym (append-nil (h.made ++ commit ∷ [])) ∙ ap (λ (doubt : List Commit). (h.made ++ commit ∷ []) ++ doubt) (sym none))
+          (doubt_legal one)
 
-    -- what a crash leaves of a core that was not halted
-    cut_short : (result : Result T CoreError) → Commits files moment left_at honest old new why event result → is_halted old ≡ false → LeavesAt (with_doubt h commit) old.vault.disk new.vault.disk
-    cut_short result it goes =
-        let moments = it.moments on goes in
-        both_hold old.vault.disk new.vault.disk (MayStand g (with_doubt h commit)) HasGates
-        (appends old.vault new.vault g nothing nothing h.made commit
-        (carried g h old stood.has (λ k E X. LeavesOnly moment left_at old.vault.disk new.vault.disk (StandsBeforeOrAfter k E X commit)) moments.facts))
-        (moments.gates (gated h old.vault.disk stood.leaves))
+      -- what a crash leaves of a core that was not halted
+      cut_short : (result : Result T CoreError) → Commits files moment left_at honest old new why event result → is_halted old ≡ false → LeavesAt (with_doubt h commit) old.vault.disk new.vault.disk
+      cut_short result it goes =
+          let moments = it.moments on goes in
+          both_hold old.vault.disk new.vault.disk (MayStand g (with_doubt h commit)) HasGates
+          (appends old.vault new.vault g nothing nothing h.made commit
+          (carried g h old stood.has (λ k E X. LeavesOnly moment left_at old.vault.disk new.vault.disk (StandsBeforeOrAfter k E X commit)) moments.facts))
+          (moments.gates (gated h old.vault.disk stood.leaves))
 
-    came : (value : T) → Commits files moment left_at honest old new why event (Ok value) → Stood (with_commit h commit) new × IsLegal g (with_commit h commit)
-    came value it =
-        let takes = it.takes in
-        let goes = takes.working.0 in
-        let works = takes.working.1 in
-        let none = stood.settled goes in
-        let has : Has g (with_commit h commit) new = record {
-          graph = takes.takes.graph ∙ stood.has.graph;
-          facts = λ fact.
-              takes.takes.facts fact ∙ ap (λ (X : Facts). with_facts X (event_facts event) fact) (all g h old stood.has)
-              ∙ ap (λ (list : List Fact). with_facts (facts_behind nothing h.made) list fact) (sym (append-nil (event_facts event)))
-              ∙ ap (λ (X : Facts). X fact) (sym (facts_after both nothing h.made (commit ∷ [])));
-          environment = λ fact.
-              takes.takes.environment fact ∙ ap (λ (E : Facts). with_facts E (environment_facts event) fact) (given g h old stood.has)
-              ∙ ap (λ (list : List Fact). with_facts (environment_behind nothing h.made) list fact) (sym (append-nil (environment_facts event)))
-              ∙ ap (λ (E : Facts). E fact) (sym (environment_after both nothing h.made (commit ∷ [])));
-        } in (
-          record {
-            has = has;
-            leaves = held_now (with_commit h commit) new has keeps works (λ contents may. (left_at_end (with_doubt h commit) old.vault.disk new.vault.disk (cut_short (Ok value) it goes) contents may).1);
-            settled = λ _. none;
-            keeps = keeps;
-          },
-          commit_legal none (takes.legal, tt),
-        )
+      came : (value : T) → Commits files moment left_at honest old new why event (Ok value) → Stood (with_commit h commit) new × IsLegal g (with_commit h commit)
+      came value it =
+          let takes = it.takes in
+          let goes = takes.working.0 in
+          let works = takes.working.1 in
+          let none = stood.settled goes in
+          let has : Has g (with_commit h commit) new = record {
+            graph = takes.takes.graph ∙ stood.has.graph;
+            facts = λ fact.
+                takes.takes.facts fact ∙ ap (λ (X : Facts). with_facts X (event_facts event) fact) (all g h old stood.has)
+                ∙ ap (λ (list : List Fact). with_facts (facts_behind nothing h.made) list fact) (sym (append-nil (event_facts event)))
+                ∙ ap (λ (X : Facts). X fact) (sym (facts_after both nothing h.made (commit ∷ [])));
+            environment = λ fact.
+                takes.takes.environment fact ∙ ap (λ (E : Facts). with_facts E (environment_facts event) fact) (given g h old stood.has)
+                ∙ ap (λ (list : List Fact). with_facts (environment_behind nothing h.made) list fact) (sym (append-nil (environment_facts event)))
+                ∙ ap (λ (E : Facts). E fact) (sym (environment_after both nothing h.made (commit ∷ [])));
+          } in (
+            record {
+              has = has;
+              leaves = held_now (with_commit h commit) new has keeps works (λ contents may. (left_at_end (with_doubt h commit) old.vault.disk new.vault.disk (cut_short (Ok value) it goes) contents may).1);
+              settled = λ _. none;
+              keeps = keeps;
+            },
+            commit_legal none (takes.legal, tt),
+          )
 
-    -- an error that halted the core leaves the commit in doubt
-    halted_by : (error : CoreError) → Commits files moment left_at honest old new why event (Err error) → Stays old new → Halts {T = T} failures refusals old new (Err error) → is_halted old ≡ false → is_halted new ≡ true
-        → (h.doubt ≡ []) × Stood (with_doubt h commit) new × IsLegal g (with_doubt h commit)
-    halted_by error it stays halts goes stops =
-        let erred : HasErred failures refusals old.vault.disk new.vault.disk = elim (halts.halts.0 stops) [ inl is ↦ absurd (false≢true (sym goes ∙ is)) | inr here ↦ here ] in
-        let one = legal_in_doubt files moment left_at failures refusals honest old new why event error it.refused halts erred in (
-          stood.settled goes,
-          record {
-            has = record {
-              graph = stays.graph ∙ stood.has.graph;
-              facts = λ fact. stays.facts fact ∙ stood.has.facts fact;
-              environment = λ fact. stays.environment fact ∙ stood.has.environment fact;
-            };
-            leaves = left_at_end (with_doubt h commit) old.vault.disk new.vault.disk (cut_short (Err error) it goes);
-            settled = λ works. absurd (false≢true (sym works ∙ stops));
-            keeps = keeps;
-          },
-          doubt_legal (one, tt),
-        )
+      -- an error that halted the core leaves the commit in doubt
+      halted_by : (error : CoreError) → Commits files moment left_at honest old new why event (Err error) → Stays old new → Halts {T = T} failures refusals old new (Err error) → is_halted old ≡ false → is_halted new ≡ true
+          → (h.doubt ≡ []) × Stood (with_doubt h commit) new × IsLegal g (with_doubt h commit)
+      halted_by error it stays halts goes stops =
+          let erred : HasErred failures refusals old.vault.disk new.vault.disk = elim (halts.halts.0 stops) [ inl is ↦ absurd (false≢true (sym goes ∙ is)) | inr here ↦ here ] in
+          let one = legal_in_doubt files moment left_at failures refusals honest old new why event error it.refused halts erred in (
+            stood.settled goes,
+            record {
+              has = record {
+                graph = stays.graph ∙ stood.has.graph;
+                facts = λ fact. stays.facts fact ∙ stood.has.facts fact;
+                environment = λ fact. stays.environment fact ∙ stood.has.environment fact;
+              };
+              leaves = left_at_end (with_doubt h commit) old.vault.disk new.vault.disk (cut_short (Err error) it goes);
+              settled = λ works. absurd (false≢true (sym works ∙ stops));
+              keeps = keeps;
+            },
+            doubt_legal (one, tt),
+          )
 
-    pub comes : (result : Result T CoreError) → Commits files moment left_at honest old new why event result → OnErr result (Stays old new) → Halts failures refusals old new result → Comes h commit new result
-    comes (Ok value) it stays halts = came value it
-    comes (Err error) it stays halts = before (is_halted old) refl
-      where
-        before : (b : Bool) → is_halted old ≡ b → Comes {T = T} h commit new (Err error)
-        before true is = inl (unchanged {T = T} h old new error stood keeps stays halts (halts.halts.1 (inl is) ∙ sym is)).0
-        before false goes = after (is_halted new) refl
-          where
-            after : (b : Bool) → is_halted new ≡ b → Comes {T = T} h commit new (Err error)
-            after false works = inl (unchanged {T = T} h old new error stood keeps stays halts (works ∙ sym goes)).0
-            after true stops = inr (halted_by error it stays halts goes stops)
+      pub comes : (result : Result T CoreError) → Commits files moment left_at honest old new why event result → OnErr result (Stays old new) → Halts failures refusals old new result → Comes h commit new result
+      comes (Ok value) it stays halts = came value it
+      comes (Err error) it stays halts = before (is_halted old) refl
+        where
+          before : (b : Bool) → is_halted old ≡ b → Comes {T = T} h commit new (Err error)
+          before true is = inl (unchanged {T = T} h old new error stood keeps stays halts (halts.halts.1 (inl is) ∙ sym is)).0
+          before false goes = after (is_halted new) refl
+            where
+              after : (b : Bool) → is_halted new ≡ b → Comes {T = T} h commit new (Err error)
+              after false works = inl (unchanged {T = T} h old new error stood keeps stays halts (works ∙ sym goes)).0
+              after true stops = inr (halted_by error it stays halts goes stops)
 
-    pub leaving : (result : Result T CoreError) → Commits files moment left_at honest old new why event result → OnErr result (Stays old new) → Halts failures refusals old new result → Leaving h commit old new
-    leaving (Ok value) it stays halts =
-        let goes = it.takes.working.0 in
-        inr (stood.settled goes, doubt_legal (it.takes.legal, tt), cut_short (Ok value) it goes)
-    leaving (Err error) it stays halts = before (is_halted old) refl
-      where
-        before : (b : Bool) → is_halted old ≡ b → Leaving h commit old new
-        before true is = inl (unchanged {T = T} h old new error stood keeps stays halts (halts.halts.1 (inl is) ∙ sym is)).1
-        before false goes = after (is_halted new) refl
-          where
-            after : (b : Bool) → is_halted new ≡ b → Leaving h commit old new
-            after false works = inl (unchanged {T = T} h old new error stood keeps stays halts (works ∙ sym goes)).1
-            after true stops = let it_is = halted_by error it stays halts goes stops in inr (it_is.0, it_is.2, cut_short (Err error) it goes)
+      pub leaving : (result : Result T CoreError) → Commits files moment left_at honest old new why event result → OnErr result (Stays old new) → Halts failures refusals old new result → Leaving h commit old new
+      leaving (Ok value) it stays halts =
+          let goes = it.takes.working.0 in
+          inr (stood.settled goes, doubt_legal (it.takes.legal, tt), cut_short (Ok value) it goes)
+      leaving (Err error) it stays halts = before (is_halted old) refl
+        where
+          before : (b : Bool) → is_halted old ≡ b → Leaving h commit old new
+          before true is = inl (unchanged {T = T} h old new error stood keeps stays halts (halts.halts.1 (inl is) ∙ sym is)).1
+          before false goes = after (is_halted new) refl
+            where
+              after : (b : Bool) → is_halted new ≡ b → Leaving h commit old new
+              after false works = inl (unchanged {T = T} h old new error stood keeps stays halts (works ∙ sym goes)).1
+              after true stops = let it_is = halted_by error it stays halts goes stops in inr (it_is.0, it_is.2, cut_short (Err error) it goes)
 
-  -- ---- a turnover
+    -- ---- a turnover
 
-  module _ (h : History) (old new : Core D) (stood : Stood h old) (keeps : Keeps files honest new) where
-    turning : (result : Result ℕ CoreError) → TurnsAs files moment left_at failures refusals honest old new result → is_halted old ≡ false → LeavesAt h old.vault.disk new.vault.disk
-    turning result it goes =
-        let gates = gated h old.vault.disk stood.leaves in
-        let moments = it.moments on goes in
-        both_hold old.vault.disk new.vault.disk (MayStand g h) HasGates
-        (weakened moment left_at old.vault.disk new.vault.disk (λ contents. Stands contents (graph old) (environment old) (facts old)) (MayStand g h) (moments.facts (gates (other_side old.vault.journal.side)))
-        (λ contents stands. stands_now g h old stood.has h.doubt contents stands))
-        (moments.gates gates)
+    module _ (h : History) (old new : Core D) (stood : Stood h old) (keeps : Keeps files honest new) where
+      turning : (result : Result ℕ CoreError) → TurnsAs files moment left_at failures refusals honest old new result → is_halted old ≡ false → LeavesAt h old.vault.disk new.vault.disk
+      turning result it goes =
+          let gates = gated h old.vault.disk stood.leaves in
+          let moments = it.moments on goes in
+          both_hold old.vault.disk new.vault.disk (MayStand g h) HasGates
+          (weakened moment left_at old.vault.disk new.vault.disk (λ contents. Stands contents (graph old) (environment old) (facts old)) (MayStand g h) (moments.facts (gates (other_side old.vault.journal.side)))
+          (λ contents stands. stands_now g h old stood.has h.doubt contents stands))
+          (moments.gates gates)
 
-    pub turned : (result : Result ℕ CoreError) → TurnsAs files moment left_at failures refusals honest old new result → Stood h new × LeavesAt h old.vault.disk new.vault.disk
-    turned (Ok generation) it =
-        let goes = it.ok.working.0 in
-        let same = it.ok.machine in
-        let leaves = turning (Ok generation) it goes in (
-          record {
-            has = record {
-              graph = ap (λ (m : Machine). m.graph) same ∙ stood.has.graph;
-              facts = λ fact. ap (λ (m : Machine). machine.facts m fact) same ∙ stood.has.facts fact;
-              environment = λ fact. ap (λ (m : Machine). machine.environment m fact) same ∙ stood.has.environment fact;
-            };
-            leaves = left_at_end h old.vault.disk new.vault.disk leaves;
-            settled = λ _. stood.settled goes;
-            keeps = keeps;
-          },
-          leaves,
-        )
-    turned (Err error) it = before (is_halted old) refl
-      where
-        stays : Stays old new
-        stays = it.err.stays
+      pub turned : (result : Result ℕ CoreError) → TurnsAs files moment left_at failures refusals honest old new result → Stood h new × LeavesAt h old.vault.disk new.vault.disk
+      turned (Ok generation) it =
+          let goes = it.ok.working.0 in
+          let same = it.ok.machine in
+          let leaves = turning (Ok generation) it goes in (
+            record {
+              has = record {
+                graph = ap (λ (m : Machine). m.graph) same ∙ stood.has.graph;
+                facts = λ fact. ap (λ (m : Machine). machine.facts m fact) same ∙ stood.has.facts fact;
+                environment = λ fact. ap (λ (m : Machine). machine.environment m fact) same ∙ stood.has.environment fact;
+              };
+              leaves = left_at_end h old.vault.disk new.vault.disk leaves;
+              settled = λ _. stood.settled goes;
+              keeps = keeps;
+            },
+            leaves,
+          )
+      turned (Err error) it = before (is_halted old) refl
+        where
+          stays : Stays old new
+          stays = it.err.stays
 
-        before : (b : Bool) → is_halted old ≡ b → Stood h new × LeavesAt h old.vault.disk new.vault.disk
-        before true is = unchanged {T = ℕ} h old new error stood keeps stays it.halts (it.halts.halts.1 (inl is) ∙ sym is)
-        before false goes = after (is_halted new) refl
-          where
-            after : (b : Bool) → is_halted new ≡ b → Stood h new × LeavesAt h old.vault.disk new.vault.disk
-            after false works = unchanged {T = ℕ} h old new error stood keeps stays it.halts (works ∙ sym goes)
-            after true stops =
-                let leaves = turning (Err error) it goes in (
-                  record {
-                    has = record {
-                      graph = stays.graph ∙ stood.has.graph;
-                      facts = λ fact. stays.facts fact ∙ stood.has.facts fact;
-                      environment = λ fact. stays.environment fact ∙ stood.has.environment fact;
-                    };
-                    leaves = left_at_end h old.vault.disk new.vault.disk leaves;
-                    settled = λ works. absurd (false≢true (sym works ∙ stops));
-                    keeps = keeps;
-                  },
-                  leaves,
-                )
+          before : (b : Bool) → is_halted old ≡ b → Stood h new × LeavesAt h old.vault.disk new.vault.disk
+          before true is = unchanged {T = ℕ} h old new error stood keeps stays it.halts (it.halts.halts.1 (inl is) ∙ sym is)
+          before false goes = after (is_halted new) refl
+            where
+              after : (b : Bool) → is_halted new ≡ b → Stood h new × LeavesAt h old.vault.disk new.vault.disk
+              after false works = unchanged {T = ℕ} h old new error stood keeps stays it.halts (works ∙ sym goes)
+              after true stops =
+                  let leaves = turning (Err error) it goes in (
+                    record {
+                      has = record {
+                        graph = stays.graph ∙ stood.has.graph;
+                        facts = λ fact. stays.facts fact ∙ stood.has.facts fact;
+                        environment = λ fact. stays.environment fact ∙ stood.has.environment fact;
+                      };
+                      leaves = left_at_end h old.vault.disk new.vault.disk leaves;
+                      settled = λ works. absurd (false≢true (sym works ∙ stops));
+                      keeps = keeps;
+                    },
+                    leaves,
+                  )

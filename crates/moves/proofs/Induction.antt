@@ -42,189 +42,195 @@ module _
     (now : (disk : D) (contents : Contents) → left_at disk (moment disk) contents ↔ MayLeaveNow (files disk) contents) (reads : (disk : D) → MayLeaveNow (files disk) (contents_of (files disk)))
     (held : HeldLeaves files moment left_at) (appends : AppendLeaves files moment left_at) (one : OneStore) (g : Graph)
   where
-  abbrev StoodHere : History → Core D → Type 0
-  StoodHere = Stood files moment left_at failures refusals honest on both now reads held appends g
+    abbrev StoodHere : History → Core D → Type 0
+    StoodHere = Stood files moment left_at failures refusals honest on both now reads held appends g
 
-  abbrev LeavesHere : History → D → D → Type 0
-  LeavesHere = LeavesAt files moment left_at failures refusals honest on both now reads held appends g
+    abbrev LeavesHere : History → D → D → Type 0
+    LeavesHere = LeavesAt files moment left_at failures refusals honest on both now reads held appends g
 
-  -- what is known at a place
-  abbrev At : History → Place D → Type 0
-  At h (at_core c) = StoodHere h c × IsLegal g h
-  At h (at_disk disk) = Leaves files g h disk × IsLegal g h
+    -- what is known at a place
+    abbrev At : History → Place D → Type 0
+    At h (at_core c) = StoodHere h c × IsLegal g h
+    At h (at_disk disk) = Leaves files g h disk × IsLegal g h
 
-  -- what a move makes of the order, and what is known then
-  abbrev GoesTo : Move D → History → Place D → Type 0
-  GoesTo move h place = (next : History) × Extends move h next × At next place
+    -- what a move makes of the order, and what is known then
+    abbrev GoesTo : Move D → History → Place D → Type 0
+    GoesTo move h place = (next : History) × Extends move h next × At next place
 
-  -- ---- whole calls
+    -- ---- whole calls
 
-  same_order : (h : History) → h ≡ record { made = h.made ++ []; doubt = h.doubt }
-  same_order h = λ i. record { made = sym (append-nil h.made) i; doubt = h.doubt }
+    same_order : (h : History) → h ≡ record { made = h.made ++ []; doubt = h.doubt }
+    same_order h = λ i. record { made = sym (append-nil h.made) i; doubt = h.doubt }
 
-  -- a call that leaves the order as it is
-  stays_whole : (call : Call) (h : History) (new : Core D) → acknowledged call ≡ [] → StoodHere h new → IsLegal g h → GoesTo (whole call) h (at_core new)
-  stays_whole call h new none stood legal =
-      (h, inl (same_order h ∙ ap (λ (commits : List Commit). record { made = h.made ++ commits; doubt = h.doubt }) (sym none)), (stood, legal))
+    -- a call that leaves the order as it is
+    stays_whole : (call : Call) (h : History) (new : Core D) → acknowledged call ≡ [] → StoodHere h new → IsLegal g h → GoesTo (whole call) h (at_core new)
+    stays_whole call h new none stood legal =
+        (h, inl (same_order h ∙ ap (λ (commits : List Commit). record { made = h.made ++ commits; doubt = h.doubt }) (sym none)), (stood, legal))
 
-  -- a call that committed an event, or did not
-  committed : (call : Call) (h : History) (commit : Commit) (new : Core D) → acknowledged call ≡ commit ∷ [] → StoodHere (with_commit h commit) new × IsLegal g (with_commit h commit) → GoesTo (whole call) h (at_core new)
-  committed call h commit new is it = (with_commit h commit, inl (ap (λ (commits : List Commit). record { made = h.made ++ commits; doubt = h.doubt }) (sym is)), it)
+    -- a call that committed an event, or did not
+    committed : (call : Call) (h : History) (commit : Commit) (new : Core D) → acknowledged call ≡ commit ∷ [] → StoodHere (with_commit h commit) new × IsLegal g (with_commit h commit) → GoesTo (whole call) h (at_core new)
+    committed call h commit new is it = (with_commit h commit, inl (ap (λ (commits : List Commit). record { made = h.made ++ commits; doubt = h.doubt }) (sym is)), it)
 
-  refused : (call : Call) (h : History) (commit : Commit) (new : Core D) → acknowledged call ≡ [] → Tries call commit → IsLegal g h
-      → StoodHere h new ⊎ ((h.doubt ≡ []) × StoodHere (with_doubt h commit) new × IsLegal g (with_doubt h commit)) → GoesTo (whole call) h (at_core new)
-  refused call h commit new none tries legal (inl stood) = stays_whole call h new none stood legal
-  refused call h commit new none tries legal (inr doubt) = (with_doubt h commit, inr (none, (commit, tries, doubt.0, refl)), (doubt.1, doubt.2))
+    refused : (call : Call) (h : History) (commit : Commit) (new : Core D) → acknowledged call ≡ [] → Tries call commit → IsLegal g h
+        → StoodHere h new ⊎ ((h.doubt ≡ []) × StoodHere (with_doubt h commit) new × IsLegal g (with_doubt h commit)) → GoesTo (whole call) h (at_core new)
+    refused call h commit new none tries legal (inl stood) = stays_whole call h new none stood legal
+    refused call h commit new none tries legal (inr doubt) = (with_doubt h commit, inr (none, (commit, tries, doubt.0, refl)), (doubt.1, doubt.2))
 
-  -- ---- calls that were cut off
+    -- ---- calls that were cut off
 
-  cut_still : (call : Call) (h : History) (old new : Core D) (disk : D) → LeavesHere h old.vault.disk new.vault.disk → IsLeft files moment left_at old.vault.disk new.vault.disk disk → IsLegal g h → GoesTo (cut call new) h (at_disk disk)
-  cut_still call h old new disk leaves left legal =
-      (h, inl refl, (crashed files moment left_at failures refusals honest on both now reads held appends g h old.vault.disk new.vault.disk disk leaves left, legal))
+    cut_still : (call : Call) (h : History) (old new : Core D) (disk : D) → LeavesHere h old.vault.disk new.vault.disk → IsLeft files moment left_at old.vault.disk new.vault.disk disk → IsLegal g h → GoesTo (cut call new) h (at_disk disk)
+    cut_still call h old new disk leaves left legal =
+        (h, inl refl, (crashed files moment left_at failures refusals honest on both now reads held appends g h old.vault.disk new.vault.disk disk leaves left, legal))
 
-  cut_commit : (call : Call) (h : History) (commit : Commit) (old new : Core D) (disk : D) → Tries call commit → IsLegal g h → IsLeft files moment left_at old.vault.disk new.vault.disk disk
-      → Leaving files moment left_at failures refusals honest on both now reads held appends g h commit old new → GoesTo (cut call new) h (at_disk disk)
-  cut_commit call h commit old new disk tries legal left (inl leaves) = cut_still call h old new disk leaves left legal
-  cut_commit call h commit old new disk tries legal left (inr doubt) = (
-    with_doubt h commit,
-    inr (commit, tries, doubt.0, refl),
-    (crashed files moment left_at failures refusals honest on both now reads held appends g (with_doubt h commit) old.vault.disk new.vault.disk disk doubt.2 left, doubt.1),
-  )
-
-  -- ---- each call
-
-  stays_of : {T : Type 0} (old new : Core D) (result : Result T CoreError) → OnErr result (IsUnchanged old new) → OnErr result (Stays old new)
-  stays_of old new (Ok value) unchanged = tt
-  stays_of old new (Err error) unchanged = unchanged.stays
-
-  back_of : {T : Type 0} (old new : Core D) (task : _) (result : Result T CoreError) → OnErr result (GivesBack old new task) → OnErr result (Stays old new)
-  back_of old new task (Ok value) back = tt
-  back_of old new task (Err error) back = back.stays
-
-  module _ (h : History) (old new : Core D) (stood : StoodHere h old) (keeps : Keeps files honest new) (legal : IsLegal g h) where
-    by_call : (call : Call) → Does files moment left_at failures refusals honest call old new → GoesTo (whole call) h (at_core new)
-    by_call (puts_item address value (Ok done)) does =
-        committed (puts_item address value (Ok done)) h (EnvItem address value ∷ []) new refl
-        (comes files moment left_at failures refusals honest on both now reads held appends g h old new (EnvItem address value) (RefusesItem (graph old) (facts old) address) stood keeps legal (Ok done) does.commits tt does.halts)
-    by_call (puts_item address value (Err error)) does =
-        refused (puts_item address value (Err error)) h (EnvItem address value ∷ []) new refl refl legal
-        (comes files moment left_at failures refusals honest on both now reads held appends g {T = Unit {0}} h old new (EnvItem address value) (RefusesItem (graph old) (facts old) address) stood keeps legal (Err error) does.commits does.unchanged.stays does.halts)
-    by_call (puts_tag name (Ok done)) does =
-        committed (puts_tag name (Ok done)) h (EnvTag name ∷ []) new refl
-        (comes files moment left_at failures refusals honest on both now reads held appends g h old new (EnvTag name) (RefusesTag (graph old) (facts old) name) stood keeps legal (Ok done) does.commits tt does.halts)
-    by_call (puts_tag name (Err error)) does =
-        refused (puts_tag name (Err error)) h (EnvTag name ∷ []) new refl refl legal
-        (comes files moment left_at failures refusals honest on both now reads held appends g {T = Unit {0}} h old new (EnvTag name) (RefusesTag (graph old) (facts old) name) stood keeps legal (Err error) does.commits does.unchanged.stays does.halts)
-    by_call (finishes instance outcome (Ok told)) does =
-        let end = does.finishes.end in
-        let is : end ≡ end_of told instance outcome = end_is_told told instance outcome end does.finishes.is_end does.finishes.told in
-        committed (finishes instance outcome (Ok told)) h (end ∷ []) new (ap (λ (event : Event). (event ∷ []) ∷ []) (sym is))
-        (comes files moment left_at failures refusals honest on both now reads held appends g h old new end (RefusesEnd (facts old)) stood keeps legal (Ok told) does.finishes.commits tt does.halts)
-    by_call (finishes instance outcome (Err error)) does =
-        let end = does.finishes.end in
-        refused (finishes instance outcome (Err error)) h (end ∷ []) new refl (end, does.finishes.is_end, refl) legal
-        (comes files moment left_at failures refusals honest on both now reads held appends g {T = Committed} h old new end (RefusesEnd (facts old)) stood keeps legal (Err error) does.finishes.commits does.err.stays does.halts)
-    by_call (claims at result) does =
-        stays_whole (claims at result) h new refl (rests files moment left_at failures refusals honest on both now reads held appends g h old new stood keeps (claimed old new at result does)).0 legal
-    by_call (parks instance address result) does =
-        stays_whole (parks instance address result) h new refl (rests files moment left_at failures refusals honest on both now reads held appends g h old new stood keeps (parked old new instance address result does)).0 legal
-    by_call (releases instance) does =
-        stays_whole (releases instance) h new refl (rests files moment left_at failures refusals honest on both now reads held appends g h old new stood keeps (moved old new instance Ready does)).0 legal
-    by_call (turns result) does =
-        stays_whole (turns result) h new refl (turned files moment left_at failures refusals honest on both now reads held appends g h old new stood keeps result does).0 legal
-    by_call (allows count result) does =
-        stays_whole (allows count result) h new refl (rests files moment left_at failures refusals honest on both now reads held appends g h old new stood keeps (allowed old new count result does)).0 legal
-
-    by_cut : (call : Call) (disk : D) → Does files moment left_at failures refusals honest call old new → IsLeft files moment left_at old.vault.disk new.vault.disk disk → GoesTo (cut call new) h (at_disk disk)
-    by_cut (puts_item address value result) disk does left =
-        cut_commit (puts_item address value result) h (EnvItem address value ∷ []) old new disk refl legal left
-        (leaving files moment left_at failures refusals honest on both now reads held appends g h old new (EnvItem address value) (RefusesItem (graph old) (facts old) address) stood keeps legal result does.commits (stays_of old new result does.unchanged) does.halts)
-    by_cut (puts_tag name result) disk does left =
-        cut_commit (puts_tag name result) h (EnvTag name ∷ []) old new disk refl legal left
-        (leaving files moment left_at failures refusals honest on both now reads held appends g h old new (EnvTag name) (RefusesTag (graph old) (facts old) name) stood keeps legal result does.commits (stays_of old new result does.unchanged) does.halts)
-    by_cut (finishes instance outcome result) disk does left =
-        cut_commit (finishes instance outcome result) h (does.finishes.end ∷ []) old new disk (does.finishes.end, does.finishes.is_end, refl) legal left
-        (leaving files moment left_at failures refusals honest on both now reads held appends g h old new does.finishes.end (RefusesEnd (facts old)) stood keeps legal result does.finishes.commits (back_of old new instance result does.err) does.halts)
-    by_cut (claims at result) disk does left =
-        cut_still (claims at result) h old new disk (rests files moment left_at failures refusals honest on both now reads held appends g h old new stood keeps (claimed old new at result does)).1 left legal
-    by_cut (parks instance address result) disk does left =
-        cut_still (parks instance address result) h old new disk (rests files moment left_at failures refusals honest on both now reads held appends g h old new stood keeps (parked old new instance address result does)).1 left legal
-    by_cut (releases instance) disk does left =
-        cut_still (releases instance) h old new disk (rests files moment left_at failures refusals honest on both now reads held appends g h old new stood keeps (moved old new instance Ready does)).1 left legal
-    by_cut (turns result) disk does left =
-        cut_still (turns result) h old new disk (turned files moment left_at failures refusals honest on both now reads held appends g h old new stood keeps result does).1 left legal
-    by_cut (allows count result) disk does left =
-        cut_still (allows count result) h old new disk (rests files moment left_at failures refusals honest on both now reads held appends g h old new stood keeps (allowed old new count result does)).1 left legal
-
-  -- ---- each move
-
-  step : (move : Move D) (from to : Place D) (h : History) → At h from → Leads files moment left_at failures refusals honest move from to → GoesTo move h to
-  step (whole call) (at_core old) (at_core new) h at leads = by_call h old new at.0 leads.1 at.1 call leads.0
-  step (cut call new) (at_core old) (at_disk disk) h at leads = by_cut h old new at.0 leads.1 at.1 call disk leads.0 leads.2
-  step crashes (at_core c) (at_disk disk) h at leads = (
-    h,
-    refl,
-    (crashed files moment left_at failures refusals honest on both now reads held appends g h c.vault.disk c.vault.disk disk
-        (rest_leaves files moment left_at failures refusals honest on both now reads held appends g h c.vault.disk at.0.leaves) leads, at.1),
-  )
-  step gives_back (at_core c) (at_disk disk) h at leads = (h, refl, (subst (λ (d : D). Leaves files g h d) (sym leads) at.0.leaves, at.1))
-  step crashes_again (at_disk before) (at_disk disk) h at leads = (
-    h,
-    refl,
-    (crashed files moment left_at failures refusals honest on both now reads held appends g h before before disk
-        (rest_leaves files moment left_at failures refusals honest on both now reads held appends g h before at.0) leads, at.1),
-  )
-  step (opens (Ok core)) (at_disk disk) (at_core opened) h at leads =
-      let it = opened_well files moment left_at failures refusals honest on both now reads held appends g one h disk core at.0 at.1 leads.0 leads.2 in
-      let next : History = record { made = h.made ++ it.0; doubt = [] } in
-      (next, (it.0, it.1, it.2, refl), (subst (λ (c : Core D). StoodHere next c) (sym leads.1) it.3, it.4))
-  step (opens (Err back)) (at_disk disk) (at_disk given) h at leads =
-      (h, refl, (subst (λ (d : D). Leaves files g h d) (sym leads.1) (only_read files moment left_at failures refusals honest on both now reads held appends g h disk back.disk at.0 (leads.0.only_reads on)), at.1))
-  step (opening_cut result) (at_disk before) (at_disk disk) h at leads =
-      (h, refl, (cut_reading files moment left_at failures refusals honest on both now reads held appends g h before _ disk at.0 (leads.0.only_reads on) leads.1, at.1))
-  step move from to h at leads = absurd leads
-
-  all_steps : (moves : List (Move D)) (from to : Place D) (h : History) → At h from → LeadsAll files moment left_at failures refusals honest moves from to → (last : History) × ExtendsAll moves h last × At last to
-  all_steps [] from to h at leads = (h, refl, subst (At h) (sym leads) at)
-  all_steps (move ∷ moves) from to h at leads =
-      let first = step move from leads.0 h at leads.1 in
-      let rest = all_steps moves leads.0 to first.0 first.2 leads.2 in
-      (rest.0, (first.0, first.1, rest.1), rest.2)
-
-  -- ---- what holds then
-
-  module _ (as_set : LegalAsSet) (is_within : ReachedIsWithin) (meaning : ReachedIsMeaning) (stopped_or_quiet : ReachedStoppedOrQuiet) where
-    there : (h : History) (place : Place D) → At h place → IsThere files g h place
-    there h (at_core c) at = (at.0.has, at.0.leaves)
-    there h (at_disk disk) at = at.0
-
-    meant : (h : History) (place : Place D) → At h place → Means files moment left_at failures refusals honest g place
-    meant h (at_core c) at = (
-      means as_set is_within meaning stopped_or_quiet g h c at.0.has at.0.keeps.machine at.1,
-      stands_within as_set is_within meaning stopped_or_quiet g files moment left_at failures refusals honest one h c.vault.disk at.0.leaves at.1,
-    )
-    meant h (at_disk disk) at = (
-      stands_within as_set is_within meaning stopped_or_quiet g files moment left_at failures refusals honest one h disk at.0 at.1,
-      opens_or_errs files moment left_at failures refusals honest on both now reads held appends g h disk at.0,
+    cut_commit : (call : Call) (h : History) (commit : Commit) (old new : Core D) (disk : D) → Tries call commit → IsLegal g h → IsLeft files moment left_at old.vault.disk new.vault.disk disk
+        → Leaving files moment left_at failures refusals honest on both now reads held appends g h commit old new → GoesTo (cut call new) h (at_disk disk)
+    cut_commit call h commit old new disk tries legal left (inl leaves) = cut_still call h old new disk leaves left legal
+    cut_commit call h commit old new disk tries legal left (inr doubt) = (
+      with_doubt h commit,
+      inr (commit, tries, doubt.0, refl),
+      (crashed files moment left_at failures refusals honest on both now reads held appends g (with_doubt h commit) old.vault.disk new.vault.disk disk doubt.2 left, doubt.1),
     )
 
-    legal_at : (h : History) (place : Place D) → At h place → IsLegal g h
-    legal_at h (at_core c) at = at.1
-    legal_at h (at_disk disk) at = at.1
+    -- ---- each call
 
-    pub holds : (moves : List (Move D)) (place : Place D) (core : Core D) → StoodHere begun_order core → LeadsAll files moment left_at failures refusals honest moves (at_core core) place
-        → Holds files moment left_at failures refusals honest g moves place
-    holds moves place core stood leads =
-        let it = all_steps moves (at_core core) place begun_order (stood, tt) leads in
-        let last = it.0 in
-        record {
-          history = last;
-          order = it.1;
-          acknowledged = λ before after call is. acknowledged_there D before after call begun_order last (subst (λ (list : List (Move D)). ExtendsAll list begun_order last) is it.1);
-          legal = (as_set g [] (events_of (last.made ++ last.doubt))).1 (legal_at last place it.2);
-          is_there = there last place it.2;
-          means = meant last place it.2;
-        }
+    stays_of : {T : Type 0} (old new : Core D) (result : Result T CoreError) → OnErr result (IsUnchanged old new) → OnErr result (Stays old new)
+    stays_of old new (Ok value) unchanged = tt
+    stays_of old new (Err error) unchanged = unchanged.stays
+
+    back_of : {T : Type 0} (old new : Core D) (task : _) (result : Result T CoreError) → OnErr result (GivesBack old new task) → OnErr result (Stays old new)
+    back_of old new task (Ok value) back = tt
+    back_of old new task (Err error) back = back.stays
+
+    module _ (h : History) (old new : Core D) (stood : StoodHere h old) (keeps : Keeps files honest new) (legal : IsLegal g h) where
+      by_call : (call : Call) → Does files moment left_at failures refusals honest call old new → GoesTo (whole call) h (at_core new)
+      by_call (puts_item address value (Ok done)) does =
+          committed (puts_item address value (Ok done)) h (EnvItem address value ∷ []) new refl
+          (comes files moment left_at failures refusals honest on both now reads held appends g h old new (EnvItem address value) (RefusesItem (graph old) (facts old) address) stood keeps legal (Ok done) does.commits tt does.halts)
+      by_call (puts_item address value (Err error)) does =
+          refused (puts_item address value (Err error)) h (EnvItem address value ∷ []) new refl refl legal
+          (comes files moment left_at failures refusals honest on both now reads held appends g {T = Unit {0}} h old new (EnvItem address value) (RefusesItem (graph old) (facts old) address) stood keeps legal (Err error) does.commits does.unchanged.stays does.halts)
+      by_call (puts_tag name (Ok done)) does =
+          committed (puts_tag name (Ok done)) h (EnvTag name ∷ []) new refl
+          (comes files moment left_at failures refusals honest on both now reads held appends g h old new (EnvTag name) (RefusesTag (graph old) (facts old) name) stood keeps legal (Ok done) does.commits tt does.halts)
+      by_call (puts_tag name (Err error)) does =
+          refused (puts_tag name (Err error)) h (EnvTag name ∷ []) new refl refl legal
+          (comes files moment left_at failures refusals honest on both now reads held appends g {T = Unit {0}} h old new (EnvTag name) (RefusesTag (graph old) (facts old) name) stood keeps legal (Err error) does.commits does.unchanged.stays does.halts)
+      by_call (finishes instance outcome (Ok told)) does =
+          let end = does.finishes.end in
+          let is : end ≡ end_of told instance outcome = end_is_told told instance outcome end does.finishes.is_end does.finishes.told in
+          committed (finishes instance outcome (Ok told)) h (end ∷ []) new (ap (λ (event : Event). (event ∷ []) ∷ []) (sym is))
+          (comes files moment left_at failures refusals honest on both now reads held appends g h old new end (RefusesEnd (facts old)) stood keeps legal (Ok told) does.finishes.commits tt does.halts)
+      by_call (finishes instance outcome (Err error)) does =
+          let end = does.finishes.end in
+          refused (finishes instance outcome (Err error)) h (end ∷ []) new refl (end, does.finishes.is_end, refl) legal
+          (comes files moment left_at failures refusals honest on both now reads held appends g {T = Committed} h old new end (RefusesEnd (facts old)) stood keeps legal (Err error) does.finishes.commits does.err.stays does.halts)
+      by_call (claims at result) does =
+          stays_whole (claims at result) h new refl (rests files moment left_at failures refusals honest on both now reads held appends g h old new stood keeps (claimed old new at result does)).0 legal
+      by_call (parks instance address result) does =
+          stays_whole (parks instance address result) h new refl (rests files moment left_at failures refusals honest on both now reads held appends g h old new stood keeps (parked old new instance address result does)).0 legal
+      by_call (releases instance) does =
+          stays_whole (releases instance) h new refl (rests files moment left_at failures refusals honest on both now reads held appends g h old new stood keeps (moved old new instance Ready does)).0 legal
+      by_call (turns result) does =
+          stays_whole (turns result) h new refl (turned files moment left_at failures refusals honest on both now reads held appends g h old new stood keeps result does).0 legal
+      by_call (allows count result) does =
+          stays_whole (allows count result) h new refl (rests files moment left_at failures refusals honest on both now reads held appends g h old new stood keeps (allowed old new count result does)).0 legal
+
+      by_cut : (call : Call) (disk : D) → Does files moment left_at failures refusals honest call old new → IsLeft files moment left_at old.vault.disk new.vault.disk disk → GoesTo (cut call new) h (at_disk disk)
+      by_cut (puts_item address value result) disk does left =
+          cut_commit (puts_item address value result) h (EnvItem address value ∷ []) old new disk refl legal left
+          (leaving files moment left_at failures refusals honest on both now reads held appends g h old new (EnvItem address value) (RefusesItem (graph old) (facts old) address) stood keeps legal result does.commits (stays_of old new result does.unchanged) does.halts)
+      by_cut (puts_tag name result) disk does left =
+          cut_commit (puts_tag name result) h (EnvTag name ∷ []) old new disk refl legal left
+          (leaving files moment left_at failures refusals honest on both now reads held appends g h old new (EnvTag name) (RefusesTag (graph old) (facts old) name) stood keeps legal result does.commits (stays_of old new result does.unchanged) does.halts)
+      by_cut (finishes instance outcome result) disk does left =
+          cut_commit (finishes instance outcome result) h (does.finishes.end ∷ []) old new disk (does.finishes.end, does.finishes.is_end, refl) legal left
+          (leaving files moment left_at failures refusals honest on both now reads held appends g h old new does.finishes.end (RefusesEnd (facts old)) stood keeps legal result does.finishes.commits (back_of old new instance result does.err) does.halts)
+      by_cut (claims at result) disk does left =
+          cut_still (claims at result) h old new disk (rests files moment left_at failures refusals honest on both now reads held appends g h old new stood keeps (claimed old new at result does)).1 left legal
+      by_cut (parks instance address result) disk does left =
+          cut_still (parks instance address result) h old new disk (rests files moment left_at failures refusals honest on both now reads held appends g h old new stood keeps (parked old new instance address result does)).1 left legal
+      by_cut (releases instance) disk does left =
+          cut_still (releases instance) h old new disk (rests files moment left_at failures refusals honest on both now reads held appends g h old new stood keeps (moved old new instance Ready does)).1 left legal
+      by_cut (turns result) disk does left =
+          cut_still (turns result) h old new disk (turned files moment left_at failures refusals honest on both now reads held appends g h old new stood keeps result does).1 left legal
+      by_cut (allows count result) disk does left =
+          cut_still (allows count result) h old new disk (rests files moment left_at failures refusals honest on both now reads held appends g h old new stood keeps (allowed old new count result does)).1 left legal
+
+    -- ---- each move
+
+    step : (move : Move D) (from to : Place D) (h : History) → At h from → Leads files moment left_at failures refusals honest move from to → GoesTo move h to
+    step (whole call) (at_core old) (at_core new) h at leads = by_call h old new at.0 leads.1 at.1 call leads.0
+    step (cut call new) (at_core old) (at_disk disk) h at leads = by_cut h old new at.0 leads.1 at.1 call disk leads.0 leads.2
+    step crashes (at_core c) (at_disk disk) h at leads = (
+      h,
+      refl,
+      (
+        crashed files moment left_at failures refusals honest on both now reads held appends g h c.vault.disk c.vault.disk disk
+            (rest_leaves files moment left_at failures refusals honest on both now reads held appends g h c.vault.disk at.0.leaves) leads,
+        at.1,
+      ),
+    )
+    step gives_back (at_core c) (at_disk disk) h at leads = (h, refl, (subst (λ (d : D). Leaves files g h d) (sym leads) at.0.leaves, at.1))
+    step crashes_again (at_disk before) (at_disk disk) h at leads = (
+      h,
+      refl,
+      (
+        crashed files moment left_at failures refusals honest on both now reads held appends g h before before disk
+            (rest_leaves files moment left_at failures refusals honest on both now reads held appends g h before at.0) leads,
+        at.1,
+      ),
+    )
+    step (opens (Ok core)) (at_disk disk) (at_core opened) h at leads =
+        let it = opened_well files moment left_at failures refusals honest on both now reads held appends g one h disk core at.0 at.1 leads.0 leads.2 in
+        let next : History = record { made = h.made ++ it.0; doubt = [] } in
+        (next, (it.0, it.1, it.2, refl), (subst (λ (c : Core D). StoodHere next c) (sym leads.1) it.3, it.4))
+    step (opens (Err back)) (at_disk disk) (at_disk given) h at leads =
+        (h, refl, (subst (λ (d : D). Leaves files g h d) (sym leads.1) (only_read files moment left_at failures refusals honest on both now reads held appends g h disk back.disk at.0 (leads.0.only_reads on)), at.1))
+    step (opening_cut result) (at_disk before) (at_disk disk) h at leads =
+        (h, refl, (cut_reading files moment left_at failures refusals honest on both now reads held appends g h before _ disk at.0 (leads.0.only_reads on) leads.1, at.1))
+    step move from to h at leads = absurd leads
+
+    all_steps : (moves : List (Move D)) (from to : Place D) (h : History) → At h from → LeadsAll files moment left_at failures refusals honest moves from to → (last : History) × ExtendsAll moves h last × At last to
+    all_steps [] from to h at leads = (h, refl, subst (At h) (sym leads) at)
+    all_steps (move ∷ moves) from to h at leads =
+        let first = step move from leads.0 h at leads.1 in
+        let rest = all_steps moves leads.0 to first.0 first.2 leads.2 in
+        (rest.0, (first.0, first.1, rest.1), rest.2)
+
+    -- ---- what holds then
+
+    module _ (as_set : LegalAsSet) (is_within : ReachedIsWithin) (meaning : ReachedIsMeaning) (stopped_or_quiet : ReachedStoppedOrQuiet) where
+      there : (h : History) (place : Place D) → At h place → IsThere files g h place
+      there h (at_core c) at = (at.0.has, at.0.leaves)
+      there h (at_disk disk) at = at.0
+
+      meant : (h : History) (place : Place D) → At h place → Means files moment left_at failures refusals honest g place
+      meant h (at_core c) at = (
+        means as_set is_within meaning stopped_or_quiet g h c at.0.has at.0.keeps.machine at.1,
+        stands_within as_set is_within meaning stopped_or_quiet g files moment left_at failures refusals honest one h c.vault.disk at.0.leaves at.1,
+      )
+      meant h (at_disk disk) at = (
+        stands_within as_set is_within meaning stopped_or_quiet g files moment left_at failures refusals honest one h disk at.0 at.1,
+        opens_or_errs files moment left_at failures refusals honest on both now reads held appends g h disk at.0,
+      )
+
+      legal_at : (h : History) (place : Place D) → At h place → IsLegal g h
+      legal_at h (at_core c) at = at.1
+      legal_at h (at_disk disk) at = at.1
+
+      pub holds : (moves : List (Move D)) (place : Place D) (core : Core D) → StoodHere begun_order core → LeadsAll files moment left_at failures refusals honest moves (at_core core) place
+          → Holds files moment left_at failures refusals honest g moves place
+      holds moves place core stood leads =
+          let it = all_steps moves (at_core core) place begun_order (stood, tt) leads in
+          let last = it.0 in
+          record {
+            history = last;
+            order = it.1;
+            acknowledged = λ before after call is. acknowledged_there D before after call begun_order last (subst (λ (list : List (Move D)). ExtendsAll list begun_order last) is it.1);
+            legal = (as_set g [] (events_of (last.made ++ last.doubt))).1 (legal_at last place it.2);
+            is_there = there last place it.2;
+            means = meant last place it.2;
+          }
 
 module _
     {D : Type 0} (files : D → Side → File) (moment : D → ℕ) (left_at : D → ℕ → Contents → Type 0) (failures refusals : D → ℕ) (honest : Type 0) (on : honest) (both : AmongBoth)
@@ -232,8 +238,8 @@ module _
     (held : HeldLeaves files moment left_at) (appends : AppendLeaves files moment left_at) (rest : GatesRest files moment left_at) (one : OneStore)
     (as_set : LegalAsSet) (is_within : ReachedIsWithin) (meaning : ReachedIsMeaning) (stopped_or_quiet : ReachedStoppedOrQuiet)
   where
-  pub for_every_schedule : ForEverySchedule files moment left_at failures refusals honest
-  for_every_schedule text core moves place is_created keeps leads =
-      let g = graph core in
-      let stood = created files moment left_at failures refusals honest on both now reads held appends g rest text core refl is_created keeps in
-      holds files moment left_at failures refusals honest on both now reads held appends one g as_set is_within meaning stopped_or_quiet moves place core stood leads
+    pub for_every_schedule : ForEverySchedule files moment left_at failures refusals honest
+    for_every_schedule text core moves place is_created keeps leads =
+        let g = graph core in
+        let stood = created files moment left_at failures refusals honest on both now reads held appends g rest text core refl is_created keeps in
+        holds files moment left_at failures refusals honest on both now reads held appends one g as_set is_within meaning stopped_or_quiet moves place core stood leads

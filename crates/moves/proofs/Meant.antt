@@ -62,7 +62,7 @@ module _ (as_set : LegalAsSet) (is_within : ReachedIsWithin) (meaning : ReachedI
       let made = prefix_legal g h.made h.doubt (h.made ++ h.doubt) refl legal in
       let here : IsReached g (environment c) (facts c) = reached h.made (environment c) (facts c) made has.facts has.environment in
       let quiet : (blocked : ℕ) → TellsStatus c (Quiet blocked) → IsQuiet g (facts c) = λ blocked told.
-          subst (λ (k : Graph). IsQuiet k (facts c)) has.graph (is_quiet c.machine kept told.0 told.1) in
+      subst (λ (k : Graph). IsQuiet k (facts c)) has.graph (is_quiet c.machine kept told.0 told.1) in
       record {
         within = is_within g (environment c) (facts c) here;
         quiet = λ blocked told. let it = quiet blocked told in (it, (meaning g (environment c) (facts c) here it));
@@ -72,7 +72,7 @@ module _ (as_set : LegalAsSet) (is_within : ReachedIsWithin) (meaning : ReachedI
         stopped = λ instance kind told. (
           is_within g (environment c) (facts c) here (bad instance kind) told,
           λ events other same none.
-          stopped_or_quiet g (environment c) (facts c) (stated events) instance kind here told (record { events = events; legal = other; facts = λ fact. refl; environment = same }) none,
+              stopped_or_quiet g (environment c) (facts c) (stated events) instance kind here told (record { events = events; legal = other; facts = λ fact. refl; environment = same }) none,
         );
       }
 

@@ -35,74 +35,74 @@ module _
     (now : (disk : D) (contents : Contents) → left_at disk (moment disk) contents ↔ MayLeaveNow (files disk) contents) (reads : (disk : D) → MayLeaveNow (files disk) (contents_of (files disk)))
     (held : HeldLeaves files moment left_at) (appends : AppendLeaves files moment left_at) (g : Graph)
   where
-  abbrev StoodHere : History → Core D → Type 0
-  StoodHere = Stood files moment left_at failures refusals honest on both now reads held appends g
+    abbrev StoodHere : History → Core D → Type 0
+    StoodHere = Stood files moment left_at failures refusals honest on both now reads held appends g
 
-  abbrev LeavesHere : History → D → D → Type 0
-  LeavesHere = LeavesAt files moment left_at failures refusals honest on both now reads held appends g
+    abbrev LeavesHere : History → D → D → Type 0
+    LeavesHere = LeavesAt files moment left_at failures refusals honest on both now reads held appends g
 
-  -- a crash at a moment when a crash leaves what is known
-  pub crashed : (h : History) (old new disk : D) → LeavesHere h old new → IsLeft files moment left_at old new disk → Leaves files g h disk
-  crashed h old new disk leaving left contents may = leaving.each left.struck contents left.begun left.ended (left.crash contents may)
+    -- a crash at a moment when a crash leaves what is known
+    pub crashed : (h : History) (old new disk : D) → LeavesHere h old new → IsLeft files moment left_at old new disk → Leaves files g h disk
+    crashed h old new disk leaving left contents may = leaving.each left.struck contents left.begun left.ended (left.crash contents may)
 
-  -- calls that only read
-  pub only_read : (h : History) (disk new : D) → Leaves files g h disk → OnlyReads files moment left_at disk new → Leaves files g h new
-  only_read h disk new leaves reading contents may = leaves contents (reading.left contents may)
+    -- calls that only read
+    pub only_read : (h : History) (disk new : D) → Leaves files g h disk → OnlyReads files moment left_at disk new → Leaves files g h new
+    only_read h disk new leaves reading contents may = leaves contents (reading.left contents may)
 
-  pub cut_reading : (h : History) (disk new left : D) → Leaves files g h disk → OnlyReads files moment left_at disk new → IsLeft files moment left_at disk new left → Leaves files g h left
-  cut_reading h disk new left leaves reading was contents may = leaves contents (reading.any_moment.each was.struck contents was.begun was.ended (was.crash contents may))
+    pub cut_reading : (h : History) (disk new left : D) → Leaves files g h disk → OnlyReads files moment left_at disk new → IsLeft files moment left_at disk new left → Leaves files g h left
+    cut_reading h disk new left leaves reading was contents may = leaves contents (reading.any_moment.each was.struck contents was.begun was.ended (was.crash contents may))
 
-  -- a new store
-  pub created : GatesRest files moment left_at → (text : List ℕ) (core : Core D) → graph core ≡ g → IsCreated files honest text core → Keeps files honest core → StoodHere begun_order core
-  created rest text core is is_created keeps =
-      let opened = is_created.opened in
-      let has : Has g begun_order core = record { graph = is; facts = is_created.facts; environment = is_created.environment } in
-      let gates = rest core.vault (graph core) (environment core) (facts core) ((keeps.kept on).holds opened.working) (is_created.gates on) in
-      record {
-        has = has;
-        leaves = held_now files moment left_at failures refusals honest on both now reads held appends g begun_order core has keeps opened.working
-            (λ contents may. gates.each (moment core.vault.disk) contents gates.later gates.later ((now core.vault.disk contents).1 may));
-        settled = λ _. refl;
-        keeps = keeps;
-      }
-
-  -- an opening that returned a core: it found a prefix of what was in doubt
-  pub opened_well : OneStore → (h : History) (disk : D) (core : Core D) → Leaves files g h disk → IsLegal g h → OpensAs files moment left_at failures refusals honest disk (Ok core) → Keeps files honest core
-      → (found : List Commit) × (lost : List Commit) × (h.doubt ≡ found ++ lost) × StoodHere (with_found h found) core × IsLegal g (with_found h found)
-  opened_well one h disk core leaves legal opens keeps =
-      let before = leaves (contents_of (files disk)) (reads disk) in
-      let stands = before.0 in
-      let made = h.made ++ stands.made in
-      let same = one (contents_of (files disk)) g (graph core) (environment_behind nothing made) (environment core) (facts_behind nothing made) (facts core) stands.stands (opens.finds on) in
-      let working = opens.opened.working in
-      let has : Has g (with_found h stands.made) core = record { graph = sym same.0; facts = λ fact. sym (same.2 fact); environment = λ fact. sym (same.1 fact) } in
-      let whole : h.made ++ h.doubt ≡ made ++ stands.later = ap (λ (doubt : List Commit). h.made ++ doubt) stands.beginning ∙ sym (append_assoc h.made stands.made stands.later) in (
-        stands.made,
-        stands.later,
-        stands.beginning,
+    -- a new store
+    pub created : GatesRest files moment left_at → (text : List ℕ) (core : Core D) → graph core ≡ g → IsCreated files honest text core → Keeps files honest core → StoodHere begun_order core
+    created rest text core is is_created keeps =
+        let opened = is_created.opened in
+        let has : Has g begun_order core = record { graph = is; facts = is_created.facts; environment = is_created.environment } in
+        let gates = rest core.vault (graph core) (environment core) (facts core) ((keeps.kept on).holds opened.working) (is_created.gates on) in
         record {
           has = has;
-          leaves = held_now files moment left_at failures refusals honest on both now reads held appends g (with_found h stands.made) core has keeps working
-              (λ contents may. (leaves contents ((opens.only_reads on).left contents may)).1);
+          leaves = held_now files moment left_at failures refusals honest on both now reads held appends g begun_order core has keeps opened.working
+              (λ contents may. gates.each (moment core.vault.disk) contents gates.later gates.later ((now core.vault.disk contents).1 may));
           settled = λ _. refl;
           keeps = keeps;
-        },
-        subst (λ (commits : List Commit). AreLegalFrom g nothing (events_of commits)) (sym (append-nil made)) (prefix_legal g made stands.later (h.made ++ h.doubt) whole legal),
-      )
+        }
 
-  -- ---- an opening that returned an error
+    -- an opening that returned a core: it found a prefix of what was in doubt
+    pub opened_well : OneStore → (h : History) (disk : D) (core : Core D) → Leaves files g h disk → IsLegal g h → OpensAs files moment left_at failures refusals honest disk (Ok core) → Keeps files honest core
+        → (found : List Commit) × (lost : List Commit) × (h.doubt ≡ found ++ lost) × StoodHere (with_found h found) core × IsLegal g (with_found h found)
+    opened_well one h disk core leaves legal opens keeps =
+        let before = leaves (contents_of (files disk)) (reads disk) in
+        let stands = before.0 in
+        let made = h.made ++ stands.made in
+        let same = one (contents_of (files disk)) g (graph core) (environment_behind nothing made) (environment core) (facts_behind nothing made) (facts core) stands.stands (opens.finds on) in
+        let working = opens.opened.working in
+        let has : Has g (with_found h stands.made) core = record { graph = sym same.0; facts = λ fact. sym (same.2 fact); environment = λ fact. sym (same.1 fact) } in
+        let whole : h.made ++ h.doubt ≡ made ++ stands.later = ap (λ (doubt : List Commit). h.made ++ doubt) stands.beginning ∙ sym (append_assoc h.made stands.made stands.later) in (
+          stands.made,
+          stands.later,
+          stands.beginning,
+          record {
+            has = has;
+            leaves = held_now files moment left_at failures refusals honest on both now reads held appends g (with_found h stands.made) core has keeps working
+                (λ contents may. (leaves contents ((opens.only_reads on).left contents may)).1);
+            settled = λ _. refl;
+            keeps = keeps;
+          },
+          subst (λ (commits : List Commit). AreLegalFrom g nothing (events_of commits)) (sym (append-nil made)) (prefix_legal g made stands.later (h.made ++ h.doubt) whole legal),
+        )
 
-  -- the errors that an opening may return, without those that say that there is nothing
-  errs : (error : VaultError) → IsOfOpening error → (SaysNothing error → ⊥) → (error ≡ Device) ⊎ (error ≡ NoMemory)
-  errs Device may something = inl refl
-  errs NoMemory may something = inr refl
-  errs (Damaged side place) may something = absurd (something (inr (side, place, refl)))
-  errs NotAStore may something = absurd (something (inl refl))
-  errs Full may something = absurd (may.0 refl)
-  errs Halted may something = absurd (may.1 refl)
-  errs Exists may something = absurd (may.2 refl)
+    -- ---- an opening that returned an error
 
-  pub opens_or_errs : (h : History) (disk : D) → Leaves files g h disk → OpensOrErrs files moment left_at failures refusals honest disk
-  opens_or_errs h disk leaves (Ok core) opens = tt
-  opens_or_errs h disk leaves (Err refused) opens =
-      errs refused.error opens.errors (λ says. (opens.tells on).nothing says _ _ _ (leaves (contents_of (files disk)) (reads disk)).0.stands)
+    -- the errors that an opening may return, without those that say that there is nothing
+    errs : (error : VaultError) → IsOfOpening error → (SaysNothing error → ⊥) → (error ≡ Device) ⊎ (error ≡ NoMemory)
+    errs Device may something = inl refl
+    errs NoMemory may something = inr refl
+    errs (Damaged side place) may something = absurd (something (inr (side, place, refl)))
+    errs NotAStore may something = absurd (something (inl refl))
+    errs Full may something = absurd (may.0 refl)
+    errs Halted may something = absurd (may.1 refl)
+    errs Exists may something = absurd (may.2 refl)
+
+    pub opens_or_errs : (h : History) (disk : D) → Leaves files g h disk → OpensOrErrs files moment left_at failures refusals honest disk
+    opens_or_errs h disk leaves (Ok core) opens = tt
+    opens_or_errs h disk leaves (Err refused) opens =
+        errs refused.error opens.errors (λ says. (opens.tells on).nothing says _ _ _ (leaves (contents_of (files disk)) (reads disk)).0.stands)

@@ -127,6 +127,8 @@ fn run_task<J: Naming, D: Disk, P: Probe, R: Wait>(
     ensures { result ≡ Some MetAsked → P.may_stop ≡ true }
 {
     if probe.enter(task.inst()) == Answer::Stop {
+        // Before the task is given back, so that no worker runs it meanwhile.
+        hub.ask_stop(pass);
         let _ = settled(rt, hub.release(rt, pass, task));
         return Some(Met::Asked);
     }

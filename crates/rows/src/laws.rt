@@ -106,7 +106,6 @@ fn stores_hold() {
     vault::one_store();
     vault::stores_go_on::<MemDisk>();
     vault::half_a_commit();
-    commit::calls_are_moves::<MemDisk>();
-    commit::histories_go_on::<MemDisk>();
-    commit::acknowledged_stays();
+    moves::acknowledged_stays::<MemDisk>();
+    moves::for_every_schedule::<MemDisk>();
 }

@@ -7,12 +7,7 @@ returns-in-Ok g c = inr (record {
   last = c.turn.new.self;
   opened = record { opened = c.in-Ok.ensures.opened; finds = λ on. c.in-Ok.ensures.finds on; only_reads = λ on. c.in-Ok.ensures.only_reads on };
   answer = c.turn.result;
-  turns = c.turn.ensures.ok;
-  unchanged = c.turn.ensures.err;
-  refused = c.turn.ensures.refused;
-  full = c.turn.ensures.full;
-  halts = c.turn.ensures.halts;
-  moments = λ on working. c.turn.ensures.moments on working;
+  turns = c.turn.ensures;
   told = c.turned-outcome.ensures;
   disk = c.into_disk.ensures;
 })

@@ -17,8 +17,8 @@ no_fault m result told none instance kind = at (facts_of m (bad instance kind)) 
     at true is = absurd (none (instance, kind) ((told instance kind).0 is))
     at false is = is
 
-pub returns-then-is_quiet-clause-quiet : goal.returns-then-is_quiet-clause-quiet
-returns-then-is_quiet-clause-quiet g c =
+pub returns-then-is_quiet-clause-meaning : goal.returns-then-is_quiet-clause-meaning
+returns-then-is_quiet-clause-meaning g c =
     subst (λ (core : Core g.row.D.Denot). IsQuiet (graph core) (facts core) × IsAllOfMeaning core.machine) c.self.view_is (c.is_quiet.ensures.quiet c.if-is_quiet.true, c.is_quiet.ensures.meaning c.if-is_quiet.true)
 
 pub returns-else-is_quiet-clause-told : goal.returns-else-is_quiet-clause-told
