@@ -7,8 +7,8 @@ use Rattle.codec.specs.Image.{environment_in, facts_in}
 use Rattle.vault.specs.declared.opening.Recovered.{Recovered}
 use Rattle.vault.specs.declared.refused.Refused.{Refused}
 use Rattle.vault.specs.declared.error.VaultError.{VaultError}
-use Rattle.vault.specs.declared.error.VaultError.TheVariants.{Device, NoMemory}
-use Rattle.vault.specs.Opened.{contents_of, TellsWhy}
+use Rattle.vault.specs.declared.error.VaultError.TheVariants.{Device, NoMemory, Full, Halted, Exists}
+use Rattle.vault.specs.Opened.{IsOfOpening, contents_of, TellsWhy}
 use Rattle.vault.specs.Stands.{Stands}
 use Rattle.vault.specs.Store.{Holds, SaysNothing, answer_of}
 use Rattle.commit.specs.Core.{Core, graph, facts, environment}
@@ -104,3 +104,16 @@ module _ {D : Type 0} (failures refusals : D → ℕ) (old : D) (recovered : Rec
       subst (λ e. HasCauses {T = Core D} failures refusals Device NoMemory old refused.disk (Err e)) (sym error)
       (subst (λ d. HasCauses {T = Core D} failures refusals Device NoMemory old d (Err NoMemory)) (sym disk)
       (causes failures refusals old recovered.vault.disk recovered told (Core D)))
+
+-- an opening may be refused memory
+pub of_memory : IsOfOpening NoMemory
+of_memory = (no_full, no_halted, no_exists)
+  where
+    no_full : NoMemory ≡ Full → ⊥
+    no_full is = cc
+
+    no_halted : NoMemory ≡ Halted → ⊥
+    no_halted is = cc
+
+    no_exists : NoMemory ≡ Exists → ⊥
+    no_exists is = cc

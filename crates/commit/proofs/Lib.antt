@@ -9,7 +9,9 @@ pub mod Joined
 pub mod Lists
 pub mod Making
 pub mod Moving
+mod Putting
 pub mod Ran
 pub mod Roomy
 pub mod Running
 pub mod Taken
+mod TurnedOver

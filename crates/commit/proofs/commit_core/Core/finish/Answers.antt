@@ -1,17 +1,19 @@
-use Rattle.std.proofs.Common.{◌≡◌, ◌∙◌, ap, inl, refl, sym, true, IsTrue}
+use Rattle.std.proofs.Common.{◌≡◌, ◌∙◌, inl, refl, subst, sym, true, Err, IsTrue}
 use Rattle.terms.specs.declared.name.Inst.{Inst}
 use Rattle.terms.specs.declared.event.Event.{Event}
 use Rattle.terms.specs.declared.event.Event.TheVariants.{Done, Stopped}
-use Rattle.machine.specs.Machine.{RefusesEnd}
+use Rattle.vault.specs.declared.error.VaultError.TheVariants.{Halted}
+use Rattle.commit.specs.declared.error.CoreError.TheVariants.{Store}
 use Rattle.commit.specs.declared.outcome.Outcome.{Outcome}
 use Rattle.commit.specs.declared.outcome.Outcome.TheVariants.{Gave, Fault}
-use Rattle.commit.specs.Core.{Core, facts, is_halted}
+use Rattle.commit.specs.Core.{Core, is_halted}
+use Rattle.commit.specs.Runs.{Ends}
 use Rattle.instances.specs.declared.state.State.TheVariants.{Ready}
 use Rattle.commit.specs.Doubt.{events_in}
 use Rattle.commit.specs.Outcome.{IsEndOf}
 use Rattle.commit.proofs.Allowed.{behind_move, some_left}
 use Rattle.commit.proofs.Moving.{SameFacts, of_move}
-use Rattle.commit.proofs.Roomy.{refused_halted}
+use Rattle.commit.proofs.Putting.{ends_halted}
 use Rattle.commit.proofs.Running.{finished, of_fault, of_given}
 use Rattle.commit.proofs.Taken.{kept_alike}
 use Rattle.commit.proofs.commit_core.Core.finish.Goals as goal
@@ -31,39 +33,51 @@ an_end : (outcome : Outcome) (instance : Inst) → (end : Event) × IsEndOf outc
 an_end (Gave given) instance = (Done instance given.puts, inl refl)
 an_end (Fault bad) instance = (Stopped instance bad.kind, refl)
 
-pub returns-then-is_halted-clause-finishes : goal.returns-then-is_halted-clause-finishes
-returns-then-is_halted-clause-finishes g c =
-    let old = c.args.self.now in
+pub returns-then-is_halted : goal.returns-then-is_halted
+returns-then-is_halted g c =
+    let before : Core g.row.D.Denot = record { vault = c.self.inside.vault; machine = c.self.inside.machine; in_doubt = events_in c.self.inside.in_doubt; allowance = c.self.inside.allowance } in
     let new : Core g.row.D.Denot = record { vault = c.self.inside.vault; machine = c.release.new.self; in_doubt = events_in c.self.inside.in_doubt; allowance = c.self.inside.allowance } in
     let end = an_end c.args.outcome c.args.task in
-    let halted : is_halted old ≡ true = sym (ap is_halted c.self.view_is) ∙ sym c.is_halted.ensures ∙ c.if-is_halted.true in
-    record {
-      end = end.0;
-      is_end = end.1;
-      commits = refused_halted g.D.Disk.files g.D.Disk.moment g.D.Disk.left_at (IsTrue g.D.Disk.is_honest) old new (RefusesEnd (facts old)) end.0 halted;
-      told = tt;
-    }
+    let halted : is_halted before ≡ true = sym c.is_halted.ensures ∙ c.if-is_halted.true in
+    subst (λ (old : Core g.row.D.Denot). Ends g.D.Disk.files g.D.Disk.moment g.D.Disk.left_at g.D.Disk.failures g.D.Disk.refusals (IsTrue g.D.Disk.is_honest) old new c.args.task c.args.outcome (Err (Store Halted))) c.self.view_is
+    (ends_halted g.D.Disk.files g.D.Disk.moment g.D.Disk.left_at g.D.Disk.failures g.D.Disk.refusals (IsTrue g.D.Disk.is_honest) before new c.args.task c.args.outcome end.0 end.1 halted c.release.ensures refl refl refl)
 
-pub returns-in-Gave-clause-runs : goal.returns-in-Gave-clause-runs
-returns-in-Gave-clause-runs g c working =
+pub returns-in-Gave : goal.returns-in-Gave
+returns-in-Gave g c =
     let old = c.args.self.now in
     let new = c.end.new.self in
     let left = some_left c.runs_are_counted.ensures.one old.machine c.args.task old.allowance c.requires.running c.is_kept.ensures.allowed in
-    finished g.D.Disk.files g.D.Disk.moment g.D.Disk.left_at g.D.Disk.failures g.D.Disk.refusals (IsTrue g.D.Disk.is_honest)
-    (λ _. c.stores_go_on.ensures.append_leaves) c.stores_go_on.ensures.rest_leaves c.stores_go_on.ensures.gates_rest
-    old new c.args.task c.args.outcome c.end.result
-    working (c.is_kept.ensures.settled working) left c.is_kept.ensures.kept
-    (of_given g.D.Disk.files g.D.Disk.moment g.D.Disk.left_at (IsTrue g.D.Disk.is_honest) old new c.args.task c.args.outcome c.end.result
-    c.in-Gave.given c.into_puts.result c.in-Gave.is c.into_puts.ensures.puts c.end.ensures.ends) c.end.ensures.err c.end.ensures.halts
+    let finishes =
+    of_given g.D.Disk.files g.D.Disk.moment g.D.Disk.left_at (IsTrue g.D.Disk.is_honest) old new c.args.task c.args.outcome c.end.result
+    c.in-Gave.given c.into_puts.result c.in-Gave.is c.into_puts.ensures.puts c.end.ensures.ends
+    in
+    record {
+      finishes = finishes;
+      err = c.end.ensures.err;
+      halts = c.end.ensures.halts;
+      runs = λ working.
+          finished g.D.Disk.files g.D.Disk.moment g.D.Disk.left_at g.D.Disk.failures g.D.Disk.refusals (IsTrue g.D.Disk.is_honest)
+          (λ _. c.stores_go_on.ensures.append_leaves) c.stores_go_on.ensures.rest_leaves c.stores_go_on.ensures.gates_rest
+          old new c.args.task c.args.outcome c.end.result
+          working (c.is_kept.ensures.settled working) left c.is_kept.ensures.kept finishes c.end.ensures.err c.end.ensures.halts;
+    }
 
-pub returns-in-Fault-clause-runs : goal.returns-in-Fault-clause-runs
-returns-in-Fault-clause-runs g c working =
+pub returns-in-Fault : goal.returns-in-Fault
+returns-in-Fault g c =
     let old = c.args.self.now in
     let new = c.stop.new.self in
     let left = some_left c.runs_are_counted.ensures.one old.machine c.args.task old.allowance c.requires.running c.is_kept.ensures.allowed in
-    finished g.D.Disk.files g.D.Disk.moment g.D.Disk.left_at g.D.Disk.failures g.D.Disk.refusals (IsTrue g.D.Disk.is_honest)
-    (λ _. c.stores_go_on.ensures.append_leaves) c.stores_go_on.ensures.rest_leaves c.stores_go_on.ensures.gates_rest
-    old new c.args.task c.args.outcome c.stop.result
-    working (c.is_kept.ensures.settled working) left c.is_kept.ensures.kept
-    (of_fault g.D.Disk.files g.D.Disk.moment g.D.Disk.left_at (IsTrue g.D.Disk.is_honest) old new c.args.task c.args.outcome c.stop.result
-    c.in-Fault.bad c.kind.result c.in-Fault.is c.kind.ensures.kind c.stop.ensures.commits c.stop.ensures.told) c.stop.ensures.err c.stop.ensures.halts
+    let finishes =
+    of_fault g.D.Disk.files g.D.Disk.moment g.D.Disk.left_at (IsTrue g.D.Disk.is_honest) old new c.args.task c.args.outcome c.stop.result
+    c.in-Fault.bad c.kind.result c.in-Fault.is c.kind.ensures.kind c.stop.ensures.commits c.stop.ensures.told
+    in
+    record {
+      finishes = finishes;
+      err = c.stop.ensures.err;
+      halts = c.stop.ensures.halts;
+      runs = λ working.
+          finished g.D.Disk.files g.D.Disk.moment g.D.Disk.left_at g.D.Disk.failures g.D.Disk.refusals (IsTrue g.D.Disk.is_honest)
+          (λ _. c.stores_go_on.ensures.append_leaves) c.stores_go_on.ensures.rest_leaves c.stores_go_on.ensures.gates_rest
+          old new c.args.task c.args.outcome c.stop.result
+          working (c.is_kept.ensures.settled working) left c.is_kept.ensures.kept finishes c.stop.ensures.err c.stop.ensures.halts;
+    }

@@ -1,0 +1,165 @@
+-- The whole of what a turnover of a core promises, from what its vault's turnover promises.
+use Rattle.std.proofs.Common.{◌≡◌, ◌∙◌, ◌⊎◌, ◌+◌, ap, sym, refl, inl, inr, ℕ, true, false, List, [], Result, Ok, Err, IsErrOf}
+use Rattle.std.proofs.lemmas.Bool.{false≢true}
+use Rattle.disk.specs.declared.side.Side.{Side}
+use Rattle.disk.specs.File.{File, at_rest}
+use Rattle.disk.specs.Time.{Contents, HasCauses}
+use Rattle.terms.specs.declared.event.Event.{Event}
+use Rattle.codec.specs.declared.image.Image.{Image}
+use Rattle.codec.specs.Image.{IsListed, Lists}
+use Rattle.graph.specs.Canonical.{canonical}
+use Rattle.machine.specs.Machine.{Machine, environment as environment_of, facts as facts_of}
+use Rattle.vault.specs.declared.vault.Vault.{Vault}
+use Rattle.vault.specs.declared.error.VaultError.{VaultError}
+use Rattle.vault.specs.declared.error.VaultError.TheVariants.{Device, NoMemory, Damaged, Full, NotAStore, Halted, Exists}
+use Rattle.vault.specs.Calls as calls
+use Rattle.vault.specs.Store.{IsLast, IsTooLong, new_side}
+use Rattle.commit.specs.declared.error.CoreError.{CoreError}
+use Rattle.commit.specs.declared.error.CoreError.TheVariants.{Store}
+use Rattle.commit.specs.Calls.{Halts, IsUnchanged}
+use Rattle.commit.specs.Core.{Core, is_halted}
+use Rattle.commit.specs.Kept.{IsKept}
+use Rattle.commit.specs.Turning.{IsImageOf, IsTooLongWith, RefusesTurn, TellsFullTurn, TurnLeaves, TurnsAs}
+use Rattle.commit.proofs.Roomy.{unhalted}
+
+-- an error of the vault, as one of the core
+store : (one two : VaultError) → ◌≡◌ {A = Result ℕ VaultError} (Err one) (Err two) → ◌≡◌ {A = Result ℕ CoreError} (Err (Store one)) (Err (Store two))
+store one two is = cc
+
+back : (one two : VaultError) → ◌≡◌ {A = Result ℕ CoreError} (Err (Store one)) (Err (Store two)) → ◌≡◌ {A = Result ℕ VaultError} (Err one) (Err two)
+back one two is = cc
+
+no_error : (generation : ℕ) (error : VaultError) → ◌≡◌ {A = Result ℕ VaultError} (Ok generation) (Err error) → ⊥
+no_error generation error is = cc
+
+not_ok : (generation : ℕ) (error : CoreError) → ◌≡◌ {A = Result ℕ CoreError} (Ok generation) (Err error) → ⊥
+not_ok generation error is = cc
+
+-- the answer of the core, by that of its vault
+abbrev pub answer_of : Result ℕ VaultError → Result ℕ CoreError
+answer_of (Ok generation) = Ok generation
+answer_of (Err error) = Err (Store error)
+
+module _ {D : Type 0} (failures refusals : D → ℕ) (before after : D) where
+  causes_ok : (generation : ℕ) → HasCauses {T = ℕ} failures refusals Device NoMemory before after (Ok generation) → HasCauses {T = ℕ} failures refusals (Store Device) (Store NoMemory) before after (Ok generation)
+  causes_ok generation told = record {
+    device = (λ is. absurd (not_ok generation (Store Device) is), λ grew. absurd (no_error generation Device (told.device.1 grew)));
+    refused = λ changed. absurd (no_error generation NoMemory (told.refused changed));
+    later = told.later;
+  }
+
+  causes : (error : VaultError) → HasCauses {T = ℕ} failures refusals Device NoMemory before after (Err error) → HasCauses {T = ℕ} failures refusals (Store Device) (Store NoMemory) before after (Err (Store error))
+  causes error told = record {
+    device = (λ is. told.device.0 (back error Device is), λ grew. store error Device (told.device.1 grew));
+    refused = λ changed. store error NoMemory (told.refused changed);
+    later = told.later;
+  }
+
+module _
+    {D : Type 0} (files : D → Side → File) (moment : D → ℕ) (left_at : D → ℕ → Contents → Type 0) (failures refusals : D → ℕ) (honest : Type 0)
+    (v w : Vault D) (m : Machine) (doubt : List Event) (allowance : ℕ) (image : Image) (listed : IsListed image) (lists : Lists image (environment_of m) (facts_of m)) (working : v.halted ≡ false)
+  where
+    abbrev old : Core D
+    old = record { vault = v; machine = m; in_doubt = doubt; allowance = allowance }
+
+    abbrev new : Core D
+    new = record { vault = w; machine = m; in_doubt = doubt; allowance = allowance }
+
+    -- why the vault says that it is full
+    abbrev IsCause : Type 0
+    IsCause = IsLast v.generation ⊎ IsTooLong (v.generation + 1) v.text.items image
+
+    cause_of : IsLast v.generation ⊎ ((each : Image) → IsImageOf old each → IsTooLongWith old each) → IsCause
+    cause_of (inl last) = inl last
+    cause_of (inr long) = inr (long image (listed, lists))
+
+    turned : (generation : ℕ) → calls.TurnsOver v w image (Ok generation) → (honest → calls.WritesSide files v w image (Ok generation)) → calls.IsFullWhere {T = ℕ} v.halted IsCause (Ok generation)
+        → calls.Halts {T = ℕ} failures refusals v w (Ok generation) → (honest → IsKept files old) → doubt ≡ [] → (honest → TurnLeaves files moment left_at old new) → TurnsAs files moment left_at failures refusals honest old new (Ok generation)
+    turned generation over writes full halting kept settled moments = record {
+      ok = record { greater = over.side.0; live = (over.side.1, over.side.2); working = over.working; machine = refl; allowance = refl };
+      written = λ on. (image, (listed, lists), (writes on).written ∙ ap (λ (text : List ℕ). at_rest (new_side generation text image)) ((kept on).holds working).text);
+      err = tt;
+      refused = tt;
+      full = λ _ cause. elim (full.told working (cause_of cause)) [ inl is ↦ absurd (no_error generation Full is) | inr is ↦ absurd (no_error generation NoMemory is) ];
+      halts = record {
+        halts = halting.halts;
+        halted = (λ is. absurd (not_ok generation (Store Halted) is), λ is. absurd (no_error generation Halted (halting.halted.1 is)));
+        disk = causes_ok failures refusals v.disk w.disk generation halting.disk;
+        same = tt;
+        settled = settled;
+      };
+      doubt = refl;
+      moments = λ on _. moments on;
+    }
+
+    refuses : (error : VaultError) → calls.IsOfCall error → (◌≡◌ {A = Result ℕ VaultError} (Err error) (Err Full) → IsCause) → (◌≡◌ {A = Result ℕ VaultError} (Err error) (Err Halted) → v.halted ≡ true) → RefusesTurn old (Store error)
+    refuses Halted may why halted = halted refl
+    refuses Full may why halted = (working, elim (why refl) [ inl last ↦ inl last | inr long ↦ inr (image, (listed, lists), long) ])
+    refuses Device may why halted = working
+    refuses NoMemory may why halted = working
+    refuses (Damaged side place) may why halted = none may
+      where
+        none : calls.IsOfCall (Damaged side place) → ⊥
+        none (inl is) = cc
+        none (inr (inl is)) = cc
+        none (inr (inr (inl is))) = cc
+        none (inr (inr (inr is))) = cc
+    refuses NotAStore may why halted = none may
+      where
+        none : calls.IsOfCall NotAStore → ⊥
+        none (inl is) = cc
+        none (inr (inl is)) = cc
+        none (inr (inr (inl is))) = cc
+        none (inr (inr (inr is))) = cc
+    refuses Exists may why halted = none may
+      where
+        none : calls.IsOfCall Exists → ⊥
+        none (inl is) = cc
+        none (inr (inl is)) = cc
+        none (inr (inr (inl is))) = cc
+        none (inr (inr (inr is))) = cc
+
+    refused : (error : VaultError) → calls.IsFullWhere {T = ℕ} v.halted IsCause (Err error) → calls.Halts {T = ℕ} failures refusals v w (Err error) → (honest → TurnLeaves files moment left_at old new)
+        → TurnsAs files moment left_at failures refusals honest old new (Err (Store error))
+    refused error full halting moments = record {
+      ok = tt;
+      written = λ _. tt;
+      err = record { stays = record { graph = refl; facts = λ _. refl; environment = λ _. refl; allowance = refl }; states = λ _. refl };
+      refused = refuses error halting.causes full.why halting.halted.0;
+      full = λ _ cause. elim (full.told working (cause_of cause)) [ inl is ↦ inl (store error Full is) | inr is ↦ inr (store error NoMemory is) ];
+      halts = record {
+        halts = halting.halts;
+        halted = (λ is. halting.halted.0 (back error Halted is), λ is. store error Halted (halting.halted.1 is));
+        disk = causes failures refusals v.disk w.disk error halting.disk;
+        same = λ is. (halting.same is, refl);
+        settled = tt;
+      };
+      doubt = refl;
+      moments = λ on _. moments on;
+    }
+
+    -- both together
+    pub either : (result : Result ℕ VaultError) → calls.TurnsOver v w image result → (honest → calls.WritesSide files v w image result) → calls.IsFullWhere v.halted IsCause result → calls.Halts failures refusals v w result
+        → (honest → IsKept files old) → doubt ≡ [] → (honest → TurnLeaves files moment left_at old new) → TurnsAs files moment left_at failures refusals honest old new (answer_of result)
+    either (Ok generation) over writes full halting kept settled moments = turned generation over writes full halting kept settled moments
+    either (Err error) over writes full halting kept settled moments = refused error full halting moments
+
+memory_halts : Store NoMemory ≡ Store Halted → ⊥
+memory_halts is = cc
+
+memory_device : Store NoMemory ≡ Store Device → ⊥
+memory_device is = cc
+
+-- memory for the image was refused
+pub unlisted : {D : Type 0} (files : D → Side → File) (moment : D → ℕ) (left_at : D → ℕ → Contents → Type 0) (failures refusals : D → ℕ) (honest : Type 0) (old : Core D) → is_halted old ≡ false → (honest → TurnLeaves files moment left_at old old)
+    → TurnsAs files moment left_at failures refusals honest old old (Err (Store NoMemory))
+unlisted files moment left_at failures refusals honest old working moments = record {
+  ok = tt;
+  written = λ _. tt;
+  err = record { stays = record { graph = refl; facts = λ _. refl; environment = λ _. refl; allowance = refl }; states = λ _. refl };
+  refused = working;
+  full = λ _ cause. inr refl;
+  halts = unhalted {T = ℕ} failures refusals old old (Store NoMemory) working refl refl memory_halts memory_device;
+  doubt = refl;
+  moments = λ on _. moments on;
+}
