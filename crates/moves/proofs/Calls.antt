@@ -112,7 +112,7 @@ module _
     abbrev pub Leaving : History → Commit → Core D → Core D → Type 0
     Leaving h commit old new = LeavesAt h old.vault.disk new.vault.disk ⊎ ((h.doubt ≡ []) × IsLegal g (with_doubt h commit) × LeavesAt (with_doubt h commit) old.vault.disk new.vault.disk)
 
-    module _ {T : Type 0} (h : History) (old new : Core D) (event : Event) (why : Refusal → Type 0) (stood : Stood h old) (keeps : Keeps files honest new) (legal : IsLegal g h) where
+    module _ (h : History) (old new : Core D) (event : Event) (why : Refusal → Type 0) (stood : Stood h old) (keeps : Keeps files honest new) (legal : IsLegal g h) where
       abbrev commit : Commit
       commit = event ∷ []
 
@@ -129,7 +129,7 @@ module _
           (doubt_legal one)
 
       -- what a crash leaves of a core that was not halted
-      cut_short : (result : Result T CoreError) → Commits files moment left_at honest old new why event result → is_halted old ≡ false → LeavesAt (with_doubt h commit) old.vault.disk new.vault.disk
+      cut_short : {T : Type 0} (result : Result T CoreError) → Commits files moment left_at honest old new why event result → is_halted old ≡ false → LeavesAt (with_doubt h commit) old.vault.disk new.vault.disk
       cut_short result it goes =
           let moments = it.moments on goes in
           both_hold old.vault.disk new.vault.disk (MayStand g (with_doubt h commit)) HasGates
@@ -137,8 +137,8 @@ module _
           (carried g h old stood.has (λ k E X. LeavesOnly moment left_at old.vault.disk new.vault.disk (StandsBeforeOrAfter k E X commit)) moments.facts))
           (moments.gates (gated h old.vault.disk stood.leaves))
 
-      came : (value : T) → Commits files moment left_at honest old new why event (Ok value) → Stood (with_commit h commit) new × IsLegal g (with_commit h commit)
-      came value it =
+      came : {T : Type 0} (value : T) → Commits files moment left_at honest old new why event (Ok value) → Stood (with_commit h commit) new × IsLegal g (with_commit h commit)
+      came {T} value it =
           let takes = it.takes in
           let goes = takes.working.0 in
           let works = takes.working.1 in
@@ -164,11 +164,11 @@ module _
           )
 
       -- an error that halted the core leaves the commit in doubt
-      halted_by : (error : CoreError) → Commits files moment left_at honest old new why event (Err error) → Stays old new → Halts {T = T} failures refusals old new (Err error) → is_halted old ≡ false → is_halted new ≡ true
+      halted_by : {T : Type 0} (error : CoreError) → Commits {T = T} files moment left_at honest old new why event (Err error) → Stays old new → Halts {T = T} failures refusals old new (Err error) → is_halted old ≡ false → is_halted new ≡ true
           → (h.doubt ≡ []) × Stood (with_doubt h commit) new × IsLegal g (with_doubt h commit)
-      halted_by error it stays halts goes stops =
+      halted_by {T} error it stays halts goes stops =
           let erred : HasErred failures refusals old.vault.disk new.vault.disk = elim (halts.halts.0 stops) [ inl is ↦ absurd (false≢true (sym goes ∙ is)) | inr here ↦ here ] in
-          let one = legal_in_doubt files moment left_at failures refusals honest old new why event error it.refused halts erred in (
+          let one = legal_in_doubt files moment left_at failures refusals honest {T = T} old new why event error it.refused halts erred in (
             stood.settled goes,
             record {
               has = record {
@@ -176,16 +176,16 @@ module _
                 facts = λ fact. stays.facts fact ∙ stood.has.facts fact;
                 environment = λ fact. stays.environment fact ∙ stood.has.environment fact;
               };
-              leaves = left_at_end (with_doubt h commit) old.vault.disk new.vault.disk (cut_short (Err error) it goes);
+              leaves = left_at_end (with_doubt h commit) old.vault.disk new.vault.disk (cut_short {T = T} (Err error) it goes);
               settled = λ works. absurd (false≢true (sym works ∙ stops));
               keeps = keeps;
             },
             doubt_legal (one, tt),
           )
 
-      pub comes : (result : Result T CoreError) → Commits files moment left_at honest old new why event result → OnErr result (Stays old new) → Halts failures refusals old new result → Comes h commit new result
-      comes (Ok value) it stays halts = came value it
-      comes (Err error) it stays halts = before (is_halted old) refl
+      pub comes : {T : Type 0} (result : Result T CoreError) → Commits files moment left_at honest old new why event result → OnErr result (Stays old new) → Halts failures refusals old new result → Comes h commit new result
+      comes {T} (Ok value) it stays halts = came value it
+      comes {T} (Err error) it stays halts = before (is_halted old) refl
         where
           before : (b : Bool) → is_halted old ≡ b → Comes {T = T} h commit new (Err error)
           before true is = inl (unchanged {T = T} h old new error stood keeps stays halts (halts.halts.1 (inl is) ∙ sym is)).0
@@ -193,13 +193,13 @@ module _
             where
               after : (b : Bool) → is_halted new ≡ b → Comes {T = T} h commit new (Err error)
               after false works = inl (unchanged {T = T} h old new error stood keeps stays halts (works ∙ sym goes)).0
-              after true stops = inr (halted_by error it stays halts goes stops)
+              after true stops = inr (halted_by {T = T} error it stays halts goes stops)
 
-      pub leaving : (result : Result T CoreError) → Commits files moment left_at honest old new why event result → OnErr result (Stays old new) → Halts failures refusals old new result → Leaving h commit old new
-      leaving (Ok value) it stays halts =
+      pub leaving : {T : Type 0} (result : Result T CoreError) → Commits files moment left_at honest old new why event result → OnErr result (Stays old new) → Halts failures refusals old new result → Leaving h commit old new
+      leaving {T} (Ok value) it stays halts =
           let goes = it.takes.working.0 in
           inr (stood.settled goes, doubt_legal (it.takes.legal, tt), cut_short (Ok value) it goes)
-      leaving (Err error) it stays halts = before (is_halted old) refl
+      leaving {T} (Err error) it stays halts = before (is_halted old) refl
         where
           before : (b : Bool) → is_halted old ≡ b → Leaving h commit old new
           before true is = inl (unchanged {T = T} h old new error stood keeps stays halts (halts.halts.1 (inl is) ∙ sym is)).1
@@ -207,7 +207,7 @@ module _
             where
               after : (b : Bool) → is_halted new ≡ b → Leaving h commit old new
               after false works = inl (unchanged {T = T} h old new error stood keeps stays halts (works ∙ sym goes)).1
-              after true stops = let it_is = halted_by error it stays halts goes stops in inr (it_is.0, it_is.2, cut_short (Err error) it goes)
+              after true stops = let it_is = halted_by {T = T} error it stays halts goes stops in inr (it_is.0, it_is.2, cut_short {T = T} (Err error) it goes)
 
     -- ---- a turnover
 

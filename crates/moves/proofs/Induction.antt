@@ -108,13 +108,13 @@ module _
           (comes files moment left_at failures refusals honest on both now reads held appends g h old new (EnvItem address value) (RefusesItem (graph old) (facts old) address) stood keeps legal (Ok done) does.commits tt does.halts)
       by_call (puts_item address value (Err error)) does =
           refused (puts_item address value (Err error)) h (EnvItem address value ∷ []) new refl refl legal
-          (comes files moment left_at failures refusals honest on both now reads held appends g {T = Unit {0}} h old new (EnvItem address value) (RefusesItem (graph old) (facts old) address) stood keeps legal (Err error) does.commits does.unchanged.stays does.halts)
+          (comes files moment left_at failures refusals honest on both now reads held appends g h old new (EnvItem address value) (RefusesItem (graph old) (facts old) address) stood keeps legal {T = Unit {0}} (Err error) does.commits does.unchanged.stays does.halts)
       by_call (puts_tag name (Ok done)) does =
           committed (puts_tag name (Ok done)) h (EnvTag name ∷ []) new refl
           (comes files moment left_at failures refusals honest on both now reads held appends g h old new (EnvTag name) (RefusesTag (graph old) (facts old) name) stood keeps legal (Ok done) does.commits tt does.halts)
       by_call (puts_tag name (Err error)) does =
           refused (puts_tag name (Err error)) h (EnvTag name ∷ []) new refl refl legal
-          (comes files moment left_at failures refusals honest on both now reads held appends g {T = Unit {0}} h old new (EnvTag name) (RefusesTag (graph old) (facts old) name) stood keeps legal (Err error) does.commits does.unchanged.stays does.halts)
+          (comes files moment left_at failures refusals honest on both now reads held appends g h old new (EnvTag name) (RefusesTag (graph old) (facts old) name) stood keeps legal {T = Unit {0}} (Err error) does.commits does.unchanged.stays does.halts)
       by_call (finishes instance outcome (Ok told)) does =
           let end = does.finishes.end in
           let is : end ≡ end_of told instance outcome = end_is_told told instance outcome end does.finishes.is_end does.finishes.told in
@@ -123,7 +123,7 @@ module _
       by_call (finishes instance outcome (Err error)) does =
           let end = does.finishes.end in
           refused (finishes instance outcome (Err error)) h (end ∷ []) new refl (end, does.finishes.is_end, refl) legal
-          (comes files moment left_at failures refusals honest on both now reads held appends g {T = Committed} h old new end (RefusesEnd (facts old)) stood keeps legal (Err error) does.finishes.commits does.err.stays does.halts)
+          (comes files moment left_at failures refusals honest on both now reads held appends g h old new end (RefusesEnd (facts old)) stood keeps legal {T = Committed} (Err error) does.finishes.commits does.err.stays does.halts)
       by_call (claims at result) does =
           stays_whole (claims at result) h new refl (rests files moment left_at failures refusals honest on both now reads held appends g h old new stood keeps (claimed old new at result does)).0 legal
       by_call (parks instance address result) does =

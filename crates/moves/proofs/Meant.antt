@@ -65,7 +65,7 @@ module _ (as_set : LegalAsSet) (is_within : ReachedIsWithin) (meaning : ReachedI
       subst (λ (k : Graph). IsQuiet k (facts c)) has.graph (is_quiet c.machine kept told.0 told.1) in
       record {
         within = is_within g (environment c) (facts c) here;
-        quiet = λ blocked told. let it = quiet blocked told in (it, (meaning g (environment c) (facts c) here it));
+        quiet = λ blocked told. let it = quiet blocked told in let meant = meaning g (environment c) (facts c) here it in (it, meant.0, meant.1);
         unfinished = λ blocked list told unfinished.
             subst (λ (k : Graph). (instance : Inst) (address : Addr) → (find inst_cmp instance list ≡ Some address) ↔ IsUnfinished k (environment c) instance address) has.graph
             (unfinished told.0 told.1 (subst (λ (k : Graph). IsReached k (environment c) (facts c)) (sym has.graph) here));

@@ -47,16 +47,16 @@ split (move ∷ one) two old new all =
     (rest.0, (all.0, all.1, rest.1), rest.2)
 
 -- what a call acknowledged comes after what was made before it
-by_call : {D : Type 0} (call : Call) (old new : History) → Extends {D = D} (whole call) old new → new.made ≡ old.made ++ acknowledged call
-by_call call old new (inl acknowledges) = ap made acknowledges
-by_call call old new (inr doubtful) = ap made doubtful.1.3 ∙ sym (append-nil old.made) ∙ ap (λ (commits : List Commit). old.made ++ commits) (sym doubtful.0)
+by_call : (D : Type 0) (call : Call) (old new : History) → Extends {D = D} (whole call) old new → new.made ≡ old.made ++ acknowledged call
+by_call D call old new (inl acknowledges) = ap made acknowledges
+by_call D call old new (inr doubtful) = ap made doubtful.1.3 ∙ sym (append-nil old.made) ∙ ap (λ (commits : List Commit). old.made ++ commits) (sym doubtful.0)
 
 pub acknowledged_there : (D : Type 0) → AcknowledgedStays D
 acknowledged_there D before after call old new all =
     let parts = split before (whole call ∷ after) old new all in
     let earlier = parts.0 in
     let rest = made_stays D after parts.2.0 new parts.2.2 in
-    (earlier.made, rest.0, rest.1 ∙ ap (λ (commits : List Commit). commits ++ rest.0) (by_call {D = D} call earlier parts.2.0 parts.2.1))
+    (earlier.made, rest.0, rest.1 ∙ ap (λ (commits : List Commit). commits ++ rest.0) (by_call D call earlier parts.2.0 parts.2.1))
 
 not_there : (commit : Commit) (earlier later : List Commit) → [] ≡ earlier ++ (commit ∷ []) ++ later → ⊥
 not_there commit [] later same = cc
