@@ -15,13 +15,11 @@ use Rattle.machine.specs.declared.refusal.Refusal.{Refusal}
 use Rattle.machine.specs.Machine.{Machine}
 use Rattle.machine.specs.Machine as machine
 use Rattle.machine.specs.State.{AreLegalFrom}
-use Rattle.vault.specs.declared.error.VaultError.TheVariants.{Halted}
-use Rattle.vault.specs.Commits.{AppendLeaves, HeldLeaves, StandsForBeginning}
+use Rattle.vault.specs.Commits.{AppendLeaves, HeldLeaves}
 use Rattle.vault.specs.Opened.{contents_of}
 use Rattle.vault.specs.Stands.{Stands, other_side}
-use Rattle.vault.specs.Store.{HasGates, IsSame, StandsBeforeOrAfter, nothing}
+use Rattle.vault.specs.Store.{HasGates, StandsBeforeOrAfter, nothing}
 use Rattle.commit.specs.declared.error.CoreError.{CoreError}
-use Rattle.commit.specs.declared.error.CoreError.TheVariants.{Store}
 use Rattle.commit.specs.Calls.{Commits, Halts, KeepsStore, Stays}
 use Rattle.commit.specs.Core.{Core, graph, facts, environment, is_halted}
 use Rattle.commit.specs.Kept.{Keeps}

@@ -1,5 +1,5 @@
 -- From a creation, one move after another.
-use Rattle.std.proofs.Common.{◌≡◌, ◌∙◌, ◌⊎◌, ◌↔◌, ap, sym, refl, subst, inl, inr, ℕ, true, false, List, [], ◌∷◌, ◌++◌, Result, Ok, Err, OnErr}
+use Rattle.std.proofs.Common.{◌≡◌, ◌∙◌, ◌⊎◌, ◌↔◌, ap, sym, refl, subst, inl, inr, ℕ, List, [], ◌∷◌, ◌++◌, Result, Ok, Err, OnErr}
 use Rattle.std.proofs.lemmas.List.{append-nil}
 use Rattle.disk.specs.declared.side.Side.{Side}
 use Rattle.disk.specs.File.{File}
@@ -11,26 +11,23 @@ use Rattle.terms.specs.Sets.{AmongBoth}
 use Rattle.graph.specs.Graph.{Graph}
 use Rattle.instances.specs.declared.state.State.TheVariants.{Ready}
 use Rattle.machine.specs.Machine.{RefusesEnd, RefusesItem, RefusesTag}
-use Rattle.machine.specs.State.{AreLegalFrom}
 use Rattle.machine.specs.StateLaws.{LegalAsSet, ReachedIsMeaning, ReachedIsWithin, ReachedStoppedOrQuiet}
 use Rattle.vault.specs.Commits.{AppendLeaves, GatesRest, HeldLeaves, IsLeft}
 use Rattle.vault.specs.Opened.{contents_of}
 use Rattle.vault.specs.Stands.{OneStore}
-use Rattle.vault.specs.Store.{nothing}
 use Rattle.commit.specs.declared.error.CoreError.{CoreError}
 use Rattle.commit.specs.declared.outcome.Committed.{Committed}
-use Rattle.commit.specs.Calls.{CommitsAs, GivesBack, IsUnchanged, Stays}
+use Rattle.commit.specs.Calls.{GivesBack, IsUnchanged, Stays}
 use Rattle.commit.specs.Core.{Core, graph, facts}
-use Rattle.commit.specs.Created.{IsCreated}
 use Rattle.commit.specs.Kept.{Keeps}
 use Rattle.commit.specs.Outcome.{end_of}
 use Rattle.commit.proofs.Ended.{end_is_told}
 use Rattle.moves.specs.Call.{Call, Does, Tries, acknowledged, puts_item, puts_tag, claims, parks, releases, finishes, turns, allows}
 use Rattle.moves.specs.Move.{Leads, LeadsAll, Move, Place, at_core, at_disk, whole, cut, crashes, gives_back, crashes_again, opens, opening_cut}
-use Rattle.moves.specs.Order.{Doubts, Extends, ExtendsAll, History, begun as begun_order}
+use Rattle.moves.specs.Order.{Extends, ExtendsAll, History, begun as begun_order}
 use Rattle.moves.specs.There.{IsThere, Leaves}
 use Rattle.moves.specs.Every.{ForEverySchedule, Holds, Means}
-use Rattle.moves.proofs.Calls.{Comes, Leaving, LeavesAt, Stood, comes, leaving, rest_leaves, rests, turned, with_commit, with_doubt}
+use Rattle.moves.proofs.Calls.{Leaving, LeavesAt, Stood, comes, leaving, rest_leaves, rests, turned, with_commit, with_doubt}
 use Rattle.moves.proofs.Kept.{allowed, claimed, moved, parked}
 use Rattle.moves.proofs.Known.{IsLegal}
 use Rattle.moves.proofs.Meant.{means, stands_within}

@@ -1,5 +1,5 @@
 -- Calls that change nothing on the disk.
-use Rattle.std.proofs.Common.{◌≡◌, ◌∙◌, ◌⊎◌, ap, sym, refl, inl, inr, ℕ, Bool, true, false, Option, None, Some, Result, Ok, Err}
+use Rattle.std.proofs.Common.{◌≡◌, ap, refl, inl, inr, ℕ, Option, None, Some, Result, Ok, Err}
 use Rattle.terms.specs.declared.name.Addr.{Addr}
 use Rattle.terms.specs.declared.name.Inst.{Inst}
 use Rattle.instances.specs.declared.state.State.{State}

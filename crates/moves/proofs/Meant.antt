@@ -1,37 +1,34 @@
 -- What a store means after moves.
-use Rattle.std.proofs.Common.{◌≡◌, ◌∙◌, ◌⊎◌, ◌↔◌, ap, sym, refl, subst, inl, inr, ℕ, true, false, List, [], ◌∷◌, ◌++◌, Option, None, Some}
+use Rattle.std.proofs.Common.{◌≡◌, ◌∙◌, ◌⊎◌, ◌↔◌, ap, sym, refl, subst, inl, inr, ℕ, true, List, [], ◌++◌, Option, None, Some}
 use Rattle.std.proofs.lemmas.Bool.{false≢true}
 use Rattle.std.proofs.lemmas.List.{append_assoc}
 use Rattle.std.specs.Prelude.{is_some}
 use Rattle.std.specs.FinMap.{find}
 use Rattle.disk.specs.declared.side.Side.{Side}
 use Rattle.disk.specs.File.{File}
-use Rattle.disk.specs.Time.{Contents, MayLeaveNow}
+use Rattle.disk.specs.Time.{Contents}
 use Rattle.terms.specs.declared.name.Addr.{Addr}
 use Rattle.terms.specs.declared.name.Inst.{Inst}
-use Rattle.terms.specs.declared.fault.FaultKind.{FaultKind}
-use Rattle.terms.specs.declared.event.Event.{Event}
 use Rattle.terms.specs.Name.{inst_cmp}
 use Rattle.terms.specs.Commits.{Commit, events_of, facts_behind, environment_behind}
 use Rattle.terms.specs.Facts.{Fact, bad, done}
-use Rattle.terms.specs.Sets.{Facts, among, put_by_environment, stated}
+use Rattle.terms.specs.Sets.{Facts, stated}
 use Rattle.graph.specs.Graph.{Graph}
-use Rattle.graph.specs.Fits.{HasNoFault, IsPrescribed}
+use Rattle.graph.specs.Fits.{HasNoFault}
 use Rattle.instances.specs.declared.state.State.{State}
 use Rattle.instances.specs.declared.state.State.TheVariants.{Ready, Running, Waiting, Done}
-use Rattle.machine.specs.Legal.{AreLegal, IsBlocked, IsQuiet}
-use Rattle.machine.specs.Machine.{Machine, environment as environment_of, facts as facts_of, state_of}
-use Rattle.machine.specs.Meaning.{IsClean, Meaning}
+use Rattle.machine.specs.Legal.{IsBlocked, IsQuiet}
+use Rattle.machine.specs.Machine.{Machine, facts as facts_of, state_of}
 use Rattle.machine.specs.Promise.{IsKept as KeepsMachine}
-use Rattle.machine.specs.State.{AreLegalFrom, IsMeaning, IsReached, IsUnfinished}
+use Rattle.machine.specs.State.{AreLegalFrom, IsReached, IsUnfinished}
 use Rattle.machine.specs.StateLaws.{LegalAsSet, ReachedIsMeaning, ReachedIsWithin, ReachedStoppedOrQuiet}
-use Rattle.machine.specs.Status.{AreUnfinished, NoneIsActive}
-use Rattle.vault.specs.Stands.{OneStore, Stands}
+use Rattle.machine.specs.Status.{NoneIsActive}
+use Rattle.vault.specs.Stands.{OneStore}
 use Rattle.vault.specs.Store.{nothing}
-use Rattle.commit.specs.declared.status.Status.TheVariants.{Quiet, Stopped}
-use Rattle.commit.specs.Core.{Core, graph, facts, environment}
+use Rattle.commit.specs.declared.status.Status.TheVariants.{Quiet}
+use Rattle.commit.specs.Core.{Core, facts, environment}
 use Rattle.commit.specs.Status.{TellsStatus}
-use Rattle.moves.specs.Every.{NoneIsQuiet, StandsWithin, TellsMeaning}
+use Rattle.moves.specs.Every.{StandsWithin, TellsMeaning}
 use Rattle.moves.specs.Order.{History}
 use Rattle.moves.specs.There.{Has, Leaves}
 use Rattle.moves.proofs.Known.{IsLegal, prefix_legal}

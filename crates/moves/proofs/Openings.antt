@@ -1,27 +1,25 @@
 -- Openings and crashes.
-use Rattle.std.proofs.Common.{◌≡◌, ◌∙◌, ◌⊎◌, ◌↔◌, ap, sym, refl, subst, inl, inr, ℕ, true, false, List, [], ◌∷◌, ◌++◌, Result, Ok, Err, IfErr}
-use Rattle.std.proofs.lemmas.Bool.{false≢true}
+use Rattle.std.proofs.Common.{◌≡◌, ◌∙◌, ◌⊎◌, ◌↔◌, ap, sym, refl, subst, inl, inr, ℕ, List, [], ◌++◌, Ok, Err}
 use Rattle.std.proofs.lemmas.List.{append-nil, append_assoc}
 use Rattle.disk.specs.declared.side.Side.{Side}
 use Rattle.disk.specs.File.{File}
-use Rattle.disk.specs.Time.{Contents, MayLeaveNow, LeavesOnly}
+use Rattle.disk.specs.Time.{Contents, MayLeaveNow}
 use Rattle.terms.specs.Commits.{Commit, events_of, facts_behind, environment_behind}
 use Rattle.terms.specs.Sets.{AmongBoth}
 use Rattle.graph.specs.Graph.{Graph}
 use Rattle.machine.specs.State.{AreLegalFrom}
 use Rattle.vault.specs.declared.error.VaultError.{VaultError}
 use Rattle.vault.specs.declared.error.VaultError.TheVariants.{Device, NoMemory, Damaged, Full, NotAStore, Halted, Exists}
-use Rattle.vault.specs.declared.refused.Refused.{Refused}
 use Rattle.vault.specs.Commits.{AppendLeaves, GatesRest, HeldLeaves, IsLeft}
 use Rattle.vault.specs.Opened.{IsOfOpening, OnlyReads, contents_of}
 use Rattle.vault.specs.Stands.{OneStore}
 use Rattle.vault.specs.Store.{SaysNothing, nothing}
-use Rattle.commit.specs.Core.{Core, graph, facts, environment, is_halted}
+use Rattle.commit.specs.Core.{Core, graph, facts, environment}
 use Rattle.commit.specs.Created.{IsCreated}
 use Rattle.commit.specs.Kept.{Keeps}
-use Rattle.commit.specs.Opened.{OpensAs, disk_of}
+use Rattle.commit.specs.Opened.{OpensAs}
 use Rattle.moves.specs.Order.{History, begun as begun_order}
-use Rattle.moves.specs.There.{Has, Leaves, MayStand}
+use Rattle.moves.specs.There.{Has, Leaves}
 use Rattle.moves.specs.Every.{OpensOrErrs}
 use Rattle.moves.proofs.Calls.{LeavesAt, Stood, held_now}
 use Rattle.moves.proofs.Known.{IsLegal, prefix_legal}

@@ -1,8 +1,7 @@
 -- The commit order grows at its end.
-use Rattle.std.proofs.Common.{◌≡◌, ◌∙◌, ◌⊎◌, ap, sym, refl, inl, inr, List, [], ◌∷◌, ◌++◌, Ok, Err}
+use Rattle.std.proofs.Common.{◌≡◌, ◌∙◌, ap, sym, refl, inl, inr, List, [], ◌∷◌, ◌++◌, Ok, Err}
 use Rattle.std.proofs.lemmas.List.{append-nil, append_assoc}
 use Rattle.terms.specs.Commits.{Commit}
-use Rattle.commit.specs.Core.{Core}
 use Rattle.moves.specs.Call.{Call, acknowledged}
 use Rattle.moves.specs.Move.{Move, whole, cut, crashes, gives_back, crashes_again, opens, opening_cut}
 use Rattle.moves.specs.Order.{AcknowledgedStays, Doubts, Extends, ExtendsAll, Forgets, History, MadeStays, begun}

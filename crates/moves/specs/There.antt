@@ -1,5 +1,5 @@
 -- What is there after moves: what the core has, and what a crash may leave of the two files.
-use Rattle.std.specs.Prelude.{◌≡◌, List}
+use Rattle.std.specs.Prelude.{◌≡◌}
 use Rattle.disk.specs.declared.side.Side.{Side}
 use Rattle.disk.specs.File.{File}
 use Rattle.disk.specs.Time.{Contents, MayLeaveNow}

@@ -16,13 +16,13 @@ use Rattle.hub.proofs.kept.Kept.put_item.Goals as goal
 pub invariant_of-self : goal.invariant_of-self
 invariant_of-self g c =
     subst (λ (d : Desk). IsKept (HasRun g.D.Disk.moment g.D.Disk.left_at g.D.Disk.failures g.D.Disk.refusals (IsTrue g.D.Disk.is_honest) g.J.Naming.opening g.J.Naming.left g.J.Naming.envs) g.J.Naming.opening g.J.Naming.passes d c.put_item.new.self) (sym c.record_item.ensures.desk)
-    (kept_more c.facts_are_told_apart.ensures.among c.facts_go_on.ensures.all c.facts_go_on.ensures.environment _ _ _ c.args.pass.now.number _ _ _ _ c.self.invariant c.in-Ok.ensures.ok
+    (kept_more c.facts_are_told_apart.ensures.among c.facts_go_on.ensures.all c.facts_go_on.ensures.environment _ _ _ c.args.pass.now.number _ _ _ _ c.self.invariant c.in-Ok.ensures.commits.takes
     (ran_put g.D.Disk.moment g.D.Disk.left_at g.D.Disk.failures g.D.Disk.refusals (IsTrue g.D.Disk.is_honest) g.J.Naming.opening g.J.Naming.left g.J.Naming.envs c.args.pass.now.number _ _ c.number.ensures.of_kind))
 
 pub invariant_of-self-in-Err : goal.invariant_of-self-in-Err
 invariant_of-self-in-Err g c =
     subst (λ (d : Desk). IsKept (HasRun g.D.Disk.moment g.D.Disk.left_at g.D.Disk.failures g.D.Disk.refusals (IsTrue g.D.Disk.is_honest) g.J.Naming.opening g.J.Naming.left g.J.Naming.envs) g.J.Naming.opening g.J.Naming.passes d c.put_item.new.self) (sym c.show.ensures.desk)
-    (kept_same g.D.Disk.failures g.D.Disk.refusals _ _ _ _ _ _ _ c.in-Err.error c.self.invariant c.in-Err.ensures.err.stays c.in-Err.ensures.halts c.in-Err.ensures.doubt
+    (kept_same g.D.Disk.failures g.D.Disk.refusals _ _ _ _ _ _ _ c.in-Err.error c.self.invariant c.in-Err.ensures.unchanged.stays c.in-Err.ensures.halts c.in-Err.ensures.commits.doubt
     (ran_put g.D.Disk.moment g.D.Disk.left_at g.D.Disk.failures g.D.Disk.refusals (IsTrue g.D.Disk.is_honest) g.J.Naming.opening g.J.Naming.left g.J.Naming.envs c.args.pass.now.number _ _ c.number.ensures.of_kind))
 
 pub returns-in-Ok-clause-core : goal.returns-in-Ok-clause-core
@@ -30,14 +30,14 @@ returns-in-Ok-clause-core g c =
     commits_as g.D.Disk.files g.D.Disk.moment g.D.Disk.left_at g.D.Disk.failures g.D.Disk.refusals (IsTrue g.D.Disk.is_honest) c.self.inside.core c.args.self.now.core c.put_item.new.self
     (λ (core : Core g.row.D.Denot). RefusesItem (graph core) (facts core) c.args.addr) (EnvItem c.args.addr (to_z w64 (of_z w64 c.args.value))) (EnvItem c.args.addr c.args.value) (Ok tt)
     (ap (λ (kept : Kept g.row.D.Denot). kept.core) c.self.view_is) (ap (EnvItem c.args.addr) (to_z-of_z w64 c.args.value c.ranges.value))
-    (record { commits = record { takes = c.in-Ok.ensures.ok; refused = c.in-Ok.ensures.refused; full = c.in-Ok.ensures.full; doubt = c.in-Ok.ensures.doubt; moments = c.in-Ok.ensures.moments }; unchanged = c.in-Ok.ensures.err; halts = c.in-Ok.ensures.halts })
+    c.in-Ok.ensures
 
 pub returns-in-Err-clause-core : goal.returns-in-Err-clause-core
 returns-in-Err-clause-core g c =
     commits_as g.D.Disk.files g.D.Disk.moment g.D.Disk.left_at g.D.Disk.failures g.D.Disk.refusals (IsTrue g.D.Disk.is_honest) c.self.inside.core c.args.self.now.core c.put_item.new.self
     (λ (core : Core g.row.D.Denot). RefusesItem (graph core) (facts core) c.args.addr) (EnvItem c.args.addr (to_z w64 (of_z w64 c.args.value))) (EnvItem c.args.addr c.args.value) (Err c.in-Err.error)
     (ap (λ (kept : Kept g.row.D.Denot). kept.core) c.self.view_is) (ap (EnvItem c.args.addr) (to_z-of_z w64 c.args.value c.ranges.value))
-    (record { commits = record { takes = c.in-Err.ensures.ok; refused = c.in-Err.ensures.refused; full = c.in-Err.ensures.full; doubt = c.in-Err.ensures.doubt; moments = c.in-Err.ensures.moments }; unchanged = c.in-Err.ensures.err; halts = c.in-Err.ensures.halts })
+    c.in-Err.ensures
 
 pub returns-in-Ok-clause-seen : goal.returns-in-Ok-clause-seen
 returns-in-Ok-clause-seen g c = sees_more _ _ _ _ _ _ (invariant_of-self g c).legal c.record_item.ensures.writes
@@ -51,4 +51,4 @@ returns-in-Ok-clause-ok g c = subst (λ (event : Event). Adds event c.args.pass.
 pub returns-in-Err-clause-refused : goal.returns-in-Err-clause-refused
 returns-in-Err-clause-refused g c =
     subst (λ (event : Event). RefusesEvent g.J.Naming.opening c.show.new.pass (λ graph X. RefusesItem graph X c.args.addr) event c.in-Err.error) (ap (EnvItem c.args.addr) (to_z-of_z w64 c.args.value c.ranges.value))
-    (refuses_there g.J.Naming.opening c.self.inside.desk.book.history c.args.pass.now c.show.new.pass c.self.inside.core (λ graph X. RefusesItem graph X c.args.addr) (EnvItem c.args.addr (to_z w64 (of_z w64 c.args.value))) c.in-Err.error c.self.invariant.behind c.show.ensures.pass c.in-Err.ensures.refused)
+    (refuses_there g.J.Naming.opening c.self.inside.desk.book.history c.args.pass.now c.show.new.pass c.self.inside.core (λ graph X. RefusesItem graph X c.args.addr) (EnvItem c.args.addr (to_z w64 (of_z w64 c.args.value))) c.in-Err.error c.self.invariant.behind c.show.ensures.pass c.in-Err.ensures.commits.refused)
