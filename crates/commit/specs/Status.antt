@@ -21,7 +21,7 @@ TellsStatus c Working = HasNoFault (facts c) × (NoneIsActive c.machine → ⊥)
 TellsStatus c (Quiet blocked) = HasNoFault (facts c) × NoneIsActive c.machine × (blocked ≡ min (waiting_count c.machine) (2 ^ 64 - 1))
 TellsStatus c (Stopped instance kind) = facts c (bad instance kind) ≡ true
 
--- If legal events led here, the meaning on what the environment put has this fault, and no other legal events on it leave nothing to do.
+-- If legal events led here, the meaning on what the environment put has this fault, and no legal events with that environment leave nothing to do.
 abbrev pub IsFaultOfMeaning : {D : Type 0} → Core D → Inst → FaultKind → Type 0
 IsFaultOfMeaning c instance kind =
     IsReached (graph c) (environment c) (facts c) → Meaning (graph c) (environment c) (bad instance kind) × ((Y : Facts) → IsReached (graph c) (environment c) Y → IsQuiet (graph c) Y → ⊥)

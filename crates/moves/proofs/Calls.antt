@@ -26,7 +26,7 @@ use Rattle.commit.specs.Kept.{Keeps}
 use Rattle.commit.specs.Turning.{TurnsAs}
 use Rattle.commit.proofs.Running.{legal_in_doubt}
 use Rattle.commit.proofs.Taken.{at_end}
-use Rattle.moves.specs.Order.{History}
+use Rattle.moves.specs.Order.{HaltedBy, History}
 use Rattle.moves.specs.There.{Has, Leaves, MayStand}
 use Rattle.moves.proofs.Kept.{stayed}
 use Rattle.moves.proofs.Known.{IsLegal, all, carried, environment_after, facts_after, given, legal_after, more_legal, prefix_legal, stands_now}
@@ -47,7 +47,6 @@ module _
     pub record Stood (h : History) (c : Core D) : Type 0 where
       pub has : Has g h c
       pub leaves : Leaves files g h c.vault.disk
-      pub settled : is_halted c ≡ false → h.doubt ≡ []
       pub keeps : Keeps files honest c
 
     -- what a crash leaves at each moment of a call
@@ -84,9 +83,9 @@ module _
           graph = same.graph ∙ stood.has.graph;
           facts = λ fact. same.facts fact ∙ stood.has.facts fact;
           environment = λ fact. same.environment fact ∙ stood.has.environment fact;
+          settled = λ goes. stood.has.settled (sym same.halted ∙ goes);
         };
         leaves = subst (λ (d : D). Leaves files g h d) (sym same.disk) stood.leaves;
-        settled = λ goes. stood.settled (sym same.halted ∙ goes);
         keeps = keeps;
       },
       subst (λ (d : D). LeavesAt h old.vault.disk d) (sym same.disk) (rest_leaves h old.vault.disk stood.leaves),
@@ -102,13 +101,13 @@ module _
     -- ---- a call that commits an event
 
     -- what such a call comes to, by its result
-    abbrev pub Comes : {T : Type 0} → History → Commit → Core D → Result T CoreError → Type 0
-    Comes h commit new (Ok value) = Stood (with_commit h commit) new × IsLegal g (with_commit h commit)
-    Comes h commit new (Err error) = Stood h new ⊎ ((h.doubt ≡ []) × Stood (with_doubt h commit) new × IsLegal g (with_doubt h commit))
+    abbrev pub Comes : {T : Type 0} → History → Commit → (old new : Core D) → Result T CoreError → Type 0
+    Comes h commit old new (Ok value) = (is_halted new ≡ false) × Stood (with_commit h commit) new × IsLegal g (with_commit h commit)
+    Comes h commit old new (Err error) = ((HaltedBy old new → ⊥) × Stood h new) ⊎ (HaltedBy old new × (h.doubt ≡ []) × Stood (with_doubt h commit) new × IsLegal g (with_doubt h commit))
 
     -- what a crash leaves at each moment of it
     abbrev pub Leaving : History → Commit → Core D → Core D → Type 0
-    Leaving h commit old new = LeavesAt h old.vault.disk new.vault.disk ⊎ ((h.doubt ≡ []) × IsLegal g (with_doubt h commit) × LeavesAt (with_doubt h commit) old.vault.disk new.vault.disk)
+    Leaving h commit old new = LeavesAt h old.vault.disk new.vault.disk ⊎ ((is_halted old ≡ false) × (h.doubt ≡ []) × IsLegal g (with_doubt h commit) × LeavesAt (with_doubt h commit) old.vault.disk new.vault.disk)
 
     module _ (h : History) (old new : Core D) (event : Event) (why : Refusal → Type 0) (stood : Stood h old) (keeps : Keeps files honest new) (legal : IsLegal g h) where
       abbrev commit : Commit
@@ -140,7 +139,7 @@ module _
           let takes = it.takes in
           let goes = takes.working.0 in
           let works = takes.working.1 in
-          let none = stood.settled goes in
+          let none = stood.has.settled goes in
           let has : Has g (with_commit h commit) new = record {
             graph = takes.takes.graph ∙ stood.has.graph;
             facts = λ fact.
@@ -151,11 +150,11 @@ module _
                 takes.takes.environment fact ∙ ap (λ (E : Facts). with_facts E (environment_facts event) fact) (given g h old stood.has)
                 ∙ ap (λ (list : List Fact). with_facts (environment_behind nothing h.made) list fact) (sym (append-nil (environment_facts event)))
                 ∙ ap (λ (E : Facts). E fact) (sym (environment_after both nothing h.made (commit ∷ [])));
+            settled = λ _. none;
           } in (
             record {
               has = has;
               leaves = held_now (with_commit h commit) new has keeps works (λ contents may. (left_at_end (with_doubt h commit) old.vault.disk new.vault.disk (cut_short (Ok value) it goes) contents may).1);
-              settled = λ _. none;
               keeps = keeps;
             },
             commit_legal none (takes.legal, tt),
@@ -167,36 +166,36 @@ module _
       halted_by {T} error it stays halts goes stops =
           let erred : HasErred failures refusals old.vault.disk new.vault.disk = elim (halts.halts.0 stops) [ inl is ↦ absurd (false≢true (sym goes ∙ is)) | inr here ↦ here ] in
           let one = legal_in_doubt files moment left_at failures refusals honest {T = T} old new why event error it.refused halts erred in (
-            stood.settled goes,
+            stood.has.settled goes,
             record {
               has = record {
                 graph = stays.graph ∙ stood.has.graph;
                 facts = λ fact. stays.facts fact ∙ stood.has.facts fact;
                 environment = λ fact. stays.environment fact ∙ stood.has.environment fact;
+                settled = λ works. absurd (false≢true (sym works ∙ stops));
               };
               leaves = left_at_end (with_doubt h commit) old.vault.disk new.vault.disk (cut_short {T = T} (Err error) it goes);
-              settled = λ works. absurd (false≢true (sym works ∙ stops));
               keeps = keeps;
             },
             doubt_legal (one, tt),
           )
 
-      pub comes : {T : Type 0} (result : Result T CoreError) → Commits files moment left_at honest old new why event result → OnErr result (Stays old new) → Halts failures refusals old new result → Comes h commit new result
-      comes {T} (Ok value) it stays halts = came value it
+      pub comes : {T : Type 0} (result : Result T CoreError) → Commits files moment left_at honest old new why event result → OnErr result (Stays old new) → Halts failures refusals old new result → Comes h commit old new result
+      comes {T} (Ok value) it stays halts = let done = came {T = T} value it in (it.takes.working.1, done.0, done.1)
       comes {T} (Err error) it stays halts = before (is_halted old) refl
         where
-          before : (b : Bool) → is_halted old ≡ b → Comes {T = T} h commit new (Err error)
-          before true is = inl (unchanged {T = T} h old new error stood keeps stays halts (halts.halts.1 (inl is) ∙ sym is)).0
+          before : (b : Bool) → is_halted old ≡ b → Comes {T = T} h commit old new (Err error)
+          before true is = inl (λ halted. false≢true (sym halted.0 ∙ is), (unchanged {T = T} h old new error stood keeps stays halts (halts.halts.1 (inl is) ∙ sym is)).0)
           before false goes = after (is_halted new) refl
             where
-              after : (b : Bool) → is_halted new ≡ b → Comes {T = T} h commit new (Err error)
-              after false works = inl (unchanged {T = T} h old new error stood keeps stays halts (works ∙ sym goes)).0
-              after true stops = inr (halted_by {T = T} error it stays halts goes stops)
+              after : (b : Bool) → is_halted new ≡ b → Comes {T = T} h commit old new (Err error)
+              after false works = inl (λ halted. false≢true (sym works ∙ halted.1), (unchanged {T = T} h old new error stood keeps stays halts (works ∙ sym goes)).0)
+              after true stops = let it_is = halted_by {T = T} error it stays halts goes stops in inr ((goes, stops), it_is.0, it_is.1, it_is.2)
 
       pub leaving : {T : Type 0} (result : Result T CoreError) → Commits files moment left_at honest old new why event result → OnErr result (Stays old new) → Halts failures refusals old new result → Leaving h commit old new
       leaving {T} (Ok value) it stays halts =
           let goes = it.takes.working.0 in
-          inr (stood.settled goes, doubt_legal (it.takes.legal, tt), cut_short (Ok value) it goes)
+          inr (goes, stood.has.settled goes, doubt_legal (it.takes.legal, tt), cut_short (Ok value) it goes)
       leaving {T} (Err error) it stays halts = before (is_halted old) refl
         where
           before : (b : Bool) → is_halted old ≡ b → Leaving h commit old new
@@ -205,7 +204,7 @@ module _
             where
               after : (b : Bool) → is_halted new ≡ b → Leaving h commit old new
               after false works = inl (unchanged {T = T} h old new error stood keeps stays halts (works ∙ sym goes)).1
-              after true stops = let it_is = halted_by {T = T} error it stays halts goes stops in inr (it_is.0, it_is.2, cut_short {T = T} (Err error) it goes)
+              after true stops = let it_is = halted_by {T = T} error it stays halts goes stops in inr (goes, it_is.0, it_is.2, cut_short {T = T} (Err error) it goes)
 
     -- ---- a turnover
 
@@ -229,9 +228,9 @@ module _
                 graph = ap (λ (m : Machine). m.graph) same ∙ stood.has.graph;
                 facts = λ fact. ap (λ (m : Machine). machine.facts m fact) same ∙ stood.has.facts fact;
                 environment = λ fact. ap (λ (m : Machine). machine.environment m fact) same ∙ stood.has.environment fact;
+                settled = λ _. stood.has.settled goes;
               };
               leaves = left_at_end h old.vault.disk new.vault.disk leaves;
-              settled = λ _. stood.settled goes;
               keeps = keeps;
             },
             leaves,
@@ -254,9 +253,9 @@ module _
                         graph = stays.graph ∙ stood.has.graph;
                         facts = λ fact. stays.facts fact ∙ stood.has.facts fact;
                         environment = λ fact. stays.environment fact ∙ stood.has.environment fact;
+                        settled = λ works. absurd (false≢true (sym works ∙ stops));
                       };
                       leaves = left_at_end h old.vault.disk new.vault.disk leaves;
-                      settled = λ works. absurd (false≢true (sym works ∙ stops));
                       keeps = keeps;
                     },
                     leaves,

@@ -1,5 +1,6 @@
 -- From a creation, one move after another.
-use Rattle.std.proofs.Common.{◌≡◌, ◌∙◌, ◌⊎◌, ◌↔◌, ap, sym, refl, subst, inl, inr, ℕ, List, [], ◌∷◌, ◌++◌, Result, Ok, Err, OnErr}
+use Rattle.std.proofs.Common.{◌≡◌, ◌∙◌, ◌⊎◌, ◌↔◌, ap, sym, refl, subst, inl, inr, ℕ, List, [], ◌∷◌, ◌++◌, Result, Ok, Err, OnErr, false}
+use Rattle.std.proofs.lemmas.Bool.{false≢true}
 use Rattle.std.proofs.lemmas.List.{append-nil}
 use Rattle.disk.specs.declared.side.Side.{Side}
 use Rattle.disk.specs.File.{File}
@@ -11,22 +12,22 @@ use Rattle.terms.specs.Sets.{AmongBoth}
 use Rattle.graph.specs.Graph.{Graph}
 use Rattle.instances.specs.declared.state.State.TheVariants.{Ready}
 use Rattle.machine.specs.Machine.{RefusesEnd, RefusesItem, RefusesTag}
-use Rattle.machine.specs.StateLaws.{LegalAsSet, ReachedIsMeaning, ReachedIsWithin, ReachedStoppedOrQuiet}
+use Rattle.machine.specs.StateLaws.{LegalAsSet, QuietWaits, ReachedIsMeaning, ReachedIsWithin, ReachedStoppedOrQuiet}
 use Rattle.vault.specs.Commits.{AppendLeaves, GatesRest, HeldLeaves, IsLeft}
 use Rattle.vault.specs.Opened.{contents_of}
 use Rattle.vault.specs.Stands.{OneStore}
 use Rattle.commit.specs.declared.error.CoreError.{CoreError}
 use Rattle.commit.specs.declared.outcome.Committed.{Committed}
 use Rattle.commit.specs.Calls.{GivesBack, IsUnchanged, Stays}
-use Rattle.commit.specs.Core.{Core, graph, facts}
+use Rattle.commit.specs.Core.{Core, graph, facts, is_halted}
 use Rattle.commit.specs.Kept.{Keeps}
 use Rattle.commit.specs.Outcome.{end_of}
 use Rattle.commit.proofs.Ended.{end_is_told}
 use Rattle.moves.specs.Call.{Call, Does, Tries, acknowledged, puts_item, puts_tag, claims, parks, releases, finishes, turns, allows}
 use Rattle.moves.specs.Move.{Leads, LeadsAll, Move, Place, at_core, at_disk, whole, cut, crashes, gives_back, crashes_again, opens, opening_cut}
-use Rattle.moves.specs.Order.{Extends, ExtendsAll, History, begun as begun_order}
+use Rattle.moves.specs.Order.{Extends, ExtendsAll, HaltedBy, History, TriesNone, begun as begun_order}
 use Rattle.moves.specs.There.{IsThere, Leaves}
-use Rattle.moves.specs.Every.{ForEverySchedule, Holds, Means}
+use Rattle.moves.specs.Every.{Along, ForEverySchedule, IsKnown, Means}
 use Rattle.moves.proofs.Calls.{Leaving, LeavesAt, Stood, comes, leaving, rest_leaves, rests, turned, with_commit, with_doubt}
 use Rattle.moves.proofs.Kept.{allowed, claimed, moved, parked}
 use Rattle.moves.proofs.Known.{IsLegal}
@@ -51,8 +52,8 @@ module _
     At h (at_disk disk) = Leaves files g h disk × IsLegal g h
 
     -- what a move makes of the order, and what is known then
-    abbrev GoesTo : Move D → History → Place D → Type 0
-    GoesTo move h place = (next : History) × Extends move h next × At next place
+    abbrev GoesTo : Move D → (from : Place D) → History → (to : Place D) → Type 0
+    GoesTo move from h to = (next : History) × Extends move from to h next × At next to
 
     -- ---- whole calls
 
@@ -60,32 +61,38 @@ module _
     same_order h = λ i. record { made = sym (append-nil h.made) i; doubt = h.doubt }
 
     -- a call that leaves the order as it is
-    stays_whole : (call : Call) (h : History) (new : Core D) → acknowledged call ≡ [] → StoodHere h new → IsLegal g h → GoesTo (whole call) h (at_core new)
-    stays_whole call h new none stood legal =
-        (h, inl (same_order h ∙ ap (λ (commits : List Commit). record { made = h.made ++ commits; doubt = h.doubt }) (sym none)), (stood, legal))
+    stays_whole : (call : Call) (h : History) (old new : Core D) → acknowledged call ≡ [] → (HaltedBy old new → TriesNone call) → StoodHere h new → IsLegal g h → GoesTo (whole call) (at_core old) h (at_core new)
+    stays_whole call h old new none tries stood legal =
+        (h, inr (tries, same_order h ∙ ap (λ (commits : List Commit). record { made = h.made ++ commits; doubt = h.doubt }) (sym none)), (stood, legal))
 
     -- a call that committed an event, or did not
-    committed : (call : Call) (h : History) (commit : Commit) (new : Core D) → acknowledged call ≡ commit ∷ [] → StoodHere (with_commit h commit) new × IsLegal g (with_commit h commit) → GoesTo (whole call) h (at_core new)
-    committed call h commit new is it = (with_commit h commit, inl (ap (λ (commits : List Commit). record { made = h.made ++ commits; doubt = h.doubt }) (sym is)), it)
+    committed : (call : Call) (h : History) (commit : Commit) (old new : Core D) → acknowledged call ≡ commit ∷ [] → (is_halted new ≡ false) × StoodHere (with_commit h commit) new × IsLegal g (with_commit h commit)
+        → GoesTo (whole call) (at_core old) h (at_core new)
+    committed call h commit old new is it = (
+      with_commit h commit,
+      inr (λ halted. absurd (false≢true (sym it.0 ∙ halted.1)), ap (λ (commits : List Commit). record { made = h.made ++ commits; doubt = h.doubt }) (sym is)),
+      (it.1, it.2),
+    )
 
-    refused : (call : Call) (h : History) (commit : Commit) (new : Core D) → acknowledged call ≡ [] → Tries call commit → IsLegal g h
-        → StoodHere h new ⊎ ((h.doubt ≡ []) × StoodHere (with_doubt h commit) new × IsLegal g (with_doubt h commit)) → GoesTo (whole call) h (at_core new)
-    refused call h commit new none tries legal (inl stood) = stays_whole call h new none stood legal
-    refused call h commit new none tries legal (inr doubt) = (with_doubt h commit, inr (none, (commit, tries, doubt.0, refl)), (doubt.1, doubt.2))
+    refused : (call : Call) (h : History) (commit : Commit) (old new : Core D) → acknowledged call ≡ [] → Tries call commit → IsLegal g h
+        → ((HaltedBy old new → ⊥) × StoodHere h new) ⊎ (HaltedBy old new × (h.doubt ≡ []) × StoodHere (with_doubt h commit) new × IsLegal g (with_doubt h commit)) → GoesTo (whole call) (at_core old) h (at_core new)
+    refused call h commit old new none tries legal (inl stood) = stays_whole call h old new none (λ halted. absurd (stood.0 halted)) stood.1 legal
+    refused call h commit old new none tries legal (inr doubt) = (with_doubt h commit, inl (doubt.0, none, (commit, tries, doubt.1, refl)), (doubt.2, doubt.3))
 
     -- ---- calls that were cut off
 
-    cut_still : (call : Call) (h : History) (old new : Core D) (disk : D) → LeavesHere h old.vault.disk new.vault.disk → IsLeft files moment left_at old.vault.disk new.vault.disk disk → IsLegal g h → GoesTo (cut call new) h (at_disk disk)
+    cut_still : (call : Call) (h : History) (old new : Core D) (disk : D) → LeavesHere h old.vault.disk new.vault.disk → IsLeft files moment left_at old.vault.disk new.vault.disk disk → IsLegal g h
+        → GoesTo (cut call new) (at_core old) h (at_disk disk)
     cut_still call h old new disk leaves left legal =
         (h, inl refl, (crashed files moment left_at failures refusals honest on both now reads held appends g h old.vault.disk new.vault.disk disk leaves left, legal))
 
     cut_commit : (call : Call) (h : History) (commit : Commit) (old new : Core D) (disk : D) → Tries call commit → IsLegal g h → IsLeft files moment left_at old.vault.disk new.vault.disk disk
-        → Leaving files moment left_at failures refusals honest on both now reads held appends g h commit old new → GoesTo (cut call new) h (at_disk disk)
+        → Leaving files moment left_at failures refusals honest on both now reads held appends g h commit old new → GoesTo (cut call new) (at_core old) h (at_disk disk)
     cut_commit call h commit old new disk tries legal left (inl leaves) = cut_still call h old new disk leaves left legal
     cut_commit call h commit old new disk tries legal left (inr doubt) = (
       with_doubt h commit,
-      inr (commit, tries, doubt.0, refl),
-      (crashed files moment left_at failures refusals honest on both now reads held appends g (with_doubt h commit) old.vault.disk new.vault.disk disk doubt.2 left, doubt.1),
+      inr (doubt.0, (commit, tries, doubt.1, refl)),
+      (crashed files moment left_at failures refusals honest on both now reads held appends g (with_doubt h commit) old.vault.disk new.vault.disk disk doubt.3 left, doubt.2),
     )
 
     -- ---- each call
@@ -99,40 +106,40 @@ module _
     back_of old new task (Err error) back = back.stays
 
     module _ (h : History) (old new : Core D) (stood : StoodHere h old) (keeps : Keeps files honest new) (legal : IsLegal g h) where
-      by_call : (call : Call) → Does files moment left_at failures refusals honest call old new → GoesTo (whole call) h (at_core new)
+      by_call : (call : Call) → Does files moment left_at failures refusals honest call old new → GoesTo (whole call) (at_core old) h (at_core new)
       by_call (puts_item address value (Ok done)) does =
-          committed (puts_item address value (Ok done)) h (EnvItem address value ∷ []) new refl
+          committed (puts_item address value (Ok done)) h (EnvItem address value ∷ []) old new refl
           (comes files moment left_at failures refusals honest on both now reads held appends g h old new (EnvItem address value) (RefusesItem (graph old) (facts old) address) stood keeps legal (Ok done) does.commits tt does.halts)
       by_call (puts_item address value (Err error)) does =
-          refused (puts_item address value (Err error)) h (EnvItem address value ∷ []) new refl refl legal
+          refused (puts_item address value (Err error)) h (EnvItem address value ∷ []) old new refl refl legal
           (comes files moment left_at failures refusals honest on both now reads held appends g h old new (EnvItem address value) (RefusesItem (graph old) (facts old) address) stood keeps legal {T = Unit {0}} (Err error) does.commits does.unchanged.stays does.halts)
       by_call (puts_tag name (Ok done)) does =
-          committed (puts_tag name (Ok done)) h (EnvTag name ∷ []) new refl
+          committed (puts_tag name (Ok done)) h (EnvTag name ∷ []) old new refl
           (comes files moment left_at failures refusals honest on both now reads held appends g h old new (EnvTag name) (RefusesTag (graph old) (facts old) name) stood keeps legal (Ok done) does.commits tt does.halts)
       by_call (puts_tag name (Err error)) does =
-          refused (puts_tag name (Err error)) h (EnvTag name ∷ []) new refl refl legal
+          refused (puts_tag name (Err error)) h (EnvTag name ∷ []) old new refl refl legal
           (comes files moment left_at failures refusals honest on both now reads held appends g h old new (EnvTag name) (RefusesTag (graph old) (facts old) name) stood keeps legal {T = Unit {0}} (Err error) does.commits does.unchanged.stays does.halts)
       by_call (finishes instance outcome (Ok told)) does =
           let end = does.finishes.end in
           let is : end ≡ end_of told instance outcome = end_is_told told instance outcome end does.finishes.is_end does.finishes.told in
-          committed (finishes instance outcome (Ok told)) h (end ∷ []) new (ap (λ (event : Event). (event ∷ []) ∷ []) (sym is))
+          committed (finishes instance outcome (Ok told)) h (end ∷ []) old new (ap (λ (event : Event). (event ∷ []) ∷ []) (sym is))
           (comes files moment left_at failures refusals honest on both now reads held appends g h old new end (RefusesEnd (facts old)) stood keeps legal (Ok told) does.finishes.commits tt does.halts)
       by_call (finishes instance outcome (Err error)) does =
           let end = does.finishes.end in
-          refused (finishes instance outcome (Err error)) h (end ∷ []) new refl (end, does.finishes.is_end, refl) legal
+          refused (finishes instance outcome (Err error)) h (end ∷ []) old new refl (end, does.finishes.is_end, refl) legal
           (comes files moment left_at failures refusals honest on both now reads held appends g h old new end (RefusesEnd (facts old)) stood keeps legal {T = Committed} (Err error) does.finishes.commits does.err.stays does.halts)
       by_call (claims at result) does =
-          stays_whole (claims at result) h new refl (rests files moment left_at failures refusals honest on both now reads held appends g h old new stood keeps (claimed old new at result does)).0 legal
+          stays_whole (claims at result) h old new refl (λ _ commit tries. tries) (rests files moment left_at failures refusals honest on both now reads held appends g h old new stood keeps (claimed old new at result does)).0 legal
       by_call (parks instance address result) does =
-          stays_whole (parks instance address result) h new refl (rests files moment left_at failures refusals honest on both now reads held appends g h old new stood keeps (parked old new instance address result does)).0 legal
+          stays_whole (parks instance address result) h old new refl (λ _ commit tries. tries) (rests files moment left_at failures refusals honest on both now reads held appends g h old new stood keeps (parked old new instance address result does)).0 legal
       by_call (releases instance) does =
-          stays_whole (releases instance) h new refl (rests files moment left_at failures refusals honest on both now reads held appends g h old new stood keeps (moved old new instance Ready does)).0 legal
+          stays_whole (releases instance) h old new refl (λ _ commit tries. tries) (rests files moment left_at failures refusals honest on both now reads held appends g h old new stood keeps (moved old new instance Ready does)).0 legal
       by_call (turns result) does =
-          stays_whole (turns result) h new refl (turned files moment left_at failures refusals honest on both now reads held appends g h old new stood keeps result does).0 legal
+          stays_whole (turns result) h old new refl (λ _ commit tries. tries) (turned files moment left_at failures refusals honest on both now reads held appends g h old new stood keeps result does).0 legal
       by_call (allows count result) does =
-          stays_whole (allows count result) h new refl (rests files moment left_at failures refusals honest on both now reads held appends g h old new stood keeps (allowed old new count result does)).0 legal
+          stays_whole (allows count result) h old new refl (λ _ commit tries. tries) (rests files moment left_at failures refusals honest on both now reads held appends g h old new stood keeps (allowed old new count result does)).0 legal
 
-      by_cut : (call : Call) (disk : D) → Does files moment left_at failures refusals honest call old new → IsLeft files moment left_at old.vault.disk new.vault.disk disk → GoesTo (cut call new) h (at_disk disk)
+      by_cut : (call : Call) (disk : D) → Does files moment left_at failures refusals honest call old new → IsLeft files moment left_at old.vault.disk new.vault.disk disk → GoesTo (cut call new) (at_core old) h (at_disk disk)
       by_cut (puts_item address value result) disk does left =
           cut_commit (puts_item address value result) h (EnvItem address value ∷ []) old new disk refl legal left
           (leaving files moment left_at failures refusals honest on both now reads held appends g h old new (EnvItem address value) (RefusesItem (graph old) (facts old) address) stood keeps legal result does.commits (stays_of old new result does.unchanged) does.halts)
@@ -155,7 +162,7 @@ module _
 
     -- ---- each move
 
-    step : (move : Move D) (from to : Place D) (h : History) → At h from → Leads files moment left_at failures refusals honest move from to → GoesTo move h to
+    step : (move : Move D) (from to : Place D) (h : History) → At h from → Leads files moment left_at failures refusals honest move from to → GoesTo move from h to
     step (whole call) (at_core old) (at_core new) h at leads = by_call h old new at.0 leads.1 at.1 call leads.0
     step (cut call new) (at_core old) (at_disk disk) h at leads = by_cut h old new at.0 leads.1 at.1 call disk leads.0 leads.2
     step crashes (at_core c) (at_disk disk) h at leads = (
@@ -187,27 +194,20 @@ module _
         (h, refl, (cut_reading files moment left_at failures refusals honest on both now reads held appends g h before _ disk at.0 (leads.0.only_reads on) leads.1, at.1))
     step move from to h at leads = absurd leads
 
-    all_steps : (moves : List (Move D)) (from to : Place D) (h : History) → At h from → LeadsAll files moment left_at failures refusals honest moves from to → (last : History) × ExtendsAll moves h last × At last to
-    all_steps [] from to h at leads = (h, refl, subst (At h) (sym leads) at)
-    all_steps (move ∷ moves) from to h at leads =
-        let first = step move from leads.0 h at leads.1 in
-        let rest = all_steps moves leads.0 to first.0 first.2 leads.2 in
-        (rest.0, (first.0, first.1, rest.1), rest.2)
-
     -- ---- what holds then
 
-    module _ (as_set : LegalAsSet) (is_within : ReachedIsWithin) (meaning : ReachedIsMeaning) (stopped_or_quiet : ReachedStoppedOrQuiet) where
+    module _ (as_set : LegalAsSet) (is_within : ReachedIsWithin) (meaning : ReachedIsMeaning) (stopped_or_quiet : ReachedStoppedOrQuiet) (quiet_waits : QuietWaits) where
       there : (h : History) (place : Place D) → At h place → IsThere files g h place
       there h (at_core c) at = (at.0.has, at.0.leaves)
       there h (at_disk disk) at = at.0
 
       meant : (h : History) (place : Place D) → At h place → Means files moment left_at failures refusals honest g place
       meant h (at_core c) at = (
-        means as_set is_within meaning stopped_or_quiet g h c at.0.has at.0.keeps.machine at.1,
-        stands_within as_set is_within meaning stopped_or_quiet g files moment left_at failures refusals honest one h c.vault.disk at.0.leaves at.1,
+        means as_set is_within meaning stopped_or_quiet quiet_waits g h c at.0.has at.0.keeps.machine at.1,
+        stands_within as_set is_within meaning stopped_or_quiet quiet_waits g files moment left_at failures refusals honest one h c.vault.disk at.0.leaves at.1,
       )
       meant h (at_disk disk) at = (
-        stands_within as_set is_within meaning stopped_or_quiet g files moment left_at failures refusals honest one h disk at.0 at.1,
+        stands_within as_set is_within meaning stopped_or_quiet quiet_waits g files moment left_at failures refusals honest one h disk at.0 at.1,
         opens_or_errs files moment left_at failures refusals honest on both now reads held appends g h disk at.0,
       )
 
@@ -215,28 +215,44 @@ module _
       legal_at h (at_core c) at = at.1
       legal_at h (at_disk disk) at = at.1
 
-      pub holds : (moves : List (Move D)) (place : Place D) (core : Core D) → StoodHere begun_order core → LeadsAll files moment left_at failures refusals honest moves (at_core core) place
-          → Holds files moment left_at failures refusals honest g moves place
-      holds moves place core stood leads =
-          let it = all_steps moves (at_core core) place begun_order (stood, tt) leads in
-          let last = it.0 in
-          record {
-            history = last;
-            order = it.1;
-            acknowledged = λ before after call is. acknowledged_there D before after call begun_order last (subst (λ (list : List (Move D)). ExtendsAll list begun_order last) is it.1);
-            legal = (as_set g [] (events_of (last.made ++ last.doubt))).1 (legal_at last place it.2);
-            is_there = there last place it.2;
-            means = meant last place it.2;
-          }
+      known : (h : History) (place : Place D) → At h place → IsKnown files moment left_at failures refusals honest g h place
+      known h place at = record { legal = (as_set g [] (events_of (h.made ++ h.doubt))).1 (legal_at h place at); is_there = there h place at; means = meant h place at }
+
+      -- along the moves one order goes on
+      along : (moves : List (Move D)) (from to : Place D) (h : History) → At h from → LeadsAll files moment left_at failures refusals honest moves from to → (last : History) × Along files moment left_at failures refusals honest g moves from to h last
+      along [] from to h at leads = (h, (leads, refl))
+      along (move ∷ moves) from to h at leads =
+          let first = step move from leads.0 h at leads.1 in
+          let rest = along moves leads.0 to first.0 first.2 leads.2 in
+          (rest.0, (leads.0, first.0, leads.1, first.1, known first.0 leads.0 first.2, rest.1))
+
+      order : (moves : List (Move D)) (from to : Place D) (h last : History) → Along files moment left_at failures refusals honest g moves from to h last → ExtendsAll moves from to h last
+      order [] from to h last it = it
+      order (move ∷ moves) from to h last it = (it.0, it.1, it.3, order moves it.0 to it.1 last it.5)
+
+      pub holds : (moves : List (Move D)) (place : Place D) (core : Core D) → graph core ≡ g → StoodHere begun_order core → LeadsAll files moment left_at failures refusals honest moves (at_core core) place
+          → (first : IsKnown files moment left_at failures refusals honest g begun_order (at_core core)) × (last : History) × Along files moment left_at failures refusals honest g moves (at_core core) place begun_order last
+          × ((before after : List (Move D)) (call : Call) → moves ≡ before ++ whole call ∷ after
+          → (at : Place D) × (earlier : History) × ExtendsAll before (at_core core) at begun_order earlier × ((later : List Commit) × (last.made ≡ earlier.made ++ acknowledged call ++ later)))
+      holds moves place core is stood leads =
+          let it = along moves (at_core core) place begun_order (stood, tt) leads in
+          let extends = order moves (at_core core) place begun_order it.0 it.1 in (
+            known begun_order (at_core core) (stood, tt),
+            it.0,
+            it.1,
+            λ before after call same.
+                acknowledged_there D before after call (at_core core) place begun_order it.0 (subst (λ (list : List (Move D)). ExtendsAll list (at_core core) place begun_order it.0) same extends),
+          )
 
 module _
     {D : Type 0} (files : D → Side → File) (moment : D → ℕ) (left_at : D → ℕ → Contents → Type 0) (failures refusals : D → ℕ) (honest : Type 0) (on : honest) (both : AmongBoth)
     (now : (disk : D) (contents : Contents) → left_at disk (moment disk) contents ↔ MayLeaveNow (files disk) contents) (reads : (disk : D) → MayLeaveNow (files disk) (contents_of (files disk)))
     (held : HeldLeaves files moment left_at) (appends : AppendLeaves files moment left_at) (rest : GatesRest files moment left_at) (one : OneStore)
-    (as_set : LegalAsSet) (is_within : ReachedIsWithin) (meaning : ReachedIsMeaning) (stopped_or_quiet : ReachedStoppedOrQuiet)
+    (as_set : LegalAsSet) (is_within : ReachedIsWithin) (meaning : ReachedIsMeaning) (stopped_or_quiet : ReachedStoppedOrQuiet) (quiet_waits : QuietWaits)
   where
     pub for_every_schedule : ForEverySchedule files moment left_at failures refusals honest
     for_every_schedule text core moves place is_created keeps leads =
         let g = graph core in
         let stood = created files moment left_at failures refusals honest on both now reads held appends g rest text core refl is_created keeps in
-        holds files moment left_at failures refusals honest on both now reads held appends one g as_set is_within meaning stopped_or_quiet moves place core stood leads
+        let it = holds files moment left_at failures refusals honest on both now reads held appends one g as_set is_within meaning stopped_or_quiet quiet_waits moves place core refl stood leads in
+        record { first = it.0; history = it.1; along = it.2; acknowledged = it.3 }

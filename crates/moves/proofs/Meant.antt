@@ -1,5 +1,5 @@
 -- What a store means after moves.
-use Rattle.std.proofs.Common.{◌≡◌, ◌∙◌, ◌⊎◌, ◌↔◌, ap, sym, refl, subst, inl, inr, ℕ, true, List, [], ◌++◌, Option, None, Some}
+use Rattle.std.proofs.Common.{false, ◌≡◌, ◌∙◌, ◌⊎◌, ◌↔◌, ap, sym, refl, subst, inl, inr, ℕ, true, List, [], ◌++◌, Option, None, Some}
 use Rattle.std.proofs.lemmas.Bool.{false≢true}
 use Rattle.std.proofs.lemmas.List.{append_assoc}
 use Rattle.std.specs.Prelude.{is_some}
@@ -14,14 +14,14 @@ use Rattle.terms.specs.Commits.{Commit, events_of, facts_behind, environment_beh
 use Rattle.terms.specs.Facts.{Fact, bad, done}
 use Rattle.terms.specs.Sets.{Facts, stated}
 use Rattle.graph.specs.Graph.{Graph}
-use Rattle.graph.specs.Fits.{HasNoFault}
+use Rattle.graph.specs.Fits.{HasNoFault, IsPrescribed}
 use Rattle.instances.specs.declared.state.State.{State}
 use Rattle.instances.specs.declared.state.State.TheVariants.{Ready, Running, Waiting, Done}
 use Rattle.machine.specs.Legal.{IsBlocked, IsQuiet}
 use Rattle.machine.specs.Machine.{Machine, facts as facts_of, state_of}
 use Rattle.machine.specs.Promise.{IsKept as KeepsMachine}
-use Rattle.machine.specs.State.{AreLegalFrom, IsReached, IsUnfinished}
-use Rattle.machine.specs.StateLaws.{LegalAsSet, ReachedIsMeaning, ReachedIsWithin, ReachedStoppedOrQuiet}
+use Rattle.machine.specs.State.{Waits, AreLegalFrom, IsReached, IsUnfinished}
+use Rattle.machine.specs.StateLaws.{LegalAsSet, QuietWaits, ReachedIsMeaning, ReachedIsWithin, ReachedStoppedOrQuiet}
 use Rattle.machine.specs.Status.{NoneIsActive}
 use Rattle.vault.specs.Stands.{OneStore}
 use Rattle.vault.specs.Store.{nothing}
@@ -44,7 +44,18 @@ is_quiet m kept none idle = record { no_fault = none; done_or_blocked = λ insta
     at instance (Some (Waiting address)) is has = inr (address, (kept.waits instance address is).needs)
     at instance (Some Done) is has = inl ((kept.done instance).0 is)
 
-module _ (as_set : LegalAsSet) (is_within : ReachedIsWithin) (meaning : ReachedIsMeaning) (stopped_or_quiet : ReachedStoppedOrQuiet) (g : Graph) where
+-- an instance that is prescribed and not done waits, if none is ready or runs
+waits_somewhere : (m : Machine) → KeepsMachine m → NoneIsActive m → (instance : Inst) → IsPrescribed m.graph (facts_of m) instance → facts_of m (done instance) ≡ false → (at : Addr) × (state_of m instance ≡ Some (Waiting at))
+waits_somewhere m kept idle instance prescribed not_done = at (state_of m instance) refl
+  where
+    at : (state : Option State) → state_of m instance ≡ state → (at : Addr) × (state_of m instance ≡ Some (Waiting at))
+    at None is = absurd (false≢true (sym (ap is_some is) ∙ (kept.prescribed instance).1 prescribed))
+    at (Some Ready) is = absurd ((idle instance).0 is)
+    at (Some Running) is = absurd ((idle instance).1 is)
+    at (Some (Waiting address)) is = (address, is)
+    at (Some Done) is = absurd (false≢true (sym not_done ∙ (kept.done instance).0 is))
+
+module _ (as_set : LegalAsSet) (is_within : ReachedIsWithin) (meaning : ReachedIsMeaning) (stopped_or_quiet : ReachedStoppedOrQuiet) (quiet_waits : QuietWaits) (g : Graph) where
   -- the state after commits that are legal is reached
   reached : (made : List Commit) (E X : Facts) → AreLegalFrom g nothing (events_of made) → ((fact : Fact) → X fact ≡ facts_behind nothing made fact) → ((fact : Fact) → E fact ≡ environment_behind nothing made fact) → IsReached g E X
   reached made E X legal all given = record {
@@ -63,9 +74,11 @@ module _ (as_set : LegalAsSet) (is_within : ReachedIsWithin) (meaning : ReachedI
       record {
         within = is_within g (environment c) (facts c) here;
         quiet = λ blocked told. let it = quiet blocked told in let meant = meaning g (environment c) (facts c) here it in (it, meant.0, meant.1);
-        unfinished = λ blocked list told unfinished.
-            subst (λ (k : Graph). (instance : Inst) (address : Addr) → (find inst_cmp instance list ≡ Some address) ↔ IsUnfinished k (environment c) instance address) has.graph
-            (unfinished told.0 told.1 (subst (λ (k : Graph). IsReached k (environment c) (facts c)) (sym has.graph) here));
+        waiting = λ blocked told instance address is.
+            (quiet_waits g (environment c) (facts c) here (quiet blocked told) instance address).0 (subst (λ (k : Graph). Waits k (facts c) instance address) has.graph (kept.waits instance address is));
+        unfinished = λ blocked told instance address left.
+            let waits = (quiet_waits g (environment c) (facts c) here (quiet blocked told) instance address).1 left in
+            waits_somewhere c.machine kept told.1 instance (subst (λ (k : Graph). IsPrescribed k (facts c) instance) (sym has.graph) waits.prescribed) waits.not_done;
         stopped = λ instance kind told. (
           is_within g (environment c) (facts c) here (bad instance kind) told,
           λ events other same none.

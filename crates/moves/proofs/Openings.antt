@@ -54,13 +54,12 @@ module _
     pub created : GatesRest files moment left_at → (text : List ℕ) (core : Core D) → graph core ≡ g → IsCreated files honest text core → Keeps files honest core → StoodHere begun_order core
     created rest text core is is_created keeps =
         let opened = is_created.opened in
-        let has : Has g begun_order core = record { graph = is; facts = is_created.facts; environment = is_created.environment } in
+        let has : Has g begun_order core = record { graph = is; facts = is_created.facts; environment = is_created.environment; settled = λ _. refl } in
         let gates = rest core.vault (graph core) (environment core) (facts core) ((keeps.kept on).holds opened.working) (is_created.gates on) in
         record {
           has = has;
           leaves = held_now files moment left_at failures refusals honest on both now reads held appends g begun_order core has keeps opened.working
               (λ contents may. gates.each (moment core.vault.disk) contents gates.later gates.later ((now core.vault.disk contents).1 may));
-          settled = λ _. refl;
           keeps = keeps;
         }
 
@@ -73,7 +72,7 @@ module _
         let made = h.made ++ stands.made in
         let same = one (contents_of (files disk)) g (graph core) (environment_behind nothing made) (environment core) (facts_behind nothing made) (facts core) stands.stands (opens.finds on) in
         let working = opens.opened.working in
-        let has : Has g (with_found h stands.made) core = record { graph = sym same.0; facts = λ fact. sym (same.2 fact); environment = λ fact. sym (same.1 fact) } in
+        let has : Has g (with_found h stands.made) core = record { graph = sym same.0; facts = λ fact. sym (same.2 fact); environment = λ fact. sym (same.1 fact); settled = λ _. refl } in
         let whole : h.made ++ h.doubt ≡ made ++ stands.later = ap (λ (doubt : List Commit). h.made ++ doubt) stands.beginning ∙ sym (append_assoc h.made stands.made stands.later) in (
           stands.made,
           stands.later,
@@ -82,7 +81,6 @@ module _
             has = has;
             leaves = held_now files moment left_at failures refusals honest on both now reads held appends g (with_found h stands.made) core has keeps working
                 (λ contents may. (leaves contents ((opens.only_reads on).left contents may)).1);
-            settled = λ _. refl;
             keeps = keeps;
           },
           subst (λ (commits : List Commit). AreLegalFrom g nothing (events_of commits)) (sym (append-nil made)) (prefix_legal g made stands.later (h.made ++ h.doubt) whole legal),

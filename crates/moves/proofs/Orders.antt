@@ -3,7 +3,7 @@ use Rattle.std.proofs.Common.{◌≡◌, ◌∙◌, ap, sym, refl, inl, inr, Lis
 use Rattle.std.proofs.lemmas.List.{append-nil, append_assoc}
 use Rattle.terms.specs.Commits.{Commit}
 use Rattle.moves.specs.Call.{Call, acknowledged}
-use Rattle.moves.specs.Move.{Move, whole, cut, crashes, gives_back, crashes_again, opens, opening_cut}
+use Rattle.moves.specs.Move.{Move, Place, at_core, at_disk, whole, cut, crashes, gives_back, crashes_again, opens, opening_cut}
 use Rattle.moves.specs.Order.{AcknowledgedStays, Doubts, Extends, ExtendsAll, Forgets, History, MadeStays, begun}
 
 abbrev made : History → List Commit
@@ -11,57 +11,66 @@ made h = h.made
 
 -- one order begins another
 abbrev Begins : History → History → Type 0
-Begins old new = (later : List Commit) × (new.made ≡ old.made ++ later)
+Begins before after = (later : List Commit) × (after.made ≡ before.made ++ later)
 
-stays : (old new : History) → new ≡ old → Begins old new
-stays old new same = ([], ap made same ∙ sym (append-nil old.made))
+stays : (before after : History) → after ≡ before → Begins before after
+stays before after same = ([], ap made same ∙ sym (append-nil before.made))
 
-doubts : (call : Call) (old new : History) → Doubts call old new → Begins old new
-doubts call old new it = ([], ap made it.3 ∙ sym (append-nil old.made))
+doubts : (call : Call) (before after : History) → Doubts call before after → Begins before after
+doubts call before after it = ([], ap made it.3 ∙ sym (append-nil before.made))
 
-made_by : {D : Type 0} (move : Move D) (old new : History) → Extends move old new → Begins old new
-made_by (whole call) old new (inl acknowledges) = (acknowledged call, ap made acknowledges)
-made_by (whole call) old new (inr doubtful) = doubts call old new doubtful.1
-made_by (cut call core) old new (inl same) = stays old new same
-made_by (cut call core) old new (inr doubtful) = doubts call old new doubtful
-made_by crashes old new same = stays old new same
-made_by gives_back old new same = stays old new same
-made_by crashes_again old new same = stays old new same
-made_by (opens (Ok core)) old new it = (it.0, ap made it.3)
-made_by (opens (Err refused)) old new same = stays old new same
-made_by (opening_cut result) old new same = stays old new same
+made_by : {D : Type 0} (move : Move D) (from to : Place D) (before after : History) → Extends move from to before after → Begins before after
+made_by (whole call) (at_core old) (at_core new) before after (inl doubtful) = doubts call before after doubtful.2
+made_by (whole call) (at_core old) (at_core new) before after (inr it) = (acknowledged call, ap made it.1)
+made_by (cut call core) (at_core old) (at_disk disk) before after (inl same) = stays before after same
+made_by (cut call core) (at_core old) (at_disk disk) before after (inr doubtful) = doubts call before after doubtful.1
+made_by crashes (at_core core) (at_disk disk) before after same = stays before after same
+made_by gives_back (at_core core) (at_disk disk) before after same = stays before after same
+made_by crashes_again (at_disk old) (at_disk disk) before after same = stays before after same
+made_by (opens (Ok core)) (at_disk disk) (at_core opened) before after it = (it.0, ap made it.3)
+made_by (opens (Err refused)) (at_disk disk) (at_disk back) before after same = stays before after same
+made_by (opening_cut result) (at_disk old) (at_disk disk) before after same = stays before after same
+made_by move from to before after it = absurd it
 
 pub made_stays : (D : Type 0) → MadeStays D
-made_stays D [] old new same = stays old new same
-made_stays D (move ∷ moves) old new extends =
-    let first = made_by move old extends.0 extends.1 in
-    let rest = made_stays D moves extends.0 new extends.2 in
-    (first.0 ++ rest.0, rest.1 ∙ ap (λ (commits : List Commit). commits ++ rest.0) first.1 ∙ append_assoc old.made first.0 rest.0)
+made_stays D [] from to before after all = stays before after all.1
+made_stays D (move ∷ moves) from to before after all =
+    let first = made_by move from all.0 before all.1 all.2 in
+    let rest = made_stays D moves all.0 to all.1 after all.3 in
+    (first.0 ++ rest.0, rest.1 ∙ ap (λ (commits : List Commit). commits ++ rest.0) first.1 ∙ append_assoc before.made first.0 rest.0)
 
 -- a list of moves in two parts
-split : {D : Type 0} (one two : List (Move D)) (old new : History) → ExtendsAll (one ++ two) old new → (between : History) × ExtendsAll one old between × ExtendsAll two between new
-split [] two old new all = (old, refl, all)
-split (move ∷ one) two old new all =
-    let rest = split one two all.0 new all.2 in
-    (rest.0, (all.0, all.1, rest.1), rest.2)
+split : {D : Type 0} (one two : List (Move D)) (from to : Place D) (before after : History) → ExtendsAll (one ++ two) from to before after
+    → (place : Place D) × (between : History) × ExtendsAll one from place before between × ExtendsAll two place to between after
+split [] two from to before after all = (from, before, (refl, refl), all)
+split (move ∷ one) two from to before after all =
+    let rest = split one two all.0 to all.1 after all.3 in
+    (rest.0, rest.1, (all.0, all.1, all.2, rest.2), rest.3)
 
 -- what a call acknowledged comes after what was made before it
-by_call : (D : Type 0) (call : Call) (old new : History) → Extends {D = D} (whole call) old new → new.made ≡ old.made ++ acknowledged call
-by_call D call old new (inl acknowledges) = ap made acknowledges
-by_call D call old new (inr doubtful) = ap made doubtful.1.3 ∙ sym (append-nil old.made) ∙ ap (λ (commits : List Commit). old.made ++ commits) (sym doubtful.0)
+by_call : (D : Type 0) (call : Call) (from to : Place D) (before after : History) → Extends {D = D} (whole call) from to before after → after.made ≡ before.made ++ acknowledged call
+by_call D call (at_core old) (at_core new) before after (inl doubtful) =
+    ap made doubtful.2.3 ∙ sym (append-nil before.made) ∙ ap (λ (commits : List Commit). before.made ++ commits) (sym doubtful.1)
+by_call D call (at_core old) (at_core new) before after (inr it) = ap made it.1
+by_call D call (at_core old) (at_disk new) before after it = absurd it
+by_call D call (at_disk old) (at_core new) before after it = absurd it
+by_call D call (at_disk old) (at_disk new) before after it = absurd it
 
 pub acknowledged_there : (D : Type 0) → AcknowledgedStays D
-acknowledged_there D before after call old new all =
-    let parts = split before (whole call ∷ after) old new all in
-    let earlier = parts.0 in
-    let rest = made_stays D after parts.2.0 new parts.2.2 in
-    (earlier.made, rest.0, rest.1 ∙ ap (λ (commits : List Commit). commits ++ rest.0) (by_call D call earlier parts.2.0 parts.2.1))
+acknowledged_there D one two call from to before after all =
+    let parts = split one (whole call ∷ two) from to before after all in
+    let place = parts.0 in
+    let earlier = parts.1 in
+    let rest = parts.3 in
+    let later = made_stays D two rest.0 to rest.1 after rest.3 in
+    (place, earlier, parts.2, (later.0, later.1 ∙ ap (λ (commits : List Commit). commits ++ later.0) (by_call D call place rest.0 earlier rest.1 rest.2)))
 
 not_there : (commit : Commit) (earlier later : List Commit) → [] ≡ earlier ++ (commit ∷ []) ++ later → ⊥
 not_there commit [] later same = cc
 not_there commit (first ∷ earlier) later same = cc
 
 pub forgets : (D : Type 0) → Forgets D
-forgets D call commit core new is all none =
-    let there = acknowledged_there D [] (crashes ∷ opens (Ok core) ∷ []) call begun new all in
-    not_there commit there.0 there.1 (sym none ∙ there.2 ∙ ap (λ (commits : List Commit). there.0 ++ commits ++ there.1) is)
+forgets D call commit core from to after is all none =
+    let there = acknowledged_there D [] (crashes ∷ opens (Ok core) ∷ []) call from to begun after all in
+    let earlier = there.1 in
+    not_there commit earlier.made there.3.0 (sym none ∙ there.3.1 ∙ ap (λ (commits : List Commit). earlier.made ++ commits ++ there.3.0) is)

@@ -1,6 +1,5 @@
 -- The theorem: what holds after every list of moves of a store.
 use Rattle.std.specs.Prelude.{◌≡◌, ◌⊎◌, ◌↔◌, ℕ, true, List, [], ◌∷◌, ◌++◌, Some, Result, IfErr}
-use Rattle.std.specs.FinMap.{find}
 use Rattle.disk.specs.declared.side.Side.{Side}
 use Rattle.disk.specs.File.{File}
 use Rattle.disk.specs.Time.{Contents, MayLeaveNow}
@@ -8,27 +7,26 @@ use Rattle.terms.specs.declared.name.Addr.{Addr}
 use Rattle.terms.specs.declared.name.Inst.{Inst}
 use Rattle.terms.specs.declared.fault.FaultKind.{FaultKind}
 use Rattle.terms.specs.declared.event.Event.{Event}
-use Rattle.terms.specs.Name.{inst_cmp}
 use Rattle.terms.specs.Commits.{Commit, events_of}
 use Rattle.terms.specs.Facts.{Fact, bad}
 use Rattle.terms.specs.Sets.{Facts, put_by_environment, stated}
 use Rattle.graph.specs.Graph.{Graph}
+use Rattle.instances.specs.declared.state.State.TheVariants.{Waiting}
 use Rattle.machine.specs.Legal.{AreLegal, IsQuiet}
 use Rattle.machine.specs.Meaning.{IsClean, Meaning}
 use Rattle.machine.specs.State.{IsMeaning, IsUnfinished}
-use Rattle.machine.specs.Status.{AreUnfinished}
 use Rattle.vault.specs.declared.error.VaultError.TheVariants.{Device, NoMemory}
 use Rattle.vault.specs.declared.refused.Refused.{Refused}
 use Rattle.vault.specs.Stands.{Stands}
 use Rattle.commit.specs.declared.status.Status.TheVariants.{Quiet, Stopped}
-use Rattle.commit.specs.Core.{Core, graph, facts, environment}
+use Rattle.commit.specs.Core.{Core, graph, facts, environment, state_of}
 use Rattle.commit.specs.Created.{IsCreated}
 use Rattle.commit.specs.Kept.{Keeps}
 use Rattle.commit.specs.Opened.{OpensAs}
 use Rattle.commit.specs.Status.{TellsStatus}
 use Rattle.moves.specs.Call.{Call, acknowledged}
-use Rattle.moves.specs.Move.{LeadsAll, Move, Place, at_core, at_disk, whole}
-use Rattle.moves.specs.Order.{ExtendsAll, History, begun}
+use Rattle.moves.specs.Move.{Leads, LeadsAll, Move, Place, at_core, at_disk, whole}
+use Rattle.moves.specs.Order.{Extends, ExtendsAll, History, begun}
 use Rattle.moves.specs.There.{IsThere}
 
 -- ---- what a store means
@@ -41,13 +39,14 @@ IsWithin g E X = (fact : Fact) → X fact ≡ true → Meaning g E fact
 abbrev pub NoneIsQuiet : Graph → Facts → Type 0
 NoneIsQuiet g E = (events : List Event) → AreLegal g [] events → ((fact : Fact) → put_by_environment events fact ≡ E fact) → IsQuiet g (stated events) → ⊥
 
--- What `status` and `blocked` say then. `Quiet`: nothing is left to do, the facts are exactly the meaning, which is clean, and the list of `blocked` is exactly
--- what the meaning leaves unfinished. `Stopped`: the meaning has this fault, so it is not clean, and no schedule on this environment is quiet.
+-- What a core means. Its facts are within the meaning. Where `status` says `Quiet`: nothing is left to do, the facts are exactly the meaning, which is clean, and those that wait
+-- are exactly the instances that the meaning leaves unfinished, each at an address that it needs. Where it says `Stopped`: the meaning has this fault, and no schedule on this
+-- environment is quiet.
 pub record TellsMeaning {D : Type 0} (g : Graph) (c : Core D) : Type 0 where
   pub within : IsWithin g (environment c) (facts c)
   pub quiet : (blocked : ℕ) → TellsStatus c (Quiet blocked) → IsQuiet g (facts c) × IsMeaning g (environment c) (facts c) × IsClean g (environment c)
-  pub unfinished : (blocked : ℕ) (list : List (Inst × Addr)) → TellsStatus c (Quiet blocked) → AreUnfinished c.machine list
-      → (instance : Inst) (address : Addr) → (find inst_cmp instance list ≡ Some address) ↔ IsUnfinished g (environment c) instance address
+  pub waiting : (blocked : ℕ) → TellsStatus c (Quiet blocked) → (instance : Inst) (address : Addr) → state_of c instance ≡ Some (Waiting address) → IsUnfinished g (environment c) instance address
+  pub unfinished : (blocked : ℕ) → TellsStatus c (Quiet blocked) → (instance : Inst) (address : Addr) → IsUnfinished g (environment c) instance address → (at : Addr) × (state_of c instance ≡ Some (Waiting at))
   pub stopped : (instance : Inst) (kind : FaultKind) → TellsStatus c (Stopped instance kind) → Meaning g (environment c) (bad instance kind) × NoneIsQuiet g (environment c)
 
 module _ {D : Type 0} (files : D → Side → File) (moment : D → ℕ) (left_at : D → ℕ → Contents → Type 0) (failures refusals : D → ℕ) (honest : Type 0) where
@@ -63,19 +62,30 @@ module _ {D : Type 0} (files : D → Side → File) (moment : D → ℕ) (left_a
   Means g (at_core c) = TellsMeaning g c × StandsWithin g c.vault.disk
   Means g (at_disk disk) = StandsWithin g disk × OpensOrErrs disk
 
-  -- What holds where a list of moves from a creation leads. There is a commit order, which the moves made: each acknowledged commit is in it, in its place, and
-  -- it is legal. What is there is the state after it, or on the disk that and a prefix of what is in doubt. And it means what it should.
-  pub record Holds (g : Graph) (moves : List (Move D)) (place : Place D) : Type 0 where
-    pub history : History
-    pub order : ExtendsAll moves begun history
-    pub acknowledged : (before after : List (Move D)) (call : Call) → moves ≡ before ++ whole call ∷ after → (earlier later : List Commit) × (history.made ≡ earlier ++ acknowledged call ++ later)
-    pub legal : AreLegal g [] (events_of (history.made ++ history.doubt))
-    pub is_there : IsThere files g history place
+  -- What is known at a place: the commit order is legal; what is there is the state after it, on the disk perhaps with a prefix of what is in doubt; and it means what it should.
+  pub record IsKnown (g : Graph) (h : History) (place : Place D) : Type 0 where
+    pub legal : AreLegal g [] (events_of (h.made ++ h.doubt))
+    pub is_there : IsThere files g h place
     pub means : Means g place
 
-  -- However often a store is stopped, before or within any disk write, and whichever steps are committed, in whatever order: after every list of moves from a
-  -- creation that returned `Ok`, this holds.
+  -- Along the moves one commit order goes on, and after each of them this is known.
+  abbrev pub Along : Graph → List (Move D) → (from to : Place D) → History → History → Type 0
+  Along g [] from to before after = (to ≡ from) × (after ≡ before)
+  Along g (move ∷ moves) from to before after =
+      (place : Place D) × (next : History) × Leads files moment left_at failures refusals honest move from place × Extends move from place before next × IsKnown g next place × Along g moves place to next after
+
+  -- What holds of a list of moves from a creation: this is known of the new store, and along the moves. What a call acknowledged comes after all that was made before the call,
+  -- and is there at the end.
+  pub record Holds (core : Core D) (moves : List (Move D)) (place : Place D) : Type 0 where
+    pub first : IsKnown (graph core) begun (at_core core)
+    pub history : History
+    pub along : Along (graph core) moves (at_core core) place begun history
+    pub acknowledged : (one two : List (Move D)) (call : Call) → moves ≡ one ++ whole call ∷ two
+        → (at : Place D) × (earlier : History) × ExtendsAll one (at_core core) at begun earlier × ((later : List Commit) × (history.made ≡ earlier.made ++ acknowledged call ++ later))
+
+  -- However often a store is stopped, before or within any disk write, and whichever steps are committed, in whatever order: of every list of moves from a creation that
+  -- returned `Ok`, this holds.
   abbrev pub ForEverySchedule : Type 0
   ForEverySchedule =
       (text : List ℕ) (core : Core D) (moves : List (Move D)) (place : Place D) → IsCreated files honest text core → Keeps files honest core
-      → LeadsAll files moment left_at failures refusals honest moves (at_core core) place → Holds (graph core) moves place
+      → LeadsAll files moment left_at failures refusals honest moves (at_core core) place → Holds core moves place

@@ -1,9 +1,9 @@
 -- The commit order of a store: what is known of it after each move.
-use Rattle.std.specs.Prelude.{◌≡◌, ◌⊎◌, List, [], ◌∷◌, ◌++◌, Ok, Err}
+use Rattle.std.specs.Prelude.{◌≡◌, ◌⊎◌, true, false, List, [], ◌∷◌, ◌++◌, Ok, Err}
 use Rattle.terms.specs.Commits.{Commit}
-use Rattle.commit.specs.Core.{Core}
+use Rattle.commit.specs.Core.{Core, is_halted}
 use Rattle.moves.specs.Call.{Call, Tries, acknowledged}
-use Rattle.moves.specs.Move.{Move, whole, cut, crashes, gives_back, crashes_again, opens, opening_cut}
+use Rattle.moves.specs.Move.{Move, Place, at_core, at_disk, whole, cut, crashes, gives_back, crashes_again, opens, opening_cut}
 
 -- The commits made since the creation, in their order, each of which was acknowledged or found by an opening; and those in doubt after them, which may
 -- be on the disk or not, the first ones before the later ones.
@@ -15,39 +15,50 @@ pub record History : Type 0 where
 abbrev pub begun : History
 begun = record { made = []; doubt = [] }
 
+-- the call halted the core
+abbrev pub HaltedBy : {D : Type 0} → Core D → Core D → Type 0
+HaltedBy old new = (is_halted old ≡ false) × (is_halted new ≡ true)
+
+-- the call tries to commit nothing
+abbrev pub TriesNone : Call → Type 0
+TriesNone call = (commit : Commit) → Tries call commit → ⊥
+
 -- the commit that the call tried is in doubt, and nothing was before
 abbrev pub Doubts : Call → History → History → Type 0
-Doubts call old new = (commit : Commit) × Tries call commit × (old.doubt ≡ []) × (new ≡ record { made = old.made; doubt = commit ∷ [] })
+Doubts call before after = (commit : Commit) × Tries call commit × (before.doubt ≡ []) × (after ≡ record { made = before.made; doubt = commit ∷ [] })
 
--- A call that returned `Ok` made its commit, after all others. One that returned an error made none, and may leave it in doubt; so does one that a crash cut
--- off. An opening finds a prefix of those in doubt, and the rest is lost. Nothing else changes the order.
-abbrev pub Extends : {D : Type 0} → Move D → History → History → Type 0
-Extends (whole call) old new = (new ≡ record { made = old.made ++ acknowledged call; doubt = old.doubt }) ⊎ ((acknowledged call ≡ []) × Doubts call old new)
-Extends (cut call core) old new = (new ≡ old) ⊎ Doubts call old new
-Extends crashes old new = new ≡ old
-Extends gives_back old new = new ≡ old
-Extends crashes_again old new = new ≡ old
-Extends (opens (Ok core)) old new = (found : List Commit) × (lost : List Commit) × (old.doubt ≡ found ++ lost) × (new ≡ record { made = old.made ++ found; doubt = [] })
-Extends (opens (Err refused)) old new = new ≡ old
-Extends (opening_cut result) old new = new ≡ old
+-- A call that returned `Ok` made its commit, after all others. One that returned an error and halted the core leaves the commit that it tried in doubt, and one that a crash cut off may. An
+-- opening finds a prefix of those in doubt, and the rest is lost. Nothing else changes the order.
+abbrev pub Extends : {D : Type 0} → Move D → (from to : Place D) → History → History → Type 0
+Extends (whole call) (at_core old) (at_core new) before after =
+    (HaltedBy old new × (acknowledged call ≡ []) × Doubts call before after) ⊎ ((HaltedBy old new → TriesNone call) × (after ≡ record { made = before.made ++ acknowledged call; doubt = before.doubt }))
+Extends (cut call core) (at_core old) (at_disk disk) before after = (after ≡ before) ⊎ ((is_halted old ≡ false) × Doubts call before after)
+Extends crashes (at_core core) (at_disk disk) before after = after ≡ before
+Extends gives_back (at_core core) (at_disk disk) before after = after ≡ before
+Extends crashes_again (at_disk old) (at_disk disk) before after = after ≡ before
+Extends (opens (Ok core)) (at_disk disk) (at_core opened) before after =
+    (found : List Commit) × (lost : List Commit) × (before.doubt ≡ found ++ lost) × (after ≡ record { made = before.made ++ found; doubt = [] })
+Extends (opens (Err refused)) (at_disk disk) (at_disk back) before after = after ≡ before
+Extends (opening_cut result) (at_disk old) (at_disk disk) before after = after ≡ before
+Extends move from to before after = ⊥
 
--- the same after a list of moves
-abbrev pub ExtendsAll : {D : Type 0} → List (Move D) → History → History → Type 0
-ExtendsAll [] old new = new ≡ old
-ExtendsAll (move ∷ moves) old new = (between : History) × Extends move old between × ExtendsAll moves between new
+-- the same along a list of moves
+abbrev pub ExtendsAll : {D : Type 0} → List (Move D) → (from to : Place D) → History → History → Type 0
+ExtendsAll [] from to before after = (to ≡ from) × (after ≡ before)
+ExtendsAll {D} (move ∷ moves) from to before after = (place : Place D) × (next : History) × Extends move from place before next × ExtendsAll moves place to next after
 
 -- ---- laws
 
--- What was made stays, in front of what comes later; so what a call of the list acknowledged is among what was made, in its place.
+-- What was made stays, in front of what comes later. So what a call acknowledged comes after all that was made before the call, and stays there.
 abbrev pub MadeStays : Type 0 → Type 0
-MadeStays D = (moves : List (Move D)) (old new : History) → ExtendsAll moves old new → (later : List Commit) × (new.made ≡ old.made ++ later)
+MadeStays D = (moves : List (Move D)) (from to : Place D) (before after : History) → ExtendsAll moves from to before after → (later : List Commit) × (after.made ≡ before.made ++ later)
 
 abbrev pub AcknowledgedStays : Type 0 → Type 0
 AcknowledgedStays D =
-    (before after : List (Move D)) (call : Call) (old new : History) → ExtendsAll (before ++ whole call ∷ after) old new
-    → (earlier later : List Commit) × (new.made ≡ earlier ++ acknowledged call ++ later)
+    (one two : List (Move D)) (call : Call) (from to : Place D) (before after : History) → ExtendsAll (one ++ whole call ∷ two) from to before after
+    → (place : Place D) × (earlier : History) × ExtendsAll one from place before earlier × ((later : List Commit) × (after.made ≡ earlier.made ++ acknowledged call ++ later))
 
 -- An example that is refused: after a put that returned `Ok`, a crash, and an opening that returned `Ok`, nothing is there.
 abbrev pub Forgets : Type 0 → Type 0
 Forgets D =
-    (call : Call) (commit : Commit) (core : Core D) (new : History) → acknowledged call ≡ commit ∷ [] → ExtendsAll {D = D} (whole call ∷ crashes ∷ opens (Ok core) ∷ []) begun new → new.made ≡ [] → ⊥
+    (call : Call) (commit : Commit) (core : Core D) (from to : Place D) (after : History) → acknowledged call ≡ commit ∷ [] → ExtendsAll {D = D} (whole call ∷ crashes ∷ opens (Ok core) ∷ []) from to begun after → after.made ≡ [] → ⊥

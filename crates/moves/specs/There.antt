@@ -1,5 +1,5 @@
 -- What is there after moves: what the core has, and what a crash may leave of the two files.
-use Rattle.std.specs.Prelude.{◌≡◌}
+use Rattle.std.specs.Prelude.{◌≡◌, false, []}
 use Rattle.disk.specs.declared.side.Side.{Side}
 use Rattle.disk.specs.File.{File}
 use Rattle.disk.specs.Time.{Contents, MayLeaveNow}
@@ -8,15 +8,16 @@ use Rattle.terms.specs.Commits.{facts_behind, environment_behind}
 use Rattle.graph.specs.Graph.{Graph}
 use Rattle.vault.specs.Commits.{StandsForBeginning}
 use Rattle.vault.specs.Store.{HasGates, nothing}
-use Rattle.commit.specs.Core.{Core, graph, facts, environment}
+use Rattle.commit.specs.Core.{Core, graph, facts, environment, is_halted}
 use Rattle.moves.specs.Move.{Place, at_core, at_disk}
 use Rattle.moves.specs.Order.{History}
 
--- the core has the state after all that was made
+-- the core has the state after all that was made, and nothing is in doubt unless it is halted
 pub record Has {D : Type 0} (g : Graph) (h : History) (c : Core D) : Type 0 where
   pub graph : graph c ≡ g
   pub facts : (fact : Fact) → facts c fact ≡ facts_behind nothing h.made fact
   pub environment : (fact : Fact) → environment c fact ≡ environment_behind nothing h.made fact
+  pub settled : is_halted c ≡ false → h.doubt ≡ []
 
 -- the two files stand for the state after all that was made and a prefix of what is in doubt; no commit is there in part
 abbrev pub MayStand : Graph → History → Contents → Type 0

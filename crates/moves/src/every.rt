@@ -2,7 +2,7 @@ ghost use Rattle.std.specs.Prelude.{IsTrue};
 ghost use Rattle.moves.specs.Every.{ForEverySchedule};
 
 use disk::Disk;
-use machine::{reached_and_quiet, reached_goes_on, reached_within};
+use machine::{reached_and_quiet, reached_goes_on, reached_within, unfinished_wait};
 use terms::facts_are_told_apart;
 use vault::{one_store, stores_go_on};
 
@@ -21,4 +21,5 @@ pub fn for_every_schedule<D: Disk>()
     reached_goes_on();
     reached_within();
     reached_and_quiet();
+    unfinished_wait();
 }

@@ -15,7 +15,7 @@ use Rattle.session.proofs.Puts.{put_cause, put_halt, put_idle, put_stays, replie
 use Rattle.session.proofs.answers.put_item.Goals as goal
 
 pub returns-clause-idle : goal.returns-clause-idle
-returns-clause-idle g c = put_idle c.args.core.now c.put_item-put.new.self _ (λ instance ends. ends) c.requires.idle c.put_item-put.result c.put_item-put.ensures.ok c.put_item-put.ensures.err
+returns-clause-idle g c = put_idle c.args.core.now c.put_item-put.new.self _ (λ instance ends. ends) c.requires.idle c.put_item-put.result c.put_item-put.ensures.commits.takes c.put_item-put.ensures.unchanged
 
 pub returns-clause-replies : goal.returns-clause-replies
 returns-clause-replies g c =
@@ -28,7 +28,7 @@ returns-clause-replies g c =
     (subst (λ (event : Event). at event (put_reply c.put_item-put.result)) (λ i. EnvItem c.args.address (to_z-of_z w64 c.args.value c.ranges.value i))
     (replied_put g.D.Disk.files g.D.Disk.moment g.D.Disk.left_at g.D.Disk.failures g.D.Disk.refusals (IsTrue g.D.Disk.is_honest) c.stores_go_on.ensures.rest_leaves c.stores_go_on.ensures.gates_rest (λ _. c.stores_go_on.ensures.append_leaves)
     old new _ (RefusesItem (graph old) (facts old) c.args.address) c.is_kept.ensures.kept c.is_kept.ensures.settled
-    c.put_item-put.result it.ok it.err it.refused it.doubt it.moments it.halts))
+    c.put_item-put.result it.commits.takes it.unchanged it.commits.refused it.commits.doubt it.commits.moments it.halts))
 
 pub returns-clause-cause : goal.returns-clause-cause
 returns-clause-cause g c =
@@ -37,14 +37,14 @@ returns-clause-cause g c =
     subst (HasCause g.D.Disk.failures old new (Put c.args.address c.args.value)) (sym c.put_reply.ensures)
     (put_cause g.D.Disk.failures g.D.Disk.refusals old new (RefusesItem (graph old) (facts old) c.args.address) _ (Put c.args.address c.args.value)
     (λ is. subst (λ (value : ℤ). IsTooLong old (EnvItem c.args.address value)) (to_z-of_z w64 c.args.value c.ranges.value) is)
-    c.put_item-put.result c.put_item-put.ensures.refused c.put_item-put.ensures.halts)
+    c.put_item-put.result c.put_item-put.ensures.commits.refused c.put_item-put.ensures.halts)
 
 pub returns-clause-halt : goal.returns-clause-halt
 returns-clause-halt g c =
     subst (λ (reply : Reply). (reply ≡ Halted) ↔ (is_halted c.args.core.now ≡ true)) (sym c.put_reply.ensures)
-    (put_halt g.D.Disk.failures g.D.Disk.refusals c.args.core.now c.put_item-put.new.self (RefusesItem (graph c.args.core.now) (facts c.args.core.now) c.args.address) _ c.put_item-put.result c.put_item-put.ensures.ok c.put_item-put.ensures.refused c.put_item-put.ensures.halts)
+    (put_halt g.D.Disk.failures g.D.Disk.refusals c.args.core.now c.put_item-put.new.self (RefusesItem (graph c.args.core.now) (facts c.args.core.now) c.args.address) _ c.put_item-put.result c.put_item-put.ensures.commits.takes c.put_item-put.ensures.commits.refused c.put_item-put.ensures.halts)
 
 pub returns-clause-stays : goal.returns-clause-stays
 returns-clause-stays g c =
     subst (λ (reply : Reply). stop_of reply ≡ None → is_halted c.put_item-put.new.self ≡ is_halted c.args.core.now) (sym c.put_reply.ensures)
-    (put_stays g.D.Disk.failures g.D.Disk.refusals c.args.core.now c.put_item-put.new.self (RefusesItem (graph c.args.core.now) (facts c.args.core.now) c.args.address) _ c.put_item-put.result c.put_item-put.ensures.ok c.put_item-put.ensures.refused c.put_item-put.ensures.halts)
+    (put_stays g.D.Disk.failures g.D.Disk.refusals c.args.core.now c.put_item-put.new.self (RefusesItem (graph c.args.core.now) (facts c.args.core.now) c.args.address) _ c.put_item-put.result c.put_item-put.ensures.commits.takes c.put_item-put.ensures.commits.refused c.put_item-put.ensures.halts)

@@ -13,7 +13,7 @@ use Rattle.session.proofs.Puts.{put_cause, put_halt, put_idle, put_stays, replie
 use Rattle.session.proofs.answers.put_tag.Goals as goal
 
 pub returns-clause-idle : goal.returns-clause-idle
-returns-clause-idle g c = put_idle c.args.core.now c.put_tag-put.new.self (EnvTag c.args.tag) (λ instance ends. ends) c.requires.idle c.put_tag-put.result c.put_tag-put.ensures.ok c.put_tag-put.ensures.err
+returns-clause-idle g c = put_idle c.args.core.now c.put_tag-put.new.self (EnvTag c.args.tag) (λ instance ends. ends) c.requires.idle c.put_tag-put.result c.put_tag-put.ensures.commits.takes c.put_tag-put.ensures.unchanged
 
 pub returns-clause-replies : goal.returns-clause-replies
 returns-clause-replies g c =
@@ -23,7 +23,7 @@ returns-clause-replies g c =
     × RepliesPut (graph old) (facts old) (RefusesTag (graph c.args.core.now) (facts c.args.core.now) c.args.tag) (EnvTag c.args.tag) came reply) (sym c.put_reply.ensures)
     (replied_put g.D.Disk.files g.D.Disk.moment g.D.Disk.left_at g.D.Disk.failures g.D.Disk.refusals (IsTrue g.D.Disk.is_honest) c.stores_go_on.ensures.rest_leaves c.stores_go_on.ensures.gates_rest (λ _. c.stores_go_on.ensures.append_leaves)
     old c.put_tag-put.new.self (EnvTag c.args.tag) (RefusesTag (graph c.args.core.now) (facts c.args.core.now) c.args.tag) c.is_kept.ensures.kept c.is_kept.ensures.settled
-    c.put_tag-put.result it.ok it.err it.refused it.doubt it.moments it.halts)
+    c.put_tag-put.result it.commits.takes it.unchanged it.commits.refused it.commits.doubt it.commits.moments it.halts)
 
 pub returns-clause-cause : goal.returns-clause-cause
 returns-clause-cause g c =
@@ -31,14 +31,14 @@ returns-clause-cause g c =
     let new = c.put_tag-put.new.self in
     subst (HasCause g.D.Disk.failures old new (Tag c.args.tag)) (sym c.put_reply.ensures)
     (put_cause g.D.Disk.failures g.D.Disk.refusals old new (RefusesTag (graph old) (facts old) c.args.tag) (EnvTag c.args.tag) (Tag c.args.tag) (λ is. is)
-    c.put_tag-put.result c.put_tag-put.ensures.refused c.put_tag-put.ensures.halts)
+    c.put_tag-put.result c.put_tag-put.ensures.commits.refused c.put_tag-put.ensures.halts)
 
 pub returns-clause-halt : goal.returns-clause-halt
 returns-clause-halt g c =
     subst (λ (reply : Reply). (reply ≡ Halted) ↔ (is_halted c.args.core.now ≡ true)) (sym c.put_reply.ensures)
-    (put_halt g.D.Disk.failures g.D.Disk.refusals c.args.core.now c.put_tag-put.new.self (RefusesTag (graph c.args.core.now) (facts c.args.core.now) c.args.tag) (EnvTag c.args.tag) c.put_tag-put.result c.put_tag-put.ensures.ok c.put_tag-put.ensures.refused c.put_tag-put.ensures.halts)
+    (put_halt g.D.Disk.failures g.D.Disk.refusals c.args.core.now c.put_tag-put.new.self (RefusesTag (graph c.args.core.now) (facts c.args.core.now) c.args.tag) (EnvTag c.args.tag) c.put_tag-put.result c.put_tag-put.ensures.commits.takes c.put_tag-put.ensures.commits.refused c.put_tag-put.ensures.halts)
 
 pub returns-clause-stays : goal.returns-clause-stays
 returns-clause-stays g c =
     subst (λ (reply : Reply). stop_of reply ≡ None → is_halted c.put_tag-put.new.self ≡ is_halted c.args.core.now) (sym c.put_reply.ensures)
-    (put_stays g.D.Disk.failures g.D.Disk.refusals c.args.core.now c.put_tag-put.new.self (RefusesTag (graph c.args.core.now) (facts c.args.core.now) c.args.tag) (EnvTag c.args.tag) c.put_tag-put.result c.put_tag-put.ensures.ok c.put_tag-put.ensures.refused c.put_tag-put.ensures.halts)
+    (put_stays g.D.Disk.failures g.D.Disk.refusals c.args.core.now c.put_tag-put.new.self (RefusesTag (graph c.args.core.now) (facts c.args.core.now) c.args.tag) (EnvTag c.args.tag) c.put_tag-put.result c.put_tag-put.ensures.commits.takes c.put_tag-put.ensures.commits.refused c.put_tag-put.ensures.halts)
