@@ -10,6 +10,7 @@ mod stores;
 mod strangers;
 mod task;
 mod twice;
+mod watches;
 
 use anyhow::Error;
 use rows::{Row, try_row};
@@ -31,5 +32,7 @@ fn main(rt: HostRuntime) -> Result<(), Error> {
     println!(rt; "a put is within its sync")?;
     held::try_held(&rt)?;
     println!(rt; "two threads put an item each")?;
-    twice::try_two(&rt)
+    twice::try_two(&rt)?;
+    println!(rt; "a watch is filled by another thread")?;
+    watches::try_watches(&rt)
 }

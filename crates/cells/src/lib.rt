@@ -1,0 +1,13 @@
+//! Watches: a value that comes once, and that others look for.
+//!
+//! A `Watch` and its `Filler` are made as a pair. Contracts see a watch as what it has learned: the value, or nothing yet. Looking and
+//! filling take no memory and never wait. A watch may outlive its filler; it then learns nothing more.
+#![tactic(auto)]
+
+mod crossing;
+mod filler;
+mod watch;
+
+pub use crossing::cells_cross;
+pub use filler::Filler;
+pub use watch::Watch;
