@@ -20,7 +20,8 @@ use Rattle.vault.specs.Commits.{StandsForBeginning, GatesStay}
 use Rattle.vault.specs.Stands.{Stands}
 use Rattle.vault.specs.Store.{HasGates}
 use Rattle.commit.specs.Core.{Core, graph, facts, environment, is_halted}
-use Rattle.commit.specs.Runs.{Begun, IsEnd, Runs, RunsOn, RunsSince, begun_by, one_by_one}
+use Rattle.commit.specs.Runs.{AcknowledgesFrom, Begun, IsEnd, Runs, RunsOn, RunsSince, begun_by, one_by_one}
+use Rattle.commit.proofs.Acknowledged.{carried, joined as ends_acknowledged}
 use Rattle.commit.proofs.Lists.{with_both, one_by_one_joined, facts_joined, ends_joined, first_ends, environment_stays, legal_joined}
 
 -- bytes that stand for a prefix of some commits stand for a prefix of more of them
@@ -86,6 +87,13 @@ module _ {D : Type 0} (files : D → Side → File) (moment : D → ℕ) (left_a
             (λ contents stands.
             behind both begun.graph (graph mid) begun.environment (environment mid) begun.facts (facts mid) first (one_by_one (second ++ new.in_doubt)) contents one.graph given sets
             (λ made. environment_stays both begun.environment first made first_are) stands));
+        acknowledged = λ on.
+            let second_leaves = two.crashes on in
+            ends_acknowledged begun.graph begun.environment begun.facts (left_at mid.vault.disk) (left_at new.vault.disk) (moment mid.vault.disk) (moment new.vault.disk) second_leaves.later (λ t contents early was. (second_leaves.stays t contents early).0 was)
+            begun.moment [] first second new.in_doubt (one.crashes on).later
+            (subst (λ (doubt : List Event). AcknowledgesFrom begun.graph begun.environment begun.facts (left_at mid.vault.disk) (moment mid.vault.disk) begun.moment [] first doubt) settled (one.acknowledged on))
+            (subst (λ (made : List Event). AcknowledgesFrom begun.graph begun.environment begun.facts (left_at new.vault.disk) (moment new.vault.disk) (moment mid.vault.disk) made second new.in_doubt) (append-nil first)
+            (carried both begun.graph (graph mid) begun.environment (environment mid) begun.facts (facts mid) first one.graph given sets first_are (left_at new.vault.disk) (moment new.vault.disk) (moment mid.vault.disk) [] second new.in_doubt (two.acknowledged on)));
         gates = λ on has.
             let here = one.gates on has in
             let at_last = leaves_at_last moment left_at begun.moment left mid.vault.disk HasGates here in

@@ -12,7 +12,7 @@ use Rattle.terms.specs.declared.fault.FaultKind.{FaultKind}
 use Rattle.terms.specs.declared.put.Put.{Put}
 use Rattle.terms.specs.declared.event.Event.{Event}
 use Rattle.terms.specs.declared.event.Event.TheVariants as event
-use Rattle.terms.specs.Facts.{Fact, event_facts}
+use Rattle.terms.specs.Facts.{Fact, event_facts, environment_facts}
 use Rattle.terms.specs.Sets.{Facts, with_facts}
 use Rattle.codec.specs.Commits.{commit_bytes}
 use Rattle.journal.specs.Records.{record_of}
@@ -27,7 +27,8 @@ use Rattle.machine.specs.Legal.{IsLegal}
 use Rattle.machine.specs.Machine.{RefusesEnd}
 use Rattle.machine.specs.State.{AreLegalFrom}
 use Rattle.vault.specs.declared.error.VaultError.TheVariants.{Device, NoMemory, Damaged, Full, NotAStore, Halted, Exists}
-use Rattle.vault.specs.Commits.{AppendLeaves, RestLeaves, GatesRest, StandsForBeginning}
+use Rattle.vault.specs.Commits.{AppendLeaves, HeldLeaves, RestLeaves, GatesRest, StandsForBeginning}
+use Rattle.vault.specs.Stands.{Stands}
 use Rattle.vault.specs.Store.{Holds, HasGates, IsSame, StandsBeforeOrAfter}
 use Rattle.commit.specs.declared.error.CoreError.{CoreError}
 use Rattle.commit.specs.declared.error.CoreError.TheVariants.{Refused, Store}
@@ -41,7 +42,7 @@ use Rattle.commit.specs.Calls.{Commits, CrashLeaves, GivesBack, Halts, Refuses, 
 use Rattle.commit.specs.Core.{Core, graph, facts, environment, is_halted}
 use Rattle.commit.specs.Kept.{IsKept}
 use Rattle.commit.specs.Outcome.{EndsGiven, Finishes, IsEndOf, IsEndOfGiven, Tells}
-use Rattle.commit.specs.Runs.{EndRuns, EndsEarly, IsEnd, IsFull, Runs, RunsOn, one_by_one}
+use Rattle.commit.specs.Runs.{AcknowledgesFrom, EndRuns, EndsEarly, IsEnd, IsFull, Runs, RunsOn, one_by_one}
 use Rattle.commit.specs.Steps.{LooksAgain, Moves}
 use Rattle.commit.proofs.Answered.{if_ok}
 use Rattle.commit.proofs.Lists.{with_nothing, puts_nothing}
@@ -127,6 +128,13 @@ module _ {D : Type 0} (files : D → Side → File) (moment : D → ℕ) (left_a
       → Runs files moment left_at failures refusals honest old new []
   rests leaves gates_rest old new working kept same =
       let none : [] ++ new.in_doubt ≡ [] = same.settled in
+      let crash : honest → LeavesOnly moment left_at old.vault.disk new.vault.disk (StandsForBeginning (graph old) (environment old) (facts old) [] (one_by_one ([] ++ new.in_doubt))) = λ on.
+      let holds = (kept on).holds working in
+      let of_store = subst (λ (E : Facts). Holds files old.vault (graph old) E (with_facts (facts old) [])) (sym (with_nothing (environment old))) (subst (λ (X : Facts). Holds files old.vault (graph old) (environment old) X) (sym (with_nothing (facts old))) holds) in
+      let here = leaves on old.vault (graph old) (environment old) (facts old) [] of_store in
+      subst (λ (d : D). LeavesOnly moment left_at old.vault.disk d (StandsForBeginning (graph old) (environment old) (facts old) [] (one_by_one ([] ++ new.in_doubt)))) (sym same.disk)
+      (subst (λ (events : List Event). LeavesOnly moment left_at old.vault.disk old.vault.disk (StandsForBeginning (graph old) (environment old) (facts old) [] (one_by_one events))) (sym none) here)
+      in
       record {
         are_ends = subst (λ (events : List Event). AllByRecursion IsEnd events) (sym none) tt;
         legal = subst (λ (events : List Event). AreLegalFrom (graph old) (facts old) events) (sym none) tt;
@@ -134,12 +142,8 @@ module _ {D : Type 0} (files : D → Side → File) (moment : D → ℕ) (left_a
         facts = λ fact. same.facts fact ∙ ap (λ (X : Facts). X fact) (sym (with_nothing (facts old)));
         environment = same.environment;
         spent = omega (arith, same.allowance);
-        crashes = λ on.
-            let holds = (kept on).holds working in
-            let of_store = subst (λ (E : Facts). Holds files old.vault (graph old) E (with_facts (facts old) [])) (sym (with_nothing (environment old))) (subst (λ (X : Facts). Holds files old.vault (graph old) (environment old) X) (sym (with_nothing (facts old))) holds) in
-            let here = leaves on old.vault (graph old) (environment old) (facts old) [] of_store in
-            subst (λ (d : D). LeavesOnly moment left_at old.vault.disk d (StandsForBeginning (graph old) (environment old) (facts old) [] (one_by_one ([] ++ new.in_doubt)))) (sym same.disk)
-            (subst (λ (events : List Event). LeavesOnly moment left_at old.vault.disk old.vault.disk (StandsForBeginning (graph old) (environment old) (facts old) [] (one_by_one events))) (sym none) here);
+        crashes = crash;
+        acknowledged = λ on t contents after before was. (crash on).each t contents after before was;
         gates = λ on has. subst (λ (d : D). LeavesOnly moment left_at old.vault.disk d HasGates) (sym same.disk) (gates_rest on old.vault (graph old) (environment old) (facts old) ((kept on).holds working) has);
         halts = (λ is. absurd (false≢true (sym same.halted ∙ is)), λ erred. absurd (calm (subst (λ (d : D). HasErred failures refusals old.vault.disk d) same.disk erred)));
         later = omega (arith, ap failures same.disk);
@@ -167,9 +171,28 @@ module _ {D : Type 0} (files : D → Side → File) (moment : D → ℕ) (left_a
       (subst (λ (E : Facts). LeavesOnly moment left_at old.vault.disk new.vault.disk (StandsBeforeOrAfter (graph old) E (with_facts (facts old) []) (end ∷ []))) (sym (with_nothing (environment old)))
       (subst (λ (X : Facts). LeavesOnly moment left_at old.vault.disk new.vault.disk (StandsBeforeOrAfter (graph old) (environment old) X (end ∷ []))) (sym (with_nothing (facts old))) it.facts))
 
-  pub ended : {T : Type 0} → (honest → AppendLeaves files moment left_at) → (old new : Core D) (end : Event) (result : Result T CoreError) → is_halted old ≡ false → IsEnd end
-      → Takes old new end → new.in_doubt ≡ [] → (honest → CrashLeaves files moment left_at old new (end ∷ [])) → Halts failures refusals old new result → Runs files moment left_at failures refusals honest old new (end ∷ [])
-  ended leaves old new end result working is takes settled moments halts =
+  -- from the last moment of its call on the end is acknowledged
+  acknowledged_at : (honest → HeldLeaves files moment left_at) → (old new : Core D) (end : Event) → IsEnd end → Takes old new end → (honest → IsKept files new) → (doubt : List Event) → honest
+      → AcknowledgesFrom (graph old) (environment old) (facts old) (left_at new.vault.disk) (moment new.vault.disk) (moment new.vault.disk) (end ∷ []) [] doubt
+  acknowledged_at held old new end is takes kept doubt on t contents after before was =
+      let stands = (held on new.vault (graph new) (environment new) (facts new) ((kept on).holds takes.working.1)).each t contents after before was in
+      let all : facts new ≡ with_facts (facts old) (event_facts end ++ []) = λ i fact. (takes.takes.facts fact ∙ ap (λ (list : List Fact). with_facts (facts old) list fact) (sym (append-nil (event_facts end)))) i in
+      let given : environment new ≡ with_facts (environment old) (environment_facts end ++ []) = λ i fact.
+      (takes.takes.environment fact ∙ ap (λ (list : List Fact). with_facts (environment old) list fact) (sym (append-nil (environment_facts end)))) i
+      in
+      record {
+        made = [];
+        later = one_by_one doubt;
+        beginning = refl;
+        stands =
+            subst (λ (X : Facts). Stands contents (graph old) (with_facts (environment old) (environment_facts end ++ [])) X) all
+            (subst (λ (E : Facts). Stands contents (graph old) E (facts new)) given (subst (λ (g : Graph). Stands contents g (environment new) (facts new)) takes.takes.graph stands));
+      }
+
+  pub ended : {T : Type 0} → (honest → AppendLeaves files moment left_at) → (honest → HeldLeaves files moment left_at) → (old new : Core D) (end : Event) (result : Result T CoreError) → is_halted old ≡ false → IsEnd end
+      → Takes old new end → new.in_doubt ≡ [] → (honest → CrashLeaves files moment left_at old new (end ∷ [])) → (honest → IsKept files new) → Halts failures refusals old new result
+      → Runs files moment left_at failures refusals honest old new (end ∷ [])
+  ended leaves held old new end result working is takes settled moments kept halts =
       let one : end ∷ [] ++ new.in_doubt ≡ end ∷ [] = ap (λ (events : List Event). end ∷ events) settled in
       record {
         are_ends = subst (λ (events : List Event). AllByRecursion IsEnd events) (sym one) (is, tt);
@@ -181,6 +204,9 @@ module _ {D : Type 0} (files : D → Side → File) (moment : D → ℕ) (left_a
         crashes = λ on.
             subst (λ (events : List Event). LeavesOnly moment left_at old.vault.disk new.vault.disk (StandsForBeginning (graph old) (environment old) (facts old) [] (one_by_one events))) (sym one)
             (begins leaves old new end on (moments on));
+        acknowledged = λ on.
+            let crash = begins leaves old new end on (moments on) in
+            (moment new.vault.disk, crash.later, omega arith, λ t contents after before was. crash.each t contents after before was, acknowledged_at held old new end is takes kept new.in_doubt on);
         gates = λ on has. (moments on).gates has;
         halts = (λ halted. elim (halts.halts.0 halted) [ inl before ↦ absurd (false≢true (sym working ∙ before)) | inr erred ↦ erred ], λ erred. halts.halts.1 (inr erred));
         later = halts.disk.later;
@@ -238,6 +264,8 @@ module _ {D : Type 0} (files : D → Side → File) (moment : D → ℕ) (left_a
             crashes = λ on.
                 subst (λ (events : List Event). LeavesOnly moment left_at old.vault.disk new.vault.disk (StandsForBeginning (graph old) (environment old) (facts old) [] (one_by_one events))) (sym doubt)
                 (begins leaves old new end on (commits.moments on working));
+            acknowledged = λ on t contents after before was.
+                subst (λ (events : List Event). StandsForBeginning (graph old) (environment old) (facts old) [] (one_by_one events) contents) (sym doubt) ((begins leaves old new end on (commits.moments on working)).each t contents after before was);
             gates = λ on has. (commits.moments on working).gates has;
             halts = (λ _. erred, λ _. stops);
             later = halts.disk.later;
@@ -245,18 +273,18 @@ module _ {D : Type 0} (files : D → Side → File) (moment : D → ℕ) (left_a
           }
 
   -- a finish is a run by itself
-  pub finished : (honest → AppendLeaves files moment left_at) → (honest → RestLeaves files moment left_at) → (honest → GatesRest files moment left_at)
+  pub finished : (honest → AppendLeaves files moment left_at) → (honest → HeldLeaves files moment left_at) → (honest → RestLeaves files moment left_at) → (honest → GatesRest files moment left_at)
       → (old new : Core D) (instance : Inst) (outcome : Outcome) (result : Result Committed CoreError)
       → is_halted old ≡ false → old.in_doubt ≡ [] → 0 < old.allowance → (honest → IsKept files old)
       → Finishes files moment left_at honest old new instance outcome result → OnErr result (GivesBack old new instance)
-      → Halts failures refusals old new result → EndRuns files moment left_at failures refusals honest old new instance outcome result
-  finished leaves rest_leaves gates_rest old new instance outcome (Ok committed) working settled allowed kept it back halts = (
+      → Halts failures refusals old new result → (honest → IsKept files new) → EndRuns files moment left_at failures refusals honest old new instance outcome result
+  finished leaves held rest_leaves gates_rest old new instance outcome (Ok committed) working settled allowed kept it back halts kept_after = (
     it.end,
     it.is_end,
     it.told,
-    ended leaves old new it.end (Ok committed) working (is_end outcome instance it.end it.is_end) it.commits.takes halts.settled (λ on. it.commits.moments on working) halts,
+    ended leaves held old new it.end (Ok committed) working (is_end outcome instance it.end it.is_end) it.commits.takes halts.settled (λ on. it.commits.moments on working) kept_after halts,
   )
-  finished leaves rest_leaves gates_rest old new instance outcome (Err error) working settled allowed kept it back halts =
+  finished leaves held rest_leaves gates_rest old new instance outcome (Err error) working settled allowed kept it back halts kept_after =
       refused leaves rest_leaves gates_rest old new instance it.end error working settled allowed kept (is_end outcome instance it.end it.is_end) back it.commits halts
 
   -- why it ends the run

@@ -52,6 +52,16 @@ IsEnd (event.Stopped instance kind) = ⊤
 abbrev pub one_by_one : List Event → List Commit
 one_by_one events = map (λ one. one ∷ []) events
 
+-- From this moment on a crash leaves what the ends that are made state; these are acknowledged. Until the next end is acknowledged, a crash may leave that end too; and so on. From the
+-- last one on it leaves all of them, perhaps with those in doubt.
+abbrev pub AcknowledgesFrom : Graph → Facts → Facts → (left : ℕ → Contents → Type 0) → (last from : ℕ) → (made ends doubt : List Event) → Type 0
+AcknowledgesFrom g E X left last from made [] doubt =
+    (t : ℕ) (contents : Contents) → from ≤ t → t ≤ last → left t contents → StandsForBeginning g E X (one_by_one made) (one_by_one doubt) contents
+AcknowledgesFrom g E X left last from made (end ∷ ends) doubt =
+    (next : ℕ) × (from ≤ next) × (next ≤ last)
+    × ((t : ℕ) (contents : Contents) → from ≤ t → t ≤ next → left t contents → StandsForBeginning g E X (one_by_one made) ((end ∷ []) ∷ []) contents)
+    × AcknowledgesFrom g E X left last next (made ++ end ∷ []) ends doubt
+
 -- what a store was when a run began: its graph and facts, how many steps it might commit, and of its disk the moment, the counts of errors, and the
 -- contents of both files
 pub record Begun : Type 0 where
@@ -78,7 +88,8 @@ begun_by files moment failures refusals c = record {
 
 -- Since a core that was like this, was not halted, and of which a crash might leave this, these ends of instances were committed, one after another;
 -- if the core is halted now, one more is in doubt. They were legal, and state all that is new; each used one of the allowance. At each moment a
--- crash leaves what a prefix of them states, each of which is there whole. The core is halted exactly if a call of the disk returned an error.
+-- crash leaves what a prefix of them states, each of which is there whole: those that were acknowledged by then, or these and the next one. The core is halted exactly if a call of the
+-- disk returned an error.
 pub record RunsSince {D : Type 0} (moment : D → ℕ) (left_at : D → ℕ → Contents → Type 0) (failures refusals : D → ℕ) (honest : Type 0) (begun : Begun) (left : ℕ → Contents → Type 0) (new : Core D) (ends : List Event) : Type 0 where
   pub are_ends : AllByRecursion IsEnd (ends ++ new.in_doubt)
   pub legal : AreLegalFrom begun.graph begun.facts (ends ++ new.in_doubt)
@@ -87,6 +98,7 @@ pub record RunsSince {D : Type 0} (moment : D → ℕ) (left_at : D → ℕ → 
   pub environment : (fact : Fact) → core.environment new fact ≡ begun.environment fact
   pub spent : new.allowance + length ends ≡ begun.allowance
   pub crashes : honest → LeavesSince moment left_at begun.moment left new.vault.disk (StandsForBeginning begun.graph begun.environment begun.facts [] (one_by_one (ends ++ new.in_doubt)))
+  pub acknowledged : honest → AcknowledgesFrom begun.graph begun.environment begun.facts (left_at new.vault.disk) (moment new.vault.disk) begun.moment [] ends new.in_doubt
   pub gates : honest → HasGates begun.contents → LeavesSince moment left_at begun.moment left new.vault.disk HasGates
   pub halts : (is_halted new ≡ true) ↔ ((begun.failures < failures new.vault.disk) ⊎ (refusals new.vault.disk ≢ begun.refusals))
   pub later : begun.failures ≤ failures new.vault.disk

@@ -45,8 +45,16 @@ impl<D: Disk> Core<D> {
             return Err(CoreError::Store(VaultError::Halted));
         }
         match outcome {
-            Outcome::Gave(given) => self.end(task, given.into_puts()),
-            Outcome::Fault(bad) => self.stop(task, bad.kind()),
+            Outcome::Gave(given) => {
+                let ended = self.end(task, given.into_puts());
+                self.is_kept();
+                ended
+            }
+            Outcome::Fault(bad) => {
+                let ended = self.stop(task, bad.kind());
+                self.is_kept();
+                ended
+            }
         }
     }
 

@@ -14,7 +14,7 @@ use Rattle.commit.specs.declared.error.CoreError.{CoreError}
 use Rattle.commit.specs.Core.{Core, is_halted}
 use Rattle.commit.specs.Calls.{Halts, Stays}
 use Rattle.commit.specs.Kept.{IsKept as KeepsFiles}
-use Rattle.commit.specs.Runs.{Begun, IsEnd, Runs, RunsSince, one_by_one}
+use Rattle.commit.specs.Runs.{AcknowledgesFrom, Begun, IsEnd, Runs, RunsSince, one_by_one}
 use Rattle.commit.proofs.Joined.{since_joined}
 use Rattle.commit.proofs.Running.{rests}
 use Rattle.hub.specs.Opening.{Opening, opening_of, begun_with}
@@ -42,6 +42,9 @@ module _ {D : Type 0} (files : D → Side → File) (moment : D → ℕ) (left_a
         crashes = λ on.
             subst (λ (at : D × List Event). LeavesSince moment left_at begun.moment left at.0 (StandsForBeginning begun.graph begun.environment begun.facts [] (one_by_one (events ++ at.1))))
             (λ i. (sym disk i, sym doubt i)) (it.crashes on);
+        acknowledged = λ on.
+            subst (λ (at : D × List Event). AcknowledgesFrom begun.graph begun.environment begun.facts (left_at at.0) (moment at.0) begun.moment [] events at.1)
+            (λ i. (sym disk i, sym doubt i)) (it.acknowledged on);
         gates = λ on has. subst (λ (d : D). LeavesSince moment left_at begun.moment left d HasGates) (sym disk) (it.gates on has);
         halts = subst (λ (at : Bool × D). (at.0 ≡ true) ↔ ((begun.failures < failures at.1) ⊎ (refusals at.1 ≢ begun.refusals))) (λ i. (sym halted i, sym disk i)) it.halts;
         later = subst (λ (d : D). begun.failures ≤ failures d) (sym disk) it.later;
@@ -96,6 +99,7 @@ ran_nothing {D = D} files moment left_at failures refusals honest opening left e
       environment = here.environment;
       spent = here.spent;
       crashes = λ on. as_named moment left_at left c.vault.disk _ alike (here.crashes on);
+      acknowledged = here.acknowledged;
       gates = λ on has. as_named moment left_at left c.vault.disk _ alike (here.gates on has);
       halts = here.halts;
       later = here.later;

@@ -52,6 +52,7 @@ module _ {D : Type 0} (files : D → Side → File) (moment : D → ℕ) (left_a
         environment = it.environment;
         spent = it.spent;
         crashes = λ on. unnamed (moment old.vault.disk) left (left_at old.vault.disk) new.vault.disk _ alike (it.crashes on);
+        acknowledged = it.acknowledged;
         gates = λ on has. unnamed (moment old.vault.disk) left (left_at old.vault.disk) new.vault.disk _ alike (it.gates on has);
         halts = it.halts;
         later = it.later;

@@ -45,39 +45,39 @@ returns-then-is_halted g c =
 pub returns-in-Gave : goal.returns-in-Gave
 returns-in-Gave g c =
     let old = c.args.self.now in
-    let new = c.end.new.self in
+    let new = c.end-ended.new.self in
     let left = some_left c.runs_are_counted.ensures.one old.machine c.args.task old.allowance c.requires.running c.is_kept.ensures.allowed in
     let finishes =
-    of_given g.D.Disk.files g.D.Disk.moment g.D.Disk.left_at (IsTrue g.D.Disk.is_honest) old new c.args.task c.args.outcome c.end.result
-    c.in-Gave.given c.into_puts.result c.in-Gave.is c.into_puts.ensures.puts c.end.ensures.ends
+    of_given g.D.Disk.files g.D.Disk.moment g.D.Disk.left_at (IsTrue g.D.Disk.is_honest) old new c.args.task c.args.outcome c.end-ended.result
+    c.in-Gave.given c.into_puts.result c.in-Gave.is c.into_puts.ensures.puts c.end-ended.ensures.ends
     in
     record {
       finishes = finishes;
-      err = c.end.ensures.err;
-      halts = c.end.ensures.halts;
+      err = c.end-ended.ensures.err;
+      halts = c.end-ended.ensures.halts;
       runs = λ working.
           finished g.D.Disk.files g.D.Disk.moment g.D.Disk.left_at g.D.Disk.failures g.D.Disk.refusals (IsTrue g.D.Disk.is_honest)
-          (λ _. c.stores_go_on.ensures.append_leaves) c.stores_go_on.ensures.rest_leaves c.stores_go_on.ensures.gates_rest
-          old new c.args.task c.args.outcome c.end.result
-          working (c.is_kept.ensures.settled working) left c.is_kept.ensures.kept finishes c.end.ensures.err c.end.ensures.halts;
+          (λ _. c.stores_go_on.ensures.append_leaves) c.stores_go_on.ensures.held_leaves c.stores_go_on.ensures.rest_leaves c.stores_go_on.ensures.gates_rest
+          old new c.args.task c.args.outcome c.end-ended.result
+          working (c.is_kept.ensures.settled working) left c.is_kept.ensures.kept finishes c.end-ended.ensures.err c.end-ended.ensures.halts c.is_kept-in-Gave.ensures.kept;
     }
 
 pub returns-in-Fault : goal.returns-in-Fault
 returns-in-Fault g c =
     let old = c.args.self.now in
-    let new = c.stop.new.self in
+    let new = c.stop-ended.new.self in
     let left = some_left c.runs_are_counted.ensures.one old.machine c.args.task old.allowance c.requires.running c.is_kept.ensures.allowed in
     let finishes =
-    of_fault g.D.Disk.files g.D.Disk.moment g.D.Disk.left_at (IsTrue g.D.Disk.is_honest) old new c.args.task c.args.outcome c.stop.result
-    c.in-Fault.bad c.kind.result c.in-Fault.is c.kind.ensures.kind c.stop.ensures.commits c.stop.ensures.told
+    of_fault g.D.Disk.files g.D.Disk.moment g.D.Disk.left_at (IsTrue g.D.Disk.is_honest) old new c.args.task c.args.outcome c.stop-ended.result
+    c.in-Fault.bad c.kind.result c.in-Fault.is c.kind.ensures.kind c.stop-ended.ensures.commits c.stop-ended.ensures.told
     in
     record {
       finishes = finishes;
-      err = c.stop.ensures.err;
-      halts = c.stop.ensures.halts;
+      err = c.stop-ended.ensures.err;
+      halts = c.stop-ended.ensures.halts;
       runs = λ working.
           finished g.D.Disk.files g.D.Disk.moment g.D.Disk.left_at g.D.Disk.failures g.D.Disk.refusals (IsTrue g.D.Disk.is_honest)
-          (λ _. c.stores_go_on.ensures.append_leaves) c.stores_go_on.ensures.rest_leaves c.stores_go_on.ensures.gates_rest
-          old new c.args.task c.args.outcome c.stop.result
-          working (c.is_kept.ensures.settled working) left c.is_kept.ensures.kept finishes c.stop.ensures.err c.stop.ensures.halts;
+          (λ _. c.stores_go_on.ensures.append_leaves) c.stores_go_on.ensures.held_leaves c.stores_go_on.ensures.rest_leaves c.stores_go_on.ensures.gates_rest
+          old new c.args.task c.args.outcome c.stop-ended.result
+          working (c.is_kept.ensures.settled working) left c.is_kept.ensures.kept finishes c.stop-ended.ensures.err c.stop-ended.ensures.halts c.is_kept-in-Fault.ensures.kept;
     }
