@@ -2,6 +2,7 @@
 //! on every schedule, unless a thread looks for another 10,000,000 times in vain.
 #![tactic(auto)]
 
+mod claims;
 mod handles;
 mod held;
 mod held_disk;
@@ -27,6 +28,8 @@ fn main(rt: HostRuntime) -> Result<(), Error> {
     try_row(&rt, Row::PassMissing, 1)?;
     println!(rt; "a hub is closed while an instance runs")?;
     try_row(&rt, Row::TaskOut, 1)?;
+    println!(rt; "an instance is claimed by its number, and waits")?;
+    try_row(&rt, Row::Claims, 1)?;
     println!(rt; "a task of another hub is finished")?;
     strangers::try_foreign(&rt)?;
     println!(rt; "a put is within its sync")?;

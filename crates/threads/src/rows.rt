@@ -1,6 +1,7 @@
 //! What threads do with a hub: each call opens a hub round a new store, and prints what came of it.
 ghost use Rattle.hub.specs.Whole.{IsNamedFor};
 
+use crate::claims::by_number;
 use crate::handles::Handles;
 use crate::stores::{bytes, created, fib, number};
 use crate::strangers::release;
@@ -28,6 +29,8 @@ pub(crate) enum Row {
     PassMissing,
     /// A hub is closed while an instance runs.
     TaskOut,
+    /// An instance is claimed by its number, and waits.
+    Claims,
 }
 
 /// Tries a row on a new store in memory.
@@ -69,6 +72,7 @@ fn try_as<J: Naming + Send + Sync, D: Disk + Drop + Send, R: Handles>(
         Row::Together => together(rt, hub, envs, workers),
         Row::PassMissing => pass_missing(rt, hub, envs, workers),
         Row::TaskOut => task_out(rt, hub, envs, workers),
+        Row::Claims => claims(rt, hub, envs, workers),
     }
 }
 
@@ -110,6 +114,24 @@ fn put_and_ask<J: Naming, D: Disk, R: Handles>(
     hub.ask_stop(pass);
     println!(rt; "  after it was asked: {}", hub.stop_asked(pass))?;
     Ok(())
+}
+
+// ---- an instance that waits
+
+fn claims<J: Naming, D: Disk + Drop, R: Handles>(
+    rt: &R,
+    hub: Hub<J, D>,
+    mut envs: Vec<EnvPass<J>>,
+    mut workers: Vec<WorkPass<J>>,
+) -> Result<Core<D>, Error> {
+    let (Some(env), Some(worker)) = (
+        envs.as_mut_slice().first_mut(),
+        workers.as_mut_slice().first_mut(),
+    ) else {
+        bail!("no pass")
+    };
+    by_number(rt, &hub, env, worker)?;
+    closed(hub, envs, workers)
 }
 
 // ---- four threads

@@ -162,7 +162,12 @@ pub(crate) fn release<J: Naming, D: Disk, R: Handles>(
     pass: &mut WorkPass<J>,
     task: Task,
 ) -> Result<(), Error> {
-    match hub.release(rt, pass, task) {
+    spent(rt, hub.release(rt, pass, task))
+}
+
+/// The answer of a call that spends a task of its own hub.
+pub(crate) fn spent<R: Handles>(rt: &R, answer: Result<(), TaskError>) -> Result<(), Error> {
+    match answer {
         Ok(()) => Ok(()),
         Err(TaskError::Foreign(task)) => {
             keep(rt, task);
