@@ -1,7 +1,7 @@
 //! Watches: a value that comes once, and that others look for.
 //!
 //! A `Watch` and its `Filler` are made as a pair. Contracts see a watch as what it has learned: the value, or nothing yet. Looking and
-//! filling take no memory and never wait. A watch may outlive its filler; it then learns nothing more.
+//! filling take no memory and never wait. A watch may outlive its filler: it learns the value that was filled in, or nothing if none was.
 #![tactic(auto)]
 
 mod crossing;

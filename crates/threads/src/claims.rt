@@ -1,7 +1,7 @@
 //! Claims by number, an instance that waits, and whether a hub is busy.
 use crate::handles::Handles;
 use crate::stores::{fib, number};
-use crate::strangers::{release, spent};
+use crate::task::{release, spent};
 use anyhow::{Error, bail};
 use commit::Came;
 use disk::Disk;

@@ -6,7 +6,7 @@ ghost use Rattle.hub.specs.Whole.{IsNamedFor};
 
 use crate::handles::Handles;
 use crate::stores::{created, fib, number};
-use crate::task::keep;
+use crate::task::{keep, release};
 use anyhow::{Error, bail};
 use commit::{Came, Core, Outcome};
 use disk::{Disk, MemDisk};
@@ -152,27 +152,5 @@ fn foreign<J: Naming, D: Disk + Drop, R: Handles>(
             drop(error);
             None
         }
-    }
-}
-
-/// Gives an instance back to its hub.
-pub(crate) fn release<J: Naming, D: Disk, R: Handles>(
-    rt: &R,
-    hub: &Hub<J, D>,
-    pass: &mut WorkPass<J>,
-    task: Task,
-) -> Result<(), Error> {
-    spent(rt, hub.release(rt, pass, task))
-}
-
-/// The answer of a call that spends a task of its own hub.
-pub(crate) fn spent<R: Handles>(rt: &R, answer: Result<(), TaskError>) -> Result<(), Error> {
-    match answer {
-        Ok(()) => Ok(()),
-        Err(TaskError::Foreign(task)) => {
-            keep(rt, task);
-            bail!("a task was foreign to its own hub")
-        }
-        Err(TaskError::Refused(error)) => Err(error.into()),
     }
 }

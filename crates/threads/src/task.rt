@@ -1,3 +1,8 @@
+//! Tasks, each of which must be spent.
+use crate::handles::Handles;
+use anyhow::{Error, bail};
+use disk::Disk;
+use hub::{Hub, Naming, TaskError, WorkPass};
 use instances::Task;
 use std::sync::Wait;
 
@@ -6,4 +11,26 @@ pub(crate) fn keep<R: Wait>(rt: &R, task: Task) {
     for _ in rt.forever() {}
     let _ = task.inst();
     unreachable!()
+}
+
+/// Gives an instance back to its hub.
+pub(crate) fn release<J: Naming, D: Disk, R: Handles>(
+    rt: &R,
+    hub: &Hub<J, D>,
+    pass: &mut WorkPass<J>,
+    task: Task,
+) -> Result<(), Error> {
+    spent(rt, hub.release(rt, pass, task))
+}
+
+/// The answer of a call that spends a task of its own hub.
+pub(crate) fn spent<R: Handles>(rt: &R, answer: Result<(), TaskError>) -> Result<(), Error> {
+    match answer {
+        Ok(()) => Ok(()),
+        Err(TaskError::Foreign(task)) => {
+            keep(rt, task);
+            bail!("a task was foreign to its own hub")
+        }
+        Err(TaskError::Refused(error)) => Err(error.into()),
+    }
 }
