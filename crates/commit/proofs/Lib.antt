@@ -15,4 +15,5 @@ pub mod Ran
 pub mod Roomy
 pub mod Running
 pub mod Taken
+pub mod Told
 mod TurnedOver

@@ -1,5 +1,5 @@
 -- Lists of events, one after another: what they state, and that they are legal.
-use Rattle.std.proofs.Common.{◌≡◌, ◌∙◌, ◌||◌, ◌++◌, ap, refl, sym, subst, List, [], ◌∷◌}
+use Rattle.std.proofs.Common.{◌≡◌, ◌∙◌, ◌||◌, ◌+◌, ◌++◌, ap, refl, sym, subst, ℕ, List, [], ◌∷◌, arith}
 use Rattle.std.proofs.Math.Bool.{or-false, or_assoc}
 use Rattle.std.proofs.lemmas.Grind.{flat_map-append}
 use Rattle.std.proofs.lemmas.List.{append_assoc, map-append}
@@ -11,7 +11,8 @@ use Rattle.terms.specs.Facts.{Fact, event_facts, environment_facts, facts, envir
 use Rattle.terms.specs.Sets.{Facts, AmongBoth, among, with_facts}
 use Rattle.graph.specs.Graph.{Graph}
 use Rattle.machine.specs.State.{AreLegalFrom}
-use Rattle.commit.specs.Runs.{IsEnd, one_by_one}
+use Rattle.commit.specs.Calls.{record_length}
+use Rattle.commit.specs.Runs.{IsEnd, one_by_one, records_length}
 
 -- ---- sets
 
@@ -69,6 +70,19 @@ put_nothing (end ∷ ends) all = ap (λ (list : List Fact). list ++ environment 
 pub environment_stays : AmongBoth → (E : Facts) (ends : List Event) (made : List Commit) → AllByRecursion IsEnd ends → environment_behind E (one_by_one ends ++ made) ≡ environment_behind E made
 environment_stays both E ends made all =
     environment_joined both E ends made ∙ ap (λ (Y : Facts). environment_behind Y made) (ap (λ (list : List Fact). with_facts E list) (put_nothing ends all) ∙ with_nothing E)
+
+-- ---- records
+
+none : (n : ℕ) → n ≡ 0 + n
+none n = omega arith
+
+one_more : (one first both second : ℕ) → both ≡ first + second → one + both ≡ one + first + second
+one_more one first both second is = omega (arith, is)
+
+-- the records of both lists
+pub records_joined : (first second : List Event) → records_length (first ++ second) ≡ records_length first + records_length second
+records_joined [] second = none (records_length second)
+records_joined (event ∷ first) second = one_more (record_length event) (records_length first) (records_length (first ++ second)) (records_length second) (records_joined first second)
 
 -- ---- legal lists
 

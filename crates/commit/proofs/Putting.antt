@@ -1,10 +1,10 @@
 -- The whole of what a put and a finish promise, from the parts that the calls within them promise.
-use Rattle.std.proofs.Common.{◌≡◌, ◌∙◌, ap, sym, refl, subst, inl, inr, ◌⊎◌, ℕ, true, false, Some, [], ◌∷◌, Result, Ok, Err, OnOk, OnErr, IfErr, arith}
+use Rattle.std.proofs.Common.{◌≡◌, ◌∙◌, ap, sym, refl, subst, inl, inr, ◌⊎◌, ℕ, true, Some, [], ◌∷◌, Result, Err, OnOk, OnErr, IfErr, arith}
 use Rattle.std.proofs.lemmas.Bool.{false≢true}
 use Rattle.std.specs.Prelude.{is_some}
 use Rattle.disk.specs.declared.side.Side.{Side}
 use Rattle.disk.specs.File.{File}
-use Rattle.disk.specs.Time.{Contents, HasCauses, HasErred}
+use Rattle.disk.specs.Time.{Contents, HasCauses}
 use Rattle.terms.specs.declared.name.Inst.{Inst}
 use Rattle.terms.specs.declared.name.Tag.{Tag}
 use Rattle.terms.specs.declared.event.Event.{Event}
@@ -28,7 +28,7 @@ use Rattle.commit.specs.declared.error.CoreError.{CoreError}
 use Rattle.commit.specs.declared.error.CoreError.TheVariants.{Refused, Store}
 use Rattle.commit.specs.declared.outcome.Outcome.{Outcome}
 use Rattle.commit.specs.declared.outcome.Committed.{Committed}
-use Rattle.commit.specs.Calls.{Commits, CommitsAs, CrashLeaves, GivesBack, Halts, IsInDoubt, IsUnchanged, NoCause, Refuses, Takes, TellsFull}
+use Rattle.commit.specs.Calls.{CommitsAs, CrashLeaves, Halts, IsInDoubt, IsUnchanged, NoCause, Refuses, Takes, TellsFull}
 use Rattle.commit.specs.Core.{Core, graph, facts, is_halted}
 use Rattle.commit.specs.Kept.{IsKept}
 use Rattle.commit.specs.Outcome.{IsEndOf}
@@ -98,6 +98,7 @@ module _ {D : Type 0} (files : D → Side → File) (moment : D → ℕ) (left_a
       facts = λ fact. it.stays.facts fact ∙ room.machine.facts fact;
       environment = λ fact. it.stays.environment fact ∙ room.machine.environment fact;
       allowance = it.stays.allowance ∙ room.allowance;
+      latest = it.stays.latest ∙ room.latest;
     };
     states = λ instance. it.states instance ∙ room.machine.states instance;
   }
@@ -153,7 +154,7 @@ module _ {D : Type 0} (files : D → Side → File) (moment : D → ℕ) (left_a
       moments = λ on working. rests files moment left_at old mid (event ∷ []) (held on) (gates on) (kept on) working room.vault;
     };
     unchanged = record {
-      stays = record { graph = room.machine.graph; facts = room.machine.facts; environment = room.machine.environment; allowance = room.allowance };
+      stays = record { graph = room.machine.graph; facts = room.machine.facts; environment = room.machine.environment; allowance = room.allowance; latest = room.latest };
       states = room.machine.states;
     };
     halts = halts_first {T = T} why event error it;
@@ -162,12 +163,12 @@ module _ {D : Type 0} (files : D → Side → File) (moment : D → ℕ) (left_a
 -- ---- a finish of a halted core
 
 pub ends_halted : {D : Type 0} (files : D → Side → File) (moment : D → ℕ) (left_at : D → ℕ → Contents → Type 0) (failures refusals : D → ℕ) (honest : Type 0) (old new : Core D) (task : Inst) (outcome : Outcome) (end : Event) → IsEndOf outcome task end
-    → is_halted old ≡ true → machine.Moves old.machine new.machine task Ready → new.vault ≡ old.vault → new.in_doubt ≡ old.in_doubt → new.allowance ≡ old.allowance
+    → is_halted old ≡ true → machine.Moves old.machine new.machine task Ready → new.vault ≡ old.vault → new.in_doubt ≡ old.in_doubt → new.latest ≡ old.latest → new.allowance ≡ old.allowance
     → Ends files moment left_at failures refusals honest old new task outcome (Err (Store Halted))
-ends_halted files moment left_at failures refusals honest old new task outcome end is_end halted moves vault doubt allowance = record {
+ends_halted files moment left_at failures refusals honest old new task outcome end is_end halted moves vault doubt latest allowance = record {
   finishes = record { end = end; is_end = is_end; commits = refused_halted {T = Committed} files moment left_at honest old new (RefusesEnd (facts old)) end halted; told = tt };
   err = record {
-    stays = record { graph = moves.graph; facts = moves.facts; environment = moves.environment; allowance = allowance };
+    stays = record { graph = moves.graph; facts = moves.facts; environment = moves.environment; allowance = allowance; latest = latest };
     ready = moves.here;
     others = moves.others;
   };

@@ -1,5 +1,5 @@
 -- What is committed after room was made is committed from the state before that.
-use Rattle.std.proofs.Common.{◌≡◌, ◌∙◌, ◌↔◌, ◌⊎◌, ◌<◌, ◌≤◌, ◌+◌, ◌||◌, ap, sym, refl, subst, inl, inr, ℕ, ℤ, true, false, List, [], ◌∷◌, length, Result, Ok, Err, IsErrOf, arith}
+use Rattle.std.proofs.Common.{◌≡◌, ◌∙◌, ◌↔◌, ◌⊎◌, ◌≤◌, ◌+◌, ◌||◌, ap, sym, refl, subst, inl, inr, ℕ, ℤ, true, false, List, [], ◌∷◌, Result, Ok, Err, IsErrOf, arith}
 use Rattle.std.proofs.lemmas.Bool.{false≢true}
 use Rattle.disk.specs.declared.side.Side.{Side}
 use Rattle.disk.specs.File.{File}
@@ -13,8 +13,6 @@ use Rattle.terms.specs.declared.event.Event.TheVariants.{EnvItem}
 use Rattle.terms.specs.Facts.{event_facts, environment_facts}
 use Rattle.terms.specs.Sets.{Facts, among}
 use Rattle.graph.specs.Graph.{Graph}
-use Rattle.codec.specs.Commits.{commit_bytes}
-use Rattle.journal.specs.Records.{record_of}
 use Rattle.journal.specs.declared.journal.TheConstants.{LIMIT}
 use Rattle.machine.specs.declared.refusal.Refusal.{Refusal}
 use Rattle.machine.specs.declared.refusal.Refusal.TheVariants.{NoSuchCollection, NotFromEnvironment, WrongArity, AlreadyPut, Stopped, Repeat}
@@ -31,7 +29,7 @@ use Rattle.vault.specs.Store.{HasGates, IsSame, StandsBeforeOrAfter}
 use Rattle.commit.specs.declared.error.CoreError.{CoreError}
 use Rattle.commit.specs.declared.error.CoreError.TheVariants.{Refused, Store}
 use Rattle.commit.specs.Core.{Core, graph, facts, environment, is_halted}
-use Rattle.commit.specs.Calls.{Commits, Takes, GivesBack, Halts, Refuses, NoCause, TellsFull, IsInDoubt, CrashLeaves}
+use Rattle.commit.specs.Calls.{Commits, Takes, GivesBack, Halts, Refuses, NoCause, TellsFull, IsInDoubt, CrashLeaves, record_length}
 use Rattle.commit.specs.Steps.{Moves}
 use Rattle.commit.proofs.Answered.{if_err, on_err, on_ok}
 use Rattle.commit.specs.Kept.{IsKept}
@@ -67,7 +65,8 @@ module _ {D : Type 0} (old mid : Core D) (room : GivesRoom old mid) where
       tag_room = λ c. omega (arith, room.machine.tag_room c, it.takes.tag_room c);
     };
     working = (sym halted ∙ it.working.0, it.working.1);
-    moved = subst (λ (v : Vault D). v.journal.end < new.vault.journal.end) room.vault it.moved;
+    moved = it.moved ∙ ap (λ (v : Vault D). v.journal.end + record_length event) room.vault;
+    latest = it.latest;
     allowance = it.allowance ∙ room.allowance;
     generation = it.generation ∙ ap (λ (v : Vault D). v.generation) room.vault;
   }
@@ -76,7 +75,7 @@ module _ {D : Type 0} (old mid : Core D) (room : GivesRoom old mid) where
   pub refuses : (why : Refusal → Type 0) (event : Event) (error : CoreError) → Refuses mid NoCause event error → Refuses old why event error
   refuses why event (Refused refusal) it = absurd it.1
   refuses why event (Store Halted) it = sym halted ∙ it
-  refuses why event (Store Full) it = (sym halted ∙ it.0, legal_before event it.1, subst (λ (v : Vault D). LIMIT ≤ v.journal.end + length (record_of (commit_bytes (event ∷ [])))) room.vault it.2)
+  refuses why event (Store Full) it = (sym halted ∙ it.0, legal_before event it.1, subst (λ (v : Vault D). LIMIT ≤ v.journal.end + record_length event) room.vault it.2)
   refuses why event (Store Device) it = (sym halted ∙ it.0, legal_before event it.1)
   refuses why event (Store NoMemory) it = (sym halted ∙ it.0, legal_before event it.1)
   refuses why event (Store (Damaged side place)) it = absurd it
@@ -99,7 +98,7 @@ module _ {D : Type 0} (old mid : Core D) (room : GivesRoom old mid) where
   -- if the event may come, and its record does not fit, `Full` is returned
   pub tells_full : {T : Type 0} (event : Event) (result : Result T CoreError) → TellsFull mid event result → TellsFull old event result
   tells_full event result it working legal long =
-      it (halted ∙ working) (room.machine.legal event legal) (subst (λ (v : Vault D). LIMIT ≤ v.journal.end + length (record_of (commit_bytes (event ∷ [])))) (sym room.vault) long)
+      it (halted ∙ working) (room.machine.legal event legal) (subst (λ (v : Vault D). LIMIT ≤ v.journal.end + record_length event) (sym room.vault) long)
 
   -- all of it together
   pub commits :
@@ -120,6 +119,7 @@ module _ {D : Type 0} (old mid : Core D) (room : GivesRoom old mid) where
       facts = λ fact. it.stays.facts fact ∙ room.machine.facts fact;
       environment = λ fact. it.stays.environment fact ∙ room.machine.environment fact;
       allowance = it.stays.allowance ∙ room.allowance;
+      latest = it.stays.latest ∙ room.latest;
     };
     ready = it.ready;
     others = λ other differs. it.others other differs ∙ room.machine.states other;
@@ -143,6 +143,7 @@ module _ {D : Type 0} (old mid : Core D) (room : GivesRoom old mid) where
       facts = λ fact. moves.machine.facts fact ∙ room.machine.facts fact;
       environment = λ fact. moves.machine.environment fact ∙ room.machine.environment fact;
       allowance = moves.allowance ∙ room.allowance;
+      latest = moves.latest ∙ room.latest;
     };
     ready = moves.machine.here;
     others = λ other differs. moves.machine.others other differs ∙ room.machine.states other;

@@ -1,5 +1,5 @@
 -- What each call of a run makes of a core: the end of an instance, and all that changes nothing on the disk.
-use Rattle.std.proofs.Common.{◌≡◌, ◌∙◌, ◌⊎◌, ◌<◌, ◌≤◌, ◌+◌, ◌++◌, ap, refl, sym, subst, inl, inr, ℕ, Bool, true, false, List, [], ◌∷◌, length, Result, Ok, Err, IfOk, OnErr, arith}
+use Rattle.std.proofs.Common.{◌≡◌, ◌∙◌, ◌⊎◌, ◌<◌, ◌≤◌, ◌+◌, ◌++◌, ap, refl, sym, subst, inl, inr, ℕ, Bool, true, false, List, [], ◌∷◌, Result, Ok, Err, IfOk, OnErr, arith}
 use Rattle.std.proofs.lemmas.Bool.{false≢true}
 use Rattle.std.proofs.lemmas.List.{append-nil}
 use Rattle.std.specs.List.{AllByRecursion}
@@ -14,8 +14,6 @@ use Rattle.terms.specs.declared.event.Event.{Event}
 use Rattle.terms.specs.declared.event.Event.TheVariants as event
 use Rattle.terms.specs.Facts.{Fact, event_facts, environment_facts}
 use Rattle.terms.specs.Sets.{Facts, with_facts}
-use Rattle.codec.specs.Commits.{commit_bytes}
-use Rattle.journal.specs.Records.{record_of}
 use Rattle.journal.specs.declared.journal.TheConstants.{LIMIT}
 use Rattle.graph.specs.Fits.{HasNoFault}
 use Rattle.graph.specs.Graph.{Graph}
@@ -38,7 +36,7 @@ use Rattle.steplang.specs.declared.outcome.Given.{Given}
 use Rattle.commit.specs.declared.outcome.Committed.{Committed}
 use Rattle.commit.specs.declared.outcome.Committed.TheVariants as committed
 use Rattle.commit.specs.declared.outcome.Outcome.TheVariants.{Gave, Fault}
-use Rattle.commit.specs.Calls.{Commits, CrashLeaves, GivesBack, Halts, Refuses, Takes, step_count}
+use Rattle.commit.specs.Calls.{Commits, CrashLeaves, GivesBack, Halts, Refuses, Takes, record_length, step_count}
 use Rattle.commit.specs.Core.{Core, graph, facts, environment, is_halted}
 use Rattle.commit.specs.Kept.{IsKept}
 use Rattle.commit.specs.Outcome.{EndsGiven, Finishes, IsEndOf, IsEndOfGiven, Tells}
@@ -83,6 +81,13 @@ module _
           (λ t is. subst (λ (c : Committed). Tells c (event.Stopped instance kind)) (sym is) (instance, refl)) told;
     }
 
+-- where a journal ends after no record, and after one
+with_none : (new old : ℕ) → new ≡ old → new ≡ old + 0
+with_none new old is = omega (arith, is)
+
+with_record : (new old one : ℕ) → new ≡ old + one → new ≡ old + (one + 0)
+with_record new old one is = omega (arith, is)
+
 -- nothing has changed that is on the disk, or is on its way there
 pub record SameStore {D : Type 0} (old new : Core D) : Type 0 where
   pub graph : graph new ≡ graph old
@@ -90,6 +95,7 @@ pub record SameStore {D : Type 0} (old new : Core D) : Type 0 where
   pub environment : (fact : Fact) → environment new fact ≡ environment old fact
   pub allowance : new.allowance ≡ old.allowance
   pub disk : new.vault.disk ≡ old.vault.disk
+  pub end : new.vault.journal.end ≡ old.vault.journal.end
   pub halted : is_halted new ≡ false
   pub settled : new.in_doubt ≡ []
 
@@ -100,6 +106,7 @@ moved old new instance to moves working settled = record {
   environment = moves.machine.environment;
   allowance = moves.allowance;
   disk = ap (λ v. v.disk) moves.vault;
+  end = ap (λ v. v.journal.end) moves.vault;
   halted = ap (λ v. v.halted) moves.vault ∙ working;
   settled = moves.in_doubt ∙ settled;
 }
@@ -117,6 +124,7 @@ handed_back old new instance back vault doubt working settled = record {
   environment = back.stays.environment;
   allowance = back.stays.allowance;
   disk = ap (λ v. v.disk) vault;
+  end = ap (λ v. v.journal.end) vault;
   halted = ap (λ v. v.halted) vault ∙ working;
   settled = doubt ∙ settled;
 }
@@ -142,6 +150,7 @@ module _ {D : Type 0} (files : D → Side → File) (moment : D → ℕ) (left_a
         facts = λ fact. same.facts fact ∙ ap (λ (X : Facts). X fact) (sym (with_nothing (facts old)));
         environment = same.environment;
         spent = omega (arith, same.allowance);
+        end = λ _. with_none new.vault.journal.end old.vault.journal.end same.end;
         crashes = crash;
         acknowledged = λ on t contents after before was. (crash on).each t contents after before was;
         gates = λ on has. subst (λ (d : D). LeavesOnly moment left_at old.vault.disk d HasGates) (sym same.disk) (gates_rest on old.vault (graph old) (environment old) (facts old) ((kept on).holds working) has);
@@ -158,7 +167,7 @@ module _ {D : Type 0} (files : D → Side → File) (moment : D → ℕ) (left_a
   pub as_it_was : (honest → RestLeaves files moment left_at) → (honest → GatesRest files moment left_at) → (core : Core D) → is_halted core ≡ false → core.in_doubt ≡ [] → (honest → IsKept files core) → RunsOn files moment left_at failures refusals honest core core
   as_it_was leaves gates_rest core working settled kept = record {
     ends = [];
-    runs = rests leaves gates_rest core core working kept (record { graph = refl; facts = λ _. refl; environment = λ _. refl; allowance = refl; disk = refl; halted = working; settled = settled });
+    runs = rests leaves gates_rest core core working kept (record { graph = refl; facts = λ _. refl; environment = λ _. refl; allowance = refl; disk = refl; end = refl; halted = working; settled = settled });
   }
 
   -- ---- an end
@@ -201,6 +210,7 @@ module _ {D : Type 0} (files : D → Side → File) (moment : D → ℕ) (left_a
         facts = λ fact. takes.takes.facts fact ∙ ap (λ (list : List Fact). with_facts (facts old) list fact) (sym (append-nil (event_facts end)));
         environment = λ fact. takes.takes.environment fact ∙ ap (λ (list : List Fact). with_facts (environment old) list fact) (puts_nothing end is) ∙ ap (λ (E : Facts). E fact) (with_nothing (environment old));
         spent = omega (arith, takes.allowance, costs_one end is);
+        end = λ _. with_record new.vault.journal.end old.vault.journal.end (record_length end) takes.moved;
         crashes = λ on.
             subst (λ (events : List Event). LeavesOnly moment left_at old.vault.disk new.vault.disk (StandsForBeginning (graph old) (environment old) (facts old) [] (one_by_one events))) (sym one)
             (begins leaves old new end on (moments on));
@@ -247,6 +257,7 @@ module _ {D : Type 0} (files : D → Side → File) (moment : D → ℕ) (left_a
             environment = back.stays.environment;
             allowance = back.stays.allowance;
             disk = same.0.disk;
+            end = same.0.end;
             halted = goes;
             settled = same.1 ∙ settled;
           })
@@ -261,6 +272,7 @@ module _ {D : Type 0} (files : D → Side → File) (moment : D → ℕ) (left_a
             facts = λ fact. back.stays.facts fact ∙ ap (λ (X : Facts). X fact) (sym (with_nothing (facts old)));
             environment = back.stays.environment;
             spent = omega (arith, back.stays.allowance);
+            end = λ goes. absurd (false≢true (sym goes ∙ stops));
             crashes = λ on.
                 subst (λ (events : List Event). LeavesOnly moment left_at old.vault.disk new.vault.disk (StandsForBeginning (graph old) (environment old) (facts old) [] (one_by_one events))) (sym doubt)
                 (begins leaves old new end on (commits.moments on working));
@@ -311,7 +323,7 @@ module _ {D : Type 0} (files : D → Side → File) (moment : D → ℕ) (left_a
       at (Store Full) refuses told =
           let sets : facts old ≡ facts new = λ i fact. sym (back.stays.facts fact) i in
           let legal = subst (λ (g : Graph). IsLegal g (facts new) end) (sym back.stays.graph) (subst (λ (X : Facts). IsLegal (graph old) X end) sets refuses.1) in
-          inr (told, (end, is, legal, subst (λ n. LIMIT ≤ n + length (record_of (commit_bytes (end ∷ [])))) (sym same.0.end) refuses.2), omega (arith, back.stays.allowance, allowed))
+          inr (told, (end, is, legal, subst (λ n. LIMIT ≤ n + record_length end) (sym same.0.end) refuses.2), omega (arith, back.stays.allowance, allowed))
       at (Store (Damaged side place)) refuses told = absurd refuses
       at (Store NotAStore) refuses told = absurd refuses
       at (Store Exists) refuses told = absurd refuses

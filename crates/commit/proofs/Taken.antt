@@ -19,15 +19,10 @@ use Rattle.machine.specs.Machine.{Machine, facts as facts_of, environment as env
 use Rattle.machine.specs.Machine as machine
 use Rattle.vault.specs.declared.vault.Vault.{Vault}
 use Rattle.vault.specs.declared.error.VaultError.{VaultError}
-use Rattle.vault.specs.declared.error.VaultError.TheVariants.{Device, NoMemory, Halted}
-use Rattle.vault.specs.Calls as calls
 use Rattle.vault.specs.Commits.{HeldLeaves, RefusedStore}
 use Rattle.vault.specs.Stands.{Stands}
 use Rattle.vault.specs.Store.{Holds, IsSame, StandsBeforeOrAfter}
-use Rattle.commit.specs.declared.error.CoreError.{CoreError}
-use Rattle.commit.specs.declared.error.CoreError.TheVariants.{Store}
 use Rattle.commit.specs.Core.{graph}
-use Rattle.commit.specs.Calls.{Halts}
 use Rattle.commit.specs.Doubt.{events_in}
 use Rattle.commit.specs.Kept.{IsKept}
 
@@ -62,57 +57,57 @@ module _ {D : Type 0} (files : D → Side → File) (moment : D → ℕ) (left_a
   at_end old new P only contents may = only.each (moment new) contents only.later (omega arith) ((now new contents).1 may)
 
   -- a vault that holds the facts of a machine keeps its core
-  pub kept : HeldLeaves files moment left_at → (v : Vault D) (m : Machine) (doubt : List Event) (allowance : ℕ) → Holds files v m.graph (environment_of m) (facts_of m)
-      → IsKept files (record { vault = v; machine = m; in_doubt = doubt; allowance = allowance })
-  kept leaves v m doubt allowance holds = record {
+  pub kept : HeldLeaves files moment left_at → (v : Vault D) (m : Machine) (doubt latest : List Event) (allowance : ℕ) → Holds files v m.graph (environment_of m) (facts_of m)
+      → IsKept files (record { vault = v; machine = m; in_doubt = doubt; latest = latest; allowance = allowance })
+  kept leaves v m doubt latest allowance holds = record {
     holds = λ _. holds;
     left = λ _ contents may. inl (at_end v.disk v.disk (λ c. Stands c m.graph (environment_of m) (facts_of m)) (leaves v m.graph (environment_of m) (facts_of m) holds) contents may);
   }
 
   -- and so does one whose facts are the same
-  pub kept_alike : (v : Vault D) (m n : Machine) (doubt : List Event) (allowance more : ℕ) → n.graph ≡ m.graph → ((fact : Fact) → environment_of n fact ≡ environment_of m fact) → ((fact : Fact) → facts_of n fact ≡ facts_of m fact)
-      → IsKept files (record { vault = v; machine = m; in_doubt = doubt; allowance = allowance }) → IsKept files (record { vault = v; machine = n; in_doubt = doubt; allowance = more })
-  kept_alike v m n doubt allowance more graph given facts keeps = record {
+  pub kept_alike : (v : Vault D) (m n : Machine) (doubt latest : List Event) (allowance more : ℕ) → n.graph ≡ m.graph → ((fact : Fact) → environment_of n fact ≡ environment_of m fact) → ((fact : Fact) → facts_of n fact ≡ facts_of m fact)
+      → IsKept files (record { vault = v; machine = m; in_doubt = doubt; latest = latest; allowance = allowance }) → IsKept files (record { vault = v; machine = n; in_doubt = doubt; latest = latest; allowance = more })
+  kept_alike v m n doubt latest allowance more graph given facts keeps = record {
     holds = λ working. holds_alike files v m.graph n.graph (environment_of m) (environment_of n) (facts_of m) (facts_of n) graph given facts (keeps.holds working);
     left = λ apart contents may. stands_alike m.graph n.graph (environment_of m) (environment_of n) (facts_of m) (facts_of n) doubt contents graph given facts (keeps.left apart contents may);
   }
 
-  pub kept_taken : HeldLeaves files moment left_at → (v : Vault D) (m n : Machine) (event : Event) (doubt : List Event) (allowance : ℕ) → machine.Takes m n event
+  pub kept_taken : HeldLeaves files moment left_at → (v : Vault D) (m n : Machine) (event : Event) (doubt latest : List Event) (allowance : ℕ) → machine.Takes m n event
       → Holds files v m.graph (with_facts (environment_of m) (facts.environment (event ∷ []))) (with_facts (facts_of m) (facts.facts (event ∷ [])))
-      → IsKept files (record { vault = v; machine = n; in_doubt = doubt; allowance = allowance })
-  kept_taken leaves v m n event doubt allowance takes holds =
-      kept leaves v n doubt allowance
+      → IsKept files (record { vault = v; machine = n; in_doubt = doubt; latest = latest; allowance = allowance })
+  kept_taken leaves v m n event doubt latest allowance takes holds =
+      kept leaves v n doubt latest allowance
       (holds_alike files v m.graph n.graph (with_facts (environment_of m) (facts.environment (event ∷ []))) (environment_of n) (with_facts (facts_of m) (facts.facts (event ∷ []))) (facts_of n) takes.graph
       (λ fact. takes.environment fact ∙ ap (λ (more : List Fact). with_facts (environment_of m) more fact) (sym (append-nil (environment_facts event))))
       (λ fact. takes.facts fact ∙ ap (λ (more : List Fact). with_facts (facts_of m) more fact) (sym (append-nil (event_facts event))))
       holds)
 
   -- a turnover that returns an error leaves the core kept
-  pub kept_turned : HeldLeaves files moment left_at → RefusedStore files moment left_at → (v w : Vault D) (m : Machine) (doubt : Option Event) (allowance : ℕ)
+  pub kept_turned : HeldLeaves files moment left_at → RefusedStore files moment left_at → (v w : Vault D) (m : Machine) (doubt : Option Event) (latest : List Event) (allowance : ℕ)
       → v.halted ≡ false → doubt ≡ None → Holds files v m.graph (environment_of m) (facts_of m) → (w.halted ≡ v.halted → IsSame v w)
-      → IsKept files (record { vault = w; machine = m; in_doubt = events_in doubt; allowance = allowance })
-  kept_turned leaves refused v w m doubt allowance working none holds same = at w.halted refl
+      → IsKept files (record { vault = w; machine = m; in_doubt = events_in doubt; latest = latest; allowance = allowance })
+  kept_turned leaves refused v w m doubt latest allowance working none holds same = at w.halted refl
     where
-      at : (b : Bool) → w.halted ≡ b → IsKept files (record { vault = w; machine = m; in_doubt = events_in doubt; allowance = allowance })
-      at false is = kept leaves w m (events_in doubt) allowance (refused v w m.graph (environment_of m) (facts_of m) holds (same (is ∙ sym working)))
+      at : (b : Bool) → w.halted ≡ b → IsKept files (record { vault = w; machine = m; in_doubt = events_in doubt; latest = latest; allowance = allowance })
+      at false is = kept leaves w m (events_in doubt) latest allowance (refused v w m.graph (environment_of m) (facts_of m) holds (same (is ∙ sym working)))
       at true is = record { holds = λ goes. absurd (false≢true (sym goes ∙ is)); left = λ apart. absurd (apart (is, ap events_in none)) }
 
   -- and so does one that returns `Ok`
-  pub kept_either : HeldLeaves files moment left_at → RefusedStore files moment left_at → (v w : Vault D) (m : Machine) (doubt : Option Event) (allowance : ℕ) (result : Result ℕ VaultError)
+  pub kept_either : HeldLeaves files moment left_at → RefusedStore files moment left_at → (v w : Vault D) (m : Machine) (doubt : Option Event) (latest : List Event) (allowance : ℕ) (result : Result ℕ VaultError)
       → v.halted ≡ false → doubt ≡ None → Holds files v m.graph (environment_of m) (facts_of m) → OnOk result (Holds files w m.graph (environment_of m) (facts_of m)) → OnErr result (w.halted ≡ v.halted → IsSame v w)
-      → IsKept files (record { vault = w; machine = m; in_doubt = events_in doubt; allowance = allowance })
-  kept_either leaves refused v w m doubt allowance (Ok generation) working none holds turned same = kept leaves w m (events_in doubt) allowance turned
-  kept_either leaves refused v w m doubt allowance (Err error) working none holds turned same = kept_turned leaves refused v w m doubt allowance working none holds same
+      → IsKept files (record { vault = w; machine = m; in_doubt = events_in doubt; latest = latest; allowance = allowance })
+  kept_either leaves refused v w m doubt latest allowance (Ok generation) working none holds turned same = kept leaves w m (events_in doubt) latest allowance turned
+  kept_either leaves refused v w m doubt latest allowance (Err error) working none holds turned same = kept_turned leaves refused v w m doubt latest allowance working none holds same
 
   -- an error leaves the core kept, with the event in doubt if the error halted the vault
-  pub kept_refused : HeldLeaves files moment left_at → RefusedStore files moment left_at → (v w : Vault D) (m : Machine) (event : Event) (before after : Option Event) (allowance : ℕ)
+  pub kept_refused : HeldLeaves files moment left_at → RefusedStore files moment left_at → (v w : Vault D) (m : Machine) (event : Event) (before after : Option Event) (latest : List Event) (allowance : ℕ)
       → v.halted ≡ false → after ≡ cond w.halted (Some event) before → Holds files v m.graph (environment_of m) (facts_of m) → (w.halted ≡ v.halted → IsSame v w)
       → LeavesOnly moment left_at v.disk w.disk (StandsBeforeOrAfter m.graph (environment_of m) (facts_of m) (event ∷ []))
-      → IsKept files (record { vault = w; machine = m; in_doubt = events_in after; allowance = allowance })
-  kept_refused leaves refused v w m event before after allowance working doubt holds same moments = at w.halted refl
+      → IsKept files (record { vault = w; machine = m; in_doubt = events_in after; latest = latest; allowance = allowance })
+  kept_refused leaves refused v w m event before after latest allowance working doubt holds same moments = at w.halted refl
     where
-      at : (b : Bool) → w.halted ≡ b → IsKept files (record { vault = w; machine = m; in_doubt = events_in after; allowance = allowance })
-      at false is = kept leaves w m (events_in after) allowance (refused v w m.graph (environment_of m) (facts_of m) holds (same (is ∙ sym working)))
+      at : (b : Bool) → w.halted ≡ b → IsKept files (record { vault = w; machine = m; in_doubt = events_in after; latest = latest; allowance = allowance })
+      at false is = kept leaves w m (events_in after) latest allowance (refused v w m.graph (environment_of m) (facts_of m) holds (same (is ∙ sym working)))
       at true is = record {
         holds = λ goes. absurd (false≢true (sym goes ∙ is));
         left = λ _ contents may.
@@ -120,25 +115,3 @@ module _ {D : Type 0} (files : D → Side → File) (moment : D → ℕ) (left_a
             subst (λ (events : List Event). StandsBeforeOrAfter m.graph (environment_of m) (facts_of m) events contents) event_is
             (at_end v.disk w.disk (StandsBeforeOrAfter m.graph (environment_of m) (facts_of m) (event ∷ [])) moments contents may);
       }
-
--- why an error halted the core, by the vault
-pub halts : {D : Type 0} (failures refusals : D → ℕ) (v w : Vault D) (m n : Machine) (event : Event) (before after : Option Event) (a b : ℕ) (error : VaultError)
-    → v.halted ≡ false → after ≡ cond w.halted (Some event) before → calls.Halts {T = Unit {0}} failures refusals v w (Err error)
-    → Halts {T = Unit {0}} failures refusals (record { vault = v; machine = m; in_doubt = events_in before; allowance = a }) (record { vault = w; machine = n; in_doubt = events_in after; allowance = b }) (Err (Store error))
-halts failures refusals v w m n event before after a b error working doubt told = record {
-  halts = told.halts;
-  halted = (λ is. told.halted.0 (inside Halted is), λ is. outside Halted (told.halted.1 is));
-  disk = record {
-    device = (λ is. told.disk.device.0 (inside Device is), λ grew. outside Device (told.disk.device.1 grew));
-    refused = λ changed. outside NoMemory (told.disk.refused changed);
-    later = told.disk.later;
-  };
-  same = λ is. (told.same is, ap events_in (doubt ∙ ap (λ h. cond h (Some event) before) (is ∙ working)));
-  settled = tt;
-}
-  where
-    inside : (cause : VaultError) → ◌≡◌ {A = Result (Unit {0}) CoreError} (Err (Store error)) (Err (Store cause)) → ◌≡◌ {A = Result (Unit {0}) VaultError} (Err error) (Err cause)
-    inside cause is = cc
-
-    outside : (cause : VaultError) → ◌≡◌ {A = Result (Unit {0}) VaultError} (Err error) (Err cause) → ◌≡◌ {A = Result (Unit {0}) CoreError} (Err (Store error)) (Err (Store cause))
-    outside cause is = cc

@@ -1,13 +1,11 @@
 -- The whole of what a turnover of a core promises, from what its vault's turnover promises.
-use Rattle.std.proofs.Common.{◌≡◌, ◌∙◌, ◌⊎◌, ◌+◌, ap, sym, refl, inl, inr, ℕ, true, false, List, [], Result, Ok, Err, IsErrOf}
-use Rattle.std.proofs.lemmas.Bool.{false≢true}
+use Rattle.std.proofs.Common.{◌≡◌, ◌∙◌, ◌⊎◌, ◌+◌, ap, refl, inl, inr, ℕ, true, false, List, [], Result, Ok, Err}
 use Rattle.disk.specs.declared.side.Side.{Side}
 use Rattle.disk.specs.File.{File, at_rest}
 use Rattle.disk.specs.Time.{Contents, HasCauses}
 use Rattle.terms.specs.declared.event.Event.{Event}
 use Rattle.codec.specs.declared.image.Image.{Image}
 use Rattle.codec.specs.Image.{IsListed, Lists}
-use Rattle.graph.specs.Canonical.{canonical}
 use Rattle.machine.specs.Machine.{Machine, environment as environment_of, facts as facts_of}
 use Rattle.vault.specs.declared.vault.Vault.{Vault}
 use Rattle.vault.specs.declared.error.VaultError.{VaultError}
@@ -16,10 +14,9 @@ use Rattle.vault.specs.Calls as calls
 use Rattle.vault.specs.Store.{IsLast, IsTooLong, new_side}
 use Rattle.commit.specs.declared.error.CoreError.{CoreError}
 use Rattle.commit.specs.declared.error.CoreError.TheVariants.{Store}
-use Rattle.commit.specs.Calls.{Halts, IsUnchanged}
 use Rattle.commit.specs.Core.{Core, is_halted}
 use Rattle.commit.specs.Kept.{IsKept}
-use Rattle.commit.specs.Turning.{IsImageOf, IsTooLongWith, RefusesTurn, TellsFullTurn, TurnLeaves, TurnsAs}
+use Rattle.commit.specs.Turning.{IsImageOf, IsTooLongWith, RefusesTurn, TurnLeaves, TurnsAs}
 use Rattle.commit.proofs.Roomy.{unhalted}
 
 -- an error of the vault, as one of the core
@@ -57,13 +54,13 @@ module _ {D : Type 0} (failures refusals : D → ℕ) (before after : D) where
 
 module _
     {D : Type 0} (files : D → Side → File) (moment : D → ℕ) (left_at : D → ℕ → Contents → Type 0) (failures refusals : D → ℕ) (honest : Type 0)
-    (v w : Vault D) (m : Machine) (doubt : List Event) (allowance : ℕ) (image : Image) (listed : IsListed image) (lists : Lists image (environment_of m) (facts_of m)) (working : v.halted ≡ false)
+    (v w : Vault D) (m : Machine) (doubt latest : List Event) (allowance : ℕ) (image : Image) (listed : IsListed image) (lists : Lists image (environment_of m) (facts_of m)) (working : v.halted ≡ false)
   where
     abbrev old : Core D
-    old = record { vault = v; machine = m; in_doubt = doubt; allowance = allowance }
+    old = record { vault = v; machine = m; in_doubt = doubt; latest = latest; allowance = allowance }
 
     abbrev new : Core D
-    new = record { vault = w; machine = m; in_doubt = doubt; allowance = allowance }
+    new = record { vault = w; machine = m; in_doubt = doubt; latest = latest; allowance = allowance }
 
     -- why the vault says that it is full
     abbrev IsCause : Type 0
@@ -76,7 +73,7 @@ module _
     turned : (generation : ℕ) → calls.TurnsOver v w image (Ok generation) → (honest → calls.WritesSide files v w image (Ok generation)) → calls.IsFullWhere {T = ℕ} v.halted IsCause (Ok generation)
         → calls.Halts {T = ℕ} failures refusals v w (Ok generation) → (honest → IsKept files old) → doubt ≡ [] → (honest → TurnLeaves files moment left_at old new) → TurnsAs files moment left_at failures refusals honest old new (Ok generation)
     turned generation over writes full halting kept settled moments = record {
-      ok = record { greater = over.side.0; live = (over.side.1, over.side.2); working = over.working; machine = refl; allowance = refl };
+      ok = record { greater = over.side.0; live = (over.side.1, over.side.2); working = over.working; machine = refl; allowance = refl; latest = refl };
       written = λ on. (image, (listed, lists), (writes on).written ∙ ap (λ (text : List ℕ). at_rest (new_side generation text image)) ((kept on).holds working).text);
       err = tt;
       refused = tt;
@@ -124,7 +121,7 @@ module _
     refused error full halting moments = record {
       ok = tt;
       written = λ _. tt;
-      err = record { stays = record { graph = refl; facts = λ _. refl; environment = λ _. refl; allowance = refl }; states = λ _. refl };
+      err = record { stays = record { graph = refl; facts = λ _. refl; environment = λ _. refl; allowance = refl; latest = refl }; states = λ _. refl };
       refused = refuses error halting.causes full.why halting.halted.0;
       full = λ _ cause. elim (full.told working (cause_of cause)) [ inl is ↦ inl (store error Full is) | inr is ↦ inr (store error NoMemory is) ];
       halts = record {
@@ -156,7 +153,7 @@ pub unlisted : {D : Type 0} (files : D → Side → File) (moment : D → ℕ) (
 unlisted files moment left_at failures refusals honest old working moments = record {
   ok = tt;
   written = λ _. tt;
-  err = record { stays = record { graph = refl; facts = λ _. refl; environment = λ _. refl; allowance = refl }; states = λ _. refl };
+  err = record { stays = record { graph = refl; facts = λ _. refl; environment = λ _. refl; allowance = refl; latest = refl }; states = λ _. refl };
   refused = working;
   full = λ _ cause. inr refl;
   halts = unhalted {T = ℕ} failures refusals old old (Store NoMemory) working refl refl memory_halts memory_device;

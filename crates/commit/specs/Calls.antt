@@ -1,5 +1,5 @@
 -- What the calls of a core promise: the event that comes at `Ok`, and what an error says and leaves.
-use Rattle.std.specs.Prelude.{◌≡◌, ◌≢◌, ◌⊎◌, ◌↔◌, ◌<◌, ◌≤◌, ◌+◌, ℕ, true, false, List, [], ◌∷◌, length, Result, Some, IsErrOf, OnOk, OnErr, IfErr}
+use Rattle.std.specs.Prelude.{◌≡◌, ◌≢◌, ◌⊎◌, ◌↔◌, ◌≤◌, ◌+◌, ℕ, true, false, List, [], ◌∷◌, length, Result, Some, IsErrOf, OnOk, OnErr, IfErr}
 use Rattle.disk.specs.declared.side.Side.{Side}
 use Rattle.disk.specs.File.{File}
 use Rattle.disk.specs.Time.{Contents, LeavesOnly, HasCauses, HasErred}
@@ -30,21 +30,28 @@ step_count (EnvTag name) = 0
 step_count (Done instance puts) = 1
 step_count (Stopped instance kind) = 1
 
--- The event was legal, and was taken: into the state in memory, and into the journal of the live side, which is longer now.
+-- how many bytes the record of an event has
+abbrev pub record_length : Event → ℕ
+record_length event = length (record_of (commit_bytes (event ∷ [])))
+
+-- The event was legal, and was taken: into the state in memory, and into the journal of the live side, which ends after its record now. It is the latest
+-- commit.
 pub record Takes {D : Type 0} (old new : Core D) (event : Event) : Type 0 where
   pub legal : IsLegal (graph old) (facts old) event
   pub takes : machine.Takes old.machine new.machine event
   pub working : (is_halted old ≡ false) × (is_halted new ≡ false)
-  pub moved : old.vault.journal.end < new.vault.journal.end
+  pub moved : new.vault.journal.end ≡ old.vault.journal.end + record_length event
+  pub latest : new.latest ≡ event ∷ []
   pub allowance : new.allowance + step_count event ≡ old.allowance
   pub generation : new.vault.generation ≡ old.vault.generation
 
--- No fact has changed, and the allowance has not.
+-- No fact has changed, the allowance has not, and nothing was committed.
 pub record Stays {D : Type 0} (old new : Core D) : Type 0 where
   pub graph : graph new ≡ graph old
   pub facts : (fact : Fact) → facts new fact ≡ facts old fact
   pub environment : (fact : Fact) → environment new fact ≡ environment old fact
   pub allowance : new.allowance ≡ old.allowance
+  pub latest : new.latest ≡ old.latest
 
 -- in addition, no instance has changed its state
 pub record IsUnchanged {D : Type 0} (old new : Core D) : Type 0 where
@@ -61,7 +68,7 @@ pub record GivesBack {D : Type 0} (old new : Core D) (instance : Inst) : Type 0 
 
 -- the closed gate after the event's record would not lie below the limit
 abbrev pub IsTooLong : {D : Type 0} → Core D → Event → Type 0
-IsTooLong c event = LIMIT ≤ c.vault.journal.end + length (record_of (commit_bytes (event ∷ [])))
+IsTooLong c event = LIMIT ≤ c.vault.journal.end + record_length event
 
 -- Why an event is refused. A halted core returns `Halted`, and nothing else. Then come the causes why the event may not come; an event that
 -- may come is refused if its record does not fit, if the device failed, or if memory was refused.

@@ -9,12 +9,13 @@ use Rattle.machine.specs.Machine.{Machine}
 use Rattle.machine.specs.Machine as machine
 use Rattle.vault.specs.declared.vault.Vault.{Vault}
 
--- Its files, its graph with all that it holds in memory, the events of the call that halted it, which may be on the disk or not, and how many
--- more steps it may commit, including those that run.
+-- Its files, its graph with all that it holds in memory, the events of the call that halted it, which may be on the disk or not, the events of its latest
+-- commit since it was opened, and how many more steps it may commit, including those that run.
 pub record Core (D : Type 0) : Type 0 where
   pub vault : Vault D
   pub machine : Machine
   pub in_doubt : List Event
+  pub latest : List Event
   pub allowance : ℕ
 
 abbrev pub graph : {D : Type 0} → Core D → Graph

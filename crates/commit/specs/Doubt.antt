@@ -1,4 +1,4 @@
--- What is in doubt: the events of the call that halted a core.
+-- An event that there may be, as a list: the one in doubt, after a call that halted a core, and the one of the latest commit.
 use Rattle.std.specs.Prelude.{List, [], ◌∷◌, Option, Some, None}
 use Rattle.terms.specs.declared.event.Event.{Event}
 

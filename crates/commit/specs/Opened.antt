@@ -22,11 +22,12 @@ abbrev pub disk_of : {D : Type 0} → Result (Core D) (Refused D) → D
 disk_of (Ok core) = core.vault.disk
 disk_of (Err refused) = refused.disk
 
--- It is not halted, nothing is in doubt, and it may commit 1,000,000,000 steps. No instance runs or waits: each that is prescribed and not done is
+-- It is not halted, nothing is in doubt, nothing was committed since, and it may commit 1,000,000,000 steps. No instance runs or waits: each that is prescribed and not done is
 -- ready.
 pub record IsOpened {D : Type 0} (c : Core D) : Type 0 where
   pub working : is_halted c ≡ false
   pub in_doubt : c.in_doubt ≡ []
+  pub latest : c.latest ≡ []
   pub allowance : c.allowance ≡ 1000000000
   pub instances : (instance : Inst) → IsReadyOrDone (state_of c instance)
   pub ready : (instance : Inst) → IsPrescribed (graph c) (facts c) instance → facts c (done instance) ≡ false → state_of c instance ≡ Some Ready

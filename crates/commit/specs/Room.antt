@@ -14,6 +14,7 @@ pub record GivesRoom {D : Type 0} (old new : Core D) : Type 0 where
   pub machine : machine.GivesRoom old.machine new.machine
   pub vault : new.vault ≡ old.vault
   pub in_doubt : new.in_doubt ≡ old.in_doubt
+  pub latest : new.latest ≡ old.latest
   pub allowance : new.allowance ≡ old.allowance
 
 -- Why an event is refused before its record is written: the core is halted; or there is a cause why the event may not come; or it may come, and

@@ -1,6 +1,8 @@
 -- A run of the steps of a core: the ends of instances that it commits, and what it returns.
 use Rattle.std.specs.Prelude.{◌≡◌, ◌≢◌, ◌⊎◌, ◌↔◌, ◌+◌, ◌<◌, ◌≤◌, ⊤, ℕ, Bool, true, false, List, [], ◌∷◌, ◌++◌, map, length, Some, Result, Ok, Err, OnErr}
 use Rattle.std.specs.List.{AllByRecursion}
+use mathlib.Core.List.{IsPrefix}
+use Rattle.journal.specs.declared.journal.TheConstants.{LIMIT}
 use Rattle.disk.specs.declared.side.Side.{Side}
 use Rattle.disk.specs.File.{File}
 use Rattle.disk.specs.Time.{Contents, LeavesSince}
@@ -29,7 +31,7 @@ use Rattle.commit.specs.declared.verdict.RunError.{RunError}
 use Rattle.commit.specs.declared.verdict.RunError.TheVariants.{Spawn, NoMemory, Full}
 use Rattle.commit.specs.declared.outcome.Outcome.{Outcome}
 use Rattle.commit.specs.declared.outcome.Committed.{Committed}
-use Rattle.commit.specs.Calls.{GivesBack, Halts, IsTooLong}
+use Rattle.commit.specs.Calls.{GivesBack, Halts, IsTooLong, record_length}
 use Rattle.commit.specs.Outcome.{Finishes, IsEndOf, Tells}
 use Rattle.commit.specs.Core.{Core, graph, facts, state_of, is_halted}
 use Rattle.commit.specs.Core as core
@@ -62,13 +64,14 @@ AcknowledgesFrom g E X left last from made (end ∷ ends) doubt =
     × ((t : ℕ) (contents : Contents) → from ≤ t → t ≤ next → left t contents → StandsForBeginning g E X (one_by_one made) ((end ∷ []) ∷ []) contents)
     × AcknowledgesFrom g E X left last next (made ++ end ∷ []) ends doubt
 
--- what a store was when a run began: its graph and facts, how many steps it might commit, and of its disk the moment, the counts of errors, and the
--- contents of both files
+-- what a store was when a run began: its graph and facts, how many steps it might commit, where its journal ended, and of its disk the moment, the counts
+-- of errors, and the contents of both files
 pub record Begun : Type 0 where
   pub graph : Graph
   pub facts : Facts
   pub environment : Facts
   pub allowance : ℕ
+  pub end : ℕ
   pub moment : ℕ
   pub failures : ℕ
   pub refusals : ℕ
@@ -80,14 +83,20 @@ begun_by files moment failures refusals c = record {
   facts = core.facts c;
   environment = core.environment c;
   allowance = c.allowance;
+  end = c.vault.journal.end;
   moment = moment c.vault.disk;
   failures = failures c.vault.disk;
   refusals = refusals c.vault.disk;
   contents = contents_of (files c.vault.disk);
 }
 
+-- how many bytes the records of these events have
+abbrev pub records_length : List Event → ℕ
+records_length [] = 0
+records_length (event ∷ events) = record_length event + records_length events
+
 -- Since a core that was like this, was not halted, and of which a crash might leave this, these ends of instances were committed, one after another;
--- if the core is halted now, one more is in doubt. They were legal, and state all that is new; each used one of the allowance. At each moment a
+-- if the core is halted now, one more is in doubt. They were legal, and state all that is new; each used one of the allowance. The journal has their records behind those that it had. At each moment a
 -- crash leaves what a prefix of them states, each of which is there whole: those that were acknowledged by then, or these and the next one. The core is halted exactly if a call of the
 -- disk returned an error.
 pub record RunsSince {D : Type 0} (moment : D → ℕ) (left_at : D → ℕ → Contents → Type 0) (failures refusals : D → ℕ) (honest : Type 0) (begun : Begun) (left : ℕ → Contents → Type 0) (new : Core D) (ends : List Event) : Type 0 where
@@ -97,6 +106,7 @@ pub record RunsSince {D : Type 0} (moment : D → ℕ) (left_at : D → ℕ → 
   pub facts : (fact : Fact) → core.facts new fact ≡ with_facts begun.facts (stated.facts ends) fact
   pub environment : (fact : Fact) → core.environment new fact ≡ begun.environment fact
   pub spent : new.allowance + length ends ≡ begun.allowance
+  pub end : is_halted new ≡ false → new.vault.journal.end ≡ begun.end + records_length ends
   pub crashes : honest → LeavesSince moment left_at begun.moment left new.vault.disk (StandsForBeginning begun.graph begun.environment begun.facts [] (one_by_one (ends ++ new.in_doubt)))
   pub acknowledged : honest → AcknowledgesFrom begun.graph begun.environment begun.facts (left_at new.vault.disk) (moment new.vault.disk) begun.moment [] ends new.in_doubt
   pub gates : honest → HasGates begun.contents → LeavesSince moment left_at begun.moment left new.vault.disk HasGates
@@ -118,19 +128,30 @@ IsAt c status = (is_halted c ≡ false) × TellsStatus c status × SaysOfMeaning
 abbrev pub IsFull : {D : Type 0} → Core D → Type 0
 IsFull c = (end : Event) × IsEnd end × IsLegal (graph c) (facts c) end × IsTooLong c end
 
+-- In a store of this graph, with these facts, and whose journal ended there, these ends were committed; and after a prefix of them some end of an instance
+-- might have come, but its record did not fit.
+pub record MetFull (g : Graph) (X : Facts) (from : ℕ) (ends : List Event) : Type 0 where
+  pub before : List Event
+  pub starts : IsPrefix before ends
+  pub end : Event
+  pub is_end : IsEnd end
+  pub legal : IsLegal g (with_facts X (stated.facts before)) end
+  pub too_long : LIMIT ≤ from + records_length before + record_length end
+
 -- This is returned after a run with this limit, in which `count` ends were committed, by a driver that may be asked to stop, or may start threads.
 -- The first line that holds is returned, in this order: the core is halted; it is stopped; it is quiet. In the other lines something is ready, and
--- there is no fault. Any of the three errors and of the limit that holds may be returned; one thread returns `Full` only if its limit was not met.
-abbrev pub TellsVerdict : {D : Type 0} → (may_be_asked may_spawn : Bool) → Core D → (limit count : ℕ) → Result Verdict RunError → Type 0
-TellsVerdict may_be_asked may_spawn c limit count (Ok Halted) = is_halted c ≡ true
-TellsVerdict may_be_asked may_spawn c limit count (Ok (Stopped instance kind)) = IsAt c (status.Stopped instance kind)
-TellsVerdict may_be_asked may_spawn c limit count (Ok Complete) = IsAt c (status.Quiet 0)
-TellsVerdict may_be_asked may_spawn c limit count (Ok (Blocked blocked)) = IsAt c (status.Quiet blocked) × (blocked ≢ 0)
-TellsVerdict may_be_asked may_spawn c limit count (Err Spawn) = IsAt c status.Working × (may_spawn ≡ true)
-TellsVerdict may_be_asked may_spawn c limit count (Err NoMemory) = IsAt c status.Working
-TellsVerdict may_be_asked may_spawn c limit count (Err Full) = IsAt c status.Working × IsFull c × ((count ≢ limit) ⊎ (may_spawn ≡ true))
-TellsVerdict may_be_asked may_spawn c limit count (Ok Limit) = IsAt c status.Working × (count ≡ limit)
-TellsVerdict may_be_asked may_spawn c limit count (Ok Asked) = IsAt c status.Working × (may_be_asked ≡ true) × (count ≢ limit)
+-- there is no fault. `Full` is returned only if `full` holds, that an end was so refused. Any of the three errors and of the limit that holds may be
+-- returned; one thread returns `Full` only if its limit was not met.
+abbrev pub TellsVerdict : {D : Type 0} → (full : Type 0) → (may_be_asked may_spawn : Bool) → Core D → (limit count : ℕ) → Result Verdict RunError → Type 0
+TellsVerdict full may_be_asked may_spawn c limit count (Ok Halted) = is_halted c ≡ true
+TellsVerdict full may_be_asked may_spawn c limit count (Ok (Stopped instance kind)) = IsAt c (status.Stopped instance kind)
+TellsVerdict full may_be_asked may_spawn c limit count (Ok Complete) = IsAt c (status.Quiet 0)
+TellsVerdict full may_be_asked may_spawn c limit count (Ok (Blocked blocked)) = IsAt c (status.Quiet blocked) × (blocked ≢ 0)
+TellsVerdict full may_be_asked may_spawn c limit count (Err Spawn) = IsAt c status.Working × (may_spawn ≡ true)
+TellsVerdict full may_be_asked may_spawn c limit count (Err NoMemory) = IsAt c status.Working
+TellsVerdict full may_be_asked may_spawn c limit count (Err Full) = IsAt c status.Working × full × ((count ≢ limit) ⊎ (may_spawn ≡ true))
+TellsVerdict full may_be_asked may_spawn c limit count (Ok Limit) = IsAt c status.Working × (count ≡ limit)
+TellsVerdict full may_be_asked may_spawn c limit count (Ok Asked) = IsAt c status.Working × (may_be_asked ≡ true) × (count ≢ limit)
 
 -- why a run ends before its limit in a core that is not halted: memory was refused, or the core is full and the limit not met
 abbrev pub EndsEarly : {D : Type 0} → Core D → CoreError → Type 0
@@ -143,7 +164,7 @@ with_allowance c count = record c { allowance = count }
 pub record RunsWithin {D : Type 0} (files : D → Side → File) (moment : D → ℕ) (left_at : D → ℕ → Contents → Type 0) (failures refusals : D → ℕ) (honest : Type 0) (may_be_asked may_spawn : Bool) (old new : Core D) (limit : ℕ) (result : Result Verdict RunError) : Type 0 where
   pub ends : List Event
   pub runs : Runs files moment left_at failures refusals honest (with_allowance old limit) new ends
-  pub told : TellsVerdict may_be_asked may_spawn new limit (length ends) result
+  pub told : TellsVerdict (MetFull (graph old) (facts old) old.vault.journal.end ends) may_be_asked may_spawn new limit (length ends) result
 
 -- the same, for some list of ends
 pub record RunsOn {D : Type 0} (files : D → Side → File) (moment : D → ℕ) (left_at : D → ℕ → Contents → Type 0) (failures refusals : D → ℕ) (honest : Type 0) (old new : Core D) : Type 0 where

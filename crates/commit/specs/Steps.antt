@@ -38,6 +38,7 @@ pub record Moves {D : Type 0} (old new : Core D) (instance : Inst) (to : State) 
   pub machine : machine.Moves old.machine new.machine instance to
   pub vault : new.vault ≡ old.vault
   pub in_doubt : new.in_doubt ≡ old.in_doubt
+  pub latest : new.latest ≡ old.latest
   pub allowance : new.allowance ≡ old.allowance
 
 -- if the item is there by now, the instance is ready; otherwise it waits

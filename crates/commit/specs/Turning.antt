@@ -22,6 +22,7 @@ pub record Turns {D : Type 0} (old new : Core D) (generation : ℕ) : Type 0 whe
   pub working : (is_halted old ≡ false) × (is_halted new ≡ false)
   pub machine : new.machine ≡ old.machine
   pub allowance : new.allowance ≡ old.allowance
+  pub latest : new.latest ≡ old.latest
 
 -- an image of all that the core has
 abbrev pub IsImageOf : {D : Type 0} → Core D → Image → Type 0

@@ -3,6 +3,7 @@ use graph::Graph;
 use instances::Task;
 use machine::Machine;
 use std::marker::Model;
+use std::slice;
 use std::sync::Arc;
 use terms::{Event, FaultKind, Inst};
 use vault::Vault;
@@ -16,6 +17,8 @@ pub struct Core<D: Disk> {
     pub(crate) machine: Machine,
     // The event of the call that halted the core, if that call had one.
     pub(crate) in_doubt: Option<Event>,
+    // The event of the latest commit since the opening.
+    pub(crate) latest: Option<Event>,
     // How many more steps may be committed, including those that run.
     pub(crate) allowance: u64,
 }
@@ -27,6 +30,7 @@ impl<D: Disk + Drop> Drop for Core<D> {
             vault: _,
             machine: _,
             in_doubt: _,
+            latest: _,
             allowance: _,
         } = self;
     }
@@ -45,15 +49,25 @@ impl<D: Disk> Model for Core<D> {
 
     ghost coded = { Prim.hlevel (codes, of_machine.the_row.coded) };
 
-    ghost view = { λ c. record { vault = c.vault; machine = c.machine; in_doubt = events_in c.in_doubt; allowance = c.allowance } };
+    ghost view = { λ c. record { vault = c.vault; machine = c.machine; in_doubt = events_in c.in_doubt; latest = events_in c.latest; allowance = c.allowance } };
 
     ghost invariant = { λ c. (c.vault.halted ≡ false → c.in_doubt ≡ None)
-        × (IsTrue D.is_honest → IsKept D.files (record { vault = c.vault; machine = c.machine; in_doubt = events_in c.in_doubt; allowance = c.allowance }))
+        × (IsTrue D.is_honest → IsKept D.files (record { vault = c.vault; machine = c.machine; in_doubt = events_in c.in_doubt; latest = events_in c.latest; allowance = c.allowance }))
         × (running_count c.machine ≤ c.allowance) };
 }
 
 impl<D: Disk> Core<D> {
     ghost use Rattle.std.specs.Prelude.{◌≡◌};
+
+    /// The events of the latest commit since the core was made or opened; none before the first. It takes no memory.
+    pub fn last_commit(&self) -> &[Event]
+        ensures { result.now ≡ self.now.latest }
+    {
+        match &self.latest {
+            Some(event) => slice::from_ref(event),
+            None => &[],
+        }
+    }
 
     /// Gives the disk back, for another opening.
     pub fn into_disk(self) -> D
@@ -63,6 +77,7 @@ impl<D: Disk> Core<D> {
             vault,
             machine: _,
             in_doubt: _,
+            latest: _,
             allowance: _,
         } = self;
         vault.into_disk()

@@ -36,7 +36,7 @@ impl<D: Disk> Core<D> {
         match self.vault.append(&event) {
             Ok(()) => {
                 self.machine.take_put(&event);
-                drop(event);
+                keep_latest(&mut self.latest, event);
                 Ok(())
             }
             Err(error) => {
@@ -69,7 +69,7 @@ impl<D: Disk> Core<D> {
         match self.vault.append(&event) {
             Ok(()) => {
                 self.machine.take_step(task, &event);
-                drop(event);
+                keep_latest(&mut self.latest, event);
                 self.allowance -= 1;
                 Ok(())
             }
@@ -89,4 +89,11 @@ fn keep_in_doubt(in_doubt: &mut Option<Event>, halted: bool, event: Event)
     if halted {
         *in_doubt = Some(event);
     }
+}
+
+// Keeps the event of a commit as the latest.
+fn keep_latest(latest: &mut Option<Event>, event: Event)
+    ensures { latest.new ≡ Some event }
+{
+    *latest = Some(event);
 }

@@ -102,6 +102,7 @@ impl<D: Disk> Core<D> {
                         vault,
                         machine,
                         in_doubt: None,
+                        latest: None,
                         allowance: FIRST_ALLOWANCE,
                     })
                 }

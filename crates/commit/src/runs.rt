@@ -41,7 +41,7 @@ impl<D: Disk> Core<D> {
     ghost use Rattle.terms.specs.declared.name.Inst.{Inst as Instance};
     ghost use Rattle.commit.specs.declared.verdict.Verdict.TheVariants.{Halted};
     ghost use Rattle.commit.specs.Core.{facts, graph as graph_of, is_halted, state_of};
-    ghost use Rattle.commit.specs.Runs.{EndsEarly, NoneRuns, RunsOn, RunsWithin, TellsVerdict};
+    ghost use Rattle.commit.specs.Runs.{EndsEarly, IsFull, NoneRuns, RunsOn, RunsWithin, TellsVerdict};
     ghost use Rattle.commit.specs.Steps.{MayClaim, ready_count};
 
     // Runs the steps, as `run_with` does.
@@ -183,7 +183,7 @@ impl<D: Disk> Core<D> {
         requires idle { NoneRuns self.now }
         requires ok { OnOk went (MayClaim self.now 0 → ⊥) }
         requires err { IfErr went (EndsEarly self.now) }
-        ensures { (limit count : ℕ) → self.now.allowance + count ≡ limit → TellsVerdict false false self.now limit count result }
+        ensures { (limit count : ℕ) → self.now.allowance + count ≡ limit → TellsVerdict (IsFull self.now) false false self.now limit count result }
     {
         self.is_kept();
         match self.status() {

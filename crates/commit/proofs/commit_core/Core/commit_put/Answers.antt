@@ -18,7 +18,7 @@ invariant_of-self g c =
       λ honest.
           let holds = (c.self.invariant.1 honest).holds working in
           kept_taken g.D.Disk.files g.D.Disk.moment g.D.Disk.left_at (g.met.D.Disk.at_now honest) (c.stores_go_on.ensures.held_leaves honest)
-          c.append.new.self before.machine c.take_put.new.self c.args.event (events_in before.in_doubt) before.allowance c.take_put.ensures
+          c.append.new.self before.machine c.take_put.new.self c.args.event (events_in before.in_doubt) (events_in c.keep_latest.new.latest) before.allowance c.take_put.ensures
           (c.in-Ok.ensures.added honest before.machine.graph (environment_of before.machine) (facts_of before.machine) holds it.0),
       behind_put c.runs_are_counted.ensures.no_more before.machine c.take_put.new.self c.args.event before.allowance c.requires.put c.take_put.ensures c.self.invariant.2,
     )
@@ -34,7 +34,7 @@ invariant_of-self-in-Err g c =
       λ honest.
           let holds = (c.self.invariant.1 honest).holds working in
           (kept_refused g.D.Disk.files g.D.Disk.moment g.D.Disk.left_at (g.met.D.Disk.at_now honest) (c.stores_go_on.ensures.held_leaves honest) c.stores_go_on.ensures.refused
-          before.vault c.append.new.self before.machine c.args.event before.in_doubt c.keep_in_doubt.new.in_doubt before.allowance working doubt holds c.in-Err.ensures.halting.same
+          before.vault c.append.new.self before.machine c.args.event before.in_doubt c.keep_in_doubt.new.in_doubt (events_in before.latest) before.allowance working doubt holds c.in-Err.ensures.halting.same
           (c.append.ensures.any_moment honest before.machine.graph (environment_of before.machine) (facts_of before.machine) holds it.0)),
       c.self.invariant.2,
     )
@@ -46,7 +46,7 @@ returns-in-Ok-clause-moments g c honest =
     let legal = subst (λ (old : Core g.row.D.Denot). IsLegal (graph old) (facts old) c.args.event) (sym c.self.view_is) c.requires.legal in
     let it = fits c.legal_events_fit.ensures.fit_state before.machine c.is_kept.ensures c.args.event legal in
     let holds = (c.self.invariant.1 honest).holds working in
-    subst (λ (old : Core g.row.D.Denot). CrashLeaves g.D.Disk.files g.D.Disk.moment g.D.Disk.left_at old (record { vault = c.append.new.self; machine = c.take_put.new.self; in_doubt = events_in before.in_doubt; allowance = before.allowance }) (c.args.event ∷ [])) c.self.view_is
+    subst (λ (old : Core g.row.D.Denot). CrashLeaves g.D.Disk.files g.D.Disk.moment g.D.Disk.left_at old (record { vault = c.append.new.self; machine = c.take_put.new.self; in_doubt = events_in before.in_doubt; latest = events_in c.keep_latest.new.latest; allowance = before.allowance }) (c.args.event ∷ [])) c.self.view_is
     (record {
       facts = c.append.ensures.any_moment honest before.machine.graph (environment_of before.machine) (facts_of before.machine) holds it.0;
       gates = c.append.ensures.gates honest before.machine.graph (environment_of before.machine) (facts_of before.machine) holds;
@@ -59,7 +59,7 @@ returns-in-Err-clause-moments g c honest =
     let legal = subst (λ (old : Core g.row.D.Denot). IsLegal (graph old) (facts old) c.args.event) (sym c.self.view_is) c.requires.legal in
     let it = fits c.legal_events_fit.ensures.fit_state before.machine c.is_kept.ensures c.args.event legal in
     let holds = (c.self.invariant.1 honest).holds working in
-    subst (λ (old : Core g.row.D.Denot). CrashLeaves g.D.Disk.files g.D.Disk.moment g.D.Disk.left_at old (record { vault = c.append.new.self; machine = before.machine; in_doubt = events_in c.keep_in_doubt.new.in_doubt; allowance = before.allowance }) (c.args.event ∷ [])) c.self.view_is
+    subst (λ (old : Core g.row.D.Denot). CrashLeaves g.D.Disk.files g.D.Disk.moment g.D.Disk.left_at old (record { vault = c.append.new.self; machine = before.machine; in_doubt = events_in c.keep_in_doubt.new.in_doubt; latest = events_in before.latest; allowance = before.allowance }) (c.args.event ∷ [])) c.self.view_is
     (record {
       facts = c.append.ensures.any_moment honest before.machine.graph (environment_of before.machine) (facts_of before.machine) holds it.0;
       gates = c.append.ensures.gates honest before.machine.graph (environment_of before.machine) (facts_of before.machine) holds;

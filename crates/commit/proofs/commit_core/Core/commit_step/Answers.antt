@@ -32,7 +32,7 @@ invariant_of-self g c =
       λ honest.
           let holds = (c.self.invariant.1 honest).holds working in
           kept_taken g.D.Disk.files g.D.Disk.moment g.D.Disk.left_at (g.met.D.Disk.at_now honest) (c.stores_go_on.ensures.held_leaves honest)
-          c.append.new.self before.machine c.take_step.new.self c.args.event (events_in before.in_doubt) (before.allowance - 1) c.take_step.ensures
+          c.append.new.self before.machine c.take_step.new.self c.args.event (events_in before.in_doubt) (events_in c.keep_latest.new.latest) (before.allowance - 1) c.take_step.ensures
           (c.in-Ok.ensures.added honest before.machine.graph (environment_of before.machine) (facts_of before.machine) holds it.0),
       behind_end c.runs_are_counted.ensures.one_less before.machine c.take_step.new.self c.args.event c.args.task before.allowance (before.allowance - 1)
           c.requires.ends ran c.take_step.ensures c.self.invariant.2 (omega (arith, left)),
@@ -48,10 +48,10 @@ invariant_of-self-in-Err g c =
       λ goes. doubt ∙ ap (λ h. cond h (Some c.args.event) before.in_doubt) goes ∙ c.self.invariant.0 working,
       λ honest.
           let holds = (c.self.invariant.1 honest).holds working in
-          kept_alike g.D.Disk.files g.D.Disk.moment g.D.Disk.left_at (g.met.D.Disk.at_now honest) c.append.new.self before.machine c.release.new.self (events_in c.keep_in_doubt.new.in_doubt) before.allowance before.allowance
+          kept_alike g.D.Disk.files g.D.Disk.moment g.D.Disk.left_at (g.met.D.Disk.at_now honest) c.append.new.self before.machine c.release.new.self (events_in c.keep_in_doubt.new.in_doubt) (events_in before.latest) before.allowance before.allowance
           c.release.ensures.graph c.release.ensures.environment c.release.ensures.facts
           (kept_refused g.D.Disk.files g.D.Disk.moment g.D.Disk.left_at (g.met.D.Disk.at_now honest) (c.stores_go_on.ensures.held_leaves honest) c.stores_go_on.ensures.refused
-          before.vault c.append.new.self before.machine c.args.event before.in_doubt c.keep_in_doubt.new.in_doubt before.allowance working doubt holds c.in-Err.ensures.halting.same
+          before.vault c.append.new.self before.machine c.args.event before.in_doubt c.keep_in_doubt.new.in_doubt (events_in before.latest) before.allowance working doubt holds c.in-Err.ensures.halting.same
           (c.append.ensures.any_moment honest before.machine.graph (environment_of before.machine) (facts_of before.machine) holds it.0)),
       behind_move before.machine c.release.new.self c.args.task Ready before.allowance refl c.release.ensures c.self.invariant.2,
     )
@@ -63,7 +63,7 @@ returns-in-Ok-clause-moments g c honest =
     let legal = subst (λ (old : Core g.row.D.Denot). IsLegal (graph old) (facts old) c.args.event) (sym c.self.view_is) c.requires.legal in
     let it = fits c.legal_events_fit.ensures.fit_state before.machine c.is_kept.ensures c.args.event legal in
     let holds = (c.self.invariant.1 honest).holds working in
-    subst (λ (old : Core g.row.D.Denot). CrashLeaves g.D.Disk.files g.D.Disk.moment g.D.Disk.left_at old (record { vault = c.append.new.self; machine = c.take_step.new.self; in_doubt = events_in before.in_doubt; allowance = before.allowance - 1 }) (c.args.event ∷ [])) c.self.view_is
+    subst (λ (old : Core g.row.D.Denot). CrashLeaves g.D.Disk.files g.D.Disk.moment g.D.Disk.left_at old (record { vault = c.append.new.self; machine = c.take_step.new.self; in_doubt = events_in before.in_doubt; latest = events_in c.keep_latest.new.latest; allowance = before.allowance - 1 }) (c.args.event ∷ [])) c.self.view_is
     (record {
       facts = c.append.ensures.any_moment honest before.machine.graph (environment_of before.machine) (facts_of before.machine) holds it.0;
       gates = c.append.ensures.gates honest before.machine.graph (environment_of before.machine) (facts_of before.machine) holds;
@@ -76,7 +76,7 @@ returns-in-Err-clause-moments g c honest =
     let legal = subst (λ (old : Core g.row.D.Denot). IsLegal (graph old) (facts old) c.args.event) (sym c.self.view_is) c.requires.legal in
     let it = fits c.legal_events_fit.ensures.fit_state before.machine c.is_kept.ensures c.args.event legal in
     let holds = (c.self.invariant.1 honest).holds working in
-    subst (λ (old : Core g.row.D.Denot). CrashLeaves g.D.Disk.files g.D.Disk.moment g.D.Disk.left_at old (record { vault = c.append.new.self; machine = c.release.new.self; in_doubt = events_in c.keep_in_doubt.new.in_doubt; allowance = before.allowance }) (c.args.event ∷ [])) c.self.view_is
+    subst (λ (old : Core g.row.D.Denot). CrashLeaves g.D.Disk.files g.D.Disk.moment g.D.Disk.left_at old (record { vault = c.append.new.self; machine = c.release.new.self; in_doubt = events_in c.keep_in_doubt.new.in_doubt; latest = events_in before.latest; allowance = before.allowance }) (c.args.event ∷ [])) c.self.view_is
     (record {
       facts = c.append.ensures.any_moment honest before.machine.graph (environment_of before.machine) (facts_of before.machine) holds it.0;
       gates = c.append.ensures.gates honest before.machine.graph (environment_of before.machine) (facts_of before.machine) holds;

@@ -42,9 +42,9 @@ pub returns-in-Ok-Done-clause-ends : goal.returns-in-Ok-Done-clause-ends
 returns-in-Ok-Done-clause-ends g c =
     let before = c.self.inside in
     let old = c.args.self.now in
-    let mid : Core g.row.D.Denot = record { vault = before.vault; machine = c.may_end.new.self; in_doubt = events_in before.in_doubt; allowance = before.allowance } in
-    let looked : ◌≡◌ {A = Core g.row.D.Denot} mid (record { vault = before.vault; machine = before.machine; in_doubt = events_in before.in_doubt; allowance = before.allowance }) =
-    λ i. record { vault = before.vault; machine = c.may_end.ensures.same i; in_doubt = events_in before.in_doubt; allowance = before.allowance }
+    let mid : Core g.row.D.Denot = record { vault = before.vault; machine = c.may_end.new.self; in_doubt = events_in before.in_doubt; latest = events_in before.latest; allowance = before.allowance } in
+    let looked : ◌≡◌ {A = Core g.row.D.Denot} mid (record { vault = before.vault; machine = before.machine; in_doubt = events_in before.in_doubt; latest = events_in before.latest; allowance = before.allowance }) =
+    λ i. record { vault = before.vault; machine = c.may_end.ensures.same i; in_doubt = events_in before.in_doubt; latest = events_in before.latest; allowance = before.allowance }
     in
     let event : Event = Done c.args.task c.args.puts in
     let commits =
@@ -61,9 +61,9 @@ pub returns-in-Ok-DoublePut-clause-ends : goal.returns-in-Ok-DoublePut-clause-en
 returns-in-Ok-DoublePut-clause-ends g c =
     let before = c.self.inside in
     let old = c.args.self.now in
-    let mid : Core g.row.D.Denot = record { vault = before.vault; machine = c.may_end.new.self; in_doubt = events_in before.in_doubt; allowance = before.allowance } in
-    let looked : ◌≡◌ {A = Core g.row.D.Denot} mid (record { vault = before.vault; machine = before.machine; in_doubt = events_in before.in_doubt; allowance = before.allowance }) =
-    λ i. record { vault = before.vault; machine = c.may_end.ensures.same i; in_doubt = events_in before.in_doubt; allowance = before.allowance }
+    let mid : Core g.row.D.Denot = record { vault = before.vault; machine = c.may_end.new.self; in_doubt = events_in before.in_doubt; latest = events_in before.latest; allowance = before.allowance } in
+    let looked : ◌≡◌ {A = Core g.row.D.Denot} mid (record { vault = before.vault; machine = before.machine; in_doubt = events_in before.in_doubt; latest = events_in before.latest; allowance = before.allowance }) =
+    λ i. record { vault = before.vault; machine = c.may_end.ensures.same i; in_doubt = events_in before.in_doubt; latest = events_in before.latest; allowance = before.allowance }
     in
     let event : Event = Stopped c.args.task DoublePut in
     let commits =

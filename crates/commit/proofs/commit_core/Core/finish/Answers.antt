@@ -23,7 +23,7 @@ invariant_of-self g c =
     let same : SameFacts c.self.inside.machine c.release.new.self = of_move _ _ _ _ c.release.ensures in (
       c.self.invariant.0,
       λ honest.
-          kept_alike g.D.Disk.files g.D.Disk.moment g.D.Disk.left_at (g.met.D.Disk.at_now honest) c.self.inside.vault c.self.inside.machine c.release.new.self (events_in c.self.inside.in_doubt) c.self.inside.allowance c.self.inside.allowance
+          kept_alike g.D.Disk.files g.D.Disk.moment g.D.Disk.left_at (g.met.D.Disk.at_now honest) c.self.inside.vault c.self.inside.machine c.release.new.self (events_in c.self.inside.in_doubt) (events_in c.self.inside.latest) c.self.inside.allowance c.self.inside.allowance
           same.graph same.environment same.facts (c.self.invariant.1 honest),
       behind_move c.self.inside.machine c.release.new.self c.args.task Ready c.self.inside.allowance refl c.release.ensures c.self.invariant.2,
     )
@@ -35,12 +35,12 @@ an_end (Fault bad) instance = (Stopped instance bad.kind, refl)
 
 pub returns-then-is_halted : goal.returns-then-is_halted
 returns-then-is_halted g c =
-    let before : Core g.row.D.Denot = record { vault = c.self.inside.vault; machine = c.self.inside.machine; in_doubt = events_in c.self.inside.in_doubt; allowance = c.self.inside.allowance } in
-    let new : Core g.row.D.Denot = record { vault = c.self.inside.vault; machine = c.release.new.self; in_doubt = events_in c.self.inside.in_doubt; allowance = c.self.inside.allowance } in
+    let before : Core g.row.D.Denot = record { vault = c.self.inside.vault; machine = c.self.inside.machine; in_doubt = events_in c.self.inside.in_doubt; latest = events_in c.self.inside.latest; allowance = c.self.inside.allowance } in
+    let new : Core g.row.D.Denot = record { vault = c.self.inside.vault; machine = c.release.new.self; in_doubt = events_in c.self.inside.in_doubt; latest = events_in c.self.inside.latest; allowance = c.self.inside.allowance } in
     let end = an_end c.args.outcome c.args.task in
     let halted : is_halted before ≡ true = sym c.is_halted.ensures ∙ c.if-is_halted.true in
     subst (λ (old : Core g.row.D.Denot). Ends g.D.Disk.files g.D.Disk.moment g.D.Disk.left_at g.D.Disk.failures g.D.Disk.refusals (IsTrue g.D.Disk.is_honest) old new c.args.task c.args.outcome (Err (Store Halted))) c.self.view_is
-    (ends_halted g.D.Disk.files g.D.Disk.moment g.D.Disk.left_at g.D.Disk.failures g.D.Disk.refusals (IsTrue g.D.Disk.is_honest) before new c.args.task c.args.outcome end.0 end.1 halted c.release.ensures refl refl refl)
+    (ends_halted g.D.Disk.files g.D.Disk.moment g.D.Disk.left_at g.D.Disk.failures g.D.Disk.refusals (IsTrue g.D.Disk.is_honest) before new c.args.task c.args.outcome end.0 end.1 halted c.release.ensures refl refl refl refl)
 
 pub returns-in-Gave : goal.returns-in-Gave
 returns-in-Gave g c =

@@ -14,7 +14,7 @@ invariant_of-result g c =
     let vault = c.in-Ok-create.vault in (
       λ _. refl,
       λ honest.
-          kept g.D.Disk.files g.D.Disk.moment g.D.Disk.left_at (g.met.D.Disk.at_now honest) (c.stores_go_on.ensures.held_leaves honest) vault m [] 1000000000
+          kept g.D.Disk.files g.D.Disk.moment g.D.Disk.left_at (g.met.D.Disk.at_now honest) (c.stores_go_on.ensures.held_leaves honest) vault m [] [] 1000000000
           (holds_alike g.D.Disk.files vault c.args.graph m.graph nothing (environment_of m) nothing (facts_of m) c.in-Ok.ensures.graph c.in-Ok.ensures.environment c.in-Ok.ensures.facts
           ((c.in-Ok-create.ensures.created honest).holds c.args.graph c.requires.reads c.requires.spelled)),
       of_created m 1000000000 c.are_counted.ensures c.in-Ok.ensures.instances,

@@ -1,8 +1,9 @@
-use Rattle.std.proofs.Common.{◌≡◌, ◌∙◌, ap, length, max, subst, IsTrue, arith}
-use Rattle.commit.specs.Core.{Core}
-use Rattle.commit.specs.Runs.{Runs, with_allowance}
+use Rattle.std.proofs.Common.{◌≡◌, ◌∙◌, ap, length, max, subst, false, IsTrue, arith}
+use Rattle.commit.specs.Core.{Core, facts, graph}
+use Rattle.commit.specs.Runs.{IsFull, MetFull, Runs, with_allowance}
 use Rattle.commit.specs.Steps.{running_count}
 use Rattle.commit.proofs.Counted.{none_runs}
+use Rattle.commit.proofs.Told.{met_full, told_for}
 use Rattle.commit.proofs.commit_core.Core.run_within.Goals as goal
 
 pub returns-in-Ok-clause-runs : goal.returns-in-Ok-clause-runs
@@ -15,4 +16,12 @@ returns-in-Ok-clause-runs g c _ =
     let runs =
     subst (λ (first : Core g.row.D.Denot). Runs g.D.Disk.files g.D.Disk.moment g.D.Disk.left_at g.D.Disk.failures g.D.Disk.refusals (IsTrue g.D.Disk.is_honest) first c.run_allowed-went.new.self it.ends) allowed it.runs
     in
-    record { ends = it.ends; runs = runs; told = c.verdict.ensures c.args.limit (length it.ends) runs.spent }
+    let new = c.run_allowed-went.new.self in
+    let begun_at = old.vault.journal.end in
+    record {
+      ends = it.ends;
+      runs = runs;
+      told =
+          told_for (IsFull new) (MetFull (graph old) (facts old) begun_at it.ends) false false new c.args.limit (length it.ends) c.verdict.result
+          (λ working full. met_full (graph old) (facts old) begun_at new it.ends runs.graph runs.facts (runs.end working) full) (c.verdict.ensures c.args.limit (length it.ends) runs.spent);
+    }

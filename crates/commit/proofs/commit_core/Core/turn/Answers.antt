@@ -10,7 +10,7 @@ use Rattle.commit.proofs.commit_core.Core.turn.Goals as goal
 
 pub returns-in_default : goal.returns-in_default
 returns-in_default g c =
-    let before : Core g.row.D.Denot = record { vault = c.self.inside.vault; machine = c.self.inside.machine; in_doubt = events_in c.self.inside.in_doubt; allowance = c.self.inside.allowance } in
+    let before : Core g.row.D.Denot = record { vault = c.self.inside.vault; machine = c.self.inside.machine; in_doubt = events_in c.self.inside.in_doubt; latest = events_in c.self.inside.latest; allowance = c.self.inside.allowance } in
     let m = before.machine in
     let working : is_halted before ≡ false = sym c.is_halted.ensures ∙ c.if-is_halted.false in
     subst (λ (core : Core g.row.D.Denot). TurnsAs g.D.Disk.files g.D.Disk.moment g.D.Disk.left_at g.D.Disk.failures g.D.Disk.refusals (IsTrue g.D.Disk.is_honest) core core (Err (Store NoMemory))) c.self.view_is
