@@ -1,8 +1,7 @@
--- Ends that are acknowledged one after another, in two runs.
+-- Events that are acknowledged one after another, in two parts.
 use Rattle.std.proofs.Common.{◌≡◌, ◌∙◌, ◌≤◌, ap, sym, refl, subst, inl, inr, ℕ, List, [], ◌∷◌, ◌++◌, arith}
 use Rattle.std.proofs.lemmas.Bool.{cases_lt}
 use Rattle.std.proofs.lemmas.List.{append_assoc, append-nil}
-use Rattle.std.specs.List.{AllByRecursion}
 use Rattle.disk.specs.Time.{Contents}
 use Rattle.terms.specs.declared.event.Event.{Event}
 use Rattle.terms.specs.Commits.{Commit, facts_behind, environment_behind}
@@ -11,8 +10,8 @@ use Rattle.terms.specs.Sets.{AmongBoth, Facts, with_facts}
 use Rattle.graph.specs.Graph.{Graph}
 use Rattle.vault.specs.Commits.{StandsForBeginning}
 use Rattle.vault.specs.Stands.{Stands}
-use Rattle.commit.specs.Runs.{AcknowledgesFrom, IsEnd, one_by_one}
-use Rattle.commit.proofs.Lists.{environment_stays, facts_joined, one_by_one_joined, with_nothing}
+use Rattle.commit.specs.Runs.{AcknowledgesFrom, one_by_one}
+use Rattle.commit.proofs.Lists.{environment_joined, facts_joined, one_by_one_joined, with_nothing}
 
 -- what stands for a state stands for it with nothing more
 pub held : (g : Graph) (E X : Facts) (pending : List Commit) (contents : Contents) → Stands contents g E X → StandsForBeginning g E X [] pending contents
@@ -39,14 +38,14 @@ more_pending g E X made pending contents it = record {
         never : [] ≡ first ∷ (one ++ two) → ⊥
         never same = cc
 
-module _ (both : AmongBoth) (g h : Graph) (E F X Y : Facts) (ends : List Event) (graph : h ≡ g) (given : F ≡ E) (all : Y ≡ with_facts X (stated.facts ends)) (are_ends : AllByRecursion IsEnd ends) where
-  -- what stands for commits after the ends stands for them after what was before the ends
+module _ (both : AmongBoth) (g h : Graph) (E F X Y : Facts) (ends : List Event) (graph : h ≡ g) (given : F ≡ with_facts E (stated.environment ends)) (all : Y ≡ with_facts X (stated.facts ends)) where
+  -- what stands for commits after the events stands for them after what was before the events
   pub after_ends : (made pending : List Commit) (contents : Contents) → StandsForBeginning h F Y made pending contents → StandsForBeginning g E X (one_by_one ends ++ made) pending contents
   after_ends made pending contents it =
       let more = made ++ it.made in
       let of_graph = subst (λ (k : Graph). Stands contents k (environment_behind F more) (facts_behind Y more)) graph it.stands in
       let of_given : Stands contents g (environment_behind E (one_by_one ends ++ more)) (facts_behind Y more) =
-      subst (λ (S : Facts). Stands contents g S (facts_behind Y more)) (ap (λ (S : Facts). environment_behind S more) given ∙ sym (environment_stays both E ends more are_ends)) of_graph
+      subst (λ (S : Facts). Stands contents g S (facts_behind Y more)) (ap (λ (S : Facts). environment_behind S more) given ∙ sym (environment_joined both E ends more)) of_graph
       in
       let of_all : Stands contents g (environment_behind E (one_by_one ends ++ more)) (facts_behind X (one_by_one ends ++ more)) =
       subst (λ (S : Facts). Stands contents g (environment_behind E (one_by_one ends ++ more)) S) (ap (λ (S : Facts). facts_behind S more) all ∙ sym (facts_joined both X ends more)) of_given
@@ -58,12 +57,12 @@ module _ (both : AmongBoth) (g h : Graph) (E F X Y : Facts) (ends : List Event) 
         stands = subst (λ (commits : List Commit). Stands contents g (environment_behind E commits) (facts_behind X commits)) (sym (append_assoc (one_by_one ends) made it.made)) of_all;
       }
 
-  -- the same for ends of which some are made
+  -- the same for events of which some are made
   after_made : (made : List Event) (pending : List Commit) (contents : Contents) → StandsForBeginning h F Y (one_by_one made) pending contents → StandsForBeginning g E X (one_by_one (ends ++ made)) pending contents
   after_made made pending contents it =
       subst (λ (commits : List Commit). StandsForBeginning g E X commits pending contents) (sym (one_by_one_joined ends made)) (after_ends (one_by_one made) pending contents it)
 
-  -- what is acknowledged after the ends is acknowledged after what was before them
+  -- what is acknowledged after the events is acknowledged after what was before them
   pub carried : (left : ℕ → Contents → Type 0) (last from : ℕ) (made more doubt : List Event) → AcknowledgesFrom h F Y left last from made more doubt → AcknowledgesFrom g E X left last from (ends ++ made) more doubt
   carried left last from made [] doubt it = λ t contents after before was. after_made made (one_by_one doubt) contents (it t contents after before was)
   carried left last from made (end ∷ more) doubt it = (

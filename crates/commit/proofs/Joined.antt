@@ -22,7 +22,7 @@ use Rattle.vault.specs.Store.{HasGates}
 use Rattle.commit.specs.Core.{Core, graph, facts, environment, is_halted}
 use Rattle.commit.specs.Runs.{AcknowledgesFrom, Begun, IsEnd, Runs, RunsOn, RunsSince, begun_by, one_by_one, records_length}
 use Rattle.commit.proofs.Acknowledged.{carried, joined as ends_acknowledged}
-use Rattle.commit.proofs.Lists.{with_both, one_by_one_joined, facts_joined, ends_joined, first_ends, environment_stays, legal_joined, records_joined}
+use Rattle.commit.proofs.Lists.{with_both, one_by_one_joined, facts_joined, ends_joined, first_ends, given_by_ends, environment_stays, legal_joined, records_joined}
 
 -- bytes that stand for a prefix of some commits stand for a prefix of more of them
 extended : (g : Graph) (E X : Facts) (some more : List Commit) (contents : Contents) → StandsForBeginning g E X [] some contents → StandsForBeginning g E X [] (some ++ more) contents
@@ -98,7 +98,7 @@ module _ {D : Type 0} (files : D → Side → File) (moment : D → ℕ) (left_a
             begun.moment [] first second new.in_doubt (one.crashes on).later
             (subst (λ (doubt : List Event). AcknowledgesFrom begun.graph begun.environment begun.facts (left_at mid.vault.disk) (moment mid.vault.disk) begun.moment [] first doubt) settled (one.acknowledged on))
             (subst (λ (made : List Event). AcknowledgesFrom begun.graph begun.environment begun.facts (left_at new.vault.disk) (moment new.vault.disk) (moment mid.vault.disk) made second new.in_doubt) (append-nil first)
-            (carried both begun.graph (graph mid) begun.environment (environment mid) begun.facts (facts mid) first one.graph given sets first_are (left_at new.vault.disk) (moment new.vault.disk) (moment mid.vault.disk) [] second new.in_doubt (two.acknowledged on)));
+            (carried both begun.graph (graph mid) begun.environment (environment mid) begun.facts (facts mid) first one.graph (given ∙ sym (given_by_ends begun.environment first first_are)) sets (left_at new.vault.disk) (moment new.vault.disk) (moment mid.vault.disk) [] second new.in_doubt (two.acknowledged on)));
         gates = λ on has.
             let here = one.gates on has in
             let at_last = leaves_at_last moment left_at begun.moment left mid.vault.disk HasGates here in

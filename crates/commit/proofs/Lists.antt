@@ -71,6 +71,9 @@ pub environment_stays : AmongBoth → (E : Facts) (ends : List Event) (made : Li
 environment_stays both E ends made all =
     environment_joined both E ends made ∙ ap (λ (Y : Facts). environment_behind Y made) (ap (λ (list : List Fact). with_facts E list) (put_nothing ends all) ∙ with_nothing E)
 
+pub given_by_ends : (E : Facts) (ends : List Event) → AllByRecursion IsEnd ends → with_facts E (environment ends) ≡ E
+given_by_ends E ends all = ap (λ (list : List Fact). with_facts E list) (put_nothing ends all) ∙ with_nothing E
+
 -- ---- records
 
 none : (n : ℕ) → n ≡ 0 + n

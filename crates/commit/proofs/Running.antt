@@ -1,5 +1,5 @@
 -- What each call of a run makes of a core: the end of an instance, and all that changes nothing on the disk.
-use Rattle.std.proofs.Common.{◌≡◌, ◌∙◌, ◌⊎◌, ◌<◌, ◌≤◌, ◌+◌, ◌++◌, ap, refl, sym, subst, inl, inr, ℕ, Bool, true, false, List, [], ◌∷◌, Result, Ok, Err, IfOk, OnErr, arith}
+use Rattle.std.proofs.Common.{◌≡◌, ◌∙◌, ◌⊎◌, ◌<◌, ◌≤◌, ◌+◌, ◌++◌, ap, refl, sym, subst, inl, inr, ℕ, Bool, true, false, List, [], ◌∷◌, length, Result, Ok, Err, IfOk, OnErr, arith}
 use Rattle.std.proofs.lemmas.Bool.{false≢true}
 use Rattle.std.proofs.lemmas.List.{append-nil}
 use Rattle.std.specs.List.{AllByRecursion}
@@ -181,9 +181,9 @@ module _ {D : Type 0} (files : D → Side → File) (moment : D → ℕ) (left_a
       (subst (λ (X : Facts). LeavesOnly moment left_at old.vault.disk new.vault.disk (StandsBeforeOrAfter (graph old) (environment old) X (end ∷ []))) (sym (with_nothing (facts old))) it.facts))
 
   -- from the last moment of its call on the end is acknowledged
-  acknowledged_at : (honest → HeldLeaves files moment left_at) → (old new : Core D) (end : Event) → IsEnd end → Takes old new end → (honest → IsKept files new) → (doubt : List Event) → honest
+  acknowledged_at : (honest → HeldLeaves files moment left_at) → (old new : Core D) (end : Event) → Takes old new end → (honest → IsKept files new) → (doubt : List Event) → honest
       → AcknowledgesFrom (graph old) (environment old) (facts old) (left_at new.vault.disk) (moment new.vault.disk) (moment new.vault.disk) (end ∷ []) [] doubt
-  acknowledged_at held old new end is takes kept doubt on t contents after before was =
+  acknowledged_at held old new end takes kept doubt on t contents after before was =
       let stands = (held on new.vault (graph new) (environment new) (facts new) ((kept on).holds takes.working.1)).each t contents after before was in
       let all : facts new ≡ with_facts (facts old) (event_facts end ++ []) = λ i fact. (takes.takes.facts fact ∙ ap (λ (list : List Fact). with_facts (facts old) list fact) (sym (append-nil (event_facts end)))) i in
       let given : environment new ≡ with_facts (environment old) (environment_facts end ++ []) = λ i fact.
@@ -197,6 +197,13 @@ module _ {D : Type 0} (files : D → Side → File) (moment : D → ℕ) (left_a
             subst (λ (X : Facts). Stands contents (graph old) (with_facts (environment old) (environment_facts end ++ [])) X) all
             (subst (λ (E : Facts). Stands contents (graph old) E (facts new)) given (subst (λ (g : Graph). Stands contents g (environment new) (facts new)) takes.takes.graph stands));
       }
+
+  -- one event that was taken
+  pub acknowledged_once : (honest → AppendLeaves files moment left_at) → (honest → HeldLeaves files moment left_at) → (old new : Core D) (end : Event) → Takes old new end → (honest → CrashLeaves files moment left_at old new (end ∷ []))
+      → (honest → IsKept files new) → honest → AcknowledgesFrom (graph old) (environment old) (facts old) (left_at new.vault.disk) (moment new.vault.disk) (moment old.vault.disk) [] (end ∷ []) new.in_doubt
+  acknowledged_once leaves held old new end takes moments kept on =
+      let crash = begins leaves old new end on (moments on) in
+      (moment new.vault.disk, crash.later, omega arith, λ t contents after before was. crash.each t contents after before was, acknowledged_at held old new end takes kept new.in_doubt on)
 
   pub ended : {T : Type 0} → (honest → AppendLeaves files moment left_at) → (honest → HeldLeaves files moment left_at) → (old new : Core D) (end : Event) (result : Result T CoreError) → is_halted old ≡ false → IsEnd end
       → Takes old new end → new.in_doubt ≡ [] → (honest → CrashLeaves files moment left_at old new (end ∷ [])) → (honest → IsKept files new) → Halts failures refusals old new result
@@ -214,9 +221,7 @@ module _ {D : Type 0} (files : D → Side → File) (moment : D → ℕ) (left_a
         crashes = λ on.
             subst (λ (events : List Event). LeavesOnly moment left_at old.vault.disk new.vault.disk (StandsForBeginning (graph old) (environment old) (facts old) [] (one_by_one events))) (sym one)
             (begins leaves old new end on (moments on));
-        acknowledged = λ on.
-            let crash = begins leaves old new end on (moments on) in
-            (moment new.vault.disk, crash.later, omega arith, λ t contents after before was. crash.each t contents after before was, acknowledged_at held old new end is takes kept new.in_doubt on);
+        acknowledged = acknowledged_once leaves held old new end takes moments kept;
         gates = λ on has. (moments on).gates has;
         halts = (λ halted. elim (halts.halts.0 halted) [ inl before ↦ absurd (false≢true (sym working ∙ before)) | inr erred ↦ erred ], λ erred. halts.halts.1 (inr erred));
         later = halts.disk.later;

@@ -19,10 +19,15 @@ use Rattle.machine.specs.Machine.{Machine, facts as facts_of, environment as env
 use Rattle.machine.specs.Machine as machine
 use Rattle.vault.specs.declared.vault.Vault.{Vault}
 use Rattle.vault.specs.declared.error.VaultError.{VaultError}
+use Rattle.vault.specs.declared.error.VaultError.TheVariants.{Device, NoMemory, Halted}
+use Rattle.vault.specs.Calls as calls
 use Rattle.vault.specs.Commits.{HeldLeaves, RefusedStore}
 use Rattle.vault.specs.Stands.{Stands}
 use Rattle.vault.specs.Store.{Holds, IsSame, StandsBeforeOrAfter}
+use Rattle.commit.specs.declared.error.CoreError.{CoreError}
+use Rattle.commit.specs.declared.error.CoreError.TheVariants.{Store}
 use Rattle.commit.specs.Core.{graph}
+use Rattle.commit.specs.Calls.{Halts}
 use Rattle.commit.specs.Doubt.{events_in}
 use Rattle.commit.specs.Kept.{IsKept}
 
