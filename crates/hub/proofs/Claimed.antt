@@ -14,10 +14,12 @@ use Rattle.commit.specs.Core.{Core, state_of}
 use Rattle.commit.specs.Core as core
 use Rattle.commit.proofs.Ran.{instance_is_of}
 use Rattle.commit.specs.Steps.{MayClaim, Moves, Claims}
-use Rattle.hub.specs.Known.{Known, Made, Desk, events}
-use Rattle.hub.specs.Opening.{Opening, facts_behind, IsBehind}
+use Rattle.passes.specs.Known.{Known, Made, Desk, events}
+use Rattle.passes.specs.Opening.{Opening}
+use Rattle.hub.specs.Opening.{facts_behind, IsBehind}
 use Rattle.hub.specs.Kept.{IsKept}
-use Rattle.hub.specs.Replies.{MayRun, Shows}
+use Rattle.passes.specs.Visits.{Shows}
+use Rattle.hub.specs.Replies.{MayRun}
 use Rattle.hub.proofs.Keeping.{RanStays, kept_moved}
 use Rattle.hub.proofs.Telling.{known_state}
 

@@ -9,11 +9,11 @@ use Rattle.commit.specs.declared.outcome.Committed.{Committed}
 use Rattle.commit.specs.Core.{Core}
 use Rattle.commit.specs.Calls.{Takes}
 use Rattle.commit.specs.Outcome.{IsEndOf, Tells}
-use Rattle.hub.specs.Known.{Known, Desk, events, writing_by}
+use Rattle.passes.specs.Known.{Known, Desk, events, writing_by}
 use Rattle.commit.specs.Outcome.{end_of}
-use Rattle.hub.specs.Opening.{Opening}
+use Rattle.passes.specs.Opening.{Opening}
 use Rattle.hub.specs.Kept.{IsKept}
-use Rattle.hub.specs.Replies.{Shows, Writes}
+use Rattle.passes.specs.Visits.{Shows, Writes}
 use Rattle.commit.proofs.Ended.{end_is_told}
 use Rattle.hub.proofs.Keeping.{kept_more}
 use Rattle.hub.proofs.Telling.{writes_from}

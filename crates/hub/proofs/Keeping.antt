@@ -1,15 +1,16 @@
 -- What the lock keeps stays kept.
-use Rattle.std.proofs.Common.{◌≡◌, ◌∙◌, ◌≤◌, ⊎_elim, ℕ, Bool, true, false, true≢false, List, [], ◌∷◌, ◌++◌, length, refl, sym, ap, subst, arith, length-append, inl, Result, Err}
+use Rattle.std.proofs.Common.{◌≡◌, ◌∙◌, ◌≤◌, ◌+◌, ⊎_elim, ℕ, Bool, true, false, true≢false, List, [], ◌∷◌, ◌++◌, length, refl, sym, ap, subst, arith, length-append, inl, Result, Err}
 use Rattle.disk.specs.declared.side.Side.{Side}
 use Rattle.disk.specs.File.{File}
-use Rattle.disk.specs.Time.{Contents}
+use Rattle.disk.specs.Time.{Contents, MayLeaveNow}
 use Rattle.terms.specs.declared.event.Event.{Event}
 use Rattle.terms.specs.Facts.{FactsGoOn, EnvironmentGoesOn}
 use Rattle.terms.specs.Sets.{AmongBoth}
 use Rattle.machine.specs.declared.refusal.Refusal.{Refusal}
 use Rattle.commit.specs.declared.error.CoreError.{CoreError}
 use Rattle.commit.specs.Core.{Core, facts, is_halted}
-use Rattle.commit.specs.Calls.{Takes, Halts, Stays, IsInDoubt, CommitsAs}
+use Rattle.commit.specs.Calls.{Takes, Halts, Stays, IsInDoubt, CommitsAs, record_length}
+use Rattle.commit.specs.Runs.{records_length}
 use Rattle.commit.specs.Kept.{IsHaltedByTurn}
 use Rattle.commit.specs.Kept.{IsKept as KeepsFiles}
 use Rattle.terms.specs.Sets.{Facts}
@@ -23,15 +24,24 @@ use Rattle.commit.specs.Steps.{Moves, LooksAgain}
 use Rattle.instances.specs.declared.state.State.{State}
 use Rattle.terms.specs.declared.name.Inst.{Inst}
 use Rattle.vault.specs.declared.vault.Vault.{Vault}
-use Rattle.hub.specs.Known.{Desk, Made, events, writing_by}
-use Rattle.hub.specs.Opening.{Opening, WasTurned, AreLegalBehind, IsBehind}
-use Rattle.hub.specs.Kept.{IsKept, CrashLeavesHistory}
-use Rattle.hub.proofs.Lists.{events_append}
+use Rattle.passes.specs.Known.{Desk, Made, events, writing_by}
+use Rattle.passes.specs.Opening.{Opening}
+use Rattle.hub.specs.Opening.{WasTurned, AreLegalBehind, IsBehind}
+use Rattle.hub.specs.Kept.{IsKept, CrashLeavesHistory, Rests}
+use Rattle.passes.proofs.Lists.{events_append}
 use Rattle.hub.proofs.States.{legal_more, behind_more, behind_same}
 
 -- what is known of how events were committed stays, if nothing happens on the disk
 abbrev pub RanStays : {D : Type 0} → (List Event → Core D → Type 0) → Type 0
-RanStays {D = D} Ran = (events : List Event) (old new : Core D) → Stays old new → new.vault.disk ≡ old.vault.disk → is_halted new ≡ is_halted old → new.in_doubt ≡ old.in_doubt → Ran events old → Ran events new
+RanStays {D = D} Ran = (events : List Event) (old new : Core D) → Stays old new → new.vault.disk ≡ old.vault.disk → new.vault.journal.end ≡ old.vault.journal.end → is_halted new ≡ is_halted old → new.in_doubt ≡ old.in_doubt → Ran events old → Ran events new
+
+-- a record has bytes
+has_bytes : (event : Event) → 1 ≤ record_length event
+has_bytes event = omega arith
+
+records_more : (events : List Event) (event : Event) → records_length (events ++ event ∷ []) ≡ records_length events + record_length event
+records_more [] event = omega arith
+records_more (first ∷ events) event = omega (arith, records_more events event)
 
 -- an event comes
 pub kept_more : AmongBoth → FactsGoOn → EnvironmentGoesOn → {D : Type 0} (Ran : List Event → Core D → Type 0) (opening : Opening) (passes number : ℕ) (d : Desk) (old new : Core D) (event : Event)
@@ -43,7 +53,8 @@ kept_more both go_on goes_on Ran opening passes number d old new event kept take
       passes = kept.passes;
       behind = subst (λ (list : List Event). IsBehind opening list new) (sym more) (behind_more both go_on goes_on opening (events history) event old new kept.behind takes);
       legal = subst (AreLegalBehind opening) (sym more) (legal_more both opening (events history) event old kept.legal kept.behind takes.legal);
-      short = λ _. omega (arith, kept.short takes.working.0, takes.moved, length-append history (record { pass = number; event = event } ∷ []));
+      end = λ _. omega (arith, kept.end takes.working.0, takes.moved, records_more (events history) event, ap records_length more);
+      short = λ _. omega (arith, kept.short takes.working.0, takes.moved, has_bytes event, length-append history (record { pass = number; event = event } ∷ []));
       turned = λ turned. absurd (true≢false (sym turned.0 ∙ takes.working.1));
       ran = subst (λ (list : List Event). Ran list new) (sym more) ran;
     }
@@ -56,6 +67,7 @@ kept_same failures refusals Ran opening passes d old new event error kept stays 
   passes = kept.passes;
   behind = behind_same opening (events d.book.history) old new kept.behind stays;
   legal = kept.legal;
+  end = λ working. let before = not_before (is_halted old) refl working in (halts.same (working ∙ sym before)).0.end ∙ kept.end before;
   short = λ working. let before = not_before (is_halted old) refl working in
       subst (λ (end : ℕ). length d.book.history ≤ end) (sym (halts.same (working ∙ sym before)).0.end) (kept.short before);
   turned = λ turned. by_case (is_halted old) refl turned;
@@ -81,13 +93,14 @@ kept_on {D = D} Ran ran_stays opening passes d old new kept stays files doubt = 
   passes = kept.passes;
   behind = behind_same opening (events d.book.history) old new kept.behind stays;
   legal = kept.legal;
+  end = λ working. ap (λ (v : Vault D). v.journal.end) files ∙ kept.end (ap (λ (v : Vault D). v.halted) (sym files) ∙ working);
   short = λ working. subst (λ (end : ℕ). length d.book.history ≤ end) (ap (λ (v : Vault D). v.journal.end) (sym files)) (kept.short (ap (λ (v : Vault D). v.halted) (sym files) ∙ working));
   turned = λ turned. kept.turned (ap (λ (v : Vault D). v.halted) (sym files) ∙ turned.0, sym doubt ∙ turned.1);
-  ran = ran_stays (events d.book.history) old new stays (ap (λ (v : Vault D). v.disk) files) (ap (λ (v : Vault D). v.halted) files) doubt kept.ran;
+  ran = ran_stays (events d.book.history) old new stays (ap (λ (v : Vault D). v.disk) files) (ap (λ (v : Vault D). v.journal.end) files) (ap (λ (v : Vault D). v.halted) files) doubt kept.ran;
 }
 
 pub moves_stay : {D : Type 0} (old new : Core D) (instance : Inst) (to : State) → Moves old new instance to → Stays old new
-moves_stay old new instance to moves = record { graph = moves.machine.graph; facts = moves.machine.facts; environment = moves.machine.environment; allowance = moves.allowance }
+moves_stay old new instance to moves = record { graph = moves.machine.graph; facts = moves.machine.facts; environment = moves.machine.environment; allowance = moves.allowance; latest = moves.latest }
 
 pub kept_moved : {D : Type 0} (Ran : List Event → Core D → Type 0) → RanStays Ran → (opening : Opening) (passes : ℕ) (d : Desk) (old new : Core D) (instance : Inst) (to : State) → IsKept Ran opening passes d old → Moves old new instance to
     → IsKept Ran opening passes d new
@@ -105,6 +118,13 @@ pub crash_leaves : {D : Type 0} (files : D → Side → File) (opening : Opening
     → CrashLeavesHistory files opening (record { history = history; core = c })
 crash_leaves files opening history c behind kept not_turned contents may =
     subst (λ (at : Graph × (Facts × Facts)). StandsBeforeOrAfter at.0 at.1.0 at.1.1 c.in_doubt contents) (λ i. (behind.graph i, (behind.environment i, behind.facts i))) (kept.left not_turned contents may)
+
+-- on a core that was halted, a crash leaves what one might have left when the hub was opened
+pub crash_rests : {D : Type 0} (files : D → Side → File) (moment : D → ℕ) (left_at : D → ℕ → Contents → Type 0) (opening : Opening) (left : ℕ → Contents → Type 0) (c : Core D)
+    → ((contents : Contents) → MayLeaveNow (files c.vault.disk) contents → left_at c.vault.disk (moment c.vault.disk) contents)
+    → Rests moment left_at opening left c → (contents : Contents) → MayLeaveNow (files c.vault.disk) contents → left opening.moment contents
+crash_rests files moment left_at opening left c now rests contents may =
+    subst (λ (t : ℕ). left t contents) rests.since (rests.leaves (moment c.vault.disk) contents (now contents may))
 
 -- a park leaves it as it was, whether it is refused or not
 pub kept_parked : {D : Type 0} (Ran : List Event → Core D → Type 0) → RanStays Ran → (opening : Opening) (count : ℕ) (d : Desk) (old new : Core D) (task : Inst) (address : Addr) → IsKept Ran opening count d old → LooksAgain old new task address

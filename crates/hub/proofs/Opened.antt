@@ -7,14 +7,16 @@ use Rattle.terms.specs.declared.event.Event.{Event}
 use Rattle.machine.specs.Machine.{IsPut}
 use Rattle.commit.specs.Core.{Core}
 use Rattle.commit.specs.Runs.{IsEnd}
-use Rattle.hub.specs.Known.{Known, Made, Desk, events}
-use Rattle.hub.specs.Rule.{IsInHistory, HasNoneFrom}
-use Rattle.hub.specs.Steps.{IsCompared}
-use Rattle.hub.specs.Opening.{Opening, opening_of, AreLegalBehind, IsBehind}
+use Rattle.passes.specs.Known.{Known, Made, Desk, events}
+use Rattle.passes.specs.Rule.{IsInHistory, HasNoneFrom}
+use Rattle.passes.specs.Steps.{IsCompared}
+use Rattle.passes.specs.Opening.{Opening}
+use Rattle.hub.specs.Opening.{opening_of, AreLegalBehind, IsBehind}
 use Rattle.hub.specs.Kept.{IsKept}
-use Rattle.hub.specs.Whole.{AllMade, IsWhole, has_number}
+use Rattle.passes.specs.Roll.{AllMade, has_number}
+use Rattle.hub.specs.Whole.{IsWhole}
 use Rattle.hub.proofs.States.{with_nothing}
-use Rattle.hub.proofs.Gathered.{just_theirs, all_of_both}
+use Rattle.passes.proofs.Gathered.{just_theirs, all_of_both}
 
 pub kept_opened : {D : Type 0} (files : D → Side → File) (moment failures refusals : D → ℕ) (Ran : List Event → Core D → Type 0) (opening : Opening) (count passes : ℕ) (d : Desk) (c : Core D) → opening ≡ opening_of files moment failures refusals c
     → passes ≡ count → d ≡ record { book = record { history = []; passes = passes }; guest = None } → Ran [] c → IsKept Ran opening count d c
@@ -28,6 +30,7 @@ kept_opened files moment failures refusals Ran opening count passes d c opened c
     allowance = omega (arith, ap (λ (o : Opening). o.allowance) opened);
   };
   legal = tt;
+  end = λ _. omega (arith, ap (λ (o : Opening). o.end) opened);
   short = λ _. omega arith;
   turned = λ turned. (ap (λ (o : Opening). o.halted) opened ∙ turned.0, ap (λ (o : Opening). o.in_doubt) opened ∙ turned.1);
   ran = ran;

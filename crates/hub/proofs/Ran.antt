@@ -7,12 +7,13 @@ use Rattle.steptree.specs.Run.{Read}
 use Rattle.steplang.specs.Running.{Running, IsDue, ValueOf, answered, reads_with}
 use Rattle.machine.specs.Meaning.{items}
 use Rattle.machine.specs.Results.{AreItems, ReadsStay}
-use Rattle.hub.specs.Known.{Known}
-use Rattle.hub.specs.Opening.{Opening, facts_behind}
+use Rattle.passes.specs.Known.{Known}
+use Rattle.passes.specs.Opening.{Opening}
+use Rattle.hub.specs.Opening.{facts_behind}
 use Rattle.hub.specs.Replies.{Sees, AddsNothing}
 use Rattle.hub.specs.Running.{IsAhead}
-use Rattle.hub.proofs.Gathered.{all_of_both}
-use Rattle.hub.proofs.Lists.{prefix_further}
+use Rattle.passes.proofs.Gathered.{all_of_both}
+use Rattle.passes.proofs.Lists.{prefix_further}
 use Rattle.hub.proofs.States.{stays}
 
 -- the run goes on with this answer, and all that it has read then is in the state that the pass knows
@@ -30,11 +31,12 @@ ahead_further old mid new one two = record {
   mine = two.mine ∙ one.mine;
   told = two.told ∙ one.told;
   asked = two.asked ∙ one.asked;
+  heard = two.heard ∙ one.heard;
 }
 
 -- a pass that was shown the history, and with which nothing was made
 pub ahead_of : (opening : Opening) (old new : Known) → Sees opening old new → AddsNothing old new → IsAhead old new
-ahead_of opening old new sees nothing = record { starts = sees.starts; number = sees.same.0; mine = nothing; told = sees.same.1; asked = sees.same.2 }
+ahead_of opening old new sees nothing = record { starts = sees.starts; number = sees.same.0; mine = nothing; told = sees.same.1; asked = sees.same.2; heard = sees.same.3 }
 
 -- one more item was read
 pub reads_more : AmongBoth → FactsGoOn → ReadsStay → (opening : Opening) (old mid new : Known) (first run later : Running) (answer : Option ℤ) (address : Addr) (value : ℤ) → GoesOn opening old mid first run answer

@@ -1,6 +1,7 @@
 -- What was committed since the opening of a hub is one run.
 use Rattle.std.proofs.Common.{◌≡◌, ◌≢◌, ◌⊎◌, ◌↔◌, ◌∙◌, ◌<◌, ◌≤◌, ◌+◌, ℕ, Bool, true, false, List, [], ◌∷◌, ◌++◌, length, refl, sym, ap, subst, arith, inl, Err}
 use Rattle.std.proofs.lemmas.List.{append-nil}
+use Rattle.std.proofs.lemmas.Bool.{false≢true}
 use Rattle.std.specs.List.{AllByRecursion}
 use Rattle.disk.specs.declared.side.Side.{Side}
 use Rattle.disk.specs.File.{File}
@@ -17,61 +18,99 @@ use Rattle.commit.specs.Kept.{IsKept as KeepsFiles}
 use Rattle.commit.specs.Runs.{AcknowledgesFrom, Begun, IsEnd, Runs, RunsSince, one_by_one}
 use Rattle.commit.proofs.Joined.{since_joined}
 use Rattle.commit.proofs.Running.{rests}
-use Rattle.hub.specs.Opening.{Opening, opening_of, begun_with}
-use Rattle.hub.specs.Kept.{HasRun}
+use Rattle.passes.specs.Opening.{Opening}
+use Rattle.hub.specs.Opening.{opening_of, begun_with}
+use Rattle.hub.specs.Kept.{HasRun, Rests}
 use Rattle.hub.proofs.Keeping.{RanStays}
 
--- `HasRun` holds trivially in a hub that has a pass of the environment
-pub ran_put : {D : Type 0} (moment : D → ℕ) (left_at : D → ℕ → Contents → Type 0) (failures refusals : D → ℕ) (honest : Type 0) (opening : Opening) (left : ℕ → Contents → Type 0) (envs number : ℕ) (events : List Event) (c : Core D)
-    → number < envs → HasRun moment left_at failures refusals honest opening left envs events c
-ran_put moment left_at failures refusals honest opening left envs number events c below none working = absurd (omega (arith, below, none))
-
 module _ {D : Type 0} (files : D → Side → File) (moment : D → ℕ) (left_at : D → ℕ → Contents → Type 0) (failures refusals : D → ℕ) (honest : Type 0) (opening : Opening) (left : ℕ → Contents → Type 0) (envs : ℕ) where
+  -- a call of a halted core changes nothing of the disk
+  rests_same : (old new : Core D) → new.vault.disk ≡ old.vault.disk → is_halted new ≡ is_halted old → Rests moment left_at opening left old → Rests moment left_at opening left new
+  rests_same old new disk halted rests = record {
+    halted = halted ∙ rests.halted;
+    since = ap moment disk ∙ rests.since;
+    leaves = λ t contents may. rests.leaves t contents (subst (λ (d : D). left_at d t contents) disk may);
+  }
+
+  rests_refused : {T : Type 0} (old new : Core D) (error : CoreError) → Halts {T = T} failures refusals old new (Err error) → Rests moment left_at opening left old → Rests moment left_at opening left new
+  rests_refused old new error halts rests =
+      let is : is_halted new ≡ is_halted old = halts.halts.1 (inl rests.halted) ∙ sym rests.halted in
+      rests_same old new (halts.same is).0.disk is rests
+
   -- nothing happens on the disk
   pub ran_stays : RanStays (HasRun moment left_at failures refusals honest opening left envs)
-  ran_stays events old new stays disk halted doubt ran none working =
-      let begun : Begun = begun_with opening in
-      let it = ran none working in
-      record {
-        are_ends = subst (λ (list : List Event). AllByRecursion IsEnd (events ++ list)) (sym doubt) it.are_ends;
-        legal = subst (λ (list : List Event). AreLegalFrom begun.graph begun.facts (events ++ list)) (sym doubt) it.legal;
-        graph = stays.graph ∙ it.graph;
-        facts = λ fact. stays.facts fact ∙ it.facts fact;
-        environment = λ fact. stays.environment fact ∙ it.environment fact;
-        spent = ap (λ n. n + length events) stays.allowance ∙ it.spent;
-        crashes = λ on.
-            subst (λ (at : D × List Event). LeavesSince moment left_at begun.moment left at.0 (StandsForBeginning begun.graph begun.environment begun.facts [] (one_by_one (events ++ at.1))))
-            (λ i. (sym disk i, sym doubt i)) (it.crashes on);
-        acknowledged = λ on.
-            subst (λ (at : D × List Event). AcknowledgesFrom begun.graph begun.environment begun.facts (left_at at.0) (moment at.0) begun.moment [] events at.1)
-            (λ i. (sym disk i, sym doubt i)) (it.acknowledged on);
-        gates = λ on has. subst (λ (d : D). LeavesSince moment left_at begun.moment left d HasGates) (sym disk) (it.gates on has);
-        halts = subst (λ (at : Bool × D). (at.0 ≡ true) ↔ ((begun.failures < failures at.1) ⊎ (refusals at.1 ≢ begun.refusals))) (λ i. (sym halted i, sym disk i)) it.halts;
-        later = subst (λ (d : D). begun.failures ≤ failures d) (sym disk) it.later;
-        one_in_doubt = λ is.
-            subst (λ (list : List Event). (end : Event) × (list ≡ end ∷ []) × (length events < begun.allowance)) (sym doubt) (it.one_in_doubt (sym halted ∙ is));
-      }
+  ran_stays events old new stays disk end halted doubt ran = record {
+    run = λ none working.
+        let begun : Begun = begun_with opening in
+        let it = ran.run none working in
+        record {
+          are_ends = subst (λ (list : List Event). AllByRecursion IsEnd (events ++ list)) (sym doubt) it.are_ends;
+          legal = subst (λ (list : List Event). AreLegalFrom begun.graph begun.facts (events ++ list)) (sym doubt) it.legal;
+          graph = stays.graph ∙ it.graph;
+          facts = λ fact. stays.facts fact ∙ it.facts fact;
+          environment = λ fact. stays.environment fact ∙ it.environment fact;
+          spent = ap (λ n. n + length events) stays.allowance ∙ it.spent;
+          end = λ goes. end ∙ it.end (sym halted ∙ goes);
+          crashes = λ on.
+              subst (λ (at : D × List Event). LeavesSince moment left_at begun.moment left at.0 (StandsForBeginning begun.graph begun.environment begun.facts [] (one_by_one (events ++ at.1))))
+              (λ i. (sym disk i, sym doubt i)) (it.crashes on);
+          acknowledged = λ on.
+              subst (λ (at : D × List Event). AcknowledgesFrom begun.graph begun.environment begun.facts (left_at at.0) (moment at.0) begun.moment [] events at.1)
+              (λ i. (sym disk i, sym doubt i)) (it.acknowledged on);
+          gates = λ on has. subst (λ (d : D). LeavesSince moment left_at begun.moment left d HasGates) (sym disk) (it.gates on has);
+          halts = subst (λ (at : Bool × D). (at.0 ≡ true) ↔ ((begun.failures < failures at.1) ⊎ (refusals at.1 ≢ begun.refusals))) (λ i. (sym halted i, sym disk i)) it.halts;
+          later = subst (λ (d : D). begun.failures ≤ failures d) (sym disk) it.later;
+          one_in_doubt = λ is.
+              subst (λ (list : List Event). (end : Event) × (list ≡ end ∷ []) × (length events < begun.allowance)) (sym doubt) (it.one_in_doubt (sym halted ∙ is));
+        };
+    rests = λ opened. let before = ran.rests opened in (before.0, rests_same old new disk halted before.1);
+  }
+
+  -- a core that commits was not halted when the hub was opened
+  no_rest : (events : List Event) (old : Core D) → is_halted old ≡ false → HasRun moment left_at failures refusals honest opening left envs events old → opening.halted ≡ true → ⊥
+  no_rest events old goes ran opened = false≢true (sym goes ∙ (ran.rests opened).1.halted)
+
+  -- an event of the environment comes
+  pub ran_put : (number : ℕ) (events later : List Event) (old new : Core D) → number < envs → is_halted old ≡ false → HasRun moment left_at failures refusals honest opening left envs events old
+      → HasRun moment left_at failures refusals honest opening left envs later new
+  ran_put number events later old new below goes ran = record {
+    run = λ none _. absurd (omega (arith, below, none));
+    rests = λ opened. absurd (no_rest events old goes ran opened);
+  }
+
+  -- one is refused
+  pub ran_refused_put : {T : Type 0} (number : ℕ) (events : List Event) (old new : Core D) (error : CoreError) → number < envs → Halts {T = T} failures refusals old new (Err error)
+      → HasRun moment left_at failures refusals honest opening left envs events old → HasRun moment left_at failures refusals honest opening left envs events new
+  ran_refused_put {T} number events old new error below halts ran = record {
+    run = λ none _. absurd (omega (arith, below, none));
+    rests = λ opened. let before = ran.rests opened in (before.0, rests_refused {T = T} old new error halts before.1);
+  }
 
   module _ (both : AmongBoth) (gates_stay : honest → GatesStay files moment left_at) where
     -- an end comes
     pub ran_more : (events : List Event) (old new : Core D) (end : Event) → is_halted old ≡ false → old.in_doubt ≡ [] → HasRun moment left_at failures refusals honest opening left envs events old
         → Runs files moment left_at failures refusals honest old new (end ∷ []) → HasRun moment left_at failures refusals honest opening left envs (events ++ end ∷ []) new
-    ran_more events old new end goes settled ran runs none working =
-        since_joined files moment left_at failures refusals honest both gates_stay (begun_with opening) left old new events (end ∷ []) goes settled (ran none working) runs
+    ran_more events old new end goes settled ran runs = record {
+      run = λ none working. since_joined files moment left_at failures refusals honest both gates_stay (begun_with opening) left old new events (end ∷ []) goes settled (ran.run none working) runs;
+      rests = λ opened. absurd (no_rest events old goes ran opened);
+    }
 
     -- an end is refused
     pub ran_refused : {T : Type 0} (events : List Event) (old new : Core D) (error : CoreError) → (is_halted old ≡ false → old.in_doubt ≡ []) → HasRun moment left_at failures refusals honest opening left envs events old
         → Stays old new → Halts {T = T} failures refusals old new (Err error) → (is_halted old ≡ false → Runs files moment left_at failures refusals honest old new []) → HasRun moment left_at failures refusals honest opening left envs events new
-    ran_refused events old new error settled ran stays halts runs = by_case (is_halted old) refl
+    ran_refused {T} events old new error settled ran stays halts runs = by_case (is_halted old) refl
       where
         by_case : (was : Bool) → is_halted old ≡ was → HasRun moment left_at failures refusals honest opening left envs events new
-        by_case false goes = λ none working.
-            subst (λ (list : List Event). RunsSince moment left_at failures refusals honest (begun_with opening) left new list) (append-nil events)
-            (since_joined files moment left_at failures refusals honest both gates_stay (begun_with opening) left old new events [] goes (settled goes) (ran none working) (runs goes))
+        by_case false goes = record {
+          run = λ none working.
+              subst (λ (list : List Event). RunsSince moment left_at failures refusals honest (begun_with opening) left new list) (append-nil events)
+              (since_joined files moment left_at failures refusals honest both gates_stay (begun_with opening) left old new events [] goes (settled goes) (ran.run none working) (runs goes));
+          rests = λ opened. absurd (no_rest events old goes ran opened);
+        }
         by_case true halted =
             let is : is_halted new ≡ is_halted old = halts.halts.1 (inl halted) ∙ sym halted in
             let same = halts.same is in
-            ran_stays events old new stays same.0.disk is same.1 ran
+            ran_stays events old new stays same.0.disk same.0.end is same.1 ran
 
 -- what a crash might have left, by its other name
 as_named : {D : Type 0} (moment : D → ℕ) (left_at : D → ℕ → Contents → Type 0) (left : ℕ → Contents → Type 0) (d : D) (P : Contents → Type 0) → ((t : ℕ) (contents : Contents) → left t contents ↔ left_at d t contents)
@@ -86,22 +125,33 @@ as_named moment left_at left d P alike leaves = record {
 pub ran_nothing : {D : Type 0} (files : D → Side → File) (moment : D → ℕ) (left_at : D → ℕ → Contents → Type 0) (failures refusals : D → ℕ) (honest : Type 0) (opening : Opening) (left : ℕ → Contents → Type 0) (envs : ℕ) (c : Core D)
     → (honest → RestLeaves files moment left_at) → (honest → GatesRest files moment left_at) → (honest → KeepsFiles files c) → (is_halted c ≡ false → c.in_doubt ≡ [])
     → opening ≡ opening_of files moment failures refusals c → ((t : ℕ) (contents : Contents) → left t contents ↔ left_at c.vault.disk t contents) → HasRun moment left_at failures refusals honest opening left envs [] c
-ran_nothing {D = D} files moment left_at failures refusals honest opening left envs c rest_leaves gates_rest kept settled opened alike none working =
-    let goes : is_halted c ≡ false = ap (λ (o : Opening). o.halted) (sym opened) ∙ working in
-    let here : Runs files moment left_at failures refusals honest c c [] =
-    rests files moment left_at failures refusals honest rest_leaves gates_rest c c goes kept
-    (record { graph = refl; facts = λ _. refl; environment = λ _. refl; allowance = refl; disk = refl; halted = goes; settled = settled goes }) in
-    subst (λ (o : Opening). RunsSince moment left_at failures refusals honest (begun_with o) left c []) (sym opened) (record {
-      are_ends = here.are_ends;
-      legal = here.legal;
-      graph = here.graph;
-      facts = here.facts;
-      environment = here.environment;
-      spent = here.spent;
-      crashes = λ on. as_named moment left_at left c.vault.disk _ alike (here.crashes on);
-      acknowledged = here.acknowledged;
-      gates = λ on has. as_named moment left_at left c.vault.disk _ alike (here.gates on has);
-      halts = here.halts;
-      later = here.later;
-      one_in_doubt = here.one_in_doubt;
-    })
+ran_nothing {D = D} files moment left_at failures refusals honest opening left envs c rest_leaves gates_rest kept settled opened alike = record {
+  run = λ none working.
+      let goes : is_halted c ≡ false = ap (λ (o : Opening). o.halted) (sym opened) ∙ working in
+      let here : Runs files moment left_at failures refusals honest c c [] =
+      rests files moment left_at failures refusals honest rest_leaves gates_rest c c goes kept
+      (record { graph = refl; facts = λ _. refl; environment = λ _. refl; allowance = refl; end = refl; disk = refl; halted = goes; settled = settled goes }) in
+      subst (λ (o : Opening). RunsSince moment left_at failures refusals honest (begun_with o) left c []) (sym opened) (record {
+        are_ends = here.are_ends;
+        legal = here.legal;
+        graph = here.graph;
+        facts = here.facts;
+        environment = here.environment;
+        spent = here.spent;
+        end = here.end;
+        crashes = λ on. as_named moment left_at left c.vault.disk _ alike (here.crashes on);
+        acknowledged = here.acknowledged;
+        gates = λ on has. as_named moment left_at left c.vault.disk _ alike (here.gates on has);
+        halts = here.halts;
+        later = here.later;
+        one_in_doubt = here.one_in_doubt;
+      });
+  rests = λ halted. (
+    refl,
+    record {
+      halted = ap (λ (o : Opening). o.halted) (sym opened) ∙ halted;
+      since = ap (λ (o : Opening). o.moment) (sym opened);
+      leaves = λ t contents may. (alike t contents).1 may;
+    },
+  );
+}

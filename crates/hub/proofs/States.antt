@@ -13,7 +13,8 @@ use Rattle.machine.specs.State.{AreLegalFrom}
 use Rattle.commit.specs.Core.{Core}
 use Rattle.commit.specs.Core as core
 use Rattle.commit.specs.Calls.{Takes, Stays, step_count}
-use Rattle.hub.specs.Opening.{Opening, steps_in, facts_behind, environment_behind, AreLegalBehind, IsBehind}
+use Rattle.passes.specs.Opening.{Opening}
+use Rattle.hub.specs.Opening.{steps_in, facts_behind, environment_behind, AreLegalBehind, IsBehind}
 
 pub with_nothing : (X : Facts) → with_facts X [] ≡ X
 with_nothing X = λ i fact. or-false (X fact) i

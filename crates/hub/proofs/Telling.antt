@@ -1,10 +1,10 @@
 -- What a locked call says to its pass.
-use Rattle.std.proofs.Common.{◌≡◌, ◌∙◌, List, [], ◌∷◌, ◌++◌, length, refl, sym, ap, subst, arith, length-append, ⊎_elim, true, false, Err}
+use Rattle.std.proofs.Common.{◌≡◌, ◌∙◌, ℕ, List, [], ◌∷◌, ◌++◌, length, refl, sym, ap, subst, arith, length-append, ⊎_elim, true, false, Result, Err}
 use mathlib.Core.List.{IsPrefix}
 use Rattle.terms.specs.declared.event.Event.{Event}
 use Rattle.terms.specs.Facts.{Fact, FactsGoOn}
 use Rattle.terms.specs.Sets.{Facts, AmongBoth}
-use Rattle.hub.specs.Rule.{IsInHistory}
+use Rattle.passes.specs.Rule.{IsInHistory}
 use Rattle.graph.specs.Graph.{Graph}
 use Rattle.terms.specs.declared.name.Addr.{Addr}
 use Rattle.terms.specs.declared.name.Inst.{Inst}
@@ -22,11 +22,13 @@ use Rattle.commit.specs.declared.error.CoreError.{CoreError}
 use Rattle.commit.specs.declared.error.CoreError.TheVariants.{Refused, Store}
 use Rattle.commit.specs.Core.{Core}
 use Rattle.commit.specs.Core as core
-use Rattle.commit.specs.Calls.{Refuses}
-use Rattle.hub.specs.Known.{Known, Made, events, up_to_date, with_event}
-use Rattle.hub.specs.Opening.{Opening, facts_behind, AreLegalBehind, IsBehind}
-use Rattle.hub.specs.Replies.{Sees, Adds, AddsNothing, Shows, Writes, RefusesAt, RefusesEvent, RefusesWait}
-use Rattle.hub.proofs.Lists.{events_append, events_length, prefix_more}
+use Rattle.commit.specs.Calls.{Refuses, TellsFull}
+use Rattle.passes.specs.Known.{Known, Made, events, up_to_date, with_event}
+use Rattle.passes.specs.Opening.{Opening}
+use Rattle.hub.specs.Opening.{end_behind, facts_behind, AreLegalBehind, IsBehind}
+use Rattle.passes.specs.Visits.{Shows, Writes}
+use Rattle.hub.specs.Replies.{Sees, Adds, AddsNothing, HasNoRoom, RefusesAt, RefusesEvent, RefusesWait}
+use Rattle.passes.proofs.Lists.{events_append, events_length, prefix_more}
 use Rattle.hub.proofs.States.{stays}
 
 -- a call that adds nothing
@@ -35,7 +37,7 @@ sees_same opening history old new legal shows = subst (Sees opening old) (sym sh
   starts = shows.before.seen;
   legal = legal;
   told = omega (arith, shows.before.told, events_length history);
-  same = (refl, refl, refl);
+  same = (refl, refl, refl, refl);
 })
 
 pub adds_nothing : (history : List Made) (old new : Known) → Shows history old new → AddsNothing old new
@@ -52,7 +54,7 @@ sees_more opening event before after old new legal writes =
       starts = subst (IsPrefix old.seen) (sym more) (prefix_more old.seen (events before) (event ∷ []) writes.before.seen);
       legal = legal;
       told = omega (arith, writes.before.told, events_length before, ap length more, length-append (events before) (event ∷ []));
-      same = (refl, refl, refl);
+      same = (refl, refl, refl, refl);
     })
 
 pub adds_one : (event : Event) (before after : List Made) (old new : Known) → Writes event before after old new → Adds event old new
@@ -68,25 +70,37 @@ pub known_state : {D : Type 0} (opening : Opening) (history : List Made) (old ne
 known_state opening history old new c behind shows = behind.facts ∙ ap (λ (known : Known). facts_behind opening known.seen) (sym shows.pass)
 
 -- the causes of a refusal are there
-refuses_at : {D : Type 0} (c : Core D) (g : Graph) (X : Facts) (why : Graph → Facts → Refusal → Type 0) (event : Event) (error : CoreError) → core.graph c ≡ g → core.facts c ≡ X
-    → Refuses c (why (core.graph c) (core.facts c)) event error → RefusesAt g X (why g X) event error
-refuses_at c g X why event error same_graph same_facts refuses =
-    subst (λ (at : Graph × Facts). RefusesAt at.0 at.1 (why at.0 at.1) event error) (λ i. (same_graph i, same_facts i)) (here error refuses)
+refuses_at : {D T : Type 0} (c : Core D) (g : Graph) (X : Facts) (end : ℕ) (why : Graph → Facts → Refusal → Type 0) (event : Event) (error : CoreError) → core.graph c ≡ g → core.facts c ≡ X → (core.is_halted c ≡ false → c.vault.journal.end ≡ end)
+    → Refuses c (why (core.graph c) (core.facts c)) event error → TellsFull {T = T} c event (Err error) → RefusesAt g X end (why g X) event error
+refuses_at {D} {T} c g X end why event error same_graph same_facts same_end refuses full =
+    subst (λ (at : Graph × Facts). RefusesAt at.0 at.1 end (why at.0 at.1) event error) (λ i. (same_graph i, same_facts i)) (here error refuses full)
   where
-    here : (error : CoreError) → Refuses c (why (core.graph c) (core.facts c)) event error → RefusesAt (core.graph c) (core.facts c) (why (core.graph c) (core.facts c)) event error
-    here (Refused refusal) is = is.1
-    here (Store vault.Halted) is = tt
-    here (Store vault.Full) is = is.1
-    here (Store vault.Device) is = is.1
-    here (Store vault.NoMemory) is = is.1
-    here (Store (vault.Damaged side place)) is = is
-    here (Store vault.NotAStore) is = is
-    here (Store vault.Exists) is = is
+    not_full : ◌≡◌ {A = Result T CoreError} (Err (Store vault.Device)) (Err (Store vault.Full)) → ⊥
+    not_full is = cc
 
-pub refuses_there : {D : Type 0} (opening : Opening) (history : List Made) (old new : Known) (c : Core D) (why : Graph → Facts → Refusal → Type 0) (event : Event) (error : CoreError)
-    → IsBehind opening (events history) c → Shows history old new → Refuses c (why (core.graph c) (core.facts c)) event error → RefusesEvent opening new why event error
-refuses_there opening history old new c why event error behind shows refuses =
-    refuses_at c opening.graph (facts_behind opening new.seen) why event error behind.graph (known_state opening history old new c behind shows) refuses
+    not_memory : ◌≡◌ {A = Result T CoreError} (Err (Store vault.Device)) (Err (Store vault.NoMemory)) → ⊥
+    not_memory is = cc
+
+    here : (error : CoreError) → Refuses c (why (core.graph c) (core.facts c)) event error → TellsFull {T = T} c event (Err error) → RefusesAt (core.graph c) (core.facts c) end (why (core.graph c) (core.facts c)) event error
+    here (Refused refusal) is told = is.1
+    here (Store vault.Halted) is told = tt
+    here (Store vault.Full) is told = (is.1, subst (λ (n : ℕ). HasNoRoom n event) (same_end is.0) is.2)
+    here (Store vault.Device) is told = (is.1, λ long. ⊎_elim not_full not_memory (told is.0 is.1 (subst (λ (n : ℕ). HasNoRoom n event) (sym (same_end is.0)) long)))
+    here (Store vault.NoMemory) is told = is.1
+    here (Store (vault.Damaged side place)) is told = is
+    here (Store vault.NotAStore) is told = is
+    here (Store vault.Exists) is told = is
+
+-- where the pass knows that the journal ends
+known_end : {D : Type 0} (opening : Opening) (history : List Made) (old new : Known) (c : Core D) → (core.is_halted c ≡ false → c.vault.journal.end ≡ end_behind opening (events history)) → Shows history old new
+    → core.is_halted c ≡ false → c.vault.journal.end ≡ end_behind opening new.seen
+known_end opening history old new c ends shows working = ends working ∙ ap (λ (known : Known). end_behind opening known.seen) (sym shows.pass)
+
+pub refuses_there : {D T : Type 0} (opening : Opening) (history : List Made) (old new : Known) (c : Core D) (why : Graph → Facts → Refusal → Type 0) (event : Event) (error : CoreError)
+    → IsBehind opening (events history) c → (core.is_halted c ≡ false → c.vault.journal.end ≡ end_behind opening (events history)) → Shows history old new
+    → Refuses c (why (core.graph c) (core.facts c)) event error → TellsFull {T = T} c event (Err error) → RefusesEvent opening new why event error
+refuses_there {D} {T} opening history old new c why event error behind ends shows refuses full =
+    refuses_at {D = D} {T = T} c opening.graph (facts_behind opening new.seen) (end_behind opening new.seen) why event error behind.graph (known_state opening history old new c behind shows) (known_end opening history old new c ends shows) refuses full
 
 -- why an instance may not wait
 pub refuses_wait : {D T : Type 0} (opening : Opening) (history : List Made) (before now : Known) (old new : Core D) (address : Addr) (error : CoreError) → IsBehind opening (events history) old → Shows history before now

@@ -7,10 +7,12 @@ use Rattle.terms.specs.declared.event.Event.{Event}
 use Rattle.commit.specs.declared.error.CoreError.{CoreError}
 use Rattle.commit.specs.Core.{Core}
 use Rattle.commit.specs.Kept.{IsHaltedByTurn}
-use Rattle.hub.specs.Known.{Known, Made, events, made_by, newcomer}
-use Rattle.hub.specs.Rule.{IsInHistory}
-use Rattle.hub.specs.Opening.{Opening, AreLegalBehind, IsBehind, WasTurned}
-use Rattle.hub.specs.Whole.{IsWhole, mine_of}
+use Rattle.passes.specs.Known.{Known, Made, events, made_by, newcomer}
+use Rattle.passes.specs.Rule.{IsInHistory}
+use Rattle.passes.specs.Opening.{Opening}
+use Rattle.hub.specs.Opening.{AreLegalBehind, IsBehind, WasTurned}
+use Rattle.passes.specs.Roll.{mine_of}
+use Rattle.hub.specs.Whole.{IsWhole}
 use Rattle.hub.specs.Both.{BothPut, IsRefused, Puts, put_by}
 
 -- ---- lists of what was made

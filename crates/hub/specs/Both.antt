@@ -8,8 +8,9 @@ use Rattle.machine.specs.Machine.{RefusesItem}
 use Rattle.commit.specs.declared.error.CoreError.{CoreError}
 use Rattle.commit.specs.Core.{Core}
 use Rattle.commit.specs.Kept.{IsHaltedByTurn}
-use Rattle.hub.specs.Known.{Known, Made, events}
-use Rattle.hub.specs.Opening.{Opening, facts_behind, AreLegalBehind, IsBehind, WasTurned}
+use Rattle.passes.specs.Known.{Known, Made, events}
+use Rattle.passes.specs.Opening.{Opening}
+use Rattle.hub.specs.Opening.{end_behind, facts_behind, AreLegalBehind, IsBehind, WasTurned}
 use Rattle.hub.specs.Replies.{RefusesAt, RefusesEvent, Sees, Adds, AddsNothing}
 
 -- why the put of this item is refused in the state that a pass knows
@@ -31,7 +32,7 @@ put_by put (Err error) = []
 -- why an item is not put, in the state after a prefix of the history. `Halted` needs no cause here.
 abbrev pub IsRefused : Opening → List Made → Addr × ℤ → Result (Unit {0}) CoreError → Type 0
 IsRefused opening history put result =
-    IfErr result (λ error. (before : List Event) × IsPrefix before (events history) × RefusesAt opening.graph (facts_behind opening before) (RefusesItem opening.graph (facts_behind opening before) put.0) (EnvItem put.0 put.1) error)
+    IfErr result (λ error. (before : List Event) × IsPrefix before (events history) × RefusesAt opening.graph (facts_behind opening before) (end_behind opening before) (RefusesItem opening.graph (facts_behind opening before) put.0) (EnvItem put.0 put.1) error)
 
 -- There is one history. It is legal and has just what the two results say was put, in one order or the other. The core has the state after it, and an
 -- item that is not put is refused in the state after a prefix of it. If a turnover halted the core, that was before.

@@ -1,6 +1,3 @@
-pub mod Known
-pub mod Rule
-pub mod Steps
 pub mod Opening
 pub mod Replies
 pub mod Ends

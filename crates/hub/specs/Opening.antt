@@ -1,48 +1,18 @@
--- What a hub is opened with, and the state after events from there.
+-- What a core has when a hub is opened on it, and the state after events from there.
 use Rattle.std.specs.Prelude.{◌≡◌, ◌+◌, ℕ, Bool, true, false, List, [], ◌∷◌}
 use Rattle.disk.specs.declared.side.Side.{Side}
 use Rattle.disk.specs.File.{File}
-use Rattle.disk.specs.Time.{Contents}
 use Rattle.terms.specs.declared.event.Event.{Event}
 use Rattle.terms.specs.Facts.{Fact}
 use Rattle.terms.specs.Facts as stated
 use Rattle.terms.specs.Sets.{Facts, with_facts}
-use Rattle.graph.specs.Graph.{Graph}
 use Rattle.machine.specs.State.{AreLegalFrom}
 use Rattle.commit.specs.Core.{Core}
 use Rattle.commit.specs.Core as core
 use Rattle.commit.specs.Calls.{step_count}
-use Rattle.commit.specs.Runs.{Begun}
+use Rattle.commit.specs.Runs.{Begun, records_length}
 use Rattle.vault.specs.Opened.{contents_of}
-
--- The graph, the facts that the store had, which of them the environment put, and how many steps the core might commit; whether it was halted, and
--- which events were in doubt then; and of its disk the moment, the counts of errors, and the contents of both files.
-pub record Opening : Type 0 where
-  pub graph : Graph
-  pub facts : Facts
-  pub environment : Facts
-  pub allowance : ℕ
-  pub halted : Bool
-  pub in_doubt : List Event
-  pub moment : ℕ
-  pub failures : ℕ
-  pub refusals : ℕ
-  pub contents : Contents
-
--- an empty store of an empty graph
-abbrev pub nothing : Opening
-nothing = record {
-  graph = record { items = []; tags = []; steps = []; environment_item_puts = []; environment_tag_puts = []; environment_gets = [] };
-  facts = λ _. false;
-  environment = λ _. false;
-  allowance = 0;
-  halted = false;
-  in_doubt = [];
-  moment = 0;
-  failures = 0;
-  refusals = 0;
-  contents = λ _. [];
-}
+use Rattle.passes.specs.Opening.{Opening}
 
 -- what a core has when a hub is opened on it
 abbrev pub opening_of : {D : Type 0} → (D → Side → File) → (D → ℕ) → (failures refusals : D → ℕ) → Core D → Opening
@@ -51,6 +21,7 @@ opening_of files moment failures refusals c = record {
   facts = core.facts c;
   environment = core.environment c;
   allowance = c.allowance;
+  end = c.vault.journal.end;
   halted = core.is_halted c;
   in_doubt = c.in_doubt;
   moment = moment c.vault.disk;
@@ -66,6 +37,7 @@ begun_with opening = record {
   facts = opening.facts;
   environment = opening.environment;
   allowance = opening.allowance;
+  end = opening.end;
   moment = opening.moment;
   failures = opening.failures;
   refusals = opening.refusals;
@@ -78,6 +50,10 @@ facts_behind opening events = with_facts opening.facts (stated.facts events)
 
 abbrev pub environment_behind : Opening → List Event → Facts
 environment_behind opening events = with_facts opening.environment (stated.environment events)
+
+-- where the journal ends after these events, unless the core is halted
+abbrev pub end_behind : Opening → List Event → ℕ
+end_behind opening events = opening.end + records_length events
 
 -- how many of the events are ends of steps
 abbrev pub steps_in : List Event → ℕ

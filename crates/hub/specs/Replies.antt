@@ -1,5 +1,5 @@
 -- What a locked call says of its pass. The pass knows the state after what it has seen: the call's result is that of this state.
-use Rattle.std.specs.Prelude.{◌≡◌, ◌≤◌, ⊤, List, [], ◌∷◌, ◌++◌, length}
+use Rattle.std.specs.Prelude.{◌≡◌, ◌⊎◌, ◌≤◌, ◌+◌, ⊤, ℕ, List, [], ◌∷◌, ◌++◌, length}
 use mathlib.Core.List.{IsPrefix}
 use Rattle.terms.specs.declared.event.Event.{Event}
 use Rattle.terms.specs.declared.name.Addr.{Addr}
@@ -12,9 +12,11 @@ use Rattle.machine.specs.Legal.{IsLegal}
 use Rattle.vault.specs.declared.error.VaultError.TheVariants as vault
 use Rattle.commit.specs.declared.error.CoreError.{CoreError}
 use Rattle.commit.specs.declared.error.CoreError.TheVariants.{Refused, Store}
-use Rattle.hub.specs.Known.{Known, Made, up_to_date, with_event}
-use Rattle.hub.specs.Rule.{IsInHistory}
-use Rattle.hub.specs.Opening.{Opening, facts_behind, AreLegalBehind}
+use Rattle.commit.specs.Calls.{record_length}
+use Rattle.journal.specs.declared.journal.TheConstants.{LIMIT}
+use Rattle.passes.specs.Known.{Known}
+use Rattle.passes.specs.Opening.{Opening}
+use Rattle.hub.specs.Opening.{end_behind, facts_behind, AreLegalBehind}
 
 -- ---- what is seen
 
@@ -23,7 +25,7 @@ pub record Sees (opening : Opening) (old new : Known) : Type 0 where
   pub starts : IsPrefix old.seen new.seen
   pub legal : AreLegalBehind opening new.seen
   pub told : old.told ≤ length new.seen
-  pub same : (new.number ≡ old.number) × (new.told ≡ old.told) × (new.asked ≡ old.asked)
+  pub same : (new.number ≡ old.number) × (new.told ≡ old.told) × (new.asked ≡ old.asked) × (new.heard ≡ old.heard)
 
 -- the event was added after all that was seen before, and is the pass's own
 pub record Adds (event : Event) (old new : Known) : Type 0 where
@@ -36,41 +38,38 @@ pub record Adds (event : Event) (old new : Known) : Type 0 where
 abbrev pub AddsNothing : Known → Known → Type 0
 AddsNothing old new = new.mine ≡ old.mine
 
--- ---- the history
-
--- the pass now sees a history that had all that it had of the pass, and nothing was made
-pub record Shows (history : List Made) (old new : Known) : Type 0 where
-  pub before : IsInHistory history old
-  pub pass : new ≡ up_to_date history old
-
--- the event was made with the pass, which now sees the history with it
-pub record Writes (event : Event) (earlier later : List Made) (old new : Known) : Type 0 where
-  pub before : IsInHistory earlier old
-  pub history : later ≡ earlier ++ record { pass = old.number; event = event } ∷ []
-  pub pass : new ≡ up_to_date later (with_event event old)
-
 -- ---- refusals
 
--- Why an event is refused in a state with these facts. An event that may come is refused if it does not fit, the device failed, or memory was refused.
--- No pass can know that the core is halted.
-abbrev pub RefusesAt : Graph → Facts → (Refusal → Type 0) → Event → CoreError → Type 0
-RefusesAt g X why event (Refused refusal) = why refusal
-RefusesAt g X why event (Store vault.Halted) = ⊤
-RefusesAt g X why event (Store vault.Full) = IsLegal g X event
-RefusesAt g X why event (Store vault.Device) = IsLegal g X event
-RefusesAt g X why event (Store vault.NoMemory) = IsLegal g X event
-RefusesAt g X why event (Store (vault.Damaged side place)) = ⊥
-RefusesAt g X why event (Store vault.NotAStore) = ⊥
-RefusesAt g X why event (Store vault.Exists) = ⊥
+-- the closed gate after the event's record would not lie below the limit, in a journal that ends here
+abbrev pub HasNoRoom : (end : ℕ) → Event → Type 0
+HasNoRoom end event = LIMIT ≤ end + record_length event
+
+-- Why an event is refused in a state with these facts, whose journal ends here. An event that may come is refused if its record does not fit; if it
+-- fits, and the device failed; or if memory was refused. No pass can know that the core is halted.
+abbrev pub RefusesAt : Graph → Facts → (end : ℕ) → (Refusal → Type 0) → Event → CoreError → Type 0
+RefusesAt g X end why event (Refused refusal) = why refusal
+RefusesAt g X end why event (Store vault.Halted) = ⊤
+RefusesAt g X end why event (Store vault.Full) = IsLegal g X event × HasNoRoom end event
+RefusesAt g X end why event (Store vault.Device) = IsLegal g X event × (HasNoRoom end event → ⊥)
+RefusesAt g X end why event (Store vault.NoMemory) = IsLegal g X event
+RefusesAt g X end why event (Store (vault.Damaged side place)) = ⊥
+RefusesAt g X end why event (Store vault.NotAStore) = ⊥
+RefusesAt g X end why event (Store vault.Exists) = ⊥
 
 -- the same in the state that a pass knows, for causes that the graph and the facts decide
 abbrev pub RefusesEvent : Opening → Known → (Graph → Facts → Refusal → Type 0) → Event → CoreError → Type 0
-RefusesEvent opening known why event = RefusesAt opening.graph (facts_behind opening known.seen) (why opening.graph (facts_behind opening known.seen)) event
+RefusesEvent opening known why event =
+    RefusesAt opening.graph (facts_behind opening known.seen) (end_behind opening known.seen) (why opening.graph (facts_behind opening known.seen)) event
 
 -- why a question is refused: for a cause that the graph decides, or the core is halted
 abbrev pub RefusesQuestion : (Refusal → Type 0) → CoreError → Type 0
 RefusesQuestion why (Refused refusal) = why refusal
 RefusesQuestion why (Store error) = error ≡ vault.Halted
+
+-- why an item is not watched: as a question is refused, or memory was refused
+abbrev pub RefusesWatch : (Refusal → Type 0) → CoreError → Type 0
+RefusesWatch why (Refused refusal) = why refusal
+RefusesWatch why (Store error) = (error ≡ vault.Halted) ⊎ (error ≡ vault.NoMemory)
 
 -- the core is halted, and returns `Halted`
 abbrev pub SaysHalted : CoreError → Type 0

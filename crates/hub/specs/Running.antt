@@ -1,19 +1,23 @@
 -- A body that is run over what a hub has.
-use Rattle.std.specs.Prelude.{◌≡◌, ◌⊎◌}
+use Rattle.std.specs.Prelude.{◌≡◌, ◌⊎◌, List}
 use mathlib.Core.List.{IsPrefix}
 use Rattle.terms.specs.declared.name.Addr.{Addr}
 use Rattle.terms.specs.declared.name.Inst.{Inst}
 use Rattle.terms.specs.Sets.{Facts}
+use Rattle.steptree.specs.declared.body.Body.{Body}
+use Rattle.steptree.specs.Run.{Read}
+use Rattle.steptree.specs.Bodies.{Along, Asks}
 use Rattle.graph.specs.Graph.{Graph}
 use Rattle.graph.specs.Fits.{IsAbsent}
 use Rattle.machine.specs.Machine.{RefusesRead}
+use Rattle.machine.specs.Results.{AreItems, IsBodyOf}
 use Rattle.vault.specs.declared.error.VaultError.TheVariants.{NoMemory}
 use Rattle.commit.specs.declared.error.CoreError.{CoreError}
 use Rattle.commit.specs.declared.error.CoreError.TheVariants.{Store}
 use Rattle.commit.specs.Came.{IsOutcomeIn, IsParkedIn}
 use Rattle.commit.specs.declared.bodies.Came.{Came}
 use Rattle.commit.specs.declared.bodies.Came.TheVariants.{Ended, Waits}
-use Rattle.hub.specs.Known.{Known}
+use Rattle.passes.specs.Known.{Known}
 use Rattle.hub.specs.Replies.{RefusesQuestion}
 
 -- the pass has seen no less than before, and nothing else of it has changed
@@ -23,12 +27,21 @@ pub record IsAhead (old new : Known) : Type 0 where
   pub mine : new.mine ≡ old.mine
   pub told : new.told ≡ old.told
   pub asked : new.asked ≡ old.asked
+  pub heard : new.heard ≡ old.heard
 
 -- an end, or an item that is not of this set; the items that it read are of it
 abbrev pub CameIn : Graph → Facts → Inst → Came → Type 0
 CameIn g X instance (Ended outcome) = IsOutcomeIn g X instance outcome
 CameIn g X instance (Waits parked) = IsParkedIn g X instance parked × IsAbsent X parked.address
 
--- which errors end it: `NoMemory`, and those of a read
-abbrev pub StopsRun : Graph → CoreError → Type 0
-StopsRun g error = (error ≡ Store NoMemory) ⊎ ((address : Addr) × RefusesQuestion (RefusesRead g address) error)
+-- the body of the instance, along items of this set that it read, asks for the item at this address
+pub record AsksFor (g : Graph) (X : Facts) (instance : Inst) (address : Addr) : Type 0 where
+  pub body : Body
+  pub is_body : IsBodyOf g instance body
+  pub reads : List Read
+  pub there : AreItems X reads
+  pub asks : Along body instance.key reads (Asks address)
+
+-- which errors end it: `NoMemory`, and those of a read that the body asks for
+abbrev pub StopsRun : Graph → Facts → Inst → CoreError → Type 0
+StopsRun g X instance error = (error ≡ Store NoMemory) ⊎ ((address : Addr) × AsksFor g X instance address × RefusesQuestion (RefusesRead g address) error)

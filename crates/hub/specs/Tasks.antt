@@ -11,8 +11,8 @@ use Rattle.commit.specs.Outcome.{IsEndOf}
 use Rattle.hub.specs.declared.error.TaskError.{TaskError}
 use Rattle.hub.specs.declared.error.TaskError.TheVariants.{Foreign, Refused}
 use Rattle.hub.specs.Kept.{Kept}
-use Rattle.hub.specs.Known.{Known}
-use Rattle.hub.specs.Opening.{Opening}
+use Rattle.passes.specs.Known.{Known}
+use Rattle.passes.specs.Opening.{Opening}
 use Rattle.hub.specs.Replies.{RefusesEvent}
 
 -- One of the two holds: of the task that comes back, or of what the core returns.

@@ -1,5 +1,5 @@
--- Passes when a hub is opened, and when it is closed.
-use Rattle.std.specs.Prelude.{◌≡◌, ◌↔◌, ◌+◌, ◌<◌, ℕ, suc, zero, Bool, true, false, List, [], ◌∷◌, ◌++◌, if◌then◌else◌, nat_eq}
+-- A hub when it is opened, and when it is closed.
+use Rattle.std.specs.Prelude.{◌≡◌, ◌↔◌, ◌+◌, ◌<◌, ℕ, true, false, List, ◌++◌}
 use Rattle.std.specs.List.{AllByRecursion}
 use Rattle.disk.specs.declared.side.Side.{Side}
 use Rattle.disk.specs.File.{File}
@@ -12,28 +12,11 @@ use Rattle.commit.specs.Runs.{IsEnd}
 use Rattle.atomic_table.specs.Seated.{TableId}
 use Rattle.hub.specs.declared.close.CloseError.{CloseError}
 use Rattle.hub.specs.declared.close.CloseError.TheVariants.{PassMissing, TaskOut}
-use Rattle.hub.specs.Known.{Known, Made, events, made_by, newcomer}
-use Rattle.hub.specs.Rule.{IsInHistory}
-use Rattle.hub.specs.Opening.{Opening, opening_of, WasTurned, AreLegalBehind, IsBehind}
-
--- this many new passes, the first of which has this number
-abbrev pub new_passes : ℕ → ℕ → List Known
-new_passes first zero = []
-new_passes first (suc count) = new_passes first count ++ newcomer (first + count) ∷ []
-
--- a pass of this number is among them
-abbrev pub has_number : ℕ → List Known → Bool
-has_number number [] = false
-has_number number (known ∷ rest) = if nat_eq known.number number then true else has_number number rest
-
--- the events that were made with the pass of this number; none where there is no such pass
-abbrev pub mine_of : ℕ → List Known → List Event
-mine_of number [] = []
-mine_of number (known ∷ rest) = if nat_eq known.number number then known.mine else mine_of number rest
-
--- each event of each of the passes is such an event
-abbrev pub AllMade : (Event → Type 0) → List Known → Type 0
-AllMade such passes = AllByRecursion (λ known. AllByRecursion such known.mine) passes
+use Rattle.passes.specs.Known.{Known, Made, events, made_by}
+use Rattle.passes.specs.Opening.{Opening}
+use Rattle.passes.specs.Roll.{AllMade, Blank, has_number, mine_of}
+use Rattle.passes.specs.Rule.{IsInHistory}
+use Rattle.hub.specs.Opening.{opening_of, WasTurned, AreLegalBehind, IsBehind}
 
 -- The whole history of a hub that is closed with these passes. It is legal, and the core has the state after it. It begins with what each pass has
 -- seen, and has just the passes' events, those of each pass in their order. Those of the environment's passes are its puts, and those of the workers'
@@ -48,12 +31,6 @@ pub record IsWhole {D : Type 0} (Ran : List Event → Core D → Type 0) (openin
   pub ends : AllMade IsEnd workers
   pub turned : IsHaltedByTurn c → WasTurned opening
   pub ran : Ran (events history) c
-
--- a blank: the table of its words, and how many passes it is for, of the environment and of workers
-pub record Blank : Type 0 where
-  pub table : TableId
-  pub envs : ℕ
-  pub workers : ℕ
 
 -- The names of a hub fit this blank and this core: they have the blank's words and counts of passes, what the core has when the hub is opened, and
 -- for each moment what a crash may leave, as the disk says then.

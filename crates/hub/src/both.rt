@@ -1,14 +1,15 @@
 //! A hub from its opening to its close: two threads put one item each.
-ghost use Rattle.std.specs.Prelude.{◌≡◌, IfErr, IfOk};
+ghost use Rattle.std.specs.Prelude.{◌≡◌, ◌↔◌, IfErr, IfOk};
 ghost use Rattle.commit.specs.Runs.{NoneRuns};
 ghost use Rattle.hub.specs.declared.both.BothError.TheVariants.{TaskOut, NoMemory};
 ghost use Rattle.hub.specs.Both.{BothPut, Puts};
 ghost use Rattle.hub.specs.Opening.{opening_of};
 ghost use Rattle.hub.specs.Whole.{IsNamedFor};
 
-use crate::{Blank, EnvPass, Hub, Naming, hubs_cross};
+use crate::{EnvPass, Hub, hubs_cross};
 use commit::{Core, CoreError};
 use disk::Disk;
+use passes::{Blank, Naming};
 use std::alloc::Global;
 use std::marker::Brand;
 use std::sync::Wait;
@@ -104,7 +105,7 @@ fn put_both<J: Naming + Send + Sync, D: Disk + Drop + Send, R: Threads + Wait + 
 /// Two threads put one item each, through a hub that is opened for them.
 ///
 /// The store has the item of a thread whose result is `Ok`, and of no other; an error says why. `NonePut` is returned if
-/// an instance runs in the core, or if memory is refused before the threads are started.
+/// an instance runs in the core; or if none runs, and memory is refused before the threads are started.
 pub fn put_two<D: Disk + Drop + Send, R: Threads + Wait + Sync>(
     rt: &R,
     alloc: Global,
@@ -115,7 +116,7 @@ pub fn put_two<D: Disk + Drop + Send, R: Threads + Wait + Sync>(
     ensures ok { IfOk result (λ both. BothPut (opening_of D.files D.moment D.failures D.refusals core) both.core one two both.one both.two) }
     ensures idle { IfOk result (λ both. NoneRuns both.core × NoneRuns core) }
     ensures err { IfErr result (λ none. none.core ≡ core) }
-    ensures cause { IfErr result (λ none. none.error ≡ TaskOut → NoneRuns core → ⊥) }
+    ensures cause { IfErr result (λ none. (none.error ≡ TaskOut) ↔ (NoneRuns core → ⊥)) }
 {
     if core.running() != 0 {
         return Err(NonePut {

@@ -1,15 +1,15 @@
 //! The end of a hub.
-ghost use Rattle.std.specs.Prelude.{◌≡◌, ◌<◌, ◌++◌, ℕ, List, None, true, false, IfOk, IfErr, IsTrue, OnOk};
-ghost use Rattle.std.specs.List.{AllByRecursion};
+ghost use Rattle.std.specs.Prelude.{◌≡◌, ◌<◌, ◌++◌, ℕ, List, true, IfOk, IfErr, IsTrue, OnOk};
 ghost use Rattle.commit.specs.Runs.{NoneRuns};
 ghost use Rattle.hub.specs.Kept.{HasRun};
-ghost use Rattle.hub.specs.Known.{Made};
-ghost use Rattle.hub.specs.Rule.{IsInHistory};
-ghost use Rattle.hub.specs.Whole.{AllMade, IsWhole, WhyNotClosed, has_number};
+ghost use Rattle.passes.specs.Known.{Made};
+ghost use Rattle.passes.specs.Roll.{has_number};
+ghost use Rattle.hub.specs.Whole.{IsWhole, WhyNotClosed};
 
-use crate::{Board, Desk, EnvPass, Hub, Kept, Kind, Naming, Pass, WorkPass};
+use crate::{EnvPass, Hub, Kept, WorkPass};
 use commit::Core;
 use disk::Disk;
+use passes::{Board, Naming, are_here, gather};
 use std::sync::{Mutex, Wait};
 use std::thread::yield_now;
 use thiserror::Error;
@@ -69,50 +69,6 @@ impl<J: Naming, D: Disk + Drop> Drop for NotClosed<J, D> {
             workers: _,
         } = self;
     }
-}
-
-// Takes in each pass, and compares it with the history.
-fn gather<J: Naming, K: Kind>(board: &Board<J>, desk: &mut Desk<J>, mut passes: Vec<Pass<J, K>>)
-    requires { desk.old.guest ≡ None }
-    ensures desk { desk.new ≡ desk.old }
-    ensures passes { AllByRecursion (IsInHistory desk.old.book.history) passes.items }
-    ensures made { AllMade K.makes passes.items }
-{
-    while let Some(mut pass) = passes.pop() {
-        board.show(desk, &mut pass);
-    }
-}
-
-// Whether a pass of this number is here.
-fn is_here<J: Naming, K: Kind>(passes: &[Pass<J, K>], number: usize) -> bool
-    ensures { result ≡ has_number number passes.now }
-{
-    for pass in passes {
-        if pass.number == number {
-            return true;
-        }
-    }
-    false
-}
-
-// Whether a pass of this number is among them.
-fn is_among<J: Naming>(envs: &[EnvPass<J>], workers: &[WorkPass<J>], number: usize) -> bool
-    ensures { result ≡ has_number number (envs.now ++ workers.now) }
-{
-    is_here(envs, number) || is_here(workers, number)
-}
-
-// Whether a pass of each number below `count` is among them.
-fn are_here<J: Naming>(envs: &[EnvPass<J>], workers: &[WorkPass<J>], count: usize) -> bool
-    ensures all { result ≡ true → (number : ℕ) → number < count → has_number number (envs.now ++ workers.now) ≡ true }
-    ensures missing { result ≡ false → (number : ℕ) × (number < count) × (has_number number (envs.now ++ workers.now) ≡ false) }
-{
-    for number in 0..count {
-        if !is_among(envs, workers, number) {
-            return false;
-        }
-    }
-    true
 }
 
 impl<J: Naming, D: Disk> Kept<J, D> {

@@ -5,10 +5,12 @@ ghost use Rattle.hub.specs.contracts.hub.Hub as of_hub;
 ghost use Rattle.terms.specs.contracts.event.Event as of_event;
 ghost use Rattle.vault.specs.contracts.vault.Vault as of_vault;
 
-use crate::{Board, Kept, Naming};
+use crate::Kept;
+use cells::cells_cross;
 use disk::Disk;
 use graph::{Graph, goes, graphs_cross, is_shared};
 use machine::Machine;
+use passes::{Board, Naming};
 use std::sync::{Arc, Mutex};
 use terms::Event;
 
@@ -39,6 +41,7 @@ pub fn hubs_cross<J: Naming + Send + Sync, D: Disk + Send>()
     ensures { IsSync (of_hub.the_row J.row D.row J.Naming D.Disk) }
 {
     graphs_cross();
+    cells_cross();
     cores_go::<D>();
     is_shared::<Arc<Graph>>();
     is_shared::<Mutex<Kept<J, D>>>();

@@ -1,12 +1,13 @@
-ghost use Rattle.std.specs.Prelude.{◌≡◌, true, Ok, OnErr, OnOk, IfErr, IfOk, IfSome};
+ghost use Rattle.std.specs.Prelude.{◌≡◌, true, None, Ok, OnErr, OnOk, IfErr, IfOk, IfSome};
 
-use crate::{Board, EnvPass, Kept, Kind, Naming, Pass, TaskError, WorkPass};
-use atomic_table::Badge;
+use crate::{EnvPass, Kept, TaskError, WorkPass};
+use cells::Watch;
 use commit::{Committed, CoreError, Outcome};
 use disk::Disk;
 use graph::Graph;
 use instances::Task;
-use std::mem;
+use passes::{Board, Kind, Naming, Pass};
+use std::alloc::Global;
 use std::sync::{Arc, Mutex, Wait};
 use steplang::Parked;
 use terms::{Addr, Tag};
@@ -40,13 +41,13 @@ impl<J: Naming, D: Disk> Hub<J, D> {
     ghost use Rattle.machine.specs.Machine.{IsValueAt, RefusesItem, RefusesTag, RefusesGet, RefusesRead};
     ghost use Rattle.graph.specs.Fits.{AddressIsOf};
     ghost use Rattle.graph.specs.Graph.{EnvironmentMayGet};
-    ghost use Rattle.hub.specs.Known.{told_of, asked_of};
-    ghost use Rattle.hub.specs.Steps.{IsCountFor, heard_of};
+    ghost use Rattle.passes.specs.Known.{told_of, asked_of, heard_of};
+    ghost use Rattle.passes.specs.Steps.{IsCountFor};
     ghost use Rattle.hub.specs.Opening.{facts_behind};
     ghost use Rattle.commit.specs.Came.{IsOutcomeIn, IsParkedIn};
     ghost use Rattle.commit.specs.Outcome.{end_of};
     ghost use Rattle.hub.specs.Ends.{MayAnswer};
-    ghost use Rattle.hub.specs.Replies.{Adds, AddsNothing, MayRun, RefusesEvent, RefusesQuestion, RefusesWait, SaysHalted, Sees};
+    ghost use Rattle.hub.specs.Replies.{Adds, AddsNothing, MayRun, RefusesEvent, RefusesQuestion, RefusesWait, RefusesWatch, SaysHalted, Sees};
     ghost use Rattle.hub.specs.Tasks.{OnTask, RefusesEndOf};
 
     // Takes the hub apart.
@@ -104,6 +105,26 @@ impl<J: Naming, D: Disk> Hub<J, D> {
         ensures refused { IfErr result (RefusesQuestion (RefusesGet J.opening.graph addr)) }
     {
         self.kept.lock(rt).get(&self.board, pass, addr)
+    }
+
+    /// A watch on the item at an address, for whoever may get it. It learns the value once the item is there; if it is there
+    /// already, at its first look. The refusals are those of `get`, and then that memory was refused.
+    ///
+    /// The watch takes no lock, and may outlive the hub: if the item has not come by then, it never learns a value.
+    pub fn watch<R: Wait>(
+        &self,
+        rt: &R,
+        alloc: Global,
+        pass: &mut EnvPass<J>,
+        addr: Addr,
+    ) -> Result<Watch, CoreError>
+        ensures seen { Sees J.opening pass.old pass.new × AddsNothing pass.old pass.new }
+        ensures allowed { OnOk result (EnvironmentMayGet J.opening.graph addr) }
+        ensures fresh { IfOk result (λ watch. watch ≡ None) }
+        ensures refused { IfErr result (RefusesWatch (RefusesGet J.opening.graph addr)) }
+    {
+        let made = Watch::pair(alloc);
+        self.kept.lock(rt).watch(&self.board, pass, addr, made)
     }
 
     /// The value at an address, as a step reads it, in the state after what the pass has then seen.
@@ -205,28 +226,22 @@ impl<J: Naming, D: Disk> Hub<J, D> {
         ensures pass { pass.new ≡ told_of result pass.old }
         ensures count { IsCountFor result pass.old }
     {
-        let badge = mem::replace(&mut pass.badge, Badge::blank());
-        let (badge, count) = self.board.count(badge);
-        pass.badge = badge;
-        count
+        self.board.commits(pass)
     }
 
     /// Asks all threads to stop. It waits for nobody, and takes no memory.
     pub fn ask_stop<K: Kind>(&self, pass: &mut Pass<J, K>)
         ensures { pass.new ≡ asked_of pass.old }
     {
-        let badge = mem::replace(&mut pass.badge, Badge::blank());
-        pass.badge = self.board.ask(badge);
+        self.board.ask_stop(pass);
     }
 
     /// Whether a stop was asked. It waits for nobody, and takes no memory.
     pub fn stop_asked<K: Kind>(&self, pass: &mut Pass<J, K>) -> bool
         ensures pass { pass.new ≡ heard_of result pass.old }
         ensures asked { pass.old.asked ≡ true → result ≡ true }
+        ensures heard { pass.old.heard ≡ true → result ≡ true }
     {
-        let badge = mem::replace(&mut pass.badge, Badge::blank());
-        let (badge, answer) = self.board.hear(badge);
-        pass.badge = badge;
-        answer
+        self.board.stop_asked(pass)
     }
 }

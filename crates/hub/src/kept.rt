@@ -1,29 +1,40 @@
-use crate::rule::Commit;
-use crate::{Board, Desk, EnvPass, Naming, TaskError, WorkPass};
+ghost use Rattle.std.specs.Prelude.{◌≡◌, None, IfOk};
+
+use crate::visits::{record_end, record_item, record_tag};
+use crate::{EnvPass, TaskError, WorkPass};
+use cells::{Filler, Fillers, Watch};
 use commit::{Committed, Core, CoreError, Outcome};
 use disk::Disk;
 use instances::Task;
 use machine::results_are_meant;
+use passes::{Board, Desk, Naming};
+use std::alloc::AllocError;
 use std::marker::{Brand, Model};
 use std::snapshot::Snapshot;
 use steplang::Parked;
 use terms::{Addr, Tag, facts_are_told_apart, facts_go_on};
-use vault::stores_go_on;
+use vault::{VaultError, stores_go_on};
 
-/// What the lock of a hub keeps: the core, and the keeper's seat. A contract sees the history and the core.
+/// What the lock of a hub keeps: the core, the keeper's seat, and what fills the watches. A contract sees the history and
+/// the core.
 ///
 /// Between two calls the core has the state after the history. On an honest disk, and unless a turnover had halted the
 /// core before the hub was opened, a crash leaves that state, or, once the core is halted, perhaps the state with the
-/// event in doubt (`is_kept`).
+/// event in doubt; if the core was halted before, a crash leaves what one might have left then (`is_kept`).
 pub struct Kept<J: Naming, D: Disk> {
     pub(crate) core: Core<D>,
     pub(crate) desk: Desk<J>,
+    pub(crate) fillers: Fillers,
 }
 
 impl<J: Naming, D: Disk + Drop> Drop for Kept<J, D> {
     // By hand, so that dropping it is one call, wherever it is dropped.
     fn drop(self) {
-        let Kept { core: _, desk: _ } = self;
+        let Kept {
+            core: _,
+            desk: _,
+            fillers: _,
+        } = self;
     }
 }
 
@@ -43,18 +54,20 @@ impl<J: Naming, D: Disk> Model for Kept<J, D> {
 }
 
 impl<J: Naming, D: Disk> Kept<J, D> {
-    ghost use Rattle.std.specs.Prelude.{◌≡◌, false, [], None, Some, Ok, Err, OnErr, OnOk, IfErr, IfOk, IfSome, IsTrue};
+    ghost use Rattle.std.specs.Prelude.{◌≡◌, ◌↔◌, true, false, [], None, Some, Ok, Err, OnErr, OnOk, IfErr, IfOk, IfSome, IsTrue};
     ghost use Rattle.terms.specs.declared.event.Event.TheVariants.{EnvItem, EnvTag};
     ghost use Rattle.machine.specs.Machine.{IsValueAt, RefusesItem, RefusesTag, RefusesGet, RefusesRead};
     ghost use Rattle.graph.specs.Fits.{AddressIsOf};
     ghost use Rattle.graph.specs.Graph.{EnvironmentMayGet};
     ghost use Rattle.commit.specs.Core.{facts, graph, is_halted};
-    ghost use Rattle.hub.specs.Known.{events};
+    ghost use Rattle.passes.specs.Known.{events};
+    ghost use Rattle.passes.specs.Visits.{Shows, Writes};
+    ghost use Rattle.disk.specs.Time.{Contents, MayLeaveNow};
     ghost use Rattle.hub.specs.Opening.{AreLegalBehind, IsBehind, WasTurned, facts_behind};
-    ghost use Rattle.hub.specs.Kept.{CrashLeavesHistory, HasRun, IsKept};
+    ghost use Rattle.hub.specs.Kept.{CrashLeavesHistory, HasRun, IsBusy, IsKept};
     ghost use Rattle.commit.specs.Outcome.{end_of};
     ghost use Rattle.hub.specs.Ends.{MayAnswer};
-    ghost use Rattle.hub.specs.Replies.{Adds, AddsNothing, MayRun, RefusesEvent, RefusesQuestion, RefusesWait, SaysHalted, Sees, Shows, Writes};
+    ghost use Rattle.hub.specs.Replies.{Adds, AddsNothing, MayRun, RefusesEvent, RefusesQuestion, RefusesWait, RefusesWatch, SaysHalted, Sees};
     ghost use Rattle.hub.specs.Tasks.{IsForeign, IsMade, OnTask, RefusesEndOf};
     ghost use Rattle.instances.specs.declared.state.State.TheVariants.{Ready};
     ghost use Rattle.commit.specs.Calls.{CommitsAs, IsUnchanged};
@@ -69,7 +82,11 @@ impl<J: Naming, D: Disk> Kept<J, D> {
         ensures book { result.1.book.history ≡ self.history }
         ensures kept { IsKept (HasRun D.moment D.left_at D.failures D.refusals (IsTrue D.is_honest) J.opening J.left J.envs) J.opening J.passes result.1 result.0 }
     {
-        let Kept { core, desk } = self;
+        let Kept {
+            core,
+            desk,
+            fillers: _,
+        } = self;
         (core, desk)
     }
 
@@ -78,6 +95,7 @@ impl<J: Naming, D: Disk> Kept<J, D> {
         ensures behind { IsBehind J.opening (events self.now.history) self.now.core }
         ensures legal { AreLegalBehind J.opening (events self.now.history) }
         ensures crash { IsTrue D.is_honest → (WasTurned J.opening → ⊥) → CrashLeavesHistory D.files J.opening self.now }
+        ensures rests { IsTrue D.is_honest → J.opening.halted ≡ true → (contents : Contents) → MayLeaveNow (D.files self.now.core.vault.disk) contents → J.left J.opening.moment contents }
         ensures settled { is_halted self.now.core ≡ false → self.now.core.in_doubt ≡ [] }
     {
         self.core.is_kept();
@@ -106,7 +124,8 @@ impl<J: Naming, D: Disk> Kept<J, D> {
         let place = addr;
         match self.core.put_item(place, value) {
             Ok(()) => {
-                board.record_item::<Brand>(&mut self.desk, pass, addr, value);
+                record_item::<J, Brand>(board, &mut self.desk, pass, addr, value);
+                self.fillers.fill_all(self.core.last_commit());
                 Ok(())
             }
             Err(error) => {
@@ -138,7 +157,7 @@ impl<J: Naming, D: Disk> Kept<J, D> {
         let name = tag;
         match self.core.put_tag(name) {
             Ok(()) => {
-                board.record_tag::<Brand>(&mut self.desk, pass, tag);
+                record_tag::<J, Brand>(board, &mut self.desk, pass, tag);
                 Ok(())
             }
             Err(error) => {
@@ -165,6 +184,33 @@ impl<J: Naming, D: Disk> Kept<J, D> {
         let answer = self.core.get(addr);
         board.show(&mut self.desk, pass);
         answer
+    }
+
+    /// The watch that was made, on the item at this address, for whoever may get it. If the item is there, the watch has its
+    /// value.
+    pub fn watch(
+        &mut self,
+        board: &Board<J>,
+        pass: &mut EnvPass<J>,
+        addr: Addr,
+        made: Result<(Watch, Filler), AllocError>,
+    ) -> Result<Watch, CoreError>
+        requires { IfOk made (λ both. both.0 ≡ None) }
+        ensures same { (self.new ≡ self.old) × Shows self.old.history pass.old pass.new }
+        ensures seen { Sees J.opening pass.old pass.new × AddsNothing pass.old pass.new }
+        ensures allowed { OnOk result (EnvironmentMayGet J.opening.graph addr) }
+        ensures fresh { IfOk result (λ watch. watch ≡ None) }
+        ensures refused { IfErr result (RefusesWatch (RefusesGet J.opening.graph addr)) }
+    {
+        board.show(&mut self.desk, pass);
+        let place = addr;
+        match self.core.get(place) {
+            Ok(value) => match watch_at(&mut self.fillers, addr, value, made) {
+                Ok(watch) => Ok(watch),
+                Err(_) => Err(CoreError::Store(VaultError::NoMemory)),
+            },
+            Err(error) => Err(error),
+        }
     }
 
     /// As the core's `read`.
@@ -283,12 +329,14 @@ impl<J: Naming, D: Disk> Kept<J, D> {
             Ok(committed) => committed,
             Err(error) => return Err(TaskError::Refused(error)),
         };
-        board.record_end::<Brand>(&mut self.desk, pass, committed, instance, &said);
+        record_end::<J, Brand>(board, &mut self.desk, pass, committed, instance, &said);
+        self.fillers.fill_all(self.core.last_commit());
         Ok(committed)
     }
 
-    /// Whether an instance runs, or may be claimed. No clause says which it returns.
+    /// Whether an instance runs, or may be claimed.
     pub fn busy(&mut self, board: &Board<J>, pass: &mut WorkPass<J>) -> bool
+        ensures says { (result ≡ true) ↔ IsBusy self.old.core }
         ensures core { IsUnchanged self.old.core self.new.core × (self.new.core.vault ≡ self.old.core.vault) × (self.new.core.in_doubt ≡ self.old.core.in_doubt) }
         ensures history { (self.new.history ≡ self.old.history) × Shows self.old.history pass.old pass.new }
         ensures seen { Sees J.opening pass.old pass.new × AddsNothing pass.old pass.new }
@@ -305,4 +353,22 @@ impl<J: Naming, D: Disk> Kept<J, D> {
             _ => false,
         }
     }
+}
+
+// The watch that was made, on the item at this address, which has this value, or is not there yet.
+fn watch_at(
+    fillers: &mut Fillers,
+    addr: Addr,
+    value: Option<i64>,
+    made: Result<(Watch, Filler), AllocError>,
+) -> Result<Watch, AllocError>
+    requires { IfOk made (λ both. both.0 ≡ None) }
+    ensures { IfOk result (λ watch. watch ≡ None) }
+{
+    let (watch, filler) = made?;
+    match value {
+        Some(value) => filler.fill(value),
+        None => fillers.keep(addr, filler)?,
+    }
+    Ok(watch)
 }

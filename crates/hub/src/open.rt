@@ -1,55 +1,16 @@
 //! The beginning of a hub.
-ghost use Rattle.std.specs.Prelude.{◌≡◌, ◌+◌, ◌<◌, ◌≤◌, [], ℕ, None, vec_capacity, IfOk, IfErr};
-ghost use Rattle.commit.specs.Core.{Core as Seen};
-ghost use Rattle.hub.specs.Known.{Desk as DeskSeen};
-ghost use Rattle.hub.specs.Whole.{IsNamedFor, new_passes};
+ghost use Rattle.std.specs.Prelude.{◌≡◌, IfOk, IfErr};
+ghost use Rattle.hub.specs.Whole.{IsNamedFor};
+ghost use Rattle.passes.specs.Roll.{new_passes};
 
-use crate::rule::{Keeper, Words};
-use crate::{Board, Desk, EnvPass, Hub, Kept, Kind, Naming, Pass, WorkPass};
-use atomic_table::Table;
+use crate::{EnvPass, Hub, Kept, WorkPass};
+use cells::Fillers;
 use commit::Core;
 use disk::Disk;
-use std::alloc::{AllocError, Global};
-use std::marker::{Model, PhantomData};
+use passes::{Blank, Naming, deal};
+use std::alloc::Global;
 use std::sync::{Arc, Mutex};
 use vault::stores_go_on;
-
-/// The two words of a hub that is not open yet, and how many passes it is to have: `envs` for the environment, and
-/// `workers` for workers.
-#[derive(Drop)]
-pub struct Blank {
-    words: Words,
-    keeper: Keeper,
-    envs: u8,
-    workers: u8,
-}
-
-impl Model for Blank {
-    ghost use Rattle.std.specs.Prelude.{◌≡◌, []};
-    ghost use Rattle.hub.specs.Known.{desk, first_desk};
-    ghost use Rattle.hub.specs.Whole.{Blank as Seen};
-
-    ghost Value = { Seen };
-
-    ghost view = { λ b. record { table = b.words.shared.table_id; envs = b.envs; workers = b.workers } };
-
-    ghost invariant = { λ b. (b.words.shared.table_id.words ≡ 2) × (b.keeper.table_id ≡ b.words.shared.table_id) × (b.keeper.me ≡ (desk first_desk, [])) };
-}
-
-impl Blank {
-    /// The words of a hub with `envs` passes for the environment, and `workers` for workers.
-    pub fn new(alloc: Global, envs: u8, workers: u8) -> Result<Blank, AllocError>
-        ensures { IfOk result (λ blank. (blank.envs ≡ envs) × (blank.workers ≡ workers)) }
-    {
-        let (words, keeper) = Table::of_words(alloc, &[0, 0], &())?;
-        Ok(Blank {
-            words,
-            keeper,
-            envs,
-            workers,
-        })
-    }
-}
 
 /// A hub that was not opened, since memory was refused. The core and the blank come back.
 pub struct NotOpened<D: Disk> {
@@ -76,30 +37,6 @@ impl<D: Disk + Drop> Drop for NotOpened<D> {
 /// A hub that was opened, the environment's passes, and the workers'.
 pub type Opened<J, D> = (Hub<J, D>, Vec<EnvPass<J>>, Vec<WorkPass<J>>);
 
-// Makes `count` passes; the first has the number `first`.
-fn deal<J: Naming, K: Kind>(
-    board: &Board<J>,
-    desk: &mut Desk<J>,
-    passes: &mut Vec<Pass<J, K>>,
-    first: u8,
-    count: u8,
-)
-    requires room { (passes.old.items ≡ []) × (count ≤ vec_capacity passes.old) }
-    requires numbers { (number : ℕ) → number < first + count → K.is_numbered J.envs number }
-    requires desk { desk.old ≡ record { book = record { history = []; passes = first }; guest = None } }
-    ensures desk { desk.new ≡ record { book = record { history = []; passes = first + count }; guest = None } }
-    ensures passes { passes.new.items ≡ new_passes first count }
-{
-    for number in 0..count {
-        let badge = board.make(desk);
-        passes.push_reserved(Pass {
-            number: first as usize + number as usize,
-            badge,
-            of: PhantomData,
-        });
-    }
-}
-
 impl<J: Naming, D: Disk> Hub<J, D> {
     /// Opens a hub on a core, with as many passes as the blank says.
     pub fn open(alloc: Global, core: Core<D>, blank: Blank) -> Result<Opened<J, D>, NotOpened<D>>
@@ -109,35 +46,28 @@ impl<J: Naming, D: Disk> Hub<J, D> {
     {
         stores_go_on::<D>();
         core.is_kept();
+        let env_count = blank.envs();
+        let worker_count = blank.workers();
         let mut envs = Vec::new(alloc);
         let mut workers = Vec::new(alloc);
-        if envs.reserve(blank.envs as usize).is_err()
-            || workers.reserve(blank.workers as usize).is_err()
+        if envs.reserve(env_count as usize).is_err()
+            || workers.reserve(worker_count as usize).is_err()
         {
             return Err(NotOpened { core, blank });
         }
         let Ok(graph) = Arc::clone(core.graph()) else {
             return Err(NotOpened { core, blank });
         };
-        let Blank {
-            words,
-            keeper,
-            envs: env_count,
-            workers: worker_count,
-        } = blank;
-        let board = Board {
-            words,
-            of: PhantomData,
-        };
-        let mut desk = Desk {
-            seat: keeper,
-            of: PhantomData,
-        };
+        let (board, mut desk) = blank.open::<J>();
         deal(&board, &mut desk, &mut envs, 0, env_count);
         deal(&board, &mut desk, &mut workers, env_count, worker_count);
         let hub = Hub {
             board,
-            kept: Mutex::new(Kept { core, desk }),
+            kept: Mutex::new(Kept {
+                core,
+                desk,
+                fillers: Fillers::new(alloc),
+            }),
             graph,
             count: env_count as usize + worker_count as usize,
         };

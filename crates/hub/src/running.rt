@@ -6,11 +6,12 @@ ghost use Rattle.steplang.specs.Running.{Nothing};
 ghost use Rattle.hub.specs.Opening.{facts_behind};
 ghost use Rattle.hub.specs.Running.{CameIn, IsAhead, StopsRun};
 
-use crate::{Hub, Naming, WorkPass};
+use crate::{Hub, WorkPass};
 use commit::{Came, CoreError, Outcome};
 use disk::Disk;
 use instances::Task;
 use machine::results_are_meant;
+use passes::Naming;
 use std::alloc::Global;
 use std::sync::Wait;
 use steplang::{Run, Turn};
@@ -22,7 +23,7 @@ impl<J: Naming, D: Disk> Hub<J, D> {
     /// Runs the body of the instance of a task, to its end or to an item that is not there.
     ///
     /// Each read is a `read` by itself, and takes the lock for that alone. The only errors are `NoMemory`, and those of a
-    /// read.
+    /// read that the body asks for.
     pub fn run<'a, R: Wait>(
         &'a self,
         rt: &R,
@@ -33,7 +34,7 @@ impl<J: Naming, D: Disk> Hub<J, D> {
         requires { InstanceIsOf J.opening.graph task.now }
         ensures pass { IsAhead pass.old pass.new }
         ensures came { IfOk result (CameIn J.opening.graph (facts_behind J.opening pass.new.seen) task.now) }
-        ensures refused { IfErr result (StopsRun J.opening.graph) }
+        ensures refused { IfErr result (StopsRun J.opening.graph (facts_behind J.opening pass.new.seen) task.now) }
     {
         let instance = task.inst();
         let checked = self.graph().body(instance.collection).unwrap();
@@ -55,7 +56,7 @@ impl<J: Naming, D: Disk> Hub<J, D> {
         requires nothing_read { run.reads ≡ [] }
         ensures pass { IsAhead pass.old pass.new }
         ensures came { IfOk result (CameIn J.opening.graph (facts_behind J.opening pass.new.seen) run.entry.instance) }
-        ensures refused { IfErr result (StopsRun J.opening.graph) }
+        ensures refused { IfErr result (StopsRun J.opening.graph (facts_behind J.opening pass.new.seen) run.entry.instance) }
     {
         ends_within_limits();
         facts_are_told_apart();

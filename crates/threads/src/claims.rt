@@ -5,7 +5,8 @@ use crate::task::{release, spent};
 use anyhow::{Error, bail};
 use commit::Came;
 use disk::Disk;
-use hub::{EnvPass, Hub, Naming, WorkPass};
+use hub::{EnvPass, Hub, WorkPass};
+use passes::Naming;
 use std::io::Print;
 
 /// One instance becomes ready, with the number 0, runs, waits, and is ready again when its item is put.

@@ -11,6 +11,7 @@ mod stores;
 mod strangers;
 mod task;
 mod twice;
+mod watched;
 mod watches;
 
 use anyhow::Error;
@@ -37,5 +38,7 @@ fn main(rt: HostRuntime) -> Result<(), Error> {
     println!(rt; "two threads put an item each")?;
     twice::try_two(&rt)?;
     println!(rt; "a watch is filled by another thread")?;
-    watches::try_watches(&rt)
+    watches::try_watches(&rt)?;
+    println!(rt; "three watches of [fib: 5] and one of [fib: 6], and two workers")?;
+    watched::try_watched(&rt)
 }

@@ -2,11 +2,13 @@
 use crate::handles::Handles;
 use anyhow::{Error, bail};
 use disk::Disk;
-use hub::{Hub, Naming, TaskError, WorkPass};
+use hub::{Hub, TaskError, WorkPass};
 use instances::Task;
+use passes::Naming;
 use std::sync::Wait;
 
-/// Keeps a task that cannot be spent, and so does not return. A test that gets here has failed, and does not end.
+/// Keeps a task that cannot be spent, and so does not return, since a task cannot be dropped. A row that gets here has failed: it
+/// does not end, and the gate stops it after its time.
 pub(crate) fn keep<R: Wait>(rt: &R, task: Task) {
     for _ in rt.forever() {}
     let _ = task.inst();

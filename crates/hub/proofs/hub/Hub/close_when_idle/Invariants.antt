@@ -1,8 +1,9 @@
 use Rattle.std.proofs.Common.{◌≡◌, ◌<◌, ◌++◌, ℕ, true, List, IfOk, IfErr, IsTrue, OnOk}
 use Rattle.commit.specs.Runs.{NoneRuns}
 use Rattle.hub.specs.Kept.{HasRun}
-use Rattle.hub.specs.Known.{Made}
-use Rattle.hub.specs.Whole.{IsWhole, has_number}
+use Rattle.passes.specs.Known.{Made}
+use Rattle.passes.specs.Roll.{has_number}
+use Rattle.hub.specs.Whole.{IsWhole}
 use Rattle.hub.proofs.hub.Hub.close_when_idle.Given as goal
 
 -- what the last try came to

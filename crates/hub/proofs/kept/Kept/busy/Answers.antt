@@ -1,5 +1,5 @@
 use Rattle.std.proofs.Common.{IsTrue, subst, sym}
-use Rattle.hub.specs.Known.{Desk}
+use Rattle.passes.specs.Known.{Desk}
 use Rattle.hub.specs.Kept.{HasRun, IsKept}
 use Rattle.hub.proofs.Claimed.{moves_claimed}
 use Rattle.hub.proofs.Keeping.{kept_moved}

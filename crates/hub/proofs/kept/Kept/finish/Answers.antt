@@ -3,7 +3,7 @@ use Rattle.terms.specs.declared.event.Event.{Event}
 use Rattle.machine.specs.Machine.{RefusesEnd}
 use Rattle.commit.specs.Core.{is_halted}
 use Rattle.commit.specs.Runs.{Runs}
-use Rattle.hub.specs.Known.{Desk, events}
+use Rattle.passes.specs.Known.{Desk, events}
 use Rattle.commit.specs.Outcome.{end_of}
 use Rattle.hub.specs.Kept.{HasRun, IsKept}
 use Rattle.commit.proofs.Ended.{end_is_told}
@@ -35,7 +35,7 @@ returns-in-Err-clause-seen g c = sees_same _ c.self.inside.desk.book.history _ _
 pub returns-in-Err-clause-refused : goal.returns-in-Err-clause-refused
 returns-in-Err-clause-refused g c =
     let f = c.in-Err.ensures.finishes in
-    (f.end, f.is_end, refuses_there g.J.Naming.opening c.self.inside.desk.book.history c.args.pass.now c.show.new.pass c.self.inside.core (λ _ X. RefusesEnd X) f.end c.in-Err.error c.self.invariant.behind c.show.ensures.pass f.commits.refused)
+    (f.end, f.is_end, refuses_there g.J.Naming.opening c.self.inside.desk.book.history c.args.pass.now c.show.new.pass c.self.inside.core (λ _ X. RefusesEnd X) f.end c.in-Err.error c.self.invariant.behind c.self.invariant.end c.show.ensures.pass f.commits.refused f.commits.full)
 
 pub invariant_of-self-2 : goal.invariant_of-self-2
 invariant_of-self-2 g c =

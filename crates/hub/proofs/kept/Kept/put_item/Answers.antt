@@ -5,11 +5,11 @@ use Rattle.terms.specs.declared.event.Event.{Event}
 use Rattle.terms.specs.declared.event.Event.TheVariants.{EnvItem}
 use Rattle.machine.specs.Machine.{RefusesItem}
 use Rattle.commit.specs.Core.{Core, graph, facts}
-use Rattle.hub.specs.Known.{Desk}
+use Rattle.passes.specs.Known.{Desk, events}
 use Rattle.hub.specs.Kept.{Kept, HasRun, IsKept}
 use Rattle.hub.specs.Replies.{Adds, RefusesEvent}
 use Rattle.hub.proofs.Keeping.{kept_more, kept_same, commits_as}
-use Rattle.hub.proofs.Since.{ran_put}
+use Rattle.hub.proofs.Since.{ran_put, ran_refused_put}
 use Rattle.hub.proofs.Telling.{sees_same, sees_more, adds_one, refuses_there}
 use Rattle.hub.proofs.kept.Kept.put_item.Goals as goal
 
@@ -17,13 +17,13 @@ pub invariant_of-self : goal.invariant_of-self
 invariant_of-self g c =
     subst (λ (d : Desk). IsKept (HasRun g.D.Disk.moment g.D.Disk.left_at g.D.Disk.failures g.D.Disk.refusals (IsTrue g.D.Disk.is_honest) g.J.Naming.opening g.J.Naming.left g.J.Naming.envs) g.J.Naming.opening g.J.Naming.passes d c.put_item.new.self) (sym c.record_item.ensures.desk)
     (kept_more c.facts_are_told_apart.ensures.among c.facts_go_on.ensures.all c.facts_go_on.ensures.environment _ _ _ c.args.pass.now.number _ _ _ _ c.self.invariant c.in-Ok.ensures.commits.takes
-    (ran_put g.D.Disk.moment g.D.Disk.left_at g.D.Disk.failures g.D.Disk.refusals (IsTrue g.D.Disk.is_honest) g.J.Naming.opening g.J.Naming.left g.J.Naming.envs c.args.pass.now.number _ _ c.number.ensures.of_kind))
+    (ran_put g.D.Disk.files g.D.Disk.moment g.D.Disk.left_at g.D.Disk.failures g.D.Disk.refusals (IsTrue g.D.Disk.is_honest) g.J.Naming.opening g.J.Naming.left g.J.Naming.envs c.args.pass.now.number (events c.self.inside.desk.book.history) _ c.self.inside.core c.put_item.new.self c.number.ensures.of_kind c.in-Ok.ensures.commits.takes.working.0 c.self.invariant.ran))
 
 pub invariant_of-self-in-Err : goal.invariant_of-self-in-Err
 invariant_of-self-in-Err g c =
     subst (λ (d : Desk). IsKept (HasRun g.D.Disk.moment g.D.Disk.left_at g.D.Disk.failures g.D.Disk.refusals (IsTrue g.D.Disk.is_honest) g.J.Naming.opening g.J.Naming.left g.J.Naming.envs) g.J.Naming.opening g.J.Naming.passes d c.put_item.new.self) (sym c.show.ensures.desk)
     (kept_same g.D.Disk.failures g.D.Disk.refusals _ _ _ _ _ _ _ c.in-Err.error c.self.invariant c.in-Err.ensures.unchanged.stays c.in-Err.ensures.halts c.in-Err.ensures.commits.doubt
-    (ran_put g.D.Disk.moment g.D.Disk.left_at g.D.Disk.failures g.D.Disk.refusals (IsTrue g.D.Disk.is_honest) g.J.Naming.opening g.J.Naming.left g.J.Naming.envs c.args.pass.now.number _ _ c.number.ensures.of_kind))
+    (ran_refused_put g.D.Disk.files g.D.Disk.moment g.D.Disk.left_at g.D.Disk.failures g.D.Disk.refusals (IsTrue g.D.Disk.is_honest) g.J.Naming.opening g.J.Naming.left g.J.Naming.envs c.args.pass.now.number (events c.self.inside.desk.book.history) c.self.inside.core c.put_item.new.self c.in-Err.error c.number.ensures.of_kind c.in-Err.ensures.halts c.self.invariant.ran))
 
 pub returns-in-Ok-clause-core : goal.returns-in-Ok-clause-core
 returns-in-Ok-clause-core g c =
@@ -51,4 +51,4 @@ returns-in-Ok-clause-ok g c = subst (λ (event : Event). Adds event c.args.pass.
 pub returns-in-Err-clause-refused : goal.returns-in-Err-clause-refused
 returns-in-Err-clause-refused g c =
     subst (λ (event : Event). RefusesEvent g.J.Naming.opening c.show.new.pass (λ graph X. RefusesItem graph X c.args.addr) event c.in-Err.error) (ap (EnvItem c.args.addr) (to_z-of_z w64 c.args.value c.ranges.value))
-    (refuses_there g.J.Naming.opening c.self.inside.desk.book.history c.args.pass.now c.show.new.pass c.self.inside.core (λ graph X. RefusesItem graph X c.args.addr) (EnvItem c.args.addr (to_z w64 (of_z w64 c.args.value))) c.in-Err.error c.self.invariant.behind c.show.ensures.pass c.in-Err.ensures.commits.refused)
+    (refuses_there g.J.Naming.opening c.self.inside.desk.book.history c.args.pass.now c.show.new.pass c.self.inside.core (λ graph X. RefusesItem graph X c.args.addr) (EnvItem c.args.addr (to_z w64 (of_z w64 c.args.value))) c.in-Err.error c.self.invariant.behind c.self.invariant.end c.show.ensures.pass c.in-Err.ensures.commits.refused c.in-Err.ensures.commits.full)

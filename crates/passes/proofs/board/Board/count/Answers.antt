@@ -1,0 +1,10 @@
+use Rattle.std.proofs.Common.{arith, sym, ◌∙◌}
+use Rattle.passes.proofs.Seats.{counts_at, view_of_badge}
+use Rattle.passes.proofs.board.Board.count.Goals as goal
+
+pub load-found-requires : goal.load-found-requires
+load-found-requires g c =
+    let b = c.args.self.now in
+    let p = c.requires in
+    let s = c.into_seat-seat.ensures in
+    (s.0 ∙ p.0 ∙ sym b.is_named, omega (arith, b.two_words), counts_at _ _ _ _ (view_of_badge _ _ s.2 p.1))
