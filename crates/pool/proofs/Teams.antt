@@ -1,23 +1,40 @@
 -- What workers make of a core, and which verdict is right after them.
-use Rattle.std.proofs.Common.{◌≡◌, ◌↔◌, ◌∙◌, ◌+◌, ◌++◌, ℕ, zero, suc, Bool, true, false, List, [], ◌∷◌, length, Option, Some, None, IsSome, option_to_list, Result, Ok, Err, refl, sym, subst, inl, inr, arith, length-append}
+use Rattle.std.proofs.Common.{◌≡◌, ◌↔◌, ◌⊎◌, ◌∙◌, ◌+◌, ◌++◌, ℕ, zero, suc, Bool, true, false, List, [], ◌∷◌, length, Option, Some, None, IfSome, IsSome, if◌then◌else◌, option_to_list, Result, Ok, Err, refl, sym, ap, subst, inl, inr, ⊎_elim, arith, append_assoc, length-append}
+use mathlib.Core.List.{IsPrefix}
+use Rattle.std.specs.List.{AllByRecursion}
 use Rattle.std.proofs.lemmas.Bool.{false≢true}
+use Rattle.std.proofs.lemmas.Grind.{flat_map-append}
 use Rattle.disk.specs.declared.side.Side.{Side}
 use Rattle.disk.specs.File.{File}
 use Rattle.disk.specs.Time.{Contents, LeavesSince}
 use Rattle.terms.specs.declared.event.Event.{Event}
-use Rattle.terms.specs.Sets.{AmongBoth}
-use Rattle.vault.specs.Commits.{GatesStay}
+use Rattle.terms.specs.Facts.{Fact, event_facts}
+use Rattle.terms.specs.Facts as stated
+use Rattle.terms.specs.Sets.{AmongBoth, Facts, with_facts}
+use Rattle.graph.specs.Graph.{Graph}
+use Rattle.machine.specs.Legal.{IsLegal}
+use Rattle.vault.specs.Commits.{GatesRest, GatesStay, RestLeaves}
+use Rattle.commit.specs.Kept.{IsKept}
+use Rattle.commit.proofs.Running.{as_it_was}
 use Rattle.commit.specs.declared.verdict.Verdict.{Verdict}
 use Rattle.commit.specs.declared.verdict.Verdict.TheVariants.{Complete, Blocked, Stopped, Limit, Asked, Halted}
 use Rattle.commit.specs.declared.verdict.RunError.{RunError}
 use Rattle.commit.specs.declared.verdict.RunError.TheVariants.{Spawn, NoMemory, Full}
-use Rattle.commit.specs.Core.{Core, is_halted}
-use Rattle.commit.specs.Runs.{Runs, RunsOn, RunsSince, RunsWithin, TellsVerdict, begun_by, with_allowance}
+use Rattle.commit.specs.Core.{Core, facts, graph, is_halted}
+use Rattle.commit.specs.Runs.{MetFull, Runs, RunsSince, RunsWithin, TellsVerdict, begun_by, records_length, with_allowance}
 use Rattle.commit.proofs.Joined.{since_joined}
-use Rattle.hub.specs.Known.{newcomer}
-use Rattle.hub.specs.Opening.{Opening, begun_with, opening_of}
-use Rattle.hub.specs.Whole.{new_passes}
-use Rattle.pool.specs.Concluded.{Concludes}
+use Rattle.commit.proofs.Lists.{records_joined, with_both}
+use Rattle.commit.proofs.Told.{told_for}
+use Rattle.passes.proofs.Lists.{prefix_further}
+use Rattle.passes.specs.Known.{Made, events}
+use Rattle.passes.specs.Known.{Known, newcomer}
+use Rattle.passes.specs.Opening.{Opening}
+use Rattle.passes.specs.Roll.{new_passes}
+use Rattle.passes.specs.Rule.{IsInHistory}
+use Rattle.hub.specs.Opening.{begun_with, opening_of}
+use Rattle.pool.specs.declared.team.Causes.{Causes}
+use Rattle.pool.specs.Concluded.{Concludes, first_refusal}
+use Rattle.pool.specs.Worked.{OneSawFull, SawFull, WorksOn}
 
 pub as_many : (first count : ℕ) → length (new_passes first count) ≡ count
 as_many first zero = refl
@@ -27,6 +44,21 @@ as_many first (suc count) = length-append (new_passes first count) (newcomer (fi
 pub one_out : {T : Type 0} (taken : Option T) → IsSome taken → length (option_to_list taken) ≡ 1
 one_out (Some value) is = refl
 one_out None is = absurd (false≢true is)
+
+-- one more pass: it saw such an end, or one before it did
+pub one_last : (opening : Opening) (passes : List Known) (last : Known) → SawFull opening last → OneSawFull opening (passes ++ last ∷ [])
+one_last opening [] last saw = inl saw
+one_last opening (known ∷ passes) last saw = inr (one_last opening passes last saw)
+
+pub one_before : (opening : Opening) (passes : List Known) (last : Known) → OneSawFull opening passes → OneSawFull opening (passes ++ last ∷ [])
+one_before opening [] last one = absurd one
+one_before opening (known ∷ passes) last one = ⊎_elim (λ (saw : SawFull opening known). inl saw) (λ (rest : OneSawFull opening passes). inr (one_before opening passes last rest)) one
+
+-- no worker was refused anything
+pub no_refusal : (causes : Causes) (result : Result Verdict RunError) → causes.no_thread ≡ false → causes.no_memory ≡ false → causes.full ≡ false → IfSome (first_refusal causes) (λ error. result ≡ Err error)
+no_refusal causes result thread memory full =
+    let none : first_refusal causes ≡ None = λ i. if thread i then Some Spawn else if memory i then Some NoMemory else if full i then Some Full else None in
+    subst (λ (met : Option RunError). IfSome met (λ error. result ≡ Err error)) (sym none) tt
 
 -- ---- a run since the opening of a hub
 
@@ -51,6 +83,7 @@ module _ {D : Type 0} (files : D → Side → File) (moment : D → ℕ) (left_a
         facts = it.facts;
         environment = it.environment;
         spent = it.spent;
+        end = it.end;
         crashes = λ on. unnamed (moment old.vault.disk) left (left_at old.vault.disk) new.vault.disk _ alike (it.crashes on);
         acknowledged = it.acknowledged;
         gates = λ on has. unnamed (moment old.vault.disk) left (left_at old.vault.disk) new.vault.disk _ alike (it.gates on has);
@@ -59,37 +92,108 @@ module _ {D : Type 0} (files : D → Side → File) (moment : D → ℕ) (left_a
         one_in_doubt = it.one_in_doubt;
       }
 
+  -- nothing was committed
+  pub nothing_done : (honest → RestLeaves files moment left_at) → (honest → GatesRest files moment left_at) → (core : Core D) (full : Bool) → is_halted core ≡ false → core.in_doubt ≡ [] → (honest → IsKept files core) → full ≡ false
+      → WorksOn files moment left_at failures refusals honest core core full
+  nothing_done leaves gates_rest core full working settled kept none =
+      let it = as_it_was files moment left_at failures refusals honest leaves gates_rest core working settled kept in
+      record { ends = it.ends; runs = it.runs; met = λ is. absurd (false≢true (sym none ∙ is)) }
+
+  -- ---- what did not fit
+
+  -- a longer run met it too
+  pub full_further : (g : Graph) (X : Facts) (from : ℕ) (some all : List Event) → IsPrefix some all → MetFull g X from some → MetFull g X from all
+  full_further g X from some all begins met = record {
+    before = met.before;
+    starts = prefix_further met.before some all met.starts begins;
+    end = met.end;
+    is_end = met.is_end;
+    legal = met.legal;
+    too_long = met.too_long;
+  }
+
+  -- what the last part of a run met, the whole run met
+  full_behind : AmongBoth → (old mid : Core D) (first second : List Event) → is_halted mid ≡ false → Runs files moment left_at failures refusals honest old mid first
+      → MetFull (graph mid) (facts mid) mid.vault.journal.end second → MetFull (graph old) (facts old) old.vault.journal.end (first ++ second)
+  full_behind both old mid first second goes runs met =
+      let sets : facts mid ≡ with_facts (facts old) (stated.facts first) = λ i fact. runs.facts fact i in
+      let all : with_facts (facts mid) (stated.facts met.before) ≡ with_facts (facts old) (stated.facts (first ++ met.before)) =
+      ap (λ (Y : Facts). with_facts Y (stated.facts met.before)) sets
+      ∙ sym (ap (λ (list : List Fact). with_facts (facts old) list) (flat_map-append event_facts first met.before) ∙ with_both both (facts old) (stated.facts first) (stated.facts met.before))
+      in
+      record {
+        before = first ++ met.before;
+        starts = (met.starts.0, append_assoc first met.before met.starts.0 ∙ ap (λ (list : List Event). first ++ list) met.starts.1);
+        end = met.end;
+        is_end = met.is_end;
+        legal = subst (λ (at : Graph × Facts). IsLegal at.0 at.1 met.end) (λ i. (runs.graph i, all i)) met.legal;
+        too_long = omega (arith, met.too_long, runs.end goes, records_joined first met.before);
+      }
+
+  -- what one of the passes saw is in the whole history
+  saw_in_history : (opening : Opening) (history : List Made) (passes : List Known) → AllByRecursion (IsInHistory history) passes → OneSawFull opening passes → MetFull opening.graph opening.facts opening.end (events history)
+  saw_in_history opening history [] all one = absurd one
+  saw_in_history opening history (known ∷ passes) all one =
+      ⊎_elim
+      (λ (saw : SawFull opening known). full_further opening.graph opening.facts opening.end known.seen (events history) all.0.seen saw)
+      (λ (rest : OneSawFull opening passes). saw_in_history opening history passes all.1 rest)
+      one
+
+  one_after : (opening : Opening) (before passes : List Known) → OneSawFull opening passes → OneSawFull opening (before ++ passes)
+  one_after opening [] passes one = one
+  one_after opening (known ∷ before) passes one = inr (one_after opening before passes one)
+
+  -- .. and so met in the core that was opened
+  pub met_by_team : (opening : Opening) (old : Core D) (history : List Made) (envs workers : List Known) → opening ≡ opening_of files moment failures refusals old → AllByRecursion (IsInHistory history) (envs ++ workers) → OneSawFull opening workers
+      → MetFull (graph old) (facts old) old.vault.journal.end (events history)
+  met_by_team opening old history envs workers opened all one =
+      subst (λ (o : Opening). MetFull o.graph o.facts o.end (events history)) opened (saw_in_history opening history (envs ++ workers) all (one_after opening envs workers one))
+
   -- ---- verdicts
 
   -- a verdict of one thread that is right after the last part of a run is right after the whole run, for a driver that may do more
-  told_more : (may_be_asked : Bool) (c : Core D) (left count limit before : ℕ) (result : Result Verdict RunError) → left + before ≡ limit → TellsVerdict false false c left count result → TellsVerdict may_be_asked true c limit (before + count) result
-  told_more may c left count limit before (Ok Halted) sum told = told
-  told_more may c left count limit before (Ok (Stopped instance kind)) sum told = told
-  told_more may c left count limit before (Ok Complete) sum told = told
-  told_more may c left count limit before (Ok (Blocked blocked)) sum told = told
-  told_more may c left count limit before (Ok Limit) sum told = (told.0, omega (arith, sum, told.1))
-  told_more may c left count limit before (Ok Asked) sum told = absurd (false≢true told.1)
-  told_more may c left count limit before (Err Spawn) sum told = absurd (false≢true told.1)
-  told_more may c left count limit before (Err NoMemory) sum told = told
-  told_more may c left count limit before (Err Full) sum told = (told.0, told.1, inr refl)
+  told_more : (one other : Type 0) (may_be_asked : Bool) (c : Core D) (left count limit before : ℕ) (result : Result Verdict RunError) → left + before ≡ limit → (one → other)
+      → TellsVerdict one false false c left count result → TellsVerdict other may_be_asked true c limit (before + count) result
+  told_more one other may c left count limit before (Ok Halted) sum so told = told
+  told_more one other may c left count limit before (Ok (Stopped instance kind)) sum so told = told
+  told_more one other may c left count limit before (Ok Complete) sum so told = told
+  told_more one other may c left count limit before (Ok (Blocked blocked)) sum so told = told
+  told_more one other may c left count limit before (Ok Limit) sum so told = (told.0, omega (arith, sum, told.1))
+  told_more one other may c left count limit before (Ok Asked) sum so told = absurd (false≢true told.1)
+  told_more one other may c left count limit before (Err Spawn) sum so told = absurd (false≢true told.1)
+  told_more one other may c left count limit before (Err NoMemory) sum so told = told
+  told_more one other may c left count limit before (Err Full) sum so told = (told.0, so told.1, inr refl)
 
   -- a run of the workers, and then its conclusion, are a run with the limit
-  pub driven : AmongBoth → (honest → GatesStay files moment left_at) → (may_be_asked : Bool) (old first mid new : Core D) (limit : ℕ) (result : Result Verdict RunError) → first ≡ with_allowance old limit → (is_halted mid ≡ false → mid.in_doubt ≡ [])
-      → RunsOn files moment left_at failures refusals honest first mid → Concludes files moment left_at failures refusals honest may_be_asked mid new result
+  pub driven : AmongBoth → (honest → GatesStay files moment left_at) → (may_be_asked : Bool) (causes : Causes) (old first mid new : Core D) (limit : ℕ) (result : Result Verdict RunError) → first ≡ with_allowance old limit → (is_halted mid ≡ false → mid.in_doubt ≡ [])
+      → WorksOn files moment left_at failures refusals honest first mid causes.full → Concludes files moment left_at failures refusals honest may_be_asked causes mid new result
       → RunsWithin files moment left_at failures refusals honest may_be_asked true old new limit result
-  driven both gates_stay may old first mid new limit result allowed settled work (inl told) =
-      let runs = subst (λ (core : Core D). Runs files moment left_at failures refusals honest core mid work.ends) allowed work.runs in
-      record {
+  driven both gates_stay may causes old first mid new limit result allowed settled work concludes = ⊎_elim at_once goes_on concludes.verdict
+    where
+      runs : Runs files moment left_at failures refusals honest (with_allowance old limit) mid work.ends
+      runs = subst (λ (core : Core D). Runs files moment left_at failures refusals honest core mid work.ends) allowed work.runs
+
+      met : causes.full ≡ true → MetFull (graph old) (facts old) old.vault.journal.end work.ends
+      met is = subst (λ (core : Core D). MetFull (graph core) (facts core) core.vault.journal.end work.ends) allowed (work.met is)
+
+      at_once : (new ≡ mid) × ((limit count : ℕ) → mid.allowance + count ≡ limit → TellsVerdict (causes.full ≡ true) may true mid limit count result) → RunsWithin files moment left_at failures refusals honest may true old new limit result
+      at_once told = record {
         ends = work.ends;
         runs = subst (λ (core : Core D). Runs files moment left_at failures refusals honest (with_allowance old limit) core work.ends) (sym told.0) runs;
-        told = subst (λ (core : Core D). TellsVerdict may true core limit (length work.ends) result) (sym told.0) (told.1 limit (length work.ends) runs.spent);
+        told =
+            subst (λ (core : Core D). TellsVerdict (MetFull (graph old) (facts old) old.vault.journal.end work.ends) may true core limit (length work.ends) result) (sym told.0)
+            (told_for (causes.full ≡ true) (MetFull (graph old) (facts old) old.vault.journal.end work.ends) may true mid limit (length work.ends) result (λ _ is. met is) (told.1 limit (length work.ends) runs.spent));
       }
-  driven both gates_stay may old first mid new limit result allowed settled work (inr more) =
-      let goes = more.0 in
-      let rest = more.1 in
-      let runs = subst (λ (core : Core D). Runs files moment left_at failures refusals honest core mid work.ends) allowed work.runs in
-      record {
-        ends = work.ends ++ rest.ends;
-        runs = since_joined files moment left_at failures refusals honest both gates_stay (begun_by files moment failures refusals (with_allowance old limit)) (left_at old.vault.disk) mid new work.ends rest.ends goes (settled goes) runs rest.runs;
-        told = subst (λ (n : ℕ). TellsVerdict may true new limit n result) (sym (length-append work.ends rest.ends)) (told_more may new mid.allowance (length rest.ends) limit (length work.ends) result runs.spent rest.told);
-      }
+
+      goes_on : (is_halted mid ≡ false) × RunsWithin files moment left_at failures refusals honest false false mid new mid.allowance result → RunsWithin files moment left_at failures refusals honest may true old new limit result
+      goes_on more =
+          let goes = more.0 in
+          let rest = more.1 in
+          record {
+            ends = work.ends ++ rest.ends;
+            runs = since_joined files moment left_at failures refusals honest both gates_stay (begun_by files moment failures refusals (with_allowance old limit)) (left_at old.vault.disk) mid new work.ends rest.ends goes (settled goes) runs rest.runs;
+            told =
+                subst (λ (n : ℕ). TellsVerdict (MetFull (graph old) (facts old) old.vault.journal.end (work.ends ++ rest.ends)) may true new limit n result) (sym (length-append work.ends rest.ends))
+                (told_more (MetFull (graph mid) (facts mid) mid.vault.journal.end rest.ends) (MetFull (graph old) (facts old) old.vault.journal.end (work.ends ++ rest.ends)) may new mid.allowance (length rest.ends) limit (length work.ends) result
+                runs.spent (full_behind both (with_allowance old limit) mid work.ends rest.ends goes runs) rest.told);
+          }

@@ -1,14 +1,15 @@
 ghost use Rattle.std.specs.Prelude.{◌≡◌, ◌≤◌, false, true, Ok, IsTrue};
 ghost use Rattle.commit.specs.declared.verdict.Verdict.TheVariants.{Halted};
 ghost use Rattle.commit.specs.Core.{is_halted};
-ghost use Rattle.commit.specs.Runs.{NoneRuns, RunsOn, RunsWithin};
+ghost use Rattle.commit.specs.Runs.{NoneRuns, RunsWithin};
 ghost use Rattle.pool.specs.Concluded.{Concludes};
+ghost use Rattle.pool.specs.Worked.{WorksOn};
 
 use crate::Probe;
 use crate::team::{Causes, run_team};
 use commit::{Core, First, RunError, Status, Verdict, run_with};
 use disk::Disk;
-use hub::Blank;
+use passes::Blank;
 use std::alloc::Global;
 use std::marker::Brand;
 use std::sync::Wait;
@@ -20,8 +21,9 @@ use vault::stores_go_on;
 /// `limit` steps have ended, or the probe answers `Stop`.
 ///
 /// It returns the core with the verdict. An error leaves all that was committed. No instance runs in the core that is
-/// passed in, nor in the one that is returned. If the workers leave something to do although each had its thread and
-/// none was asked to stop or refused memory, the calling thread does it, without asking the probe.
+/// passed in, nor in the one that is returned. A refusal that was met in the run is the verdict before the limit and a stop:
+/// of a thread, of memory, or of a record that does not fit, in this order. If the workers leave something to do although
+/// none of them met a refusal or was asked to stop, the calling thread does it, without asking the probe.
 pub fn drive<D: Disk + Send, P: Probe + Sync, R: Threads + Wait + Sync>(
     rt: &R,
     alloc: Global,
@@ -61,7 +63,7 @@ fn worked<D: Disk + Send, P: Probe + Sync, R: Threads + Wait + Sync>(
     requires idle { NoneRuns core }
     requires working { is_halted core ≡ false }
     requires workers { workers ≤ 64 }
-    ensures runs { RunsOn D.files D.moment D.left_at D.failures D.refusals (IsTrue D.is_honest) core result.0 }
+    ensures works { WorksOn D.files D.moment D.left_at D.failures D.refusals (IsTrue D.is_honest) core result.0 result.1.full }
     ensures idle { NoneRuns result.0 }
     ensures asked { result.1.asked ≡ true → P.may_stop ≡ true }
 {
@@ -82,7 +84,7 @@ fn conclude<D: Disk, P: Probe>(
     requires idle { NoneRuns core }
     requires asked { causes.asked ≡ true → P.may_stop ≡ true }
     ensures idle { NoneRuns result.0 }
-    ensures concludes { Concludes D.files D.moment D.left_at D.failures D.refusals (IsTrue D.is_honest) P.may_stop core result.0 result.1 }
+    ensures concludes { Concludes D.files D.moment D.left_at D.failures D.refusals (IsTrue D.is_honest) P.may_stop causes core result.0 result.1 }
 {
     match core.status() {
         Ok(Status::Stopped(instance, kind)) => (core, Ok(Verdict::Stopped(instance, kind))),
@@ -99,6 +101,9 @@ fn conclude<D: Disk, P: Probe>(
             }
             if causes.no_memory {
                 return (core, Err(RunError::NoMemory));
+            }
+            if causes.full {
+                return (core, Err(RunError::Full));
             }
             let left = core.allowance();
             if left == 0 {

@@ -1,15 +1,17 @@
 //! A hub for workers, from its opening to its close.
-ghost use Rattle.std.specs.Prelude.{◌≡◌, ◌⊎◌, ◌+◌, ◌≤◌, Some, true, false, IfOk, IfErr, IsTrue, vec_capacity, vec_len};
+ghost use Rattle.std.specs.Prelude.{◌≡◌, ◌↔◌, ◌⊎◌, ◌+◌, ◌≤◌, Some, true, false, IfOk, IfErr, IsTrue, vec_capacity, vec_len};
 ghost use Rattle.commit.specs.Core.{is_halted};
-ghost use Rattle.commit.specs.Runs.{NoneRuns, RunsOn};
+ghost use Rattle.commit.specs.Runs.{NoneRuns};
 ghost use Rattle.hub.specs.Whole.{IsNamedFor};
-ghost use Rattle.pool.specs.declared.worker.Met.TheVariants.{Asked as MetAsked};
+ghost use Rattle.pool.specs.declared.worker.Met.TheVariants.{Asked as MetAsked, Full as MetFull, NoMemory};
+ghost use Rattle.pool.specs.Worked.{OneSawFull, WorksOn};
 
 use crate::Probe;
 use crate::worker::{AsProbed, Ended, Met, work};
 use commit::Core;
 use disk::Disk;
-use hub::{Blank, Hub, Naming, WorkPass, hubs_cross};
+use hub::{Hub, WorkPass, hubs_cross};
+use passes::{Blank, Naming};
 use std::alloc::Global;
 use std::marker::PhantomData;
 use std::sync::Wait;
@@ -23,6 +25,8 @@ pub(crate) struct Causes {
     pub(crate) no_thread: bool,
     /// Memory was refused.
     pub(crate) no_memory: bool,
+    /// A record did not fit.
+    pub(crate) full: bool,
     /// The probe answered `Stop`.
     pub(crate) asked: bool,
 }
@@ -30,29 +34,34 @@ pub(crate) struct Causes {
 impl Causes {
     // Memory was refused.
     pub(crate) fn memory() -> Causes
-        ensures { result.asked ≡ false }
+        ensures { (result.no_thread ≡ false) × (result.no_memory ≡ true) × (result.full ≡ false) × (result.asked ≡ false) }
     {
         Causes {
             no_thread: false,
             no_memory: true,
+            full: false,
             asked: false,
         }
     }
 
     // Whether a thread could not be started.
     fn of_start(no_thread: bool) -> Causes
-        ensures { result.asked ≡ false }
+        ensures { (result.no_thread ≡ no_thread) × (result.no_memory ≡ false) × (result.full ≡ false) × (result.asked ≡ false) }
     {
         Causes {
             no_thread,
             no_memory: false,
+            full: false,
             asked: false,
         }
     }
 
     // These causes, and what one more worker met.
     fn also(self, met: Option<Met>) -> Causes
-        ensures { result.asked ≡ true → (self.asked ≡ true) ⊎ (met ≡ Some MetAsked) }
+        ensures thread { result.no_thread ≡ self.no_thread }
+        ensures memory { (result.no_memory ≡ true) ↔ ((self.no_memory ≡ true) ⊎ (met ≡ Some NoMemory)) }
+        ensures full { (result.full ≡ true) ↔ ((self.full ≡ true) ⊎ (met ≡ Some MetFull)) }
+        ensures asked { (result.asked ≡ true) ↔ ((self.asked ≡ true) ⊎ (met ≡ Some MetAsked)) }
     {
         match met {
             Some(Met::Asked) => Causes {
@@ -63,6 +72,7 @@ impl Causes {
                 no_memory: true,
                 ..self
             },
+            Some(Met::Full) => Causes { full: true, ..self },
             Some(Met::Other) | None => self,
         }
     }
@@ -94,7 +104,7 @@ pub(crate) fn run_team<
     requires passes { (blank.envs ≡ 0) × (blank.workers ≡ workers + 1) }
     requires working { is_halted core ≡ false }
     requires idle { NoneRuns core }
-    ensures runs { RunsOn D.files D.moment D.left_at D.failures D.refusals (IsTrue D.is_honest) core result.0 }
+    ensures works { WorksOn D.files D.moment D.left_at D.failures D.refusals (IsTrue D.is_honest) core result.0 result.1.full }
     ensures idle { NoneRuns result.0 }
     ensures asked { result.1.asked ≡ true → P.may_stop ≡ true }
 {
@@ -137,13 +147,14 @@ fn in_threads<
 ) -> Back<J>
     requires room { (vec_len workers + vec_len handles ≤ vec_capacity handles) × (vec_len workers + vec_len handles + vec_len passes + 1 ≤ vec_capacity passes) }
     ensures asked { result.causes.asked ≡ true → P.may_stop ≡ true }
+    ensures full { result.causes.full ≡ true → OneSawFull J.opening result.passes.items }
 {
     scope(
         scope_env(),
         rt,
         move |scope| -> Back<J>
             requires { (vec_len workers + vec_len handles ≤ vec_capacity handles) × (vec_len workers + vec_len handles + vec_len passes + 1 ≤ vec_capacity passes) }
-            ensures { result.causes.asked ≡ true → P.may_stop ≡ true }
+            ensures { (result.causes.asked ≡ true → P.may_stop ≡ true) × (result.causes.full ≡ true → OneSawFull J.opening result.passes.items) }
         {
             let started = start(scope, rt, alloc, hub, probe, boss, workers, handles, passes);
             join_all(rt, started)
@@ -207,6 +218,7 @@ fn start<
 fn join_all<J: Naming, P: Probe, R: Threads>(rt: &R, started: Started<J, P>) -> Back<J>
     requires room { vec_len started.handles + vec_len started.passes ≤ vec_capacity started.passes }
     ensures asked { result.causes.asked ≡ true → P.may_stop ≡ true }
+    ensures full { result.causes.full ≡ true → OneSawFull J.opening result.passes.items }
 {
     let Started {
         mut handles,

@@ -1,13 +1,18 @@
 //! What one worker does.
-ghost use Rattle.std.specs.Prelude.{◌≡◌, Some, true};
+ghost use Rattle.std.specs.Prelude.{◌≡◌, IsErrOf, None, Some, true};
 ghost use Rattle.graph.specs.Fits.{InstanceIsOf};
-ghost use Rattle.pool.specs.declared.worker.Met.TheVariants.{Asked as MetAsked};
+ghost use Rattle.vault.specs.declared.error.VaultError.TheVariants.{Full};
+ghost use Rattle.commit.specs.declared.error.CoreError.TheVariants.{Store};
+ghost use Rattle.hub.specs.Tasks.{OnTask};
+ghost use Rattle.pool.specs.declared.worker.Met.TheVariants.{Asked as MetAsked, Full as MetFull};
+ghost use Rattle.pool.specs.Worked.{Justifies, met_after, met_by};
 
 use crate::{Answer, Probe};
 use commit::{Came, CoreError};
 use disk::Disk;
-use hub::{Hub, Naming, TaskError, WorkPass};
+use hub::{Hub, TaskError, WorkPass};
 use instances::Task;
+use passes::Naming;
 use std::alloc::Global;
 use std::hint::spin_loop;
 use std::marker::PhantomData;
@@ -22,7 +27,9 @@ pub(crate) enum Met {
     Asked,
     /// Memory was refused.
     NoMemory,
-    /// Something that the core shows by itself: it is halted or stopped, or a record does not fit.
+    /// A record did not fit.
+    Full,
+    /// Something that the core shows by itself: it is halted, or a fault stopped it.
     Other,
 }
 
@@ -33,14 +40,15 @@ pub(crate) struct Ended<J: Naming> {
     pub(crate) met: Option<Met>,
 }
 
-/// What a thread promises of its worker: it met `Asked` only if its probe may answer `Stop`.
+/// What a thread promises of its worker: it met `Asked` only if its probe may answer `Stop`, and `Full` only if an end was so
+/// refused in what its pass has seen.
 #[derive(Drop)]
 pub(crate) struct AsProbed<P: Probe> {
     pub(crate) of: PhantomData<P>,
 }
 
 impl<J: Naming, P: Probe> Promise<Ended<J>> for AsProbed<P> {
-    ghost kept_by = { λ _ ended. ended.met ≡ Some MetAsked → P.may_stop ≡ true };
+    ghost kept_by = { λ _ ended. (ended.met ≡ Some MetAsked → P.may_stop ≡ true) × Justifies J.opening ended.met ended.pass };
 }
 
 // How often a worker that found nothing to do looks for a new commit, before it looks for something to do again.
@@ -57,7 +65,8 @@ pub(crate) fn work<J: Naming, D: Disk, P: Probe, R: Wait>(
     mut pass: WorkPass<J>,
     probe: &P,
 ) -> Ended<J>
-    ensures { result.met ≡ Some MetAsked → P.may_stop ≡ true }
+    ensures asked { result.met ≡ Some MetAsked → P.may_stop ≡ true }
+    ensures full { Justifies J.opening result.met result.pass }
 {
     let met = run_all(rt, alloc, hub, &mut pass, probe);
     if met.is_some() {
@@ -74,7 +83,8 @@ fn run_all<J: Naming, D: Disk, P: Probe, R: Wait>(
     pass: &mut WorkPass<J>,
     probe: &P,
 ) -> Option<Met>
-    ensures { result ≡ Some MetAsked → P.may_stop ≡ true }
+    ensures asked { result ≡ Some MetAsked → P.may_stop ≡ true }
+    ensures full { Justifies J.opening result pass.new }
 {
     for _ in rt.forever() {
         if hub.stop_asked(pass) {
@@ -124,7 +134,8 @@ fn run_task<J: Naming, D: Disk, P: Probe, R: Wait>(
     task: Task,
 ) -> Option<Met>
     requires { InstanceIsOf J.opening.graph task }
-    ensures { result ≡ Some MetAsked → P.may_stop ≡ true }
+    ensures asked { result ≡ Some MetAsked → P.may_stop ≡ true }
+    ensures full { Justifies J.opening result pass.new }
 {
     if probe.enter(task.inst()) == Answer::Stop {
         // Before the task is given back, so that no worker runs it meanwhile.
@@ -144,7 +155,9 @@ fn run_task<J: Naming, D: Disk, P: Probe, R: Wait>(
 
 // What ends the worker, given the answer of a call that spent its task; or nothing.
 fn settled<T: Drop, R: Wait>(rt: &R, answer: Result<T, TaskError>) -> Option<Met>
-    ensures { result ≡ Some MetAsked → ⊥ }
+    ensures met { result ≡ met_after answer }
+    ensures asked { result ≡ Some MetAsked → ⊥ }
+    ensures full { result ≡ Some MetFull → OnTask answer (λ _. ⊥) (λ answer. IsErrOf answer (Store Full)) }
 {
     match answer {
         Ok(done) => {
@@ -159,7 +172,7 @@ fn settled<T: Drop, R: Wait>(rt: &R, answer: Result<T, TaskError>) -> Option<Met
 // No task of this hub is foreign to it, though no clause says so: this is never called. It does not return, since a
 // task cannot be dropped.
 fn stranded<R: Wait>(rt: &R, task: Task) -> Option<Met>
-    ensures { result ≡ Some MetAsked → ⊥ }
+    ensures { result ≡ None }
 {
     for _ in rt.forever() {}
     let _ = task.inst();
@@ -167,9 +180,12 @@ fn stranded<R: Wait>(rt: &R, task: Task) -> Option<Met>
 }
 
 fn met_of(error: CoreError) -> Met
-    ensures { result ≡ MetAsked → ⊥ }
+    ensures met { result ≡ met_by error }
+    ensures asked { result ≡ MetAsked → ⊥ }
+    ensures full { result ≡ MetFull → error ≡ Store Full }
 {
     match error {
+        CoreError::Store(VaultError::Full) => Met::Full,
         CoreError::Store(VaultError::NoMemory) => Met::NoMemory,
         _ => Met::Other,
     }

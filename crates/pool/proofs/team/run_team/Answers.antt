@@ -1,38 +1,38 @@
 use Rattle.std.proofs.Common.{◌≡◌, ◌∙◌, ◌+◌, ◌≤◌, ap, sym, subst, false, length, vec_capacity, vec_len, IsTrue, arith}
 use Rattle.commit.specs.Core.{Core}
-use Rattle.commit.specs.Runs.{RunsOn}
-use Rattle.commit.proofs.Running.{as_it_was}
-use Rattle.hub.specs.Known.{events}
-use Rattle.hub.specs.Opening.{Opening}
-use Rattle.pool.proofs.Teams.{as_many, one_out, runs_of_team}
+use Rattle.passes.specs.Known.{events}
+use Rattle.passes.specs.Opening.{Opening}
+use Rattle.pool.specs.Worked.{WorksOn}
+use Rattle.pool.proofs.Teams.{as_many, met_by_team, nothing_done, one_out, runs_of_team}
 use Rattle.pool.proofs.team.run_team.Goals as goal
 
-pub returns-in-Err-clause-runs : goal.returns-in-Err-clause-runs
-returns-in-Err-clause-runs g c =
-    subst (λ (back : Core g.row.D.Denot). RunsOn g.D.Disk.files g.D.Disk.moment g.D.Disk.left_at g.D.Disk.failures g.D.Disk.refusals (IsTrue g.D.Disk.is_honest) c.args.core back) (sym (c.into_core.ensures ∙ c.in-Err.ensures.err.0))
-    (as_it_was g.D.Disk.files g.D.Disk.moment g.D.Disk.left_at g.D.Disk.failures g.D.Disk.refusals (IsTrue g.D.Disk.is_honest) c.stores_go_on.ensures.rest_leaves c.stores_go_on.ensures.gates_rest c.args.core c.requires.working
-    (c.is_kept.ensures.settled c.requires.working) c.is_kept.ensures.kept)
+pub returns-in-Err-clause-works : goal.returns-in-Err-clause-works
+returns-in-Err-clause-works g c =
+    subst (λ (back : Core g.row.D.Denot). WorksOn g.D.Disk.files g.D.Disk.moment g.D.Disk.left_at g.D.Disk.failures g.D.Disk.refusals (IsTrue g.D.Disk.is_honest) c.args.core back c.memory-in-Err.result.full) (sym (c.into_core.ensures ∙ c.in-Err.ensures.err.0))
+    (nothing_done g.D.Disk.files g.D.Disk.moment g.D.Disk.left_at g.D.Disk.failures g.D.Disk.refusals (IsTrue g.D.Disk.is_honest) c.stores_go_on.ensures.rest_leaves c.stores_go_on.ensures.gates_rest c.args.core c.memory-in-Err.result.full c.requires.working
+    (c.is_kept.ensures.settled c.requires.working) c.is_kept.ensures.kept c.memory-in-Err.ensures.2)
 
-pub returns-clause-runs : goal.returns-clause-runs
-returns-clause-runs g c =
+pub returns-clause-works : goal.returns-clause-works
+returns-clause-works g c =
     let whole = c.close_when_idle-core.ensures.whole in
     let none : g.J.Naming.envs ≡ 0 = c.requires.named.envs_are ∙ c.requires.passes.0 in
     let working : g.J.Naming.opening.halted ≡ false = ap (λ (o : Opening). o.halted) c.requires.named.opening_is ∙ c.requires.working in
     record {
       ends = events whole.0;
       runs = runs_of_team g.D.Disk.files g.D.Disk.moment g.D.Disk.left_at g.D.Disk.failures g.D.Disk.refusals (IsTrue g.D.Disk.is_honest) g.J.Naming.opening g.J.Naming.left c.args.core c.close_when_idle-core.result (events whole.0)
-          c.requires.named.opening_is c.requires.named.left_is (whole.1.ran none working);
+          c.requires.named.opening_is c.requires.named.left_is (whole.1.ran.run none working);
+      met = λ full. met_by_team g.D.Disk.files g.D.Disk.moment g.D.Disk.left_at g.D.Disk.failures g.D.Disk.refusals (IsTrue g.D.Disk.is_honest) g.J.Naming.opening c.args.core whole.0 _ _ c.requires.named.opening_is whole.1.each (c.in_threads-back.ensures.full full);
     }
 
-pub returns-in_default-clause-runs : goal.returns-in_default-clause-runs
-returns-in_default-clause-runs g c =
-    as_it_was g.D.Disk.files g.D.Disk.moment g.D.Disk.left_at g.D.Disk.failures g.D.Disk.refusals (IsTrue g.D.Disk.is_honest) c.stores_go_on.ensures.rest_leaves c.stores_go_on.ensures.gates_rest c.args.core c.requires.working
-    (c.is_kept.ensures.settled c.requires.working) c.is_kept.ensures.kept
+pub returns-in_default-clause-works : goal.returns-in_default-clause-works
+returns-in_default-clause-works g c =
+    nothing_done g.D.Disk.files g.D.Disk.moment g.D.Disk.left_at g.D.Disk.failures g.D.Disk.refusals (IsTrue g.D.Disk.is_honest) c.stores_go_on.ensures.rest_leaves c.stores_go_on.ensures.gates_rest c.args.core c.memory.result.full c.requires.working
+    (c.is_kept.ensures.settled c.requires.working) c.is_kept.ensures.kept c.memory.ensures.2
 
-pub returns-in_default-reserve-clause-runs : goal.returns-in_default-reserve-clause-runs
-returns-in_default-reserve-clause-runs g c =
-    as_it_was g.D.Disk.files g.D.Disk.moment g.D.Disk.left_at g.D.Disk.failures g.D.Disk.refusals (IsTrue g.D.Disk.is_honest) c.stores_go_on.ensures.rest_leaves c.stores_go_on.ensures.gates_rest c.args.core c.requires.working
-    (c.is_kept.ensures.settled c.requires.working) c.is_kept.ensures.kept
+pub returns-in_default-reserve-clause-works : goal.returns-in_default-reserve-clause-works
+returns-in_default-reserve-clause-works g c =
+    nothing_done g.D.Disk.files g.D.Disk.moment g.D.Disk.left_at g.D.Disk.failures g.D.Disk.refusals (IsTrue g.D.Disk.is_honest) c.stores_go_on.ensures.rest_leaves c.stores_go_on.ensures.gates_rest c.args.core c.memory-in_default-reserve.result.full c.requires.working
+    (c.is_kept.ensures.settled c.requires.working) c.is_kept.ensures.kept c.memory-in_default-reserve.ensures.2
 
 pub unwrap-boss-requires : goal.unwrap-boss-requires
 unwrap-boss-requires g c =
