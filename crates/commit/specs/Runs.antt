@@ -157,14 +157,15 @@ TellsVerdict full may_be_asked may_spawn c limit count (Ok Asked) = IsAt c statu
 abbrev pub EndsEarly : {D : Type 0} → Core D → CoreError → Type 0
 EndsEarly c error = is_halted c ≡ false → (error ≡ Store vault.NoMemory) ⊎ ((error ≡ Store vault.Full) × IsFull c × (0 < c.allowance))
 
--- A run with a limit: a core that is halted stays as it is, and `Halted` is returned; another may commit `limit` ends; the result says how it ended.
+-- A run with a limit: a core that is halted stays as it is, and `Halted` is returned; another may commit `limit` ends; the result says how it ended. Where
+-- `Full` is returned, an end was so refused in the run; on one thread it is refused in the core that is returned, too.
 abbrev pub with_allowance : {D : Type 0} → Core D → ℕ → Core D
 with_allowance c count = record c { allowance = count }
 
 pub record RunsWithin {D : Type 0} (files : D → Side → File) (moment : D → ℕ) (left_at : D → ℕ → Contents → Type 0) (failures refusals : D → ℕ) (honest : Type 0) (may_be_asked may_spawn : Bool) (old new : Core D) (limit : ℕ) (result : Result Verdict RunError) : Type 0 where
   pub ends : List Event
   pub runs : Runs files moment left_at failures refusals honest (with_allowance old limit) new ends
-  pub told : TellsVerdict (MetFull (graph old) (facts old) old.vault.journal.end ends) may_be_asked may_spawn new limit (length ends) result
+  pub told : TellsVerdict (MetFull (graph old) (facts old) old.vault.journal.end ends × (may_spawn ≡ false → IsFull new)) may_be_asked may_spawn new limit (length ends) result
 
 -- the same, for some list of ends
 pub record RunsOn {D : Type 0} (files : D → Side → File) (moment : D → ℕ) (left_at : D → ℕ → Contents → Type 0) (failures refusals : D → ℕ) (honest : Type 0) (old new : Core D) : Type 0 where

@@ -1,5 +1,5 @@
 -- What workers make of a core, and which verdict is right after them.
-use Rattle.std.proofs.Common.{◌≡◌, ◌↔◌, ◌⊎◌, ◌∙◌, ◌+◌, ◌++◌, ℕ, zero, suc, Bool, true, false, List, [], ◌∷◌, length, Option, Some, None, IfSome, IsSome, if◌then◌else◌, option_to_list, Result, Ok, Err, refl, sym, ap, subst, inl, inr, ⊎_elim, arith, append_assoc, length-append}
+use Rattle.std.proofs.Common.{◌≡◌, ◌↔◌, ◌⊎◌, ◌∙◌, ◌+◌, ◌++◌, ℕ, zero, suc, Bool, true, false, true≢false, List, [], ◌∷◌, length, Option, Some, None, IfSome, IsSome, if◌then◌else◌, option_to_list, Result, Ok, Err, refl, sym, ap, subst, inl, inr, ⊎_elim, arith, append_assoc, length-append}
 use mathlib.Core.List.{IsPrefix}
 use Rattle.std.specs.List.{AllByRecursion}
 use Rattle.std.proofs.lemmas.Bool.{false≢true}
@@ -21,7 +21,7 @@ use Rattle.commit.specs.declared.verdict.Verdict.TheVariants.{Complete, Blocked,
 use Rattle.commit.specs.declared.verdict.RunError.{RunError}
 use Rattle.commit.specs.declared.verdict.RunError.TheVariants.{Spawn, NoMemory, Full}
 use Rattle.commit.specs.Core.{Core, facts, graph, is_halted}
-use Rattle.commit.specs.Runs.{MetFull, Runs, RunsSince, RunsWithin, TellsVerdict, begun_by, records_length, with_allowance}
+use Rattle.commit.specs.Runs.{IsFull, MetFull, Runs, RunsSince, RunsWithin, TellsVerdict, begun_by, records_length, with_allowance}
 use Rattle.commit.proofs.Joined.{since_joined}
 use Rattle.commit.proofs.Lists.{records_joined, with_both}
 use Rattle.commit.proofs.Told.{told_for}
@@ -181,8 +181,9 @@ module _ {D : Type 0} (files : D → Side → File) (moment : D → ℕ) (left_a
         ends = work.ends;
         runs = subst (λ (core : Core D). Runs files moment left_at failures refusals honest (with_allowance old limit) core work.ends) (sym told.0) runs;
         told =
-            subst (λ (core : Core D). TellsVerdict (MetFull (graph old) (facts old) old.vault.journal.end work.ends) may true core limit (length work.ends) result) (sym told.0)
-            (told_for (causes.full ≡ true) (MetFull (graph old) (facts old) old.vault.journal.end work.ends) may true mid limit (length work.ends) result (λ _ is. met is) (told.1 limit (length work.ends) runs.spent));
+            subst (λ (core : Core D). TellsVerdict (MetFull (graph old) (facts old) old.vault.journal.end work.ends × (true ≡ false → IsFull core)) may true core limit (length work.ends) result) (sym told.0)
+            (told_for (causes.full ≡ true) (MetFull (graph old) (facts old) old.vault.journal.end work.ends × (true ≡ false → IsFull mid)) may true mid limit (length work.ends) result (λ _ is. (met is, λ one. absurd (true≢false one)))
+            (told.1 limit (length work.ends) runs.spent));
       }
 
       goes_on : (is_halted mid ≡ false) × RunsWithin files moment left_at failures refusals honest false false mid new mid.allowance result → RunsWithin files moment left_at failures refusals honest may true old new limit result
@@ -193,7 +194,8 @@ module _ {D : Type 0} (files : D → Side → File) (moment : D → ℕ) (left_a
             ends = work.ends ++ rest.ends;
             runs = since_joined files moment left_at failures refusals honest both gates_stay (begun_by files moment failures refusals (with_allowance old limit)) (left_at old.vault.disk) mid new work.ends rest.ends goes (settled goes) runs rest.runs;
             told =
-                subst (λ (n : ℕ). TellsVerdict (MetFull (graph old) (facts old) old.vault.journal.end (work.ends ++ rest.ends)) may true new limit n result) (sym (length-append work.ends rest.ends))
-                (told_more (MetFull (graph mid) (facts mid) mid.vault.journal.end rest.ends) (MetFull (graph old) (facts old) old.vault.journal.end (work.ends ++ rest.ends)) may new mid.allowance (length rest.ends) limit (length work.ends) result
-                runs.spent (full_behind both (with_allowance old limit) mid work.ends rest.ends goes runs) rest.told);
+                subst (λ (n : ℕ). TellsVerdict (MetFull (graph old) (facts old) old.vault.journal.end (work.ends ++ rest.ends) × (true ≡ false → IsFull new)) may true new limit n result) (sym (length-append work.ends rest.ends))
+                (told_more (MetFull (graph mid) (facts mid) mid.vault.journal.end rest.ends × (false ≡ false → IsFull new)) (MetFull (graph old) (facts old) old.vault.journal.end (work.ends ++ rest.ends) × (true ≡ false → IsFull new)) may new mid.allowance
+                (length rest.ends) limit (length work.ends) result runs.spent
+                (λ full. (full_behind both (with_allowance old limit) mid work.ends rest.ends goes runs full.0, λ one. absurd (true≢false one))) rest.told);
           }

@@ -22,6 +22,6 @@ returns-in-Ok-clause-runs g c _ =
       ends = it.ends;
       runs = runs;
       told =
-          told_for (IsFull new) (MetFull (graph old) (facts old) begun_at it.ends) false false new c.args.limit (length it.ends) c.verdict.result
-          (λ working full. met_full (graph old) (facts old) begun_at new it.ends runs.graph runs.facts (runs.end working) full) (c.verdict.ensures c.args.limit (length it.ends) runs.spent);
+          told_for (IsFull new) (MetFull (graph old) (facts old) begun_at it.ends × (false ≡ false → IsFull new)) false false new c.args.limit (length it.ends) c.verdict.result
+          (λ working full. (met_full (graph old) (facts old) begun_at new it.ends runs.graph runs.facts (runs.end working) full, λ _. full)) (c.verdict.ensures c.args.limit (length it.ends) runs.spent);
     }
