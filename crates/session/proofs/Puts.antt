@@ -1,5 +1,5 @@
 -- The replies to a put, and to a get that is refused.
-use Rattle.std.proofs.Common.{◌≡◌, ◌≢◌, ◌∙◌, ◌↔◌, ap, refl, sym, inl, inr, ℕ, Bool, true, false, List, [], ◌∷◌, Option, Some, None, Result, Ok, Err, OnOk, OnErr, IfErr}
+use Rattle.std.proofs.Common.{◌≡◌, ◌≢◌, ◌∙◌, ◌↔◌, ap, refl, sym, inl, inr, ℕ, Bool, true, false, List, [], ◌∷◌, Option, Some, None, Result, Ok, Err, OnOk, OnErr, IfErr, IsErrOf}
 use Rattle.std.proofs.lemmas.Bool.{false≢true}
 use Rattle.disk.specs.declared.side.Side.{Side}
 use Rattle.disk.specs.File.{File}
@@ -19,13 +19,13 @@ use Rattle.commit.specs.Kept.{IsKept}
 use Rattle.commit.specs.Runs.{NoneRuns}
 use Rattle.commit.proofs.Idle.{goes_on}
 use Rattle.script.specs.declared.command.Command.{Command}
+use Rattle.script.specs.declared.command.Command.TheVariants.{Put, Tag, Get, Run}
 use Rattle.session.specs.declared.ending.Stop.{Stop}
 use Rattle.session.specs.declared.ending.Stop.TheVariants as stop
-use Rattle.session.specs.declared.reply.Reply.{Reply}
 use Rattle.session.specs.declared.reply.Reply.TheVariants as replied
 use Rattle.session.specs.Answers.{RepliesPut, put_reply, reply_of}
 use Rattle.session.specs.Session.{stop_of}
-use Rattle.session.specs.Went.{GoesOn, HasCause, HasNoRoom}
+use Rattle.session.specs.Went.{GoesOn, HasCause, HasNoRoom, Puts}
 use Rattle.session.proofs.Coming.{committed, refused}
 
 -- ---- refusals
@@ -39,32 +39,6 @@ refused_reply c why event (Store store.Halted) is = refl
 refused_reply c why event (Store (store.Damaged side place)) is = absurd is
 refused_reply c why event (Store store.NotAStore) is = absurd is
 refused_reply c why event (Store store.Exists) is = absurd is
-
--- ---- causes
-
--- a reply that is not `Halted`, `Device` or `Full` needs no cause
-pub other_cause : {D : Type 0} (failures : D → ℕ) (old new : Core D) (command : Command) (reply : Reply) → reply ≢ replied.Halted → reply ≢ replied.Device → reply ≢ replied.Full → HasCause failures old new command reply
-other_cause failures old new command reply not_halted not_device not_full = record { halted = λ is. absurd (not_halted is); device = λ is. absurd (not_device is); full = λ is. absurd (not_full is) }
-
-pub halted_cause : {D : Type 0} (failures : D → ℕ) (old new : Core D) (command : Command) → is_halted new ≡ true → HasCause failures old new command replied.Halted
-halted_cause failures old new command halted = record { halted = λ _. halted; device = λ is. absurd (cc); full = λ is. absurd (cc) }
-
-refused_cause : {D T : Type 0} (failures refusals : D → ℕ) (old new : Core D) (why : Refusal → Type 0) (event : Event) (command : Command) → (IsTooLong old event → HasNoRoom old new command) → (error : CoreError) → Refuses old why event error
-    → Halts {T = T} failures refusals old new (Err error) → HasCause failures old new command (reply_of error)
-refused_cause failures refusals old new why event command room (Refused cause) is halts = other_cause failures old new command (replied.Refused cause) (λ same. cc) (λ same. cc) (λ same. cc)
-refused_cause failures refusals old new why event command room (Store store.Full) is halts = record { halted = λ same. absurd (cc); device = λ same. absurd (cc); full = λ _. room is.2 }
-refused_cause failures refusals old new why event command room (Store store.Device) is halts = record { halted = λ same. absurd (cc); device = λ _. halts.disk.device.0 refl; full = λ same. absurd (cc) }
-refused_cause failures refusals old new why event command room (Store store.NoMemory) is halts = other_cause failures old new command replied.NoMemory (λ same. cc) (λ same. cc) (λ same. cc)
-refused_cause failures refusals old new why event command room (Store store.Halted) is halts = halted_cause failures old new command (halts.halts.1 (inl is))
-refused_cause failures refusals old new why event command room (Store (store.Damaged side place)) is halts = absurd is
-refused_cause failures refusals old new why event command room (Store store.NotAStore) is halts = absurd is
-refused_cause failures refusals old new why event command room (Store store.Exists) is halts = absurd is
-
--- the cause of a reply to a put
-pub put_cause : {D T : Type 0} (failures refusals : D → ℕ) (old new : Core D) (why : Refusal → Type 0) (event : Event) (command : Command) → (IsTooLong old event → HasNoRoom old new command) → (result : Result T CoreError)
-    → IfErr result (Refuses old why event) → Halts failures refusals old new result → HasCause failures old new command (put_reply result)
-put_cause failures refusals old new why event command room (Ok done) refuses halts = other_cause failures old new command replied.Done (λ same. cc) (λ same. cc) (λ same. cc)
-put_cause failures refusals old new why event command room (Err error) refuses halts = refused_cause failures refusals old new why event command room error refuses halts
 
 -- ---- puts
 
@@ -103,6 +77,58 @@ pub put_halt : {D T : Type 0} (failures refusals : D → ℕ) (old new : Core D)
     → Halts failures refusals old new result → (put_reply result ≡ replied.Halted) ↔ (is_halted old ≡ true)
 put_halt failures refusals old new why event (Ok done) takes refuses halts = (λ told. absurd (cc), λ halted. absurd (false≢true (sym takes.working.0 ∙ halted)))
 put_halt failures refusals old new why event (Err error) takes refuses halts = (halted_before old why event error refuses, λ halted. ap put_reply (halts.halted.1 halted))
+
+-- ---- causes
+
+-- what puts something is no run
+no_run : (command : Command) → Puts command → command ≡ Run → ⊥
+no_run (Put address v) puts is = cc
+no_run (Tag name) puts is = cc
+no_run (Get address) puts is = absurd puts
+no_run Run puts is = absurd puts
+
+-- only the error of a device is replied to so
+device_alone : (error : CoreError) → reply_of error ≡ replied.Device → error ≡ Store store.Device
+device_alone (Refused cause) is = absurd (cc)
+device_alone (Store store.Full) is = absurd (cc)
+device_alone (Store store.Device) is = refl
+device_alone (Store store.NoMemory) is = absurd (cc)
+device_alone (Store store.Halted) is = absurd (cc)
+device_alone (Store (store.Damaged side place)) is = absurd (cc)
+device_alone (Store store.NotAStore) is = absurd (cc)
+device_alone (Store store.Exists) is = absurd (cc)
+
+-- the reply to a put is `Device` exactly if its result is
+put_device : {T : Type 0} (result : Result T CoreError) → put_reply result ≡ replied.Device → IsErrOf result (Store store.Device)
+put_device (Ok done) is = absurd (cc)
+put_device (Err error) is = ap (λ (cause : CoreError). Err cause) (device_alone error is)
+
+-- an event that is refused as too long is replied to as full
+too_long : {D : Type 0} (old : Core D) (why : Refusal → Type 0) (event : Event) (error : CoreError) → Refuses old why event error → reply_of error ≡ replied.Full → IsTooLong old event
+too_long old why event (Refused cause) refuses is = absurd (cc)
+too_long old why event (Store store.Full) refuses is = refuses.2
+too_long old why event (Store store.Device) refuses is = absurd (cc)
+too_long old why event (Store store.NoMemory) refuses is = absurd (cc)
+too_long old why event (Store store.Halted) refuses is = absurd (cc)
+too_long old why event (Store (store.Damaged side place)) refuses is = absurd refuses
+too_long old why event (Store store.NotAStore) refuses is = absurd refuses
+too_long old why event (Store store.Exists) refuses is = absurd refuses
+
+put_too_long : {D T : Type 0} (old : Core D) (why : Refusal → Type 0) (event : Event) (result : Result T CoreError) → IfErr result (Refuses old why event) → put_reply result ≡ replied.Full → IsTooLong old event
+put_too_long old why event (Ok done) refuses is = absurd (cc)
+put_too_long old why event (Err error) refuses is = too_long old why event error refuses is
+
+-- the cause of a reply to a put, whatever events came
+pub put_cause : {D T : Type 0} (failures refusals : D → ℕ) (old new : Core D) (why : Refusal → Type 0) (event : Event) (command : Command) (came : List Event) → Puts command → (IsTooLong old event → HasNoRoom old command came) → (result : Result T CoreError)
+    → OnOk result (Takes old new event) → IfErr result (Refuses old why event) → Halts failures refusals old new result → HasCause failures old new command came (put_reply result)
+put_cause failures refusals old new why event command came puts room result takes refuses halts = record {
+  halted = λ is. halts.halts.1 (inl ((put_halt failures refusals old new why event result takes refuses halts).0 is));
+  halts = λ run. absurd (no_run command puts run);
+  device = (λ is. (puts, halts.disk.device.0 (put_device result is)), λ both. ap put_reply (halts.disk.device.1 both.1));
+  full = λ is. room (put_too_long old why event result refuses is);
+}
+
+-- ---- what stays
 
 module _ {D T : Type 0} (failures refusals : D → ℕ) (old new : Core D) (error : CoreError) (halts : Halts {T = T} failures refusals old new (Err error)) where
   error_is : {cause : CoreError} → ◌≡◌ {A = Result T CoreError} (Err error) (Err cause) → error ≡ cause

@@ -8,9 +8,12 @@ use Rattle.std.specs.List.Sorted.{IsPermutation, IsSortedBy}
 use Rattle.std.specs.Ordering.{is_lt}
 use Rattle.terms.specs.declared.name.Addr.{Addr}
 use Rattle.terms.specs.declared.name.Inst.{Inst}
+use Rattle.terms.specs.declared.event.Event.{Event}
 use Rattle.terms.specs.Facts.{done}
 use Rattle.terms.specs.Name.{inst_cmp}
+use Rattle.terms.specs.Sets.{Facts}
 use Rattle.graph.specs.Fits.{IsPrescribed}
+use Rattle.graph.specs.Graph.{Graph}
 use Rattle.instances.specs.declared.state.State.{State}
 use Rattle.instances.specs.declared.state.State.TheVariants.{Ready, Running, Waiting, Done}
 use Rattle.instances.specs.OfStep.{is_waiting}
@@ -24,11 +27,9 @@ use Rattle.commit.specs.Core as core
 use Rattle.commit.specs.Runs.{TellsVerdict}
 use Rattle.session.specs.declared.reply.Reply.{Reply}
 use Rattle.session.specs.declared.reply.Reply.TheVariants as replied
-use Rattle.script.specs.declared.command.Command.TheVariants.{Run}
 use Rattle.session.specs.Answers.{AreAllDone, AreWaiting, TellsBlocked, TellsRun, drive_of, instance_cmp}
-use Rattle.session.specs.Went.{HasCause}
+use Rattle.session.specs.Went.{HasCauseOfRun}
 use Rattle.session.proofs.Listed.{found, listed}
-use Rattle.session.proofs.Puts.{other_cause}
 use Rattle.session.proofs.Strictly.{strictly}
 
 -- ---- states and facts
@@ -97,13 +98,13 @@ told_waiting total one_key m kept idle some blocked list are same rises = (
 
 -- ---- verdicts
 
-pub told_complete : {D : Type 0} (c : Core D) → IsKept c.machine → (asked spawn halted : Bool) (limit count : ℕ) → TellsVerdict asked spawn c limit count (Ok Complete)
+pub told_complete : {D : Type 0} (c : Core D) → IsKept c.machine → (full : Type 0) (asked spawn halted : Bool) (limit count : ℕ) → TellsVerdict full asked spawn c limit count (Ok Complete)
     → TellsRun (graph c) (drive_of limit asked spawn halted) (core.facts c) count replied.Complete
-told_complete c kept asked spawn halted limit count is = (is.2.0, all_done c.machine kept is.1.1 (omega (arith, is.1.2)))
+told_complete c kept full asked spawn halted limit count is = (is.2.0, all_done c.machine kept is.1.1 (omega (arith, is.1.2)))
 
-pub told_blocked : {D : Type 0} (c : Core D) → IsKept c.machine → (asked spawn halted : Bool) (limit count : ℕ) (blocked : ℕ) (reply : Reply) → TellsVerdict asked spawn c limit count (Ok (Blocked blocked))
+pub told_blocked : {D : Type 0} (c : Core D) → IsKept c.machine → (full : Type 0) (asked spawn halted : Bool) (limit count : ℕ) (blocked : ℕ) (reply : Reply) → TellsVerdict full asked spawn c limit count (Ok (Blocked blocked))
     → (core.is_halted c ≡ false → NoneIsActive c.machine → waiting_count c.machine ≢ 0 → TellsBlocked (graph c) (core.facts c) reply) → TellsRun (graph c) (drive_of limit asked spawn halted) (core.facts c) count reply
-told_blocked c kept asked spawn halted limit count blocked reply is tells_it = at reply (tells_it is.0.0 is.0.1.1 (λ none. is.1 (is.0.1.2 ∙ omega (arith, none))))
+told_blocked c kept full asked spawn halted limit count blocked reply is tells_it = at reply (tells_it is.0.0 is.0.1.1 (λ none. is.1 (is.0.1.2 ∙ omega (arith, none))))
   where
     at : (r : Reply) → TellsBlocked (graph c) (core.facts c) r → TellsRun (graph c) (drive_of limit asked spawn halted) (core.facts c) count r
     at (replied.Blocked waiting) told = (is.0.2.0, told.0, told.1)
@@ -121,19 +122,26 @@ told_blocked c kept asked spawn halted limit count blocked reply is tells_it = a
     at replied.Device told = absurd told
     at replied.NoThread told = absurd told
 
--- and neither reply needs a cause
-pub blocked_cause : {D : Type 0} (failures : D → ℕ) (c : Core D) (reply : Reply) → TellsBlocked (graph c) (core.facts c) reply → HasCause failures c c Run reply
-blocked_cause failures c (replied.Blocked waiting) told = other_cause failures c c Run (replied.Blocked waiting) (λ same. cc) (λ same. cc) (λ same. cc)
-blocked_cause failures c replied.NoMemory told = other_cause failures c c Run replied.NoMemory (λ same. cc) (λ same. cc) (λ same. cc)
-blocked_cause failures c replied.Done told = absurd told
-blocked_cause failures c (replied.Value address value) told = absurd told
-blocked_cause failures c (replied.Absent address) told = absurd told
-blocked_cause failures c replied.Complete told = absurd told
-blocked_cause failures c (replied.Stopped instance kind) told = absurd told
-blocked_cause failures c replied.Limit told = absurd told
-blocked_cause failures c replied.Asked told = absurd told
-blocked_cause failures c (replied.Refused refusal) told = absurd told
-blocked_cause failures c replied.Full told = absurd told
-blocked_cause failures c replied.Halted told = absurd told
-blocked_cause failures c replied.Device told = absurd told
-blocked_cause failures c replied.NoThread told = absurd told
+-- ---- causes
+
+-- a reply to a run that is neither `Halted`, `Device` nor `Full` needs no cause, if the core is not halted
+pub other_cause : {D : Type 0} (g : Graph) (X : Facts) (from : ℕ) (new : Core D) (came : List Event) (reply : Reply) → reply ≢ replied.Halted → reply ≢ replied.Device → reply ≢ replied.Full → core.is_halted new ≡ false → HasCauseOfRun g X from new came reply
+other_cause g X from new came reply not_halted not_device not_full working =
+    record { halted = (λ is. absurd (not_halted is), λ halted. absurd (false≢true (sym working ∙ halted))); device = not_device; full = λ is. absurd (not_full is) }
+
+-- and so neither reply to `Blocked` does
+pub blocked_cause : {D : Type 0} (g : Graph) (X : Facts) (from : ℕ) (c : Core D) (came : List Event) (reply : Reply) → core.is_halted c ≡ false → TellsBlocked (graph c) (core.facts c) reply → HasCauseOfRun g X from c came reply
+blocked_cause g X from c came (replied.Blocked waiting) working told = other_cause g X from c came (replied.Blocked waiting) (λ same. cc) (λ same. cc) (λ same. cc) working
+blocked_cause g X from c came replied.NoMemory working told = other_cause g X from c came replied.NoMemory (λ same. cc) (λ same. cc) (λ same. cc) working
+blocked_cause g X from c came replied.Done working told = absurd told
+blocked_cause g X from c came (replied.Value address value) working told = absurd told
+blocked_cause g X from c came (replied.Absent address) working told = absurd told
+blocked_cause g X from c came replied.Complete working told = absurd told
+blocked_cause g X from c came (replied.Stopped instance kind) working told = absurd told
+blocked_cause g X from c came replied.Limit working told = absurd told
+blocked_cause g X from c came replied.Asked working told = absurd told
+blocked_cause g X from c came (replied.Refused refusal) working told = absurd told
+blocked_cause g X from c came replied.Full working told = absurd told
+blocked_cause g X from c came replied.Halted working told = absurd told
+blocked_cause g X from c came replied.Device working told = absurd told
+blocked_cause g X from c came replied.NoThread working told = absurd told

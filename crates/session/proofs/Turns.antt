@@ -27,7 +27,7 @@ module _ {D : Type 0} (files : D → Side → File) (moment : D → ℕ) (left_a
 
   -- it went on by one more line
   linked_on : (old mid new : Core D) (begun : List Command) (replies : List Reply) (events : List (List Event)) → Linked old mid begun replies events → (command : Command) (reply : Reply) (came : List Event)
-      → GoesOn files moment left_at failures refusals honest mid new came → HasCause failures mid new command reply → Linked old new (begun ++ command ∷ []) (replies ++ reply ∷ []) (events ++ came ∷ [])
+      → GoesOn files moment left_at failures refusals honest mid new came → HasCause failures mid new command came reply → Linked old new (begun ++ command ∷ []) (replies ++ reply ∷ []) (events ++ came ∷ [])
   linked_on old mid new begun replies events linked command reply came goes cause = record {
     follows = λ last more rest later it.
         subst (λ (commands : List Command). GoesOnByLine files moment left_at failures refusals honest old last commands ((replies ++ reply ∷ []) ++ rest) ((events ++ came ∷ []) ++ later)) (sym (append_assoc begun (command ∷ []) more))
@@ -57,9 +57,9 @@ module _ {D : Type 0} (files : D → Side → File) (moment : D → ℕ) (left_a
 
     pub turned : AmongBoth → (honest → GatesStay files moment left_at) → (old mid new : Core D) (begun : List Command) (command : Command) (ending : Ending) (replies : List Reply) (reply : Reply) (events : List (List Event))
         → GoesOn files moment left_at failures refusals honest old mid (all_of events) → Linked old mid begun replies events → Went (graph old) drive (facts old) begun ending replies events
-        → (came : List Event) × GoesOn files moment left_at failures refusals honest mid new came × Replies (graph mid) drive (facts mid) command came reply → HasCause failures mid new command reply
+        → (came : List Event) × GoesOn files moment left_at failures refusals honest mid new came × Replies (graph mid) drive (facts mid) command came reply × HasCause failures mid new command came reply
         → Turned old new begun command ending replies reply
-    turned both gates_stay old mid new begun command ending replies reply events before linked went (came, after, replied) cause =
+    turned both gates_stay old mid new begun command ending replies reply events before linked went (came, after, replied, cause) =
         let goes = subst (GoesOn files moment left_at failures refusals honest old new) (sym (one_line_more events came)) (joined_on files moment left_at failures refusals honest both gates_stay old mid new (all_of events) came before after) in
         let is = answered_there files moment left_at failures refusals honest old mid (all_of events) before drive command came reply replied in
         record {

@@ -1,5 +1,5 @@
 -- How a core goes on by the lines of a script: the events that came, and what a crash leaves of them at each moment.
-use Rattle.std.specs.Prelude.{◌≡◌, ◌≤◌, ◌<◌, ◌↔◌, ℕ, true, false, List, [], ◌∷◌, ◌++◌}
+use Rattle.std.specs.Prelude.{⊤, ◌≡◌, ◌≢◌, ◌≤◌, ◌<◌, ◌↔◌, ℕ, true, false, List, [], ◌∷◌, ◌++◌}
 use Rattle.disk.specs.declared.side.Side.{Side}
 use Rattle.disk.specs.File.{File}
 use Rattle.disk.specs.Time.{Contents, HasErred, LeavesOnly}
@@ -7,7 +7,8 @@ use Rattle.terms.specs.declared.event.Event.{Event}
 use Rattle.terms.specs.declared.event.Event.TheVariants.{EnvItem, EnvTag}
 use Rattle.terms.specs.Facts.{Fact}
 use Rattle.terms.specs.Facts as stated
-use Rattle.terms.specs.Sets.{with_facts}
+use Rattle.terms.specs.Sets.{Facts, with_facts}
+use Rattle.graph.specs.Graph.{Graph}
 use Rattle.machine.specs.State.{AreLegalFrom}
 use Rattle.vault.specs.Commits.{StandsForBeginning}
 use Rattle.vault.specs.Opened.{contents_of}
@@ -15,7 +16,7 @@ use Rattle.vault.specs.Store.{HasGates}
 use Rattle.commit.specs.Calls.{IsTooLong, KeepsStore}
 use Rattle.commit.specs.Core.{Core, is_halted}
 use Rattle.commit.specs.Core as core
-use Rattle.commit.specs.Runs.{IsFull, one_by_one}
+use Rattle.commit.specs.Runs.{MetFull, one_by_one}
 use Rattle.script.specs.declared.command.Command.{Command}
 use Rattle.script.specs.declared.command.Command.TheVariants.{Put, Tag, Get, Run}
 use Rattle.session.specs.declared.reply.Reply.{Reply}
@@ -24,18 +25,34 @@ use Rattle.session.specs.Session.{all_of}
 
 -- ---- causes
 
--- the record of the put does not fit; for a run, the record of an end of an instance that may come
-abbrev pub HasNoRoom : {D : Type 0} → Core D → Core D → Command → Type 0
-HasNoRoom old new (Put address v) = IsTooLong old (EnvItem address v)
-HasNoRoom old new (Tag name) = IsTooLong old (EnvTag name)
-HasNoRoom old new Run = IsFull new
-HasNoRoom old new (Get address) = ⊥
+-- the record of the put does not fit; for a run, which committed these ends, the record of an end that might have come after a prefix of them
+abbrev pub HasNoRoom : {D : Type 0} → Core D → Command → List Event → Type 0
+HasNoRoom old (Put address v) came = IsTooLong old (EnvItem address v)
+HasNoRoom old (Tag name) came = IsTooLong old (EnvTag name)
+HasNoRoom old Run came = MetFull (core.graph old) (core.facts old) old.vault.journal.end came
+HasNoRoom old (Get address) came = ⊥
 
--- The cause of a reply: `Halted` if the core is halted, `Device` if the device failed meanwhile, `Full` if a record had no room.
-pub record HasCause {D : Type 0} (failures : D → ℕ) (old new : Core D) (command : Command) (reply : Reply) : Type 0 where
+-- the command puts something
+abbrev pub Puts : Command → Type 0
+Puts (Put address v) = ⊤
+Puts (Tag name) = ⊤
+Puts (Get address) = ⊥
+Puts Run = ⊥
+
+-- The cause of a reply to a command by which these events came: `Halted` if the core is halted, and for a run exactly then; `Device` exactly if the device
+-- failed in a put; `Full` if a record had no room.
+pub record HasCause {D : Type 0} (failures : D → ℕ) (old new : Core D) (command : Command) (came : List Event) (reply : Reply) : Type 0 where
   pub halted : reply ≡ replied.Halted → is_halted new ≡ true
-  pub device : reply ≡ replied.Device → failures old.vault.disk < failures new.vault.disk
-  pub full : reply ≡ replied.Full → HasNoRoom old new command
+  pub halts : command ≡ Run → is_halted new ≡ true → reply ≡ replied.Halted
+  pub device : (reply ≡ replied.Device) ↔ (Puts command × (failures old.vault.disk < failures new.vault.disk))
+  pub full : reply ≡ replied.Full → HasNoRoom old command came
+
+-- The same of a run on a store that had this graph and these facts, and whose journal ended there. The device is no cause: if it fails in a run, the reply
+-- is `Halted`.
+pub record HasCauseOfRun {D : Type 0} (g : Graph) (X : Facts) (from : ℕ) (new : Core D) (came : List Event) (reply : Reply) : Type 0 where
+  pub halted : (reply ≡ replied.Halted) ↔ (is_halted new ≡ true)
+  pub device : reply ≢ replied.Device
+  pub full : reply ≡ replied.Full → MetFull g X from came
 
 -- ---- events
 
@@ -63,7 +80,7 @@ module _ {D : Type 0} (files : D → Side → File) (moment : D → ℕ) (left_a
   -- there when the next one begins, and no crash undoes them from then on.
   abbrev pub GoesOnByLine : Core D → Core D → List Command → List Reply → (events : List (List Event)) → Type 0
   GoesOnByLine old new commands replies [] = new ≡ old
-  GoesOnByLine old new (command ∷ more) (reply ∷ rest) (came ∷ later) = (mid : Core D) × GoesOn old mid came × HasCause failures old mid command reply × GoesOnByLine mid new more rest later
+  GoesOnByLine old new (command ∷ more) (reply ∷ rest) (came ∷ later) = (mid : Core D) × GoesOn old mid came × HasCause failures old mid command came reply × GoesOnByLine mid new more rest later
   GoesOnByLine old new commands replies events = ⊥
 
   -- how the core goes on by these lines: by all their events together, and line by line

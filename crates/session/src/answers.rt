@@ -4,15 +4,17 @@ ghost use Rattle.commit.specs.declared.verdict.Verdict.TheVariants.{Halted as Al
 ghost use Rattle.session.specs.declared.reply.Reply.TheVariants.{Halted};
 ghost use Rattle.terms.specs.declared.event.Event.TheVariants.{EnvItem, EnvTag};
 ghost use Rattle.terms.specs.declared.event.Event.{Event as Came};
+ghost use Rattle.terms.specs.Sets.{Facts};
+ghost use Rattle.graph.specs.Graph.{Graph as OfStore};
 ghost use Rattle.machine.specs.Machine.{RefusesItem, RefusesTag, waiting_count};
 ghost use Rattle.machine.specs.Status.{NoneIsActive};
 ghost use Rattle.commit.specs.Core.{facts, graph, is_halted};
-ghost use Rattle.commit.specs.Runs.{NoneRuns, TellsVerdict};
+ghost use Rattle.commit.specs.Runs.{MetFull, NoneRuns, TellsVerdict};
 ghost use Rattle.script.specs.declared.command.Command.TheVariants.{Get, Put, Run, Tag as Label};
 ghost use Rattle.pool.specs.Driver.{may_be_asked, may_spawn};
 ghost use Rattle.session.specs.Answers.{Replies, RepliesGet, RepliesPut, RepliesRun, TellsBlocked, TellsRun, drive_of, put_reply, reply_of};
 ghost use Rattle.session.specs.Session.{stop_of};
-ghost use Rattle.session.specs.Went.{GoesOn, HasCause};
+ghost use Rattle.session.specs.Went.{GoesOn, HasCause, HasCauseOfRun};
 
 use crate::reply::Reply;
 use crate::waiting::sort_by_name;
@@ -38,8 +40,8 @@ pub(crate) fn answer<D: Disk + Send, H: Threads + Wait + Sync, P: Probe>(
     requires idle { NoneRuns core }
     ensures idle { NoneRuns result.0 }
     ensures replies { (came : List Came) × GoesOn D.files D.moment D.left_at D.failures D.refusals (IsTrue D.is_honest) core result.0 came
-        × Replies (graph core) (drive_of limit (may_be_asked P.may_stop driver.now) (may_spawn driver.now) (is_halted core)) (facts core) command came result.1 }
-    ensures cause { HasCause D.failures core result.0 command result.1 }
+        × Replies (graph core) (drive_of limit (may_be_asked P.may_stop driver.now) (may_spawn driver.now) (is_halted core)) (facts core) command came result.1
+        × HasCause D.failures core result.0 command came result.1 }
     ensures stays { stop_of result.1 ≡ None → is_halted result.0 ≡ is_halted core }
 {
     match command {
@@ -66,8 +68,8 @@ fn put_item<D: Disk>(core: &mut Core<D>, address: Addr, value: i64) -> Reply
     requires idle { NoneRuns core.old }
     ensures idle { NoneRuns core.new }
     ensures replies { (came : List Came) × GoesOn D.files D.moment D.left_at D.failures D.refusals (IsTrue D.is_honest) core.old core.new came
-        × RepliesPut (graph core.old) (facts core.old) (RefusesItem (graph core.old) (facts core.old) address) (EnvItem address value) came result }
-    ensures cause { HasCause D.failures core.old core.new (Put address value) result }
+        × RepliesPut (graph core.old) (facts core.old) (RefusesItem (graph core.old) (facts core.old) address) (EnvItem address value) came result
+        × HasCause D.failures core.old core.new (Put address value) came result }
     ensures halt { (result ≡ Halted) ↔ (is_halted core.old ≡ true) }
     ensures stays { stop_of result ≡ None → is_halted core.new ≡ is_halted core.old }
 {
@@ -83,8 +85,8 @@ fn put_tag<D: Disk>(core: &mut Core<D>, tag: Tag) -> Reply
     requires idle { NoneRuns core.old }
     ensures idle { NoneRuns core.new }
     ensures replies { (came : List Came) × GoesOn D.files D.moment D.left_at D.failures D.refusals (IsTrue D.is_honest) core.old core.new came
-        × RepliesPut (graph core.old) (facts core.old) (RefusesTag (graph core.old) (facts core.old) tag) (EnvTag tag) came result }
-    ensures cause { HasCause D.failures core.old core.new (Label tag) result }
+        × RepliesPut (graph core.old) (facts core.old) (RefusesTag (graph core.old) (facts core.old) tag) (EnvTag tag) came result
+        × HasCause D.failures core.old core.new (Label tag) came result }
     ensures halt { (result ≡ Halted) ↔ (is_halted core.old ≡ true) }
     ensures stays { stop_of result ≡ None → is_halted core.new ≡ is_halted core.old }
 {
@@ -109,7 +111,7 @@ fn put_reply(put: Result<(), CoreError>) -> Reply
 fn get<D: Disk>(core: &Core<D>, address: Addr) -> Reply
     ensures goes_on { GoesOn D.files D.moment D.left_at D.failures D.refusals (IsTrue D.is_honest) core.now core.now [] }
     ensures replies { RepliesGet (graph core.now) (facts core.now) address [] result }
-    ensures cause { HasCause D.failures core.now core.now (Get address) result }
+    ensures cause { HasCause D.failures core.now core.now (Get address) [] result }
     ensures halt { (result ≡ Halted) ↔ (is_halted core.now ≡ true) }
 {
     stores_go_on::<D>();
@@ -120,7 +122,7 @@ fn get<D: Disk>(core: &Core<D>, address: Addr) -> Reply
 // The reply to a get.
 fn got<D: Disk>(core: &Core<D>, address: Addr) -> Reply
     ensures replies { RepliesGet (graph core.now) (facts core.now) address [] result }
-    ensures cause { HasCause D.failures core.now core.now (Get address) result }
+    ensures cause { HasCause D.failures core.now core.now (Get address) [] result }
     ensures halt { (result ≡ Halted) ↔ (is_halted core.now ≡ true) }
 {
     let asked = address;
@@ -155,8 +157,8 @@ fn run<D: Disk + Send, H: Threads + Wait + Sync, P: Probe>(
     requires idle { NoneRuns core }
     ensures idle { NoneRuns result.0 }
     ensures replies { (came : List Came) × GoesOn D.files D.moment D.left_at D.failures D.refusals (IsTrue D.is_honest) core result.0 came
-        × RepliesRun (graph core) (drive_of limit (may_be_asked P.may_stop driver.now) (may_spawn driver.now) (is_halted core)) (facts core) came result.1 }
-    ensures cause { HasCause D.failures core result.0 Run result.1 }
+        × RepliesRun (graph core) (drive_of limit (may_be_asked P.may_stop driver.now) (may_spawn driver.now) (is_halted core)) (facts core) came result.1
+        × HasCause D.failures core result.0 Run came result.1 }
     ensures halt { is_halted core ≡ true → result.1 ≡ Halted }
     ensures stays { stop_of result.1 ≡ None → is_halted result.0 ≡ is_halted core }
 {
@@ -170,10 +172,12 @@ fn run<D: Disk + Send, H: Threads + Wait + Sync, P: Probe>(
 
 // The reply to a run with this verdict.
 fn told<D: Disk>(alloc: Global, core: &Core<D>, verdict: Result<Verdict, RunError>) -> Reply
-    ensures tells { (may_be_asked may_spawn was_halted : Bool) (limit count : ℕ) → TellsVerdict may_be_asked may_spawn core.now limit count verdict → TellsRun (graph core.now) (drive_of limit may_be_asked may_spawn was_halted) (facts core.now) count result }
-    ensures cause { (may_be_asked may_spawn : Bool) (limit count : ℕ) → TellsVerdict may_be_asked may_spawn core.now limit count verdict → HasCause D.failures core.now core.now Run result }
+    ensures tells { (g : OfStore) (X : Facts) (from : ℕ) (came : List Came) (may_be_asked may_spawn was_halted : Bool) (limit count : ℕ) → TellsVerdict (MetFull g X from came) may_be_asked may_spawn core.now limit count verdict
+        → TellsRun (graph core.now) (drive_of limit may_be_asked may_spawn was_halted) (facts core.now) count result }
+    ensures cause { (g : OfStore) (X : Facts) (from : ℕ) (came : List Came) (may_be_asked may_spawn : Bool) (limit count : ℕ) → TellsVerdict (MetFull g X from came) may_be_asked may_spawn core.now limit count verdict
+        → HasCauseOfRun g X from core.now came result }
     ensures halt { verdict ≡ Ok AllHalted → result ≡ Halted }
-    ensures stays { (may_be_asked may_spawn : Bool) (limit count : ℕ) → TellsVerdict may_be_asked may_spawn core.now limit count verdict → stop_of result ≡ None → is_halted core.now ≡ false }
+    ensures stays { (g : OfStore) (X : Facts) (from : ℕ) (came : List Came) (may_be_asked may_spawn : Bool) (limit count : ℕ) → TellsVerdict (MetFull g X from came) may_be_asked may_spawn core.now limit count verdict → stop_of result ≡ None → is_halted core.now ≡ false }
 {
     core.is_kept();
     match verdict {

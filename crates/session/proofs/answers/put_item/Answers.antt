@@ -22,22 +22,22 @@ returns-clause-replies g c =
     let old = c.args.core.now in
     let new = c.put_item-put.new.self in
     let it = c.put_item-put.ensures in
-    let at = λ (event : Event) (reply : Reply). (came : List Event) × GoesOn g.D.Disk.files g.D.Disk.moment g.D.Disk.left_at g.D.Disk.failures g.D.Disk.refusals (IsTrue g.D.Disk.is_honest) old new came
-    × RepliesPut (graph old) (facts old) (RefusesItem (graph old) (facts old) c.args.address) event came reply in
-    subst (at (EnvItem c.args.address c.args.value)) (sym c.put_reply.ensures)
-    (subst (λ (event : Event). at event (put_reply c.put_item-put.result)) (λ i. EnvItem c.args.address (to_z-of_z w64 c.args.value c.ranges.value i))
+    let why = RefusesItem (graph old) (facts old) c.args.address in
+    let at = λ (event : Event) (reply : Reply). (came : List Event) × GoesOn g.D.Disk.files g.D.Disk.moment g.D.Disk.left_at g.D.Disk.failures g.D.Disk.refusals (IsTrue g.D.Disk.is_honest) old new came × RepliesPut (graph old) (facts old) why event came reply in
+    let replied =
+    subst (λ (event : Event). at event (put_reply c.put_item-put.result)) (λ i. EnvItem c.args.address (to_z-of_z w64 c.args.value c.ranges.value i))
     (replied_put g.D.Disk.files g.D.Disk.moment g.D.Disk.left_at g.D.Disk.failures g.D.Disk.refusals (IsTrue g.D.Disk.is_honest) c.stores_go_on.ensures.rest_leaves c.stores_go_on.ensures.gates_rest (λ _. c.stores_go_on.ensures.append_leaves)
-    old new _ (RefusesItem (graph old) (facts old) c.args.address) c.is_kept.ensures.kept c.is_kept.ensures.settled
-    c.put_item-put.result it.commits.takes it.unchanged it.commits.refused it.commits.doubt it.commits.moments it.halts))
-
-pub returns-clause-cause : goal.returns-clause-cause
-returns-clause-cause g c =
-    let old = c.args.core.now in
-    let new = c.put_item-put.new.self in
-    subst (HasCause g.D.Disk.failures old new (Put c.args.address c.args.value)) (sym c.put_reply.ensures)
-    (put_cause g.D.Disk.failures g.D.Disk.refusals old new (RefusesItem (graph old) (facts old) c.args.address) _ (Put c.args.address c.args.value)
+    old new _ why c.is_kept.ensures.kept c.is_kept.ensures.settled
+    c.put_item-put.result it.commits.takes it.unchanged it.commits.refused it.commits.doubt it.commits.moments it.halts)
+    in
+    let cause =
+    put_cause g.D.Disk.failures g.D.Disk.refusals old new why _ (Put c.args.address c.args.value) replied.0 tt
     (λ is. subst (λ (value : ℤ). IsTooLong old (EnvItem c.args.address value)) (to_z-of_z w64 c.args.value c.ranges.value) is)
-    c.put_item-put.result c.put_item-put.ensures.commits.refused c.put_item-put.ensures.halts)
+    c.put_item-put.result it.commits.takes it.commits.refused it.halts
+    in
+    subst (λ (reply : Reply). (came : List Event) × GoesOn g.D.Disk.files g.D.Disk.moment g.D.Disk.left_at g.D.Disk.failures g.D.Disk.refusals (IsTrue g.D.Disk.is_honest) old new came
+    × RepliesPut (graph old) (facts old) why (EnvItem c.args.address c.args.value) came reply × HasCause g.D.Disk.failures old new (Put c.args.address c.args.value) came reply) (sym c.put_reply.ensures)
+    (replied.0, replied.1, replied.2, cause)
 
 pub returns-clause-halt : goal.returns-clause-halt
 returns-clause-halt g c =

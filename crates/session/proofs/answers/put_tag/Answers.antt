@@ -18,20 +18,21 @@ returns-clause-idle g c = put_idle c.args.core.now c.put_tag-put.new.self (EnvTa
 pub returns-clause-replies : goal.returns-clause-replies
 returns-clause-replies g c =
     let old = c.args.core.now in
-    let it = c.put_tag-put.ensures in
-    subst (λ (reply : Reply). (came : List Event) × GoesOn g.D.Disk.files g.D.Disk.moment g.D.Disk.left_at g.D.Disk.failures g.D.Disk.refusals (IsTrue g.D.Disk.is_honest) old c.put_tag-put.new.self came
-    × RepliesPut (graph old) (facts old) (RefusesTag (graph c.args.core.now) (facts c.args.core.now) c.args.tag) (EnvTag c.args.tag) came reply) (sym c.put_reply.ensures)
-    (replied_put g.D.Disk.files g.D.Disk.moment g.D.Disk.left_at g.D.Disk.failures g.D.Disk.refusals (IsTrue g.D.Disk.is_honest) c.stores_go_on.ensures.rest_leaves c.stores_go_on.ensures.gates_rest (λ _. c.stores_go_on.ensures.append_leaves)
-    old c.put_tag-put.new.self (EnvTag c.args.tag) (RefusesTag (graph c.args.core.now) (facts c.args.core.now) c.args.tag) c.is_kept.ensures.kept c.is_kept.ensures.settled
-    c.put_tag-put.result it.commits.takes it.unchanged it.commits.refused it.commits.doubt it.commits.moments it.halts)
-
-pub returns-clause-cause : goal.returns-clause-cause
-returns-clause-cause g c =
-    let old = c.args.core.now in
     let new = c.put_tag-put.new.self in
-    subst (HasCause g.D.Disk.failures old new (Tag c.args.tag)) (sym c.put_reply.ensures)
-    (put_cause g.D.Disk.failures g.D.Disk.refusals old new (RefusesTag (graph old) (facts old) c.args.tag) (EnvTag c.args.tag) (Tag c.args.tag) (λ is. is)
-    c.put_tag-put.result c.put_tag-put.ensures.commits.refused c.put_tag-put.ensures.halts)
+    let it = c.put_tag-put.ensures in
+    let why = RefusesTag (graph old) (facts old) c.args.tag in
+    let replied =
+    replied_put g.D.Disk.files g.D.Disk.moment g.D.Disk.left_at g.D.Disk.failures g.D.Disk.refusals (IsTrue g.D.Disk.is_honest) c.stores_go_on.ensures.rest_leaves c.stores_go_on.ensures.gates_rest (λ _. c.stores_go_on.ensures.append_leaves)
+    old new (EnvTag c.args.tag) why c.is_kept.ensures.kept c.is_kept.ensures.settled
+    c.put_tag-put.result it.commits.takes it.unchanged it.commits.refused it.commits.doubt it.commits.moments it.halts
+    in
+    let cause =
+    put_cause g.D.Disk.failures g.D.Disk.refusals old new why (EnvTag c.args.tag) (Tag c.args.tag) replied.0 tt (λ is. is)
+    c.put_tag-put.result it.commits.takes it.commits.refused it.halts
+    in
+    subst (λ (reply : Reply). (came : List Event) × GoesOn g.D.Disk.files g.D.Disk.moment g.D.Disk.left_at g.D.Disk.failures g.D.Disk.refusals (IsTrue g.D.Disk.is_honest) old new came
+    × RepliesPut (graph old) (facts old) why (EnvTag c.args.tag) came reply × HasCause g.D.Disk.failures old new (Tag c.args.tag) came reply) (sym c.put_reply.ensures)
+    (replied.0, replied.1, replied.2, cause)
 
 pub returns-clause-halt : goal.returns-clause-halt
 returns-clause-halt g c =

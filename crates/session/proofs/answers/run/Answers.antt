@@ -8,14 +8,14 @@ use Rattle.graph.specs.Graph.{Graph}
 use Rattle.commit.specs.declared.verdict.RunError.{RunError}
 use Rattle.commit.specs.declared.verdict.Verdict.{Verdict}
 use Rattle.commit.specs.Core.{Core, facts, graph, is_halted}
-use Rattle.commit.specs.Runs.{TellsVerdict}
+use Rattle.commit.specs.Runs.{MetFull, TellsVerdict}
 use Rattle.commit.proofs.Lists.{first_ends, with_nothing}
 use Rattle.script.specs.declared.command.Command.TheVariants.{Run}
 use Rattle.pool.specs.Driver.{may_be_asked, may_spawn}
 use Rattle.session.specs.Answers.{RepliesRun, TellsRun, drive_of}
 use Rattle.session.specs.Went.{GoesOn, HasCause}
 use Rattle.session.proofs.Coming.{nothing_came, of_run}
-use Rattle.session.proofs.Ran.{cause_before, front_legal}
+use Rattle.session.proofs.Ran.{cause_of_run, front_legal}
 use Rattle.session.proofs.answers.run.Goals as goal
 
 pub returns-clause-replies : goal.returns-clause-replies
@@ -23,10 +23,11 @@ returns-clause-replies g c = by_halted (is_halted c.args.core) refl
   where
     by_halted : (b : Bool) → is_halted c.args.core ≡ b →
         (came : List Event) × GoesOn g.D.Disk.files g.D.Disk.moment g.D.Disk.left_at g.D.Disk.failures g.D.Disk.refusals (IsTrue g.D.Disk.is_honest) c.args.core c.run-core.result.0 came × RepliesRun (graph c.args.core) (drive_of c.args.limit (may_be_asked g.P.Probe.may_stop c.args.driver.now) (may_spawn c.args.driver.now) (is_halted c.args.core)) (facts c.args.core) came c.told-reply.result
+        × HasCause g.D.Disk.failures c.args.core c.run-core.result.0 Run came c.told-reply.result
     by_halted true halted =
         let same = c.run-core.ensures.halted halted in
-        let verdict = subst (λ (r : Result Verdict RunError). TellsVerdict (may_be_asked g.P.Probe.may_stop c.args.driver.now) (may_spawn c.args.driver.now) c.run-core.result.0 c.args.limit 0 r) (sym same.1) (subst (λ (core : Core g.row.D.Denot). is_halted core ≡ true) (sym same.0) halted) in
-        let told = subst (λ (core : Core g.row.D.Denot). TellsRun (graph core) (drive_of c.args.limit (may_be_asked g.P.Probe.may_stop c.args.driver.now) (may_spawn c.args.driver.now) (is_halted c.args.core)) (facts core) 0 c.told-reply.result) same.0 (c.told-reply.ensures.tells (may_be_asked g.P.Probe.may_stop c.args.driver.now) (may_spawn c.args.driver.now) (is_halted c.args.core) c.args.limit 0 verdict) in (
+        let verdict = subst (λ (r : Result Verdict RunError). TellsVerdict (MetFull (graph c.args.core) (facts c.args.core) c.args.core.vault.journal.end []) (may_be_asked g.P.Probe.may_stop c.args.driver.now) (may_spawn c.args.driver.now) c.run-core.result.0 c.args.limit 0 r) (sym same.1) (subst (λ (core : Core g.row.D.Denot). is_halted core ≡ true) (sym same.0) halted) in
+        let told = subst (λ (core : Core g.row.D.Denot). TellsRun (graph core) (drive_of c.args.limit (may_be_asked g.P.Probe.may_stop c.args.driver.now) (may_spawn c.args.driver.now) (is_halted c.args.core)) (facts core) 0 c.told-reply.result) same.0 (c.told-reply.ensures.tells (graph c.args.core) (facts c.args.core) c.args.core.vault.journal.end [] (may_be_asked g.P.Probe.may_stop c.args.driver.now) (may_spawn c.args.driver.now) (is_halted c.args.core) c.args.limit 0 verdict) in (
           [],
           subst (λ (core : Core g.row.D.Denot). GoesOn g.D.Disk.files g.D.Disk.moment g.D.Disk.left_at g.D.Disk.failures g.D.Disk.refusals (IsTrue g.D.Disk.is_honest) c.args.core core []) (sym same.0)
               (nothing_came g.D.Disk.files g.D.Disk.moment g.D.Disk.left_at g.D.Disk.failures g.D.Disk.refusals (IsTrue g.D.Disk.is_honest) c.stores_go_on.ensures.rest_leaves c.stores_go_on.ensures.gates_rest c.args.core c.is_kept.ensures.kept c.is_kept.ensures.settled),
@@ -36,6 +37,8 @@ returns-clause-replies g c = by_halted (is_halted c.args.core) refl
             within = omega arith;
             told = subst (λ (X : Facts). TellsRun (graph c.args.core) (drive_of c.args.limit (may_be_asked g.P.Probe.may_stop c.args.driver.now) (may_spawn c.args.driver.now) (is_halted c.args.core)) X 0 c.told-reply.result) (sym (with_nothing (facts c.args.core))) told;
           },
+          cause_of_run g.D.Disk.failures c.args.core c.run-core.result.0 [] c.told-reply.result
+              (c.told-reply.ensures.cause (graph c.args.core) (facts c.args.core) c.args.core.vault.journal.end [] (may_be_asked g.P.Probe.may_stop c.args.driver.now) (may_spawn c.args.driver.now) c.args.limit 0 verdict),
         )
     by_halted false working =
         let it = c.run-core.ensures.runs working in
@@ -47,22 +50,11 @@ returns-clause-replies g c = by_halted (is_halted c.args.core) refl
             legal = front_legal _ _ it.ends c.run-core.result.0.in_doubt it.runs.legal;
             within = omega (arith, it.runs.spent);
             told = subst (λ (h : Graph). TellsRun h (drive_of c.args.limit (may_be_asked g.P.Probe.may_stop c.args.driver.now) (may_spawn c.args.driver.now) (is_halted c.args.core)) (with_facts (facts c.args.core) (stated.facts it.ends)) (length it.ends) c.told-reply.result) it.runs.graph
-                (subst (λ (X : Facts). TellsRun (graph c.run-core.result.0) (drive_of c.args.limit (may_be_asked g.P.Probe.may_stop c.args.driver.now) (may_spawn c.args.driver.now) (is_halted c.args.core)) X (length it.ends) c.told-reply.result) all (c.told-reply.ensures.tells (may_be_asked g.P.Probe.may_stop c.args.driver.now) (may_spawn c.args.driver.now) (is_halted c.args.core) c.args.limit (length it.ends) it.told));
+                (subst (λ (X : Facts). TellsRun (graph c.run-core.result.0) (drive_of c.args.limit (may_be_asked g.P.Probe.may_stop c.args.driver.now) (may_spawn c.args.driver.now) (is_halted c.args.core)) X (length it.ends) c.told-reply.result) all (c.told-reply.ensures.tells (graph c.args.core) (facts c.args.core) c.args.core.vault.journal.end it.ends (may_be_asked g.P.Probe.may_stop c.args.driver.now) (may_spawn c.args.driver.now) (is_halted c.args.core) c.args.limit (length it.ends) it.told));
           },
+          cause_of_run g.D.Disk.failures c.args.core c.run-core.result.0 it.ends c.told-reply.result
+              (c.told-reply.ensures.cause (graph c.args.core) (facts c.args.core) c.args.core.vault.journal.end it.ends (may_be_asked g.P.Probe.may_stop c.args.driver.now) (may_spawn c.args.driver.now) c.args.limit (length it.ends) it.told),
         )
-
-pub returns-clause-cause : goal.returns-clause-cause
-returns-clause-cause g c = by_halted (is_halted c.args.core) refl
-  where
-    by_halted : (b : Bool) → is_halted c.args.core ≡ b → HasCause g.D.Disk.failures c.args.core c.run-core.result.0 Run c.told-reply.result
-    by_halted true halted =
-        let same = c.run-core.ensures.halted halted in
-        cause_before g.D.Disk.failures c.args.core c.run-core.result.0 _ (c.told-reply.ensures.cause (may_be_asked g.P.Probe.may_stop c.args.driver.now) (may_spawn c.args.driver.now) c.args.limit 0
-        (subst (λ (r : Result Verdict RunError). TellsVerdict (may_be_asked g.P.Probe.may_stop c.args.driver.now) (may_spawn c.args.driver.now) c.run-core.result.0 c.args.limit 0 r) (sym same.1)
-        (subst (λ (core : Core g.row.D.Denot). is_halted core ≡ true) (sym same.0) halted)))
-    by_halted false working =
-        let it = c.run-core.ensures.runs working in
-        cause_before g.D.Disk.failures c.args.core c.run-core.result.0 _ (c.told-reply.ensures.cause (may_be_asked g.P.Probe.may_stop c.args.driver.now) (may_spawn c.args.driver.now) c.args.limit (length it.ends) it.told)
 
 pub returns-clause-halt : goal.returns-clause-halt
 returns-clause-halt g c halted = c.told-reply.ensures.halt (c.run-core.ensures.halted halted).1
@@ -74,4 +66,4 @@ returns-clause-stays g c none = by_halted (is_halted c.args.core) refl
     by_halted true halted = ap is_halted (c.run-core.ensures.halted halted).0
     by_halted false working =
         let it = c.run-core.ensures.runs working in
-        c.told-reply.ensures.stays (may_be_asked g.P.Probe.may_stop c.args.driver.now) (may_spawn c.args.driver.now) c.args.limit (length it.ends) it.told none ∙ sym working
+        c.told-reply.ensures.stays (graph c.args.core) (facts c.args.core) c.args.core.vault.journal.end it.ends (may_be_asked g.P.Probe.may_stop c.args.driver.now) (may_spawn c.args.driver.now) c.args.limit (length it.ends) it.told none ∙ sym working

@@ -7,7 +7,7 @@ use Rattle.session.specs.declared.ending.Ending.{Ending}
 use Rattle.terms.specs.declared.event.Event.{Event}
 use Rattle.session.specs.Answers.{Replies, drive_of}
 use Rattle.session.specs.Session.{AreReplies, ending_of, stop_of}
-use Rattle.session.specs.Went.{GoesOn, GoesOnByLine}
+use Rattle.session.specs.Went.{GoesOn, GoesOnByLine, HasCause}
 use Rattle.session.proofs.Coming.{nothing_came}
 use Rattle.session.proofs.Lines.{appends_nothing, none, not_none, split_at, up_to, where_ok, written_more}
 use Rattle.session.proofs.Turns.{Linked, by_all, by_these, linked_nowhere, turned}
@@ -39,9 +39,10 @@ returns-then-is_err-clause-answers g c =
     let command = c.command-item.result in
     let reply = c.answer-next.result.1 in
     let replied = subst (λ (was_halted : Bool). (came : List Event) × GoesOn g.D.Disk.files g.D.Disk.moment g.D.Disk.left_at g.D.Disk.failures g.D.Disk.refusals (IsTrue g.D.Disk.is_honest) c.loop-command.core new came
-    × Replies (graph c.loop-command.core) (drive_of c.args.limit (may_be_asked g.P.Probe.may_stop c.args.driver.now) (may_spawn c.args.driver.now) was_halted) (facts c.loop-command.core) command came reply) it.same c.answer-next.ensures.replies in
+    × Replies (graph c.loop-command.core) (drive_of c.args.limit (may_be_asked g.P.Probe.may_stop c.args.driver.now) (may_spawn c.args.driver.now) was_halted) (facts c.loop-command.core) command came reply
+    × HasCause g.D.Disk.failures c.loop-command.core new command came reply) it.same c.answer-next.ensures.replies in
     let turn = turned g.D.Disk.files g.D.Disk.moment g.D.Disk.left_at g.D.Disk.failures g.D.Disk.refusals (IsTrue g.D.Disk.is_honest) (drive_of c.args.limit (may_be_asked g.P.Probe.may_stop c.args.driver.now) (may_spawn c.args.driver.now) (is_halted c.args.core))
-    c.facts_are_told_apart.ensures.among c.stores_go_on.ensures.gates_stay old c.loop-command.core new (take place commands) command c.loop-command.ending it.replies reply it.events it.goes it.linked it.went replied c.answer-next.ensures.cause in
+    c.facts_are_told_apart.ensures.among c.stores_go_on.ensures.gates_stay old c.loop-command.core new (take place commands) command c.loop-command.ending it.replies reply it.events it.goes it.linked it.went replied in
     let begun = take place commands ++ command ∷ [] in
     record {
       begun = begun;
@@ -71,9 +72,10 @@ returns-then-is_some-clause-answers g c =
     let command = c.command-item.result in
     let reply = c.answer-next.result.1 in
     let replied = subst (λ (was_halted : Bool). (came : List Event) × GoesOn g.D.Disk.files g.D.Disk.moment g.D.Disk.left_at g.D.Disk.failures g.D.Disk.refusals (IsTrue g.D.Disk.is_honest) c.loop-command.core new came
-    × Replies (graph c.loop-command.core) (drive_of c.args.limit (may_be_asked g.P.Probe.may_stop c.args.driver.now) (may_spawn c.args.driver.now) was_halted) (facts c.loop-command.core) command came reply) it.same c.answer-next.ensures.replies in
+    × Replies (graph c.loop-command.core) (drive_of c.args.limit (may_be_asked g.P.Probe.may_stop c.args.driver.now) (may_spawn c.args.driver.now) was_halted) (facts c.loop-command.core) command came reply
+    × HasCause g.D.Disk.failures c.loop-command.core new command came reply) it.same c.answer-next.ensures.replies in
     let turn = turned g.D.Disk.files g.D.Disk.moment g.D.Disk.left_at g.D.Disk.failures g.D.Disk.refusals (IsTrue g.D.Disk.is_honest) (drive_of c.args.limit (may_be_asked g.P.Probe.may_stop c.args.driver.now) (may_spawn c.args.driver.now) (is_halted c.args.core))
-    c.facts_are_told_apart.ensures.among c.stores_go_on.ensures.gates_stay old c.loop-command.core new (take place commands) command c.loop-command.ending it.replies reply it.events it.goes it.linked it.went replied c.answer-next.ensures.cause in
+    c.facts_are_told_apart.ensures.among c.stores_go_on.ensures.gates_stay old c.loop-command.core new (take place commands) command c.loop-command.ending it.replies reply it.events it.goes it.linked it.went replied in
     let left = drop (suc place) commands in
     let split = split_at commands place command c.loop-command-test.true c.command-item.is in
     let stops = not_none (stop_of reply) (c.if-is_some.ensures ∙ ap (λ (ending : Ending). is_some ending.stop) c.with_reply-ending.ensures) in
@@ -107,9 +109,10 @@ loop-command-preserved g c =
     let command = c.command-item.result in
     let reply = c.answer-next.result.1 in
     let replied = subst (λ (was_halted : Bool). (came : List Event) × GoesOn g.D.Disk.files g.D.Disk.moment g.D.Disk.left_at g.D.Disk.failures g.D.Disk.refusals (IsTrue g.D.Disk.is_honest) c.loop-command.core new came
-    × Replies (graph c.loop-command.core) (drive_of c.args.limit (may_be_asked g.P.Probe.may_stop c.args.driver.now) (may_spawn c.args.driver.now) was_halted) (facts c.loop-command.core) command came reply) it.same c.answer-next.ensures.replies in
+    × Replies (graph c.loop-command.core) (drive_of c.args.limit (may_be_asked g.P.Probe.may_stop c.args.driver.now) (may_spawn c.args.driver.now) was_halted) (facts c.loop-command.core) command came reply
+    × HasCause g.D.Disk.failures c.loop-command.core new command came reply) it.same c.answer-next.ensures.replies in
     let turn = turned g.D.Disk.files g.D.Disk.moment g.D.Disk.left_at g.D.Disk.failures g.D.Disk.refusals (IsTrue g.D.Disk.is_honest) (drive_of c.args.limit (may_be_asked g.P.Probe.may_stop c.args.driver.now) (may_spawn c.args.driver.now) (is_halted c.args.core))
-    c.facts_are_told_apart.ensures.among c.stores_go_on.ensures.gates_stay old c.loop-command.core new (take place commands) command c.loop-command.ending it.replies reply it.events it.goes it.linked it.went replied c.answer-next.ensures.cause in
+    c.facts_are_told_apart.ensures.among c.stores_go_on.ensures.gates_stay old c.loop-command.core new (take place commands) command c.loop-command.ending it.replies reply it.events it.goes it.linked it.went replied in
     let goes_on = none (stop_of reply) (c.if-is_some.ensures ∙ ap (λ (ending : Ending). is_some ending.stop) c.with_reply-ending.ensures) in
     let one_more = sym (up_to commands place command c.loop-command-test.true c.command-item.is) in
     record {
