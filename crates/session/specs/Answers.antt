@@ -1,5 +1,5 @@
 -- What the lines of a script come to: the events that each commits, and the reply to it, by the graph and the facts before it.
-use Rattle.std.specs.Prelude.{◌≡◌, ◌≢◌, ◌↔◌, ⊤, ◌≤◌, ℕ, Bool, true, false, List, [], ◌∷◌, length, map, get_or, Some, None, Result, Ok, Err, All}
+use Rattle.std.specs.Prelude.{◌≡◌, ◌≢◌, ◌↔◌, ⊤, ◌≤◌, ℕ, Bool, true, false, List, [], ◌∷◌, length, map, get_or, Option, Some, None, Result, Ok, Err, All}
 use Rattle.std.specs.List.{AllByRecursion, Contains}
 use Rattle.std.specs.List.Sorted.{IsStrictlySortedBy}
 use Rattle.std.specs.Ordering.{nat_cmp, ordering_then}
@@ -23,6 +23,10 @@ use Rattle.machine.specs.State.{AreLegalFrom, Waits}
 use Rattle.vault.specs.declared.error.VaultError.TheVariants as store
 use Rattle.commit.specs.declared.error.CoreError.{CoreError}
 use Rattle.commit.specs.declared.error.CoreError.TheVariants as core
+use Rattle.commit.specs.declared.verdict.RunError.{RunError}
+use Rattle.commit.specs.declared.verdict.RunError.TheVariants as ended
+use Rattle.commit.specs.declared.verdict.Verdict.{Verdict}
+use Rattle.commit.specs.declared.verdict.Verdict.TheVariants as verdict
 use Rattle.commit.specs.Runs.{IsEnd}
 use Rattle.script.specs.declared.command.Command.{Command}
 use Rattle.script.specs.declared.command.Command.TheVariants.{Put, Tag, Get, Run}
@@ -133,6 +137,18 @@ reply_of (core.Store other) = replied.Halted
 abbrev pub put_reply : {T : Type 0} → Result T CoreError → Reply
 put_reply (Ok value) = replied.Done
 put_reply (Err error) = reply_of error
+
+-- the reply to a verdict; that to `Blocked` lists what waits in the store, or says that there was no memory for the list
+abbrev pub run_reply : Result Verdict RunError → Option Reply
+run_reply (Ok verdict.Complete) = Some replied.Complete
+run_reply (Ok (verdict.Blocked count)) = None
+run_reply (Ok (verdict.Stopped instance kind)) = Some (replied.Stopped instance kind)
+run_reply (Ok verdict.Limit) = Some replied.Limit
+run_reply (Ok verdict.Asked) = Some replied.Asked
+run_reply (Ok verdict.Halted) = Some replied.Halted
+run_reply (Err ended.Spawn) = Some replied.NoThread
+run_reply (Err ended.NoMemory) = Some replied.NoMemory
+run_reply (Err ended.Full) = Some replied.Full
 
 -- the reply lists the instances that wait, and some do; or memory was refused
 abbrev pub TellsBlocked : Graph → Facts → Reply → Type 0

@@ -1,4 +1,5 @@
 pub mod Answers
+pub mod Errors
 pub mod Fails
 pub mod OneText
 pub mod Replies

@@ -1,6 +1,5 @@
 //! What a command does in a store, and the reply to it.
-ghost use Rattle.std.specs.Prelude.{◌≡◌, ◌≢◌, ◌↔◌, Bool, List, [], false, true, ℕ, None, Ok, IsTrue};
-ghost use Rattle.commit.specs.declared.verdict.Verdict.TheVariants.{Halted as AllHalted};
+ghost use Rattle.std.specs.Prelude.{◌≡◌, ◌≢◌, ◌↔◌, Bool, List, [], false, true, ℕ, None, IfSome, IsTrue};
 ghost use Rattle.session.specs.declared.reply.Reply.TheVariants.{Halted};
 ghost use Rattle.terms.specs.declared.event.Event.TheVariants.{EnvItem, EnvTag};
 ghost use Rattle.terms.specs.declared.event.Event.{Event as Came};
@@ -12,7 +11,7 @@ ghost use Rattle.commit.specs.Core.{facts, graph, is_halted};
 ghost use Rattle.commit.specs.Runs.{MetFull, NoneRuns, TellsVerdict};
 ghost use Rattle.script.specs.declared.command.Command.TheVariants.{Get, Put, Run, Tag as Label};
 ghost use Rattle.pool.specs.Driver.{may_be_asked, may_spawn};
-ghost use Rattle.session.specs.Answers.{Replies, RepliesGet, RepliesPut, RepliesRun, TellsBlocked, TellsRun, drive_of, put_reply, reply_of};
+ghost use Rattle.session.specs.Answers.{Replies, RepliesGet, RepliesPut, RepliesRun, TellsBlocked, TellsRun, drive_of, put_reply, reply_of, run_reply};
 ghost use Rattle.session.specs.Session.{stop_of};
 ghost use Rattle.session.specs.Went.{GoesOn, HasCause, HasCauseOfRun};
 
@@ -172,11 +171,11 @@ fn run<D: Disk + Send, H: Threads + Wait + Sync, P: Probe>(
 
 // The reply to a run with this verdict.
 fn told<D: Disk>(alloc: Global, core: &Core<D>, verdict: Result<Verdict, RunError>) -> Reply
+    ensures exact { IfSome (run_reply verdict) (λ expected. result ≡ expected) }
     ensures tells { (g : OfStore) (X : Facts) (from : ℕ) (came : List Came) (may_be_asked may_spawn was_halted : Bool) (limit count : ℕ) → TellsVerdict (MetFull g X from came) may_be_asked may_spawn core.now limit count verdict
         → TellsRun (graph core.now) (drive_of limit may_be_asked may_spawn was_halted) (facts core.now) count result }
     ensures cause { (g : OfStore) (X : Facts) (from : ℕ) (came : List Came) (may_be_asked may_spawn : Bool) (limit count : ℕ) → TellsVerdict (MetFull g X from came) may_be_asked may_spawn core.now limit count verdict
         → HasCauseOfRun g X from core.now came result }
-    ensures halt { verdict ≡ Ok AllHalted → result ≡ Halted }
     ensures stays { (g : OfStore) (X : Facts) (from : ℕ) (came : List Came) (may_be_asked may_spawn : Bool) (limit count : ℕ) → TellsVerdict (MetFull g X from came) may_be_asked may_spawn core.now limit count verdict → stop_of result ≡ None → is_halted core.now ≡ false }
 {
     core.is_kept();

@@ -15,10 +15,10 @@ use commit::Core;
 use disk::Disk;
 use graph::Graph;
 use pool::{Driver, Probe};
-use report::{ReportError, write_report};
-use script::{Command, MOST_BYTES, ScriptError, parse_script};
+use report::write_report;
+use script::{Command, MOST_BYTES, parse_script};
 use std::alloc::Global;
-use std::io::{ErrorKind, Read, Write};
+use std::io::{Read, Write};
 use std::marker::Sync;
 use std::sync::Wait;
 use std::thread::Threads;
@@ -63,10 +63,7 @@ fn read_script<R: Read>(
     let mut text = Vec::new(alloc);
     match input.take(MOST_BYTES as u64 + 1).read_to_end(&mut text) {
         Ok(_) => parsed(alloc, graph, text.as_slice()),
-        Err(error) => match error.kind() {
-            ErrorKind::OutOfMemory => Err(SessionError::NoMemory),
-            _ => Err(SessionError::Read),
-        },
+        Err(error) => Err(SessionError::of_read(error)),
     }
 }
 
@@ -77,8 +74,7 @@ fn parsed(alloc: Global, graph: &Graph, text: &[u8]) -> Result<Vec<Command>, Ses
 {
     match parse_script(alloc, graph, text) {
         Ok(commands) => Ok(commands),
-        Err(ScriptError::At(line, fault)) => Err(SessionError::Script(line, fault)),
-        Err(ScriptError::NoMemory) => Err(SessionError::NoMemory),
+        Err(error) => Err(SessionError::of_script(error)),
     }
 }
 
@@ -120,7 +116,6 @@ fn close<D: Disk, W: Write>(
     }
     match write_report(alloc, core, out) {
         Ok(()) => Ok(ending),
-        Err(ReportError::Write) => Err(SessionError::Write),
-        Err(ReportError::NoMemory) => Err(SessionError::NoMemory),
+        Err(error) => Err(SessionError::of_report(error)),
     }
 }

@@ -1,4 +1,4 @@
-use Rattle.std.proofs.Common.{ap, ◌≡◌, ◌∙◌, refl, sym, subst, Bool, true, false, List, [], length, arith, IsTrue}
+use Rattle.std.proofs.Common.{ap, ◌≡◌, ◌∙◌, refl, sym, subst, Bool, true, false, List, [], length, arith, IfSome, IsTrue}
 use Rattle.std.proofs.lemmas.Bool.{false≢true}
 use Rattle.std.specs.Prelude.{Result}
 use Rattle.terms.specs.declared.event.Event.{Event}
@@ -12,7 +12,7 @@ use Rattle.commit.specs.Runs.{MetFull, TellsVerdict}
 use Rattle.commit.proofs.Lists.{first_ends, with_nothing}
 use Rattle.script.specs.declared.command.Command.TheVariants.{Run}
 use Rattle.pool.specs.Driver.{may_be_asked, may_spawn}
-use Rattle.session.specs.Answers.{RepliesRun, TellsRun, drive_of}
+use Rattle.session.specs.Answers.{RepliesRun, TellsRun, drive_of, run_reply}
 use Rattle.session.specs.Went.{GoesOn, HasCause}
 use Rattle.session.proofs.Coming.{nothing_came, of_run}
 use Rattle.session.proofs.Ran.{cause_of_run, front_legal}
@@ -57,7 +57,8 @@ returns-clause-replies g c = by_halted (is_halted c.args.core) refl
         )
 
 pub returns-clause-halt : goal.returns-clause-halt
-returns-clause-halt g c halted = c.told-reply.ensures.halt (c.run-core.ensures.halted halted).1
+returns-clause-halt g c halted =
+    subst (λ (r : Result Verdict RunError). IfSome (run_reply r) (λ expected. c.told-reply.result ≡ expected)) (c.run-core.ensures.halted halted).1 c.told-reply.ensures.exact
 
 pub returns-clause-stays : goal.returns-clause-stays
 returns-clause-stays g c none = by_halted (is_halted c.args.core) refl

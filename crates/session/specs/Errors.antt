@@ -1,0 +1,22 @@
+-- What the errors of the parts of a session become.
+use Rattle.std.specs.declared.io.ErrorKind.{ErrorKind}
+use Rattle.std.specs.declared.io.ErrorKind.TheVariants as kind
+use Rattle.report.specs.declared.error.ReportError.{ReportError}
+use Rattle.report.specs.declared.error.ReportError.TheVariants as report
+use Rattle.script.specs.declared.error.ScriptError.{ScriptError}
+use Rattle.script.specs.declared.error.ScriptError.TheVariants as script
+use Rattle.session.specs.declared.error.SessionError.{SessionError}
+use Rattle.session.specs.declared.error.SessionError.TheVariants.{Read, Write, Script, NoMemory}
+
+-- a reader's error, by its kind: memory was refused, or the script cannot be read
+abbrev pub error_of_read : ErrorKind → SessionError
+error_of_read kind.OutOfMemory = NoMemory
+error_of_read other = Read
+
+abbrev pub error_of_script : ScriptError → SessionError
+error_of_script (script.At number fault) = Script number fault
+error_of_script script.NoMemory = NoMemory
+
+abbrev pub error_of_report : ReportError → SessionError
+error_of_report report.Write = Write
+error_of_report report.NoMemory = NoMemory
