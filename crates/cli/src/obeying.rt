@@ -2,9 +2,11 @@
 ghost use Rattle.std.specs.Prelude.{◌≡◌, ◌⊎◌, ◌++◌, false, IfOk, IfErr, IsTrue, codes};
 ghost use Rattle.std.specs.Fmt.{decimal};
 ghost use Rattle.graph.specs.declared.limits.TheConstants.{MOST_TEXT};
+ghost use Rattle.commit.specs.Core.{is_halted};
+ghost use Rattle.commit.specs.Runs.{NoneRuns};
 ghost use Rattle.pool.specs.Driver.{may_be_asked, may_spawn};
 ghost use Rattle.session.specs.Answers.{drive_of};
-ghost use Rattle.session.specs.Fails.{IsAllOrTooLarge};
+ghost use Rattle.session.specs.Fails.{Answers, IsAllOrTooLarge};
 ghost use Rattle.cli.specs.Obeyed.{CreatesOrNot, Draws, DrawsStore, IsDrawn, IsLeft, IsNotOpened, Obeys, Reports, Runs, SaysOrFails, TellsReport, TellsSession, TellsTurn, TurnsOver};
 ghost use Rattle.cli.specs.Outcomes.{status_of};
 ghost use Rattle.cli.specs.declared.outcome.Failure.TheVariants as failure;
@@ -21,8 +23,8 @@ use disk::Disk;
 use drawing::{DrawError, draw_graph, draw_store};
 use graph::{Graph, MOST_TEXT, parse};
 use pool::{Driver, Probe};
-use report::{ReportError, write_report};
-use session::{Ending, SessionError, session};
+use report::{ReportError, WriterSink, write_report};
+use session::{Ending, ReaderSource, SessionError, session};
 use std::alloc::Global;
 use std::io::{ErrorKind, Read, Write};
 use std::marker::Sync;
@@ -229,7 +231,7 @@ fn run<D: Disk + Send, R: Read, W: Write, H: Threads + Wait + Sync, P: Probe>(
 {
     match Core::open(alloc, disk) {
         Ok(core) => {
-            let (core, answer) = session(alloc, core, input, out, driver, limit);
+            let (core, answer) = run_session(alloc, core, input, out, driver, limit);
             let outcome = ran(&core, answer);
             (core.into_disk(), outcome)
         }
@@ -238,6 +240,30 @@ fn run<D: Disk + Send, R: Read, W: Write, H: Threads + Wait + Sync, P: Probe>(
             (disk, Outcome::Failed(Failure::Store(error)))
         }
     }
+}
+
+// Runs the script that a reader gives on a store, and writes to a writer.
+fn run_session<D: Disk + Send, R: Read, W: Write, H: Threads + Wait + Sync, P: Probe>(
+    alloc: Global,
+    core: Core<D>,
+    input: &mut R,
+    out: &mut W,
+    driver: &Driver<'_, H, P>,
+    limit: u64,
+) -> (Core<D>, Result<Ending, SessionError>)
+    requires { NoneRuns core }
+    ensures { Answers D.files D.moment D.left_at D.failures D.refusals (IsTrue D.is_honest) (drive_of limit (may_be_asked P.may_stop driver.now) (may_spawn driver.now) (is_halted core)) (R.remaining input.old) (W.contents out.old) (W.contents out.new) core result.0 result.1 }
+{
+    let mut source = ReaderSource {
+        input,
+        failed: false,
+    };
+    let mut sink = WriterSink { out, failed: false };
+    let went = session(alloc, core, &mut source, &mut sink, driver, limit);
+    let WriterSink { out, failed: _ } = sink;
+    // A proof reads from this use what the writer holds.
+    let _ = &*out;
+    went
 }
 
 // Writes the report of a store.

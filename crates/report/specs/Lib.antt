@@ -1,3 +1,4 @@
 pub mod Got
 pub mod Named
 pub mod ReportText
+pub mod Sinks

@@ -1,11 +1,13 @@
 //! The report of a store.
-ghost use Rattle.std.specs.Prelude.{List, map, OnOk, ℕ};
+ghost use Rattle.std.specs.Prelude.{◌≡◌, List, map, OnOk, ℕ};
 ghost use Rattle.std.specs.Io.KnownBytes.{Appends};
 ghost use Rattle.commit.specs.Core.{facts, graph};
-ghost use Rattle.report.specs.ReportText.{AreItemLines, IsReport, counts_text, fault_line, item_lines, line};
+ghost use Rattle.report.specs.ReportText.{AreGot, AreItemLines, IsReport, counts_text, fault_line, item_lines, line};
+ghost use Rattle.report.specs.Sinks.{TellsFailure, TellsReport};
+ghost use Rattle.report.specs.declared.error.ReportError.TheVariants.{NoMemory};
 
 use crate::got::got_by_name;
-use crate::{NamedAddress, NamedInstance, ReportError};
+use crate::{NamedAddress, NamedInstance, ReportError, Sink, SinkFailed, WriterSink};
 use commit::Core;
 use disk::Disk;
 use graph::Graph;
@@ -15,8 +17,9 @@ use std::io::Write;
 use terms::{FaultKind, Inst, ItemCollection};
 
 /// Writes a line for each of these items.
-fn write_items<W: Write>(graph: &Graph, items: ItemsOf<'_>, out: &mut W) -> Result<(), ReportError>
-    ensures { OnOk result (Appends (W.contents out.old) (W.contents out.new) (item_lines graph.now items.entry)) }
+fn write_items<S: Sink>(graph: &Graph, items: ItemsOf<'_>, out: &mut S) -> Result<(), SinkFailed>
+    ensures written { OnOk result (Appends (S.contents out.old) (S.contents out.new) (item_lines graph.now items.entry)) }
+    ensures fails { TellsFailure S.target S.has_failed out.old out.new result }
 {
     for (address, value) in items {
         let named = NamedAddress { graph, address };
@@ -26,12 +29,13 @@ fn write_items<W: Write>(graph: &Graph, items: ItemsOf<'_>, out: &mut W) -> Resu
 }
 
 /// Writes the lines of the items of these collections, one collection after another.
-fn write_collections<D: Disk, W: Write>(
+fn write_collections<D: Disk, S: Sink>(
     core: &Core<D>,
     collections: &[(&str, ItemCollection)],
-    out: &mut W,
-) -> Result<(), ReportError>
-    ensures { OnOk result ((text : List ℕ) × AreItemLines (graph core.now) (facts core.now) (map (λ one. one.1) collections.now) text × Appends (W.contents out.old) (W.contents out.new) text) }
+    out: &mut S,
+) -> Result<(), SinkFailed>
+    ensures written { OnOk result ((text : List ℕ) × AreItemLines (graph core.now) (facts core.now) (map (λ one. one.1) collections.now) text × Appends (S.contents out.old) (S.contents out.new) text) }
+    ensures fails { TellsFailure S.target S.has_failed out.old out.new result }
 {
     for one in collections {
         write_items(core.graph(), core.items_of(one.1), out)?;
@@ -40,8 +44,9 @@ fn write_collections<D: Disk, W: Write>(
 }
 
 /// Writes the line of the counts.
-fn write_counts<W: Write>(counts: Counts, out: &mut W) -> Result<(), ReportError>
-    ensures { OnOk result (Appends (W.contents out.old) (W.contents out.new) (line (counts_text counts))) }
+fn write_counts<S: Sink>(counts: Counts, out: &mut S) -> Result<(), SinkFailed>
+    ensures written { OnOk result (Appends (S.contents out.old) (S.contents out.new) (line (counts_text counts))) }
+    ensures fails { TellsFailure S.target S.has_failed out.old out.new result }
 {
     let Counts {
         items,
@@ -57,12 +62,13 @@ fn write_counts<W: Write>(counts: Counts, out: &mut W) -> Result<(), ReportError
 }
 
 /// Writes the line of a fault, if there is one.
-fn write_fault<W: Write>(
+fn write_fault<S: Sink>(
     graph: &Graph,
     fault: Option<(Inst, FaultKind)>,
-    out: &mut W,
-) -> Result<(), ReportError>
-    ensures { OnOk result (Appends (W.contents out.old) (W.contents out.new) (fault_line graph.now fault)) }
+    out: &mut S,
+) -> Result<(), SinkFailed>
+    ensures written { OnOk result (Appends (S.contents out.old) (S.contents out.new) (fault_line graph.now fault)) }
+    ensures fails { TellsFailure S.target S.has_failed out.old out.new result }
 {
     if let Some((instance, kind)) = fault {
         let named = NamedInstance { graph, instance };
@@ -72,9 +78,49 @@ fn write_fault<W: Write>(
     Ok(())
 }
 
+/// Writes the lines of a report, of which these are the collections.
+fn write_lines<D: Disk, S: Sink>(
+    core: &Core<D>,
+    collections: &[(&str, ItemCollection)],
+    out: &mut S,
+) -> Result<(), SinkFailed>
+    requires { AreGot (graph core.now) (map (λ one. one.1) collections.now) }
+    ensures written { OnOk result ((text : List ℕ) × IsReport (graph core.now) (facts core.now) text × Appends (S.contents out.old) (S.contents out.new) text) }
+    ensures fails { TellsFailure S.target S.has_failed out.old out.new result }
+{
+    write_collections(core, collections, out)?;
+    write_counts(core.counts(), out)?;
+    let fault = core.fault();
+    write_fault(core.graph(), fault, out)
+}
+
 /// Writes the report of a store: a line for each item that the environment may get, sorted by the name of its
 /// collection and then by key; one with the numbers of items, tags and steps; and one for the fault, if there is one.
 /// Each line ends with a line feed.
+///
+/// # Errors
+///
+/// - `Write`: the sink returned an error.
+/// - `NoMemory`: memory was refused. Nothing was written.
+pub fn send_report<D: Disk, S: Sink>(
+    alloc: Global,
+    core: &Core<D>,
+    out: &mut S,
+) -> Result<(), ReportError>
+    ensures written { OnOk result ((text : List ℕ) × IsReport (graph core.now) (facts core.now) text × Appends (S.contents out.old) (S.contents out.new) text) }
+    ensures fails { TellsReport S.target S.has_failed out.old out.new result }
+    ensures unwritten { result ≡ Err NoMemory → S.contents out.new ≡ S.contents out.old }
+{
+    match got_by_name(alloc, core.graph()) {
+        Ok(collections) => match write_lines(core, &collections, out) {
+            Ok(()) => Ok(()),
+            Err(_) => Err(ReportError::Write),
+        },
+        Err(_) => Err(ReportError::NoMemory),
+    }
+}
+
+/// The same, to a writer.
 pub fn write_report<D: Disk, W: Write>(
     alloc: Global,
     core: &Core<D>,
@@ -82,9 +128,10 @@ pub fn write_report<D: Disk, W: Write>(
 ) -> Result<(), ReportError>
     ensures { OnOk result ((text : List ℕ) × IsReport (graph core.now) (facts core.now) text × Appends (W.contents out.old) (W.contents out.new) text) }
 {
-    let collections = got_by_name(alloc, core.graph())?;
-    write_collections(core, &collections, out)?;
-    write_counts(core.counts(), out)?;
-    let fault = core.fault();
-    write_fault(core.graph(), fault, out)
+    let mut sink = WriterSink { out, failed: false };
+    let sent = send_report(alloc, core, &mut sink);
+    let WriterSink { out, failed: _ } = sink;
+    // A proof reads from this use what the writer holds.
+    let _ = &*out;
+    sent
 }

@@ -1,5 +1,6 @@
 pub mod ByName
 pub mod Coming
+pub mod Failing
 pub mod Lines
 pub mod Listed
 pub mod OneRefusal

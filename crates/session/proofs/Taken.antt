@@ -8,10 +8,7 @@ use Rattle.script.specs.declared.parser.TheConstants.{MOST_BYTES}
 use Rattle.session.specs.declared.error.SessionError.{SessionError}
 use Rattle.session.specs.declared.error.SessionError.TheVariants.{Read, Write, Script, NoMemory}
 use Rattle.session.specs.Fails.{FailsToRead, IsAllOf, IsAllOrTooLarge, IsRefusedAs}
-
--- what a reader gave that reads at most `limit` bytes
-abbrev pub IsTaken : Option (List ℕ) → ℕ → List ℕ → Type 0
-IsTaken known limit text = IfSome (option_map (take limit) known) (λ bytes. text ≡ bytes)
+use Rattle.session.specs.Streams.{IsTaken}
 
 pub is_taken : (known : Option (List ℕ)) (limit : ℕ) (items old text : List ℕ) → IfSome (option_map (take limit) known) (λ bytes. items ≡ old ++ bytes) → old ≡ [] → text ≡ items → IsTaken known limit text
 is_taken None limit items old text read empty is = tt

@@ -83,24 +83,32 @@ pub record HasBegun (g : Graph) (drive : Drive) (X : Facts) (commands begun : Li
   pub split : commands ≡ begun ++ left
   pub answered : AreReplies g drive X begun replies events
 
+-- An error after the script was read. The sink failed after a prefix of the commands was answered; or all were, memory was refused for the report, and just
+-- the replies are written.
+abbrev pub FailsLater : Graph → Drive → Facts → (commands begun : List Command) → List Reply → List (List Event) → (before behind : Option (List ℕ)) → SessionError → Type 0
+FailsLater g drive X commands begun replies events before behind Write = HasBegun g drive X commands begun replies events
+FailsLater g drive X commands begun replies events before behind NoMemory = (begun ≡ commands) × ((ending : Ending) × (ending.stop ≡ None) × AreWritten g drive X commands replies events ending before behind)
+FailsLater g drive X commands begun replies events before behind Read = ⊥
+FailsLater g drive X commands begun replies events before behind (Script number fault) = ⊥
+
 module _ {D : Type 0} (files : D → Side → File) (moment : D → ℕ) (left_at : D → ℕ → Contents → Type 0) (failures refusals : D → ℕ) (honest : Type 0) (drive : Drive) where
   -- What came of the commands of a script: which of them were begun, the replies, which events came by each line, and how the core went on by them. At
-  -- `Ok` all were begun, and `whole` holds. At an error the output failed, or memory was refused, after a prefix of them.
-  pub record AnswersBy (whole : List Reply → List (List Event) → Ending → Type 0) (commands : List Command) (old new : Core D) (result : Result Ending SessionError) : Type 0 where
+  -- `Ok` all were begun, and `whole` holds. At an error the sink failed after a prefix of them, or memory was refused for the report.
+  pub record AnswersBy (whole : List Reply → List (List Event) → Ending → Type 0) (commands : List Command) (before behind : Option (List ℕ)) (old new : Core D) (result : Result Ending SessionError) : Type 0 where
     pub begun : List Command
     pub replies : List Reply
     pub events : List (List Event)
     pub goes_on : GoesOnByAll files moment left_at failures refusals honest old new begun replies events
     pub closes : IfOk result (λ ending. (begun ≡ commands) × whole replies events ending)
-    pub fails : IfErr result (λ error. IsOfOutput error × HasBegun (graph old) drive (facts old) commands begun replies events)
+    pub fails : IfErr result (FailsLater (graph old) drive (facts old) commands begun replies events before behind)
 
   -- the commands were answered without a report
   abbrev pub AnswersLines : List Command → (before behind : Option (List ℕ)) → Core D → Core D → Result Ending SessionError → Type 0
-  AnswersLines commands before behind old new result = AnswersBy (λ replies events ending. AreWritten (graph old) drive (facts old) commands replies events ending before behind) commands old new result
+  AnswersLines commands before behind old new result = AnswersBy (λ replies events ending. AreWritten (graph old) drive (facts old) commands replies events ending before behind) commands before behind old new result
 
   -- the commands were answered, with the report
   abbrev pub AnswersCommands : List Command → (before behind : Option (List ℕ)) → Core D → Core D → Result Ending SessionError → Type 0
-  AnswersCommands commands before behind old new result = AnswersBy (λ replies events ending. Closes (graph old) drive (facts old) commands replies events ending before behind) commands old new result
+  AnswersCommands commands before behind old new result = AnswersBy (λ replies events ending. Closes (graph old) drive (facts old) commands replies events ending before behind) commands before behind old new result
 
   -- the script that a reader had was read, and its commands were answered
   pub record AnswersScript (input before behind : Option (List ℕ)) (old new : Core D) (result : Result Ending SessionError) : Type 0 where

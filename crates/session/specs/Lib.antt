@@ -4,4 +4,5 @@ pub mod Fails
 pub mod OneText
 pub mod Replies
 pub mod Session
+pub mod Streams
 pub mod Went

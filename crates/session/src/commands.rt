@@ -5,6 +5,7 @@ ghost use Rattle.commit.specs.Runs.{NoneRuns};
 ghost use Rattle.pool.specs.Driver.{may_be_asked, may_spawn};
 ghost use Rattle.session.specs.Answers.{drive_of};
 ghost use Rattle.session.specs.Fails.{AnswersLines};
+ghost use Rattle.session.specs.Streams.{TellsSink};
 
 use crate::answers::answer;
 use crate::reply::NamedReply;
@@ -12,9 +13,9 @@ use crate::{Ending, SessionError};
 use commit::Core;
 use disk::Disk;
 use pool::{Driver, Probe};
+use report::Sink;
 use script::Command;
 use std::alloc::Global;
-use std::io::Write;
 use std::marker::Sync;
 use std::sync::Wait;
 use std::thread::Threads;
@@ -22,17 +23,18 @@ use terms::facts_are_told_apart;
 use vault::stores_go_on;
 
 /// Does what the commands ask for, one after another, up to a reply that ends the session, and writes the replies.
-pub(crate) fn run_commands<D: Disk + Send, W: Write, H: Threads + Wait + Sync, P: Probe>(
+pub(crate) fn run_commands<D: Disk + Send, O: Sink, H: Threads + Wait + Sync, P: Probe>(
     alloc: Global,
     core: Core<D>,
     commands: &[Command],
-    out: &mut W,
+    out: &mut O,
     driver: &Driver<'_, H, P>,
     limit: u64,
 ) -> (Core<D>, Result<Ending, SessionError>)
     requires idle { NoneRuns core }
     ensures idle { NoneRuns result.0 }
-    ensures answers { AnswersLines D.files D.moment D.left_at D.failures D.refusals (IsTrue D.is_honest) (drive_of limit (may_be_asked P.may_stop driver.now) (may_spawn driver.now) (is_halted core)) commands.now (W.contents out.old) (W.contents out.new) core result.0 result.1 }
+    ensures answers { AnswersLines D.files D.moment D.left_at D.failures D.refusals (IsTrue D.is_honest) (drive_of limit (may_be_asked P.may_stop driver.now) (may_spawn driver.now) (is_halted core)) commands.now (O.contents out.old) (O.contents out.new) core result.0 result.1 }
+    ensures sink { TellsSink O.target O.has_failed out.old out.new result.1 }
 {
     facts_are_told_apart();
     stores_go_on::<D>();

@@ -11,9 +11,11 @@ mod error;
 mod laws;
 mod reply;
 mod sessions;
+mod source;
 mod waiting;
 
 pub use ending::{Ending, Stop};
 pub use error::SessionError;
 pub use laws::texts_are_one;
 pub use sessions::session;
+pub use source::{ReaderSource, Source, SourceError};

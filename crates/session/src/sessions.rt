@@ -1,5 +1,5 @@
 //! A script, from its bytes to its replies.
-ghost use Rattle.std.specs.Prelude.{◌≡◌, List, IfErr, IfOk, IsTrue, ℕ};
+ghost use Rattle.std.specs.Prelude.{◌≡◌, List, IfErr, IfOk, IsTrue, None, ℕ};
 ghost use Rattle.std.specs.Io.KnownBytes.{Appends};
 ghost use Rattle.script.specs.Script.{IsScript};
 ghost use Rattle.commit.specs.Core.{facts, graph, is_halted};
@@ -8,17 +8,18 @@ ghost use Rattle.pool.specs.Driver.{may_be_asked, may_spawn};
 ghost use Rattle.session.specs.Answers.{drive_of};
 ghost use Rattle.session.specs.Fails.{Answers, AnswersCommands, FailsToRead, IsAllOf, IsOfOutput, IsRefusedAs};
 ghost use Rattle.session.specs.Session.{IsClosing};
+ghost use Rattle.session.specs.Streams.{TellsSink, TellsSource};
+ghost use Rattle.session.specs.declared.error.SessionError.TheVariants.{NoMemory};
 
 use crate::commands::run_commands;
-use crate::{Ending, SessionError};
+use crate::{Ending, SessionError, Source};
 use commit::Core;
 use disk::Disk;
 use graph::Graph;
 use pool::{Driver, Probe};
-use report::write_report;
+use report::{Sink, send_report};
 use script::{Command, MOST_BYTES, parse_script};
 use std::alloc::Global;
-use std::io::{Read, Write};
 use std::marker::Sync;
 use std::sync::Wait;
 use std::thread::Threads;
@@ -31,17 +32,19 @@ use vault::stores_go_on;
 /// not be started, ends the session without a report. An error before the first line leaves the store and the output as
 /// they were; after a later error, what was committed stays. A crash at any moment of a line leaves all that came by the
 /// lines before it, and a prefix of its own commits.
-pub fn session<D: Disk + Send, R: Read, W: Write, H: Threads + Wait + Sync, P: Probe>(
+pub fn session<D: Disk + Send, S: Source, O: Sink, H: Threads + Wait + Sync, P: Probe>(
     alloc: Global,
     core: Core<D>,
-    input: &mut R,
-    out: &mut W,
+    input: &mut S,
+    out: &mut O,
     driver: &Driver<'_, H, P>,
     limit: u64,
 ) -> (Core<D>, Result<Ending, SessionError>)
     requires idle { NoneRuns core }
     ensures idle { NoneRuns result.0 }
-    ensures answers { Answers D.files D.moment D.left_at D.failures D.refusals (IsTrue D.is_honest) (drive_of limit (may_be_asked P.may_stop driver.now) (may_spawn driver.now) (is_halted core)) (R.remaining input.old) (W.contents out.old) (W.contents out.new) core result.0 result.1 }
+    ensures answers { Answers D.files D.moment D.left_at D.failures D.refusals (IsTrue D.is_honest) (drive_of limit (may_be_asked P.may_stop driver.now) (may_spawn driver.now) (is_halted core)) (S.remaining input.old) (O.contents out.old) (O.contents out.new) core result.0 result.1 }
+    ensures source { TellsSource S.has_failed input.old input.new result.1 }
+    ensures sink { TellsSink O.target O.has_failed out.old out.new result.1 }
 {
     stores_go_on::<D>();
     core.is_kept();
@@ -51,19 +54,19 @@ pub fn session<D: Disk + Send, R: Read, W: Write, H: Threads + Wait + Sync, P: P
     }
 }
 
-// The commands of the script that a reader gives. It reads at most one byte more than the longest script has.
-fn read_script<R: Read>(
+// The commands of the script that a source has. It reads at most one byte more than the longest script has.
+fn read_script<S: Source>(
     alloc: Global,
     graph: &Graph,
-    input: &mut R,
+    input: &mut S,
 ) -> Result<Vec<Command>, SessionError>
-    ensures read { IfOk result (λ commands. (script : List ℕ) × IsAllOf (R.remaining input.old) script × IsScript graph.now script commands.items) }
-    ensures fails { IfErr result (FailsToRead graph.now (R.remaining input.old)) }
+    ensures read { IfOk result (λ commands. (script : List ℕ) × IsAllOf (S.remaining input.old) script × IsScript graph.now script commands.items) }
+    ensures fails { IfErr result (FailsToRead graph.now (S.remaining input.old)) }
+    ensures source { TellsSource S.has_failed input.old input.new result }
 {
-    let mut text = Vec::new(alloc);
-    match input.take(MOST_BYTES as u64 + 1).read_to_end(&mut text) {
-        Ok(_) => parsed(alloc, graph, text.as_slice()),
-        Err(error) => Err(SessionError::of_read(error)),
+    match input.read_up_to(alloc, MOST_BYTES as u64 + 1) {
+        Ok(text) => parsed(alloc, graph, text.as_slice()),
+        Err(error) => Err(SessionError::of_source(error)),
     }
 }
 
@@ -79,17 +82,18 @@ fn parsed(alloc: Global, graph: &Graph, text: &[u8]) -> Result<Vec<Command>, Ses
 }
 
 // Does what the commands ask for, and writes the replies and the report.
-fn run_script<D: Disk + Send, W: Write, H: Threads + Wait + Sync, P: Probe>(
+fn run_script<D: Disk + Send, O: Sink, H: Threads + Wait + Sync, P: Probe>(
     alloc: Global,
     core: Core<D>,
     commands: &[Command],
-    out: &mut W,
+    out: &mut O,
     driver: &Driver<'_, H, P>,
     limit: u64,
 ) -> (Core<D>, Result<Ending, SessionError>)
     requires idle { NoneRuns core }
     ensures idle { NoneRuns result.0 }
-    ensures answers { AnswersCommands D.files D.moment D.left_at D.failures D.refusals (IsTrue D.is_honest) (drive_of limit (may_be_asked P.may_stop driver.now) (may_spawn driver.now) (is_halted core)) commands.now (W.contents out.old) (W.contents out.new) core result.0 result.1 }
+    ensures answers { AnswersCommands D.files D.moment D.left_at D.failures D.refusals (IsTrue D.is_honest) (drive_of limit (may_be_asked P.may_stop driver.now) (may_spawn driver.now) (is_halted core)) commands.now (O.contents out.old) (O.contents out.new) core result.0 result.1 }
+    ensures sink { TellsSink O.target O.has_failed out.old out.new result.1 }
 {
     let (core, went) = run_commands(alloc, core, commands, out, driver, limit);
     match went {
@@ -102,19 +106,21 @@ fn run_script<D: Disk + Send, W: Write, H: Threads + Wait + Sync, P: Probe>(
 }
 
 // Writes the report, unless a reply ended the session.
-fn close<D: Disk, W: Write>(
+fn close<D: Disk, O: Sink>(
     alloc: Global,
     core: &Core<D>,
     ending: Ending,
-    out: &mut W,
+    out: &mut O,
 ) -> Result<Ending, SessionError>
-    ensures closed { IfOk result (λ closed. (closed ≡ ending) × ((text : List ℕ) × IsClosing (graph core.now) (facts core.now) ending.stop text × Appends (W.contents out.old) (W.contents out.new) text)) }
+    ensures closed { IfOk result (λ closed. (closed ≡ ending) × ((text : List ℕ) × IsClosing (graph core.now) (facts core.now) ending.stop text × Appends (O.contents out.old) (O.contents out.new) text)) }
     ensures err { IfErr result IsOfOutput }
+    ensures unwritten { result ≡ Err NoMemory → (ending.stop ≡ None) × (O.contents out.new ≡ O.contents out.old) }
+    ensures sink { TellsSink O.target O.has_failed out.old out.new result }
 {
     if ending.stop.is_some() {
         return Ok(ending);
     }
-    match write_report(alloc, core, out) {
+    match send_report(alloc, core, out) {
         Ok(()) => Ok(ending),
         Err(error) => Err(SessionError::of_report(error)),
     }

@@ -1,6 +1,7 @@
 use Rattle.std.proofs.Common.{ap, refl, subst, List, ℕ, Option, MutBor}
 use Rattle.graph.specs.declared.limits.TheConstants.{MOST_TEXT}
-use Rattle.session.proofs.Taken.{IsTaken, enough, is_taken}
+use Rattle.session.specs.Streams.{IsTaken}
+use Rattle.session.proofs.Taken.{enough, is_taken}
 use Rattle.cli.proofs.obeying.read_text.Goals as goal
 
 pub returns-in-Ok-clause-read : goal.returns-in-Ok-clause-read

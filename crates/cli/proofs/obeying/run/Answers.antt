@@ -7,11 +7,11 @@ use Rattle.cli.proofs.obeying.run.Goals as goal
 pub returns-in-Ok : goal.returns-in-Ok
 returns-in-Ok g c = inr (record {
   first = c.in-Ok.core;
-  last = c.session-core.result.0;
+  last = c.run_session-core.result.0;
   opened = record { opened = c.in-Ok.ensures.opened; finds = λ on. c.in-Ok.ensures.finds on; only_reads = λ on. c.in-Ok.ensures.only_reads on };
-  answer = c.session-core.result.1;
+  answer = c.run_session-core.result.1;
   session = subst (λ (was_halted : Bool). Answers g.D.Disk.files g.D.Disk.moment g.D.Disk.left_at g.D.Disk.failures g.D.Disk.refusals (IsTrue g.D.Disk.is_honest) (drive_of c.args.limit (may_be_asked g.P.Probe.may_stop c.args.driver.now) (may_spawn c.args.driver.now) was_halted)
-      (g.R.Read.remaining c.args.input.now) (g.W.Write.contents c.args.out.now) (g.W.Write.contents c.session-core.new.out) c.in-Ok.core c.session-core.result.0 c.session-core.result.1) c.in-Ok.ensures.opened.working c.session-core.ensures.answers;
+      (g.R.Read.remaining c.args.input.now) (g.W.Write.contents c.args.out.now) (g.W.Write.contents c.run_session-core.new.out) c.in-Ok.core c.run_session-core.result.0 c.run_session-core.result.1) c.in-Ok.ensures.opened.working c.run_session-core.ensures;
   told = c.ran-outcome.ensures;
   disk = c.into_disk.ensures;
 })

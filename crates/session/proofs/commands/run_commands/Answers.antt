@@ -9,6 +9,7 @@ use Rattle.session.specs.Answers.{Replies, drive_of}
 use Rattle.session.specs.Session.{AreReplies, ending_of, stop_of}
 use Rattle.session.specs.Went.{GoesOn, GoesOnByLine, HasCause}
 use Rattle.session.proofs.Coming.{nothing_came}
+use Rattle.session.proofs.Failing.{calm_twice, calm_where_ok, failed_where_err, then_failed}
 use Rattle.session.proofs.Lines.{appends_nothing, none, not_none, split_at, up_to, where_ok, written_more}
 use Rattle.session.proofs.Turns.{Linked, by_all, by_these, linked_nowhere, turned}
 use Rattle.session.proofs.Went.{Went, finished, went_nowhere}
@@ -27,6 +28,7 @@ loop-command-init g c =
       linked = linked_nowhere g.D.Disk.files g.D.Disk.moment g.D.Disk.left_at g.D.Disk.failures g.D.Disk.refusals (IsTrue g.D.Disk.is_honest) c.args.core;
       went = subst (λ (ending : Ending). Went (graph c.args.core) drive (facts c.args.core) [] ending [] []) (sym c.new-ending.ensures) (went_nowhere (graph c.args.core) drive (facts c.args.core));
       written = appends_nothing _;
+      calm = (refl, refl);
     }
 
 pub returns-then-is_err-clause-answers : goal.returns-then-is_err-clause-answers
@@ -52,15 +54,17 @@ returns-then-is_err-clause-answers g c =
           (subst (λ (all : List Command). GoesOnByLine g.D.Disk.files g.D.Disk.moment g.D.Disk.left_at g.D.Disk.failures g.D.Disk.refusals (IsTrue g.D.Disk.is_honest) old new all (it.replies ++ reply ∷ []) turn.events) (append-nil begun)
           (by_these g.D.Disk.files g.D.Disk.moment g.D.Disk.left_at g.D.Disk.failures g.D.Disk.refusals (IsTrue g.D.Disk.is_honest) old new begun [] (it.replies ++ reply ∷ []) turn.events turn.linked));
       closes = tt;
-      fails = (
-        tt,
-        record {
-          left = drop (suc place) commands;
-          split = split_at commands place command c.loop-command-test.true c.command-item.is ∙ sym (append_assoc (take place commands) (command ∷ []) (drop (suc place) commands));
-          answered = turn.answered;
-        },
-      );
+      fails = record {
+        left = drop (suc place) commands;
+        split = split_at commands place command c.loop-command-test.true c.command-item.is ∙ sym (append_assoc (take place commands) (command ∷ []) (drop (suc place) commands));
+        answered = turn.answered;
+      };
     }
+
+pub returns-then-is_err-clause-sink : goal.returns-then-is_err-clause-sink
+returns-then-is_err-clause-sink g c =
+    then_failed g.O.Sink.target g.O.Sink.has_failed c.args.out.now c.loop-command.out c.write_fmt.new.self c.loop-command.invariant.calm
+    (failed_where_err g.O.Sink.target g.O.Sink.has_failed c.loop-command.out c.write_fmt.new.self c.write_fmt.result c.write_fmt.ensures.fails c.if-is_err.ensures.value)
 
 pub returns-then-is_some-clause-answers : goal.returns-then-is_some-clause-answers
 returns-then-is_some-clause-answers g c =
@@ -92,12 +96,17 @@ returns-then-is_some-clause-answers g c =
           answered = subst (λ (all : List Command). AreReplies (graph old) (drive_of c.args.limit (may_be_asked g.P.Probe.may_stop c.args.driver.now) (may_spawn c.args.driver.now) (is_halted c.args.core)) (facts old) all (it.replies ++ reply ∷ []) turn.events) (sym split) (turn.last left stops);
           ends = c.with_reply-ending.ensures ∙ turn.ends left ∙ ap (λ (all : List Command). ending_of all (it.replies ++ reply ∷ [])) (sym split);
           written =
-              written_more (g.W.Write.contents c.args.out.now) (g.W.Write.contents c.loop-command.out) (g.W.Write.contents c.write_fmt.new.self) (graph old) c.deref.result.now it.replies reply (c.deref.ensures ∙ c.graph.ensures ∙ turn.same_graph) it.written
-              (where_ok c.write_fmt.result c.write_fmt.ensures.bytes c.if-is_err.ensures.value);
+              written_more (g.O.Sink.contents c.args.out.now) (g.O.Sink.contents c.loop-command.out) (g.O.Sink.contents c.write_fmt.new.self) (graph old) c.deref.result.now it.replies reply (c.deref.ensures ∙ c.graph.ensures ∙ turn.same_graph) it.written
+              (where_ok c.write_fmt.result c.write_fmt.ensures.written c.if-is_err.ensures.value);
         },
       );
       fails = tt;
     }
+
+pub returns-then-is_some-clause-sink : goal.returns-then-is_some-clause-sink
+returns-then-is_some-clause-sink g c =
+    calm_twice g.O.Sink.target g.O.Sink.has_failed c.args.out.now c.loop-command.out c.write_fmt.new.self c.loop-command.invariant.calm
+    (calm_where_ok g.O.Sink.target g.O.Sink.has_failed c.loop-command.out c.write_fmt.new.self c.write_fmt.result c.write_fmt.ensures.fails c.if-is_err.ensures.value)
 
 pub loop-command-preserved : goal.loop-command-preserved
 loop-command-preserved g c =
@@ -127,8 +136,11 @@ loop-command-preserved g c =
           subst (λ (begun : List Command). Went (graph old) (drive_of c.args.limit (may_be_asked g.P.Probe.may_stop c.args.driver.now) (may_spawn c.args.driver.now) (is_halted c.args.core)) (facts old) begun c.with_reply-ending.result (it.replies ++ reply ∷ []) turn.events) one_more
           (subst (λ (ending : Ending). Went (graph old) (drive_of c.args.limit (may_be_asked g.P.Probe.may_stop c.args.driver.now) (may_spawn c.args.driver.now) (is_halted c.args.core)) (facts old) (take place commands ++ command ∷ []) ending (it.replies ++ reply ∷ []) turn.events) (sym c.with_reply-ending.ensures) (turn.on goes_on));
       written =
-          written_more (g.W.Write.contents c.args.out.now) (g.W.Write.contents c.loop-command.out) (g.W.Write.contents c.write_fmt.new.self) (graph old) c.deref.result.now it.replies reply (c.deref.ensures ∙ c.graph.ensures ∙ turn.same_graph) it.written
-          (where_ok c.write_fmt.result c.write_fmt.ensures.bytes c.if-is_err.ensures.value);
+          written_more (g.O.Sink.contents c.args.out.now) (g.O.Sink.contents c.loop-command.out) (g.O.Sink.contents c.write_fmt.new.self) (graph old) c.deref.result.now it.replies reply (c.deref.ensures ∙ c.graph.ensures ∙ turn.same_graph) it.written
+          (where_ok c.write_fmt.result c.write_fmt.ensures.written c.if-is_err.ensures.value);
+      calm =
+          calm_twice g.O.Sink.target g.O.Sink.has_failed c.args.out.now c.loop-command.out c.write_fmt.new.self it.calm
+          (calm_where_ok g.O.Sink.target g.O.Sink.has_failed c.loop-command.out c.write_fmt.new.self c.write_fmt.result c.write_fmt.ensures.fails c.if-is_err.ensures.value);
     }
 
 pub returns-clause-answers : goal.returns-clause-answers

@@ -1,4 +1,4 @@
-use Rattle.std.proofs.Common.{◌≡◌, ◌∙◌, ◌++◌, refl, sym, subst, [], IfOk, IfErr, IsTrue, append-nil}
+use Rattle.std.proofs.Common.{◌≡◌, ◌∙◌, ◌++◌, refl, sym, subst, IfOk, IfErr, IsTrue}
 use Rattle.std.specs.Prelude.{Result}
 use Rattle.std.proofs.KnownBytes.{Appends-trans}
 use Rattle.terms.specs.Facts as stated
@@ -9,10 +9,12 @@ use Rattle.pool.specs.Driver.{may_be_asked, may_spawn}
 use Rattle.session.specs.declared.ending.Ending.{Ending}
 use Rattle.session.specs.declared.error.SessionError.{SessionError}
 use Rattle.session.specs.Answers.{drive_of}
-use Rattle.session.specs.Fails.{AreWritten, HasBegun, IsOfOutput}
-use Rattle.session.specs.Session.{AreReplies, IsClosing, all_of, replies_text}
+use Rattle.session.specs.Fails.{AreWritten, FailsLater}
+use Rattle.session.specs.Session.{IsClosing, all_of, replies_text}
+use Rattle.session.specs.Streams.{TellsSink}
 use Rattle.session.proofs.Coming.{facts_behind_it, graph_behind}
-use Rattle.session.proofs.Taken.{where_it_is_err, where_it_is_ok}
+use Rattle.session.proofs.Failing.{calm_then, closing_fails}
+use Rattle.session.proofs.Taken.{where_it_is_ok}
 use Rattle.session.proofs.sessions.run_script.Goals as goal
 
 pub returns-in-Ok-clause-answers : goal.returns-in-Ok-clause-answers
@@ -23,7 +25,7 @@ returns-in-Ok-clause-answers g c =
     let commands = c.args.commands.now in
     let it = c.run_commands-core.ensures.answers in
     let written = subst (λ (r : Result Ending SessionError). IfOk r (λ ending. (it.begun ≡ commands)
-    × AreWritten (graph old) drive (facts old) commands it.replies it.events ending (g.W.Write.contents c.args.out.now) (g.W.Write.contents c.run_commands-core.new.out))) c.in-Ok.is it.closes in
+    × AreWritten (graph old) drive (facts old) commands it.replies it.events ending (g.O.Sink.contents c.args.out.now) (g.O.Sink.contents c.run_commands-core.new.out))) c.in-Ok.is it.closes in
     let together = it.goes_on.together in
     record {
       begun = it.begun;
@@ -46,7 +48,9 @@ returns-in-Ok-clause-answers g c =
           written = Appends-trans _ _ _ (replies_text (graph old) it.replies) closed.1.0 written.1.written closed.1.2;
         },
       )) c.close-closed.ensures.closed;
-      fails = where_it_is_err c.close-closed.result (λ error is. (is, record { left = []; split = sym written.0 ∙ sym (append-nil it.begun); answered = subst (λ begun. AreReplies (graph old) drive (facts old) begun it.replies it.events) (sym written.0) written.1.answered })) c.close-closed.ensures.err;
+      fails =
+          closing_fails (graph old) drive (facts old) commands it.begun it.replies it.events c.in-Ok.ending (g.O.Sink.contents c.args.out.now) (g.O.Sink.contents c.run_commands-core.new.out) (g.O.Sink.contents c.close-closed.new.out)
+          written.0 written.1 c.close-closed.result c.close-closed.ensures.err c.close-closed.ensures.unwritten;
     }
 
 pub returns-in-Err-clause-answers : goal.returns-in-Err-clause-answers
@@ -54,7 +58,7 @@ returns-in-Err-clause-answers g c =
     let old = c.args.core in
     let drive = drive_of c.args.limit (may_be_asked g.P.Probe.may_stop c.args.driver.now) (may_spawn c.args.driver.now) (is_halted c.args.core) in
     let it = c.run_commands-core.ensures.answers in
-    let failed = subst (λ (r : Result Ending SessionError). IfErr r (λ error. IsOfOutput error × HasBegun (graph old) drive (facts old) c.args.commands.now it.begun it.replies it.events)) c.in-Err.is it.fails in
+    let failed = subst (λ (r : Result Ending SessionError). IfErr r (FailsLater (graph old) drive (facts old) c.args.commands.now it.begun it.replies it.events (g.O.Sink.contents c.args.out.now) (g.O.Sink.contents c.run_commands-core.new.out))) c.in-Err.is it.fails in
     record {
       begun = it.begun;
       replies = it.replies;
@@ -63,3 +67,11 @@ returns-in-Err-clause-answers g c =
       closes = tt;
       fails = failed;
     }
+
+pub returns-in-Ok-clause-sink : goal.returns-in-Ok-clause-sink
+returns-in-Ok-clause-sink g c =
+    let calm = subst (λ (r : Result Ending SessionError). TellsSink g.O.Sink.target g.O.Sink.has_failed c.args.out.now c.run_commands-core.new.out r) c.in-Ok.is c.run_commands-core.ensures.sink in
+    calm_then g.O.Sink.target g.O.Sink.has_failed c.args.out.now c.run_commands-core.new.out c.close-closed.new.out calm c.close-closed.result c.close-closed.ensures.sink
+
+pub returns-in-Err-clause-sink : goal.returns-in-Err-clause-sink
+returns-in-Err-clause-sink g c = subst (λ (r : Result Ending SessionError). TellsSink g.O.Sink.target g.O.Sink.has_failed c.args.out.now c.run_commands-core.new.out r) c.in-Err.is c.run_commands-core.ensures.sink

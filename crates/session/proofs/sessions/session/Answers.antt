@@ -3,6 +3,7 @@ use Rattle.graph.specs.Graph.{Graph}
 use Rattle.script.specs.declared.command.Command.{Command}
 use Rattle.script.specs.Script.{IsScript}
 use Rattle.session.specs.Fails.{FailsToRead}
+use Rattle.session.proofs.Failing.{ran_calm, unwritten_told}
 use Rattle.session.proofs.sessions.session.Goals as goal
 
 pub returns-in-Ok-clause-answers : goal.returns-in-Ok-clause-answers
@@ -21,7 +22,15 @@ pub returns-in-Err-clause-answers : goal.returns-in-Err-clause-answers
 returns-in-Err-clause-answers g c = inl (record {
   error = c.in-Err.error;
   told = refl;
-  why = subst (λ (h : Graph). FailsToRead h (g.R.Read.remaining c.args.input.now) c.in-Err.error) (c.deref.ensures ∙ c.graph.ensures) c.in-Err.ensures.fails;
+  why = subst (λ (h : Graph). FailsToRead h (g.S.Source.remaining c.args.input.now) c.in-Err.error) (c.deref.ensures ∙ c.graph.ensures) c.in-Err.ensures.fails;
   same = refl;
   nothing_written = refl;
 })
+
+pub returns-in-Ok-clause-source : goal.returns-in-Ok-clause-source
+returns-in-Ok-clause-source g c =
+    let it = c.run_script.ensures.answers in
+    ran_calm g.S.Source.has_failed c.args.input.now c.read_script.new.input _ _ _ _ it.begun it.replies it.events _ _ c.in-Ok.ensures.source c.run_script.result.1 it.fails
+
+pub returns-in-Err-clause-sink : goal.returns-in-Err-clause-sink
+returns-in-Err-clause-sink g c = unwritten_told g.O.Sink.target g.O.Sink.has_failed c.deref.result.now (g.S.Source.remaining c.args.input.now) c.args.out.now c.in-Err.error c.in-Err.ensures.fails
