@@ -8,8 +8,9 @@ use Rattle.graph.specs.Graph.{Graph}
 use Rattle.commit.specs.declared.verdict.RunError.{RunError}
 use Rattle.commit.specs.declared.verdict.Verdict.{Verdict}
 use Rattle.commit.specs.Core.{Core, facts, graph, is_halted}
-use Rattle.commit.specs.Runs.{MetFull, TellsVerdict}
+use Rattle.commit.specs.Runs.{IsFull, MetFull, TellsVerdict}
 use Rattle.commit.proofs.Lists.{first_ends, with_nothing}
+use Rattle.commit.proofs.Told.{told_for}
 use Rattle.script.specs.declared.command.Command.TheVariants.{Run}
 use Rattle.pool.specs.Driver.{may_be_asked, may_spawn}
 use Rattle.session.specs.Answers.{RepliesRun, TellsRun, drive_of, run_reply}
@@ -42,6 +43,8 @@ returns-clause-replies g c = by_halted (is_halted c.args.core) refl
         )
     by_halted false working =
         let it = c.run-core.ensures.runs working in
+        let told = told_for (MetFull (graph c.args.core) (facts c.args.core) c.args.core.vault.journal.end it.ends × (may_spawn c.args.driver.now ≡ false → IsFull c.run-core.result.0)) (MetFull (graph c.args.core) (facts c.args.core) c.args.core.vault.journal.end it.ends)
+        (may_be_asked g.P.Probe.may_stop c.args.driver.now) (may_spawn c.args.driver.now) c.run-core.result.0 c.args.limit (length it.ends) c.run-core.result.1 (λ _ both. both.0) it.told in
         let all : facts c.run-core.result.0 ≡ with_facts (facts c.args.core) (stated.facts it.ends) = λ i fact. it.runs.facts fact i in (
           it.ends,
           record { went = λ _. of_run g.D.Disk.files g.D.Disk.moment g.D.Disk.left_at g.D.Disk.failures g.D.Disk.refusals (IsTrue g.D.Disk.is_honest) c.args.core c.run-core.result.0 c.args.limit it.ends it.runs; stays = λ halted. absurd (false≢true (sym working ∙ halted)); settled = c.is_kept-2.ensures.settled; later = it.runs.later },
@@ -50,10 +53,10 @@ returns-clause-replies g c = by_halted (is_halted c.args.core) refl
             legal = front_legal _ _ it.ends c.run-core.result.0.in_doubt it.runs.legal;
             within = omega (arith, it.runs.spent);
             told = subst (λ (h : Graph). TellsRun h (drive_of c.args.limit (may_be_asked g.P.Probe.may_stop c.args.driver.now) (may_spawn c.args.driver.now) (is_halted c.args.core)) (with_facts (facts c.args.core) (stated.facts it.ends)) (length it.ends) c.told-reply.result) it.runs.graph
-                (subst (λ (X : Facts). TellsRun (graph c.run-core.result.0) (drive_of c.args.limit (may_be_asked g.P.Probe.may_stop c.args.driver.now) (may_spawn c.args.driver.now) (is_halted c.args.core)) X (length it.ends) c.told-reply.result) all (c.told-reply.ensures.tells (graph c.args.core) (facts c.args.core) c.args.core.vault.journal.end it.ends (may_be_asked g.P.Probe.may_stop c.args.driver.now) (may_spawn c.args.driver.now) (is_halted c.args.core) c.args.limit (length it.ends) it.told));
+                (subst (λ (X : Facts). TellsRun (graph c.run-core.result.0) (drive_of c.args.limit (may_be_asked g.P.Probe.may_stop c.args.driver.now) (may_spawn c.args.driver.now) (is_halted c.args.core)) X (length it.ends) c.told-reply.result) all (c.told-reply.ensures.tells (graph c.args.core) (facts c.args.core) c.args.core.vault.journal.end it.ends (may_be_asked g.P.Probe.may_stop c.args.driver.now) (may_spawn c.args.driver.now) (is_halted c.args.core) c.args.limit (length it.ends) told));
           },
           cause_of_run g.D.Disk.failures c.args.core c.run-core.result.0 it.ends c.told-reply.result
-              (c.told-reply.ensures.cause (graph c.args.core) (facts c.args.core) c.args.core.vault.journal.end it.ends (may_be_asked g.P.Probe.may_stop c.args.driver.now) (may_spawn c.args.driver.now) c.args.limit (length it.ends) it.told),
+              (c.told-reply.ensures.cause (graph c.args.core) (facts c.args.core) c.args.core.vault.journal.end it.ends (may_be_asked g.P.Probe.may_stop c.args.driver.now) (may_spawn c.args.driver.now) c.args.limit (length it.ends) told),
         )
 
 pub returns-clause-halt : goal.returns-clause-halt
@@ -67,4 +70,6 @@ returns-clause-stays g c none = by_halted (is_halted c.args.core) refl
     by_halted true halted = ap is_halted (c.run-core.ensures.halted halted).0
     by_halted false working =
         let it = c.run-core.ensures.runs working in
-        c.told-reply.ensures.stays (graph c.args.core) (facts c.args.core) c.args.core.vault.journal.end it.ends (may_be_asked g.P.Probe.may_stop c.args.driver.now) (may_spawn c.args.driver.now) c.args.limit (length it.ends) it.told none ∙ sym working
+        let told = told_for (MetFull (graph c.args.core) (facts c.args.core) c.args.core.vault.journal.end it.ends × (may_spawn c.args.driver.now ≡ false → IsFull c.run-core.result.0)) (MetFull (graph c.args.core) (facts c.args.core) c.args.core.vault.journal.end it.ends)
+        (may_be_asked g.P.Probe.may_stop c.args.driver.now) (may_spawn c.args.driver.now) c.run-core.result.0 c.args.limit (length it.ends) c.run-core.result.1 (λ _ both. both.0) it.told in
+        c.told-reply.ensures.stays (graph c.args.core) (facts c.args.core) c.args.core.vault.journal.end it.ends (may_be_asked g.P.Probe.may_stop c.args.driver.now) (may_spawn c.args.driver.now) c.args.limit (length it.ends) told none ∙ sym working
