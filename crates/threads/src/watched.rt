@@ -116,8 +116,9 @@ struct Ended<J: Naming> {
 
 // The pass, or the error.
 fn pass_of<J: Naming>(worker: Ended<J>) -> Result<WorkPass<J>, Error> {
-    match worker.error {
-        None => Ok(worker.pass),
+    let Ended { pass, error } = worker;
+    match error {
+        None => Ok(pass),
         Some(error) => Err(error.into()),
     }
 }
