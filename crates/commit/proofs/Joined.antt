@@ -20,9 +20,9 @@ use Rattle.vault.specs.Commits.{StandsForBeginning, GatesStay}
 use Rattle.vault.specs.Stands.{Stands}
 use Rattle.vault.specs.Store.{HasGates}
 use Rattle.commit.specs.Core.{Core, graph, facts, environment, is_halted}
-use Rattle.commit.specs.Runs.{AcknowledgesFrom, Begun, IsEnd, Runs, RunsOn, RunsSince, begun_by, one_by_one, records_length}
+use Rattle.commit.specs.Runs.{AcknowledgesFrom, Begun, IsEnd, Runs, RunsOn, RunsSince, begun_by, latest_after, one_by_one, records_length}
 use Rattle.commit.proofs.Acknowledged.{carried, joined as ends_acknowledged}
-use Rattle.commit.proofs.Lists.{with_both, one_by_one_joined, facts_joined, ends_joined, first_ends, given_by_ends, environment_stays, legal_joined, records_joined}
+use Rattle.commit.proofs.Lists.{with_both, one_by_one_joined, facts_joined, ends_joined, first_ends, given_by_ends, environment_stays, latest_joined, legal_joined, records_joined}
 
 -- bytes that stand for a prefix of some commits stand for a prefix of more of them
 extended : (g : Graph) (E X : Facts) (some more : List Commit) (contents : Contents) → StandsForBeginning g E X [] some contents → StandsForBeginning g E X [] (some ++ more) contents
@@ -78,6 +78,7 @@ module _ {D : Type 0} (files : D → Side → File) (moment : D → ℕ) (left_a
             ∙ ap (λ (S : Facts). S fact) (sym (ap (λ (list : List Fact). with_facts begun.facts list) (flat_map-append event_facts first second) ∙ with_both both begun.facts (stated.facts first) (stated.facts second)));
         environment = λ fact. two.environment fact ∙ one.environment fact;
         spent = ap (λ n. new.allowance + n) (length-append first second) ∙ omega (arith, one.spent, two.spent);
+        latest = two.latest ∙ ap (λ (events : List Event). latest_after events second) one.latest ∙ sym (latest_joined begun.latest first second);
         end = λ goes. ends_behind new.vault.journal.end mid.vault.journal.end begun.end (records_length first) (records_length second) (records_length (first ++ second)) (two.end goes) (one.end working) (records_joined first second);
         crashes = λ on.
             subst (λ (commits : List Commit). LeavesSince moment left_at begun.moment left new.vault.disk (StandsForBeginning begun.graph begun.environment begun.facts [] commits)) (sym pending)

@@ -1,4 +1,4 @@
-mod Acknowledged
+pub mod Acknowledged
 pub mod Allowed
 pub mod Answered
 pub mod Counted

@@ -12,7 +12,7 @@ use Rattle.terms.specs.Sets.{Facts, AmongBoth, among, with_facts}
 use Rattle.graph.specs.Graph.{Graph}
 use Rattle.machine.specs.State.{AreLegalFrom}
 use Rattle.commit.specs.Calls.{record_length}
-use Rattle.commit.specs.Runs.{IsEnd, one_by_one, records_length}
+use Rattle.commit.specs.Runs.{IsEnd, latest_after, one_by_one, records_length}
 
 -- ---- sets
 
@@ -86,6 +86,11 @@ one_more one first both second is = omega (arith, is)
 pub records_joined : (first second : List Event) → records_length (first ++ second) ≡ records_length first + records_length second
 records_joined [] second = none (records_length second)
 records_joined (event ∷ first) second = one_more (record_length event) (records_length first) (records_length (first ++ second)) (records_length second) (records_joined first second)
+
+-- the latest commit after both lists
+pub latest_joined : (before first second : List Event) → latest_after before (first ++ second) ≡ latest_after (latest_after before first) second
+latest_joined before [] second = refl
+latest_joined before (event ∷ first) second = latest_joined (event ∷ []) first second
 
 -- ---- legal lists
 

@@ -94,6 +94,7 @@ pub record SameStore {D : Type 0} (old new : Core D) : Type 0 where
   pub facts : (fact : Fact) → facts new fact ≡ facts old fact
   pub environment : (fact : Fact) → environment new fact ≡ environment old fact
   pub allowance : new.allowance ≡ old.allowance
+  pub latest : new.latest ≡ old.latest
   pub disk : new.vault.disk ≡ old.vault.disk
   pub end : new.vault.journal.end ≡ old.vault.journal.end
   pub halted : is_halted new ≡ false
@@ -105,6 +106,7 @@ moved old new instance to moves working settled = record {
   facts = moves.machine.facts;
   environment = moves.machine.environment;
   allowance = moves.allowance;
+  latest = moves.latest;
   disk = ap (λ v. v.disk) moves.vault;
   end = ap (λ v. v.journal.end) moves.vault;
   halted = ap (λ v. v.halted) moves.vault ∙ working;
@@ -123,6 +125,7 @@ handed_back old new instance back vault doubt working settled = record {
   facts = back.stays.facts;
   environment = back.stays.environment;
   allowance = back.stays.allowance;
+  latest = back.stays.latest;
   disk = ap (λ v. v.disk) vault;
   end = ap (λ v. v.journal.end) vault;
   halted = ap (λ v. v.halted) vault ∙ working;
@@ -150,6 +153,7 @@ module _ {D : Type 0} (files : D → Side → File) (moment : D → ℕ) (left_a
         facts = λ fact. same.facts fact ∙ ap (λ (X : Facts). X fact) (sym (with_nothing (facts old)));
         environment = same.environment;
         spent = omega (arith, same.allowance);
+        latest = same.latest;
         end = λ _. with_none new.vault.journal.end old.vault.journal.end same.end;
         crashes = crash;
         acknowledged = λ on t contents after before was. (crash on).each t contents after before was;
@@ -167,7 +171,7 @@ module _ {D : Type 0} (files : D → Side → File) (moment : D → ℕ) (left_a
   pub as_it_was : (honest → RestLeaves files moment left_at) → (honest → GatesRest files moment left_at) → (core : Core D) → is_halted core ≡ false → core.in_doubt ≡ [] → (honest → IsKept files core) → RunsOn files moment left_at failures refusals honest core core
   as_it_was leaves gates_rest core working settled kept = record {
     ends = [];
-    runs = rests leaves gates_rest core core working kept (record { graph = refl; facts = λ _. refl; environment = λ _. refl; allowance = refl; disk = refl; end = refl; halted = working; settled = settled });
+    runs = rests leaves gates_rest core core working kept (record { graph = refl; facts = λ _. refl; environment = λ _. refl; allowance = refl; latest = refl; disk = refl; end = refl; halted = working; settled = settled });
   }
 
   -- ---- an end
@@ -217,6 +221,7 @@ module _ {D : Type 0} (files : D → Side → File) (moment : D → ℕ) (left_a
         facts = λ fact. takes.takes.facts fact ∙ ap (λ (list : List Fact). with_facts (facts old) list fact) (sym (append-nil (event_facts end)));
         environment = λ fact. takes.takes.environment fact ∙ ap (λ (list : List Fact). with_facts (environment old) list fact) (puts_nothing end is) ∙ ap (λ (E : Facts). E fact) (with_nothing (environment old));
         spent = omega (arith, takes.allowance, costs_one end is);
+        latest = takes.latest;
         end = λ _. with_record new.vault.journal.end old.vault.journal.end (record_length end) takes.moved;
         crashes = λ on.
             subst (λ (events : List Event). LeavesOnly moment left_at old.vault.disk new.vault.disk (StandsForBeginning (graph old) (environment old) (facts old) [] (one_by_one events))) (sym one)
@@ -261,6 +266,7 @@ module _ {D : Type 0} (files : D → Side → File) (moment : D → ℕ) (left_a
             facts = back.stays.facts;
             environment = back.stays.environment;
             allowance = back.stays.allowance;
+            latest = back.stays.latest;
             disk = same.0.disk;
             end = same.0.end;
             halted = goes;
@@ -277,6 +283,7 @@ module _ {D : Type 0} (files : D → Side → File) (moment : D → ℕ) (left_a
             facts = λ fact. back.stays.facts fact ∙ ap (λ (X : Facts). X fact) (sym (with_nothing (facts old)));
             environment = back.stays.environment;
             spent = omega (arith, back.stays.allowance);
+            latest = back.stays.latest;
             end = λ goes. absurd (false≢true (sym goes ∙ stops));
             crashes = λ on.
                 subst (λ (events : List Event). LeavesOnly moment left_at old.vault.disk new.vault.disk (StandsForBeginning (graph old) (environment old) (facts old) [] (one_by_one events))) (sym doubt)

@@ -77,6 +77,7 @@ module _
         → calls.Halts {T = ℕ} failures refusals v w (Ok generation) → (honest → IsKept files old) → doubt ≡ [] → (honest → TurnLeaves files moment left_at old new) → TurnsAs files moment left_at failures refusals honest old new (Ok generation)
     turned generation over writes full halting kept settled moments = record {
       ok = record { greater = over.side.0; live = (over.side.1, over.side.2); working = over.working; machine = refl; allowance = refl; latest = refl };
+      ends = (image, (listed, lists), over.end);
       written = λ on. (image, (listed, lists), (writes on).written ∙ ap (λ (text : List ℕ). at_rest (new_side generation text image)) ((kept on).holds working).text);
       err = tt;
       refused = tt;
@@ -123,6 +124,7 @@ module _
         → TurnsAs files moment left_at failures refusals honest old new (Err (Store error))
     refused error full halting moments = record {
       ok = tt;
+      ends = tt;
       written = λ _. tt;
       err = record { stays = record { graph = refl; facts = λ _. refl; environment = λ _. refl; allowance = refl; latest = refl }; states = λ _. refl };
       refused = refuses error halting.causes full.why halting.halted.0;
@@ -155,6 +157,7 @@ pub unlisted : {D : Type 0} (files : D → Side → File) (moment : D → ℕ) (
     → TurnsAs files moment left_at failures refusals honest old old (Err (Store NoMemory))
 unlisted files moment left_at failures refusals honest old working moments = record {
   ok = tt;
+  ends = tt;
   written = λ _. tt;
   err = record { stays = record { graph = refl; facts = λ _. refl; environment = λ _. refl; allowance = refl; latest = refl }; states = λ _. refl };
   refused = working;

@@ -1,5 +1,5 @@
 -- What a turnover of a core promises.
-use Rattle.std.specs.Prelude.{◌≡◌, ◌≢◌, ◌⊎◌, ◌+◌, ℕ, true, false, [], Result, IsErrOf, IfOk, IfErr, OnErr}
+use Rattle.std.specs.Prelude.{◌≡◌, ◌≢◌, ◌⊎◌, ◌+◌, ℕ, true, false, [], length, Result, IsErrOf, IfOk, IfErr, OnErr}
 use Rattle.disk.specs.declared.side.Side.{Side}
 use Rattle.disk.specs.File.{File, at_rest}
 use Rattle.disk.specs.Time.{Contents, LeavesOnly}
@@ -27,6 +27,10 @@ pub record Turns {D : Type 0} (old new : Core D) (generation : ℕ) : Type 0 whe
 -- an image of all that the core has
 abbrev pub IsImageOf : {D : Type 0} → Core D → Image → Type 0
 IsImageOf c image = IsListed image × Lists image (environment c) (facts c)
+
+-- The journal ends at the last byte of the new side: one with an image of all that the core has, and no record.
+abbrev pub EndsAnew : {D : Type 0} → Core D → Core D → ℕ → Type 0
+EndsAnew old new generation = (image : Image) × IsImageOf old image × (new.vault.journal.end + 1 ≡ length (new_side generation old.vault.text.items image))
 
 -- On an honest disk: after `Ok` the other file is the new side, with an image of all that the core has and no record.
 abbrev pub WritesAnew : {D : Type 0} → (D → Side → File) → Core D → Core D → ℕ → Type 0
@@ -61,6 +65,7 @@ pub record TurnLeaves {D : Type 0} (files : D → Side → File) (moment : D →
 -- What a turnover promises.
 pub record TurnsAs {D : Type 0} (files : D → Side → File) (moment : D → ℕ) (left_at : D → ℕ → Contents → Type 0) (failures refusals : D → ℕ) (honest : Type 0) (old new : Core D) (result : Result ℕ CoreError) : Type 0 where
   pub ok : IfOk result (Turns old new)
+  pub ends : IfOk result (EndsAnew old new)
   pub written : honest → IfOk result (WritesAnew files old new)
   pub err : OnErr result (IsUnchanged old new)
   pub refused : IfErr result (RefusesTurn old)

@@ -50,6 +50,7 @@ module _ {D : Type 0} (files : D → Side → File) (moment : D → ℕ) (left_a
           facts = λ fact. stays.facts fact ∙ it.facts fact;
           environment = λ fact. stays.environment fact ∙ it.environment fact;
           spent = ap (λ n. n + length events) stays.allowance ∙ it.spent;
+          latest = stays.latest ∙ it.latest;
           end = λ goes. end ∙ it.end (sym halted ∙ goes);
           crashes = λ on.
               subst (λ (at : D × List Event). LeavesSince moment left_at begun.moment left at.0 (StandsForBeginning begun.graph begun.environment begun.facts [] (one_by_one (events ++ at.1))))
@@ -130,7 +131,7 @@ ran_nothing {D = D} files moment left_at failures refusals honest opening left e
       let goes : is_halted c ≡ false = ap (λ (o : Opening). o.halted) (sym opened) ∙ working in
       let here : Runs files moment left_at failures refusals honest c c [] =
       rests files moment left_at failures refusals honest rest_leaves gates_rest c c goes kept
-      (record { graph = refl; facts = λ _. refl; environment = λ _. refl; allowance = refl; end = refl; disk = refl; halted = goes; settled = settled goes }) in
+      (record { graph = refl; facts = λ _. refl; environment = λ _. refl; allowance = refl; latest = refl; end = refl; disk = refl; halted = goes; settled = settled goes }) in
       subst (λ (o : Opening). RunsSince moment left_at failures refusals honest (begun_with o) left c []) (sym opened) (record {
         are_ends = here.are_ends;
         legal = here.legal;
@@ -138,6 +139,7 @@ ran_nothing {D = D} files moment left_at failures refusals honest opening left e
         facts = here.facts;
         environment = here.environment;
         spent = here.spent;
+        latest = here.latest;
         end = here.end;
         crashes = λ on. as_named moment left_at left c.vault.disk _ alike (here.crashes on);
         acknowledged = here.acknowledged;

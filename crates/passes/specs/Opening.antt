@@ -5,13 +5,14 @@ use Rattle.terms.specs.declared.event.Event.{Event}
 use Rattle.terms.specs.Sets.{Facts}
 use Rattle.graph.specs.Graph.{Graph}
 
--- The graph, the facts that the store had, which of them the environment put, how many steps the core might commit, and where its journal ended; whether
--- it was halted, and which events were in doubt then; and of its disk the moment, the counts of errors, and the contents of both files.
+-- The graph, the facts that the store had, which of them the environment put, how many steps the core might commit, the events of its latest
+-- commit, and where its journal ended; whether it was halted, and which events were in doubt then; and of its disk the moment, the counts of errors, and the contents of both files.
 pub record Opening : Type 0 where
   pub graph : Graph
   pub facts : Facts
   pub environment : Facts
   pub allowance : ℕ
+  pub latest : List Event
   pub end : ℕ
   pub halted : Bool
   pub in_doubt : List Event
@@ -27,6 +28,7 @@ nothing = record {
   facts = λ _. false;
   environment = λ _. false;
   allowance = 0;
+  latest = [];
   end = 0;
   halted = false;
   in_doubt = [];

@@ -167,7 +167,7 @@ module _ {D : Type 0} (files : D → Side → File) (moment : D → ℕ) (left_a
       went = λ working.
           of_run core core core.allowance []
           (rests files moment left_at failures refusals honest leaves gates_rest (with_allowance core core.allowance) core working kept
-          (record { graph = refl; facts = λ _. refl; environment = λ _. refl; allowance = refl; disk = refl; end = refl; halted = working; settled = settled working }));
+          (record { graph = refl; facts = λ _. refl; environment = λ _. refl; allowance = refl; latest = refl; disk = refl; end = refl; halted = working; settled = settled working }));
       stays = λ halted. (record { graph = refl; facts = λ _. refl; environment = λ _. refl; disk = refl; halted = refl; in_doubt = refl }, refl);
       settled = settled;
       later = omega arith;
@@ -219,7 +219,7 @@ module _ {D : Type 0} (files : D → Side → File) (moment : D → ℕ) (left_a
               let kept_so = halts.same (goes ∙ sym working) in
               of_run old new new.allowance []
               (rests files moment left_at failures refusals honest leaves gates_rest (with_allowance old new.allowance) new working (λ on. record { holds = (kept on).holds; left = (kept on).left })
-              (record { graph = same.stays.graph; facts = same.stays.facts; environment = same.stays.environment; allowance = refl; disk = kept_so.0.disk; end = kept_so.0.end; halted = goes; settled = kept_so.1 ∙ settled working }))
+              (record { graph = same.stays.graph; facts = same.stays.facts; environment = same.stays.environment; allowance = refl; latest = same.stays.latest; disk = kept_so.0.disk; end = kept_so.0.end; halted = goes; settled = kept_so.1 ∙ settled working }))
           at working true stops =
               let in_doubt : new.in_doubt ≡ event ∷ [] = doubt working stops in
               let erred : HasErred failures refusals old.vault.disk new.vault.disk = elim (halts.halts.0 stops) [ inl before ↦ absurd (false≢true (sym working ∙ before)) | inr it ↦ it ] in
