@@ -16,16 +16,17 @@ use Rattle.terms.specs.Sets.{Facts, AmongBoth, with_facts}
 use Rattle.graph.specs.Graph.{Graph}
 use Rattle.machine.specs.declared.refusal.Refusal.{Refusal}
 use Rattle.machine.specs.State.{AreLegalFrom}
-use Rattle.vault.specs.Commits.{AppendLeaves, GatesRest, GatesStay, RestLeaves, StandsForBeginning}
+use Rattle.vault.specs.Commits.{AppendLeaves, GatesRest, GatesStay, HeldLeaves, RestLeaves, StandsForBeginning}
 use Rattle.vault.specs.Stands.{Stands}
 use Rattle.vault.specs.Store.{HasGates}
 use Rattle.commit.specs.declared.error.CoreError.{CoreError}
 use Rattle.commit.specs.Calls.{CrashLeaves, Halts, IsInDoubt, IsUnchanged, Refuses, Takes, KeepsStore}
 use Rattle.commit.specs.Core.{Core, graph, facts, environment, is_halted}
 use Rattle.commit.specs.Kept.{IsKept}
-use Rattle.commit.specs.Runs.{Runs, one_by_one, with_allowance}
+use Rattle.commit.specs.Runs.{AcknowledgesFrom, Runs, one_by_one, with_allowance}
+use Rattle.commit.proofs.Acknowledged.{carried, joined as both_acknowledged}
 use Rattle.commit.proofs.Lists.{with_nothing, with_both, one_by_one_joined, facts_joined, environment_joined, first_ends, put_nothing, legal_joined}
-use Rattle.commit.proofs.Running.{begins, legal_in_doubt, rests}
+use Rattle.commit.proofs.Running.{acknowledged_once, begins, legal_in_doubt, rests}
 use Rattle.script.specs.declared.command.Command.{Command}
 use Rattle.session.specs.declared.reply.Reply.{Reply}
 use Rattle.session.specs.Answers.{Drive, Replies}
@@ -93,6 +94,13 @@ module _ {D : Type 0} (files : D → Side → File) (moment : D → ℕ) (left_a
               (subst (λ (events : List Event). StandsForBeginning (graph old) (environment old) (facts old) [] (one_by_one events) contents) all_of_first stands))
               (λ contents stands.
               behind both (graph old) (graph mid) (environment old) (environment mid) (facts old) (facts mid) first (one_by_one (second ++ new.in_doubt)) contents one.graph given sets stands));
+          acknowledged = λ on.
+              let second_leaves = two.crashes on in
+              both_acknowledged (graph old) (environment old) (facts old) (left_at mid.vault.disk) (left_at new.vault.disk) (moment mid.vault.disk) (moment new.vault.disk) second_leaves.later (λ t contents early was. (second_leaves.stays t contents early).0 was)
+              (moment old.vault.disk) [] first second new.in_doubt (one.crashes on).later
+              (subst (λ (doubt : List Event). AcknowledgesFrom (graph old) (environment old) (facts old) (left_at mid.vault.disk) (moment mid.vault.disk) (moment old.vault.disk) [] first doubt) settled (one.acknowledged on))
+              (subst (λ (made : List Event). AcknowledgesFrom (graph old) (environment old) (facts old) (left_at new.vault.disk) (moment new.vault.disk) (moment mid.vault.disk) made second new.in_doubt) (append-nil first)
+              (carried both (graph old) (graph mid) (environment old) (environment mid) (facts old) (facts mid) first one.graph given sets (left_at new.vault.disk) (moment new.vault.disk) (moment mid.vault.disk) [] second new.in_doubt (two.acknowledged on)));
           gates = λ on has.
               let here = one.gates on has in
               joined moment left_at old.vault.disk mid.vault.disk new.vault.disk HasGates HasGates HasGates here (two.gates on (gates_stay on old.vault.disk mid.vault.disk here)) (λ c so. so) (λ c so. so);
@@ -115,6 +123,9 @@ module _ {D : Type 0} (files : D → Side → File) (moment : D → ℕ) (left_a
           crashes = λ on.
               subst (λ (d : D). LeavesOnly moment left_at old.vault.disk d (StandsForBeginning (graph old) (environment old) (facts old) [] (one_by_one ((first ++ second) ++ new.in_doubt)))) (sym same.disk)
               (subst (λ (events : List Event). LeavesOnly moment left_at old.vault.disk mid.vault.disk (StandsForBeginning (graph old) (environment old) (facts old) [] (one_by_one events))) doubt (one.crashes on));
+          acknowledged = λ on.
+              subst (λ (at : D × List Event × List Event). AcknowledgesFrom (graph old) (environment old) (facts old) (left_at at.0) (moment at.0) (moment old.vault.disk) [] at.1 at.2)
+              (λ i. (sym same.disk i, sym all i, sym same.in_doubt i)) (one.acknowledged on);
           gates = λ on has. subst (λ (d : D). LeavesOnly moment left_at old.vault.disk d HasGates) (sym same.disk) (one.gates on has);
           halts = (
             λ is. subst (λ (d : D). HasErred failures refusals old.vault.disk d) (sym same.disk) (one.halts.0 (sym same.halted ∙ is)),
@@ -154,6 +165,7 @@ module _ {D : Type 0} (files : D → Side → File) (moment : D → ℕ) (left_a
     facts = runs.facts;
     environment = λ fact. runs.environment fact ∙ ap (λ (S : Facts). S fact) (sym (ap (λ (list : List Fact). with_facts (environment old) list) (put_nothing ends (first_ends ends new.in_doubt runs.are_ends)) ∙ with_nothing (environment old)));
     crashes = runs.crashes;
+    acknowledged = runs.acknowledged;
     gates = runs.gates;
     halts = runs.halts;
   }
@@ -175,7 +187,7 @@ module _ {D : Type 0} (files : D → Side → File) (moment : D → ℕ) (left_a
 
     -- ---- puts
 
-    module _ {T : Type 0} (append : honest → AppendLeaves files moment left_at) (old new : Core D) (event : Event) (why : Refusal → Type 0) (kept : honest → IsKept files old) (settled : is_halted old ≡ false → old.in_doubt ≡ []) where
+    module _ {T : Type 0} (append : honest → AppendLeaves files moment left_at) (held : honest → HeldLeaves files moment left_at) (old new : Core D) (event : Event) (why : Refusal → Type 0) (kept : honest → IsKept files old) (kept_after : honest → IsKept files new) (settled : is_halted old ≡ false → old.in_doubt ≡ []) where
       -- the put was committed
       pub committed : (result : Result T CoreError) → Takes old new event → new.in_doubt ≡ [] → (is_halted old ≡ false → honest → CrashLeaves files moment left_at old new (event ∷ [])) → Halts failures refusals old new result
           → GoesOn files moment left_at failures refusals honest old new (event ∷ [])
@@ -190,6 +202,7 @@ module _ {D : Type 0} (files : D → Side → File) (moment : D → ℕ) (left_a
               crashes = λ on.
                   subst (λ (events : List Event). LeavesOnly moment left_at old.vault.disk new.vault.disk (StandsForBeginning (graph old) (environment old) (facts old) [] (one_by_one events))) (sym one)
                   (begins files moment left_at failures refusals honest append old new event on (moments working on));
+              acknowledged = λ on. acknowledged_once files moment left_at failures refusals honest append held old new event takes (moments working) kept_after on;
               gates = λ on has. (moments working on).gates has;
               halts = (λ halted. elim (halts.halts.0 halted) [ inl before ↦ absurd (false≢true (sym working ∙ before)) | inr erred ↦ erred ], λ erred. halts.halts.1 (inr erred));
             };
@@ -232,6 +245,9 @@ module _ {D : Type 0} (files : D → Side → File) (moment : D → ℕ) (left_a
                 crashes = λ on.
                     subst (λ (events : List Event). LeavesOnly moment left_at old.vault.disk new.vault.disk (StandsForBeginning (graph old) (environment old) (facts old) [] (one_by_one events))) (sym in_doubt)
                     (begins files moment left_at failures refusals honest append old new event on (moments working on));
+                acknowledged = λ on t contents after before was.
+                    subst (λ (events : List Event). StandsForBeginning (graph old) (environment old) (facts old) [] (one_by_one events) contents) (sym in_doubt)
+                    ((begins files moment left_at failures refusals honest append old new event on (moments working on)).each t contents after before was);
                 gates = λ on has. (moments working on).gates has;
                 halts = (λ _. erred, λ _. stops);
               }

@@ -6,7 +6,7 @@ use Rattle.disk.specs.File.{File}
 use Rattle.disk.specs.Time.{Contents, HasErred}
 use Rattle.terms.specs.declared.name.Inst.{Inst}
 use Rattle.terms.specs.declared.event.Event.{Event}
-use Rattle.vault.specs.Commits.{AppendLeaves, GatesRest, RestLeaves}
+use Rattle.vault.specs.Commits.{AppendLeaves, GatesRest, HeldLeaves, RestLeaves}
 use Rattle.vault.specs.declared.error.VaultError.TheVariants as store
 use Rattle.machine.specs.declared.refusal.Refusal.{Refusal}
 use Rattle.machine.specs.Machine.{Ends}
@@ -43,15 +43,15 @@ refused_reply c why event (Store store.Exists) is = absurd is
 -- ---- puts
 
 module _ {D T : Type 0} (files : D → Side → File) (moment : D → ℕ) (left_at : D → ℕ → Contents → Type 0) (failures refusals : D → ℕ) (honest : Type 0)
-    (leaves : honest → RestLeaves files moment left_at) (gates_rest : honest → GatesRest files moment left_at) (append : honest → AppendLeaves files moment left_at)
-    (old new : Core D) (event : Event) (why : Refusal → Type 0) (kept : honest → IsKept files old) (settled : is_halted old ≡ false → old.in_doubt ≡ []) where
+    (leaves : honest → RestLeaves files moment left_at) (gates_rest : honest → GatesRest files moment left_at) (append : honest → AppendLeaves files moment left_at) (held : honest → HeldLeaves files moment left_at)
+    (old new : Core D) (event : Event) (why : Refusal → Type 0) (kept : honest → IsKept files old) (kept_after : honest → IsKept files new) (settled : is_halted old ≡ false → old.in_doubt ≡ []) where
   pub replied_put : (result : Result T CoreError) → OnOk result (Takes old new event) → OnErr result (IsUnchanged old new) → IfErr result (Refuses old why event) → IsInDoubt old new event result
       → (honest → is_halted old ≡ false → CrashLeaves files moment left_at old new (event ∷ [])) → Halts failures refusals old new result
       → (came : List Event) × GoesOn files moment left_at failures refusals honest old new came × RepliesPut (graph old) (facts old) why event came (put_reply result)
   replied_put (Ok done) takes same refuses doubt moments halts =
-      (event ∷ [], committed files moment left_at failures refusals honest leaves gates_rest {T = T} append old new event why kept settled (Ok done) takes halts.settled (λ working on. moments on working) halts, (refl, takes.legal))
+      (event ∷ [], committed files moment left_at failures refusals honest leaves gates_rest {T = T} append held old new event why kept kept_after settled (Ok done) takes halts.settled (λ working on. moments on working) halts, (refl, takes.legal))
   replied_put (Err error) takes same refuses doubt moments halts =
-      ([], refused files moment left_at failures refusals honest leaves gates_rest {T = T} append old new event why kept settled error same refuses doubt (λ working on. moments on working) halts, refused_reply old why event error refuses)
+      ([], refused files moment left_at failures refusals honest leaves gates_rest {T = T} append held old new event why kept kept_after settled error same refuses doubt (λ working on. moments on working) halts, refused_reply old why event error refuses)
 
 -- no instance runs after an event that ends none, if none ran before
 pub put_idle : {D T : Type 0} (old new : Core D) (event : Event) → ((instance : Inst) → Ends event instance → ⊥) → NoneRuns old → (result : Result T CoreError) → OnOk result (Takes old new event) → OnErr result (IsUnchanged old new) → NoneRuns new

@@ -16,7 +16,7 @@ use Rattle.vault.specs.Store.{HasGates}
 use Rattle.commit.specs.Calls.{IsTooLong, KeepsStore}
 use Rattle.commit.specs.Core.{Core, is_halted}
 use Rattle.commit.specs.Core as core
-use Rattle.commit.specs.Runs.{MetFull, one_by_one}
+use Rattle.commit.specs.Runs.{AcknowledgesFrom, MetFull, one_by_one}
 use Rattle.script.specs.declared.command.Command.{Command}
 use Rattle.script.specs.declared.command.Command.TheVariants.{Put, Tag, Get, Run}
 use Rattle.session.specs.declared.reply.Reply.{Reply}
@@ -58,14 +58,15 @@ pub record HasCauseOfRun {D : Type 0} (g : Graph) (X : Facts) (from : ℕ) (new 
 
 module _ {D : Type 0} (files : D → Side → File) (moment : D → ℕ) (left_at : D → ℕ → Contents → Type 0) (failures refusals : D → ℕ) (honest : Type 0) where
   -- From a core that is not halted these events came, one after another, each as a commit of its own; and if it is halted now, those in doubt may
-  -- have come after them. They were legal, and all that is new is what they state. At each moment a crash leaves what a prefix of them states. The
-  -- core is halted exactly if a call of the disk returned an error.
+  -- have come after them. They were legal, and all that is new is what they state. At each moment a crash leaves what a prefix of them states: those
+  -- that were acknowledged by then, or these and the next one. The core is halted exactly if a call of the disk returned an error.
   pub record Went (old new : Core D) (events : List Event) : Type 0 where
     pub legal : AreLegalFrom (core.graph old) (core.facts old) (events ++ new.in_doubt)
     pub graph : core.graph new ≡ core.graph old
     pub facts : (fact : Fact) → core.facts new fact ≡ with_facts (core.facts old) (stated.facts events) fact
     pub environment : (fact : Fact) → core.environment new fact ≡ with_facts (core.environment old) (stated.environment events) fact
     pub crashes : honest → LeavesOnly moment left_at old.vault.disk new.vault.disk (StandsForBeginning (core.graph old) (core.environment old) (core.facts old) [] (one_by_one (events ++ new.in_doubt)))
+    pub acknowledged : honest → AcknowledgesFrom (core.graph old) (core.environment old) (core.facts old) (left_at new.vault.disk) (moment new.vault.disk) (moment old.vault.disk) [] events new.in_doubt
     pub gates : honest → HasGates (contents_of (files old.vault.disk)) → LeavesOnly moment left_at old.vault.disk new.vault.disk HasGates
     pub halts : (is_halted new ≡ true) ↔ HasErred failures refusals old.vault.disk new.vault.disk
 

@@ -26,8 +26,8 @@ returns-clause-replies g c =
     let at = λ (event : Event) (reply : Reply). (came : List Event) × GoesOn g.D.Disk.files g.D.Disk.moment g.D.Disk.left_at g.D.Disk.failures g.D.Disk.refusals (IsTrue g.D.Disk.is_honest) old new came × RepliesPut (graph old) (facts old) why event came reply in
     let replied =
     subst (λ (event : Event). at event (put_reply c.put_item-put.result)) (λ i. EnvItem c.args.address (to_z-of_z w64 c.args.value c.ranges.value i))
-    (replied_put g.D.Disk.files g.D.Disk.moment g.D.Disk.left_at g.D.Disk.failures g.D.Disk.refusals (IsTrue g.D.Disk.is_honest) c.stores_go_on.ensures.rest_leaves c.stores_go_on.ensures.gates_rest (λ _. c.stores_go_on.ensures.append_leaves)
-    old new _ why c.is_kept.ensures.kept c.is_kept.ensures.settled
+    (replied_put g.D.Disk.files g.D.Disk.moment g.D.Disk.left_at g.D.Disk.failures g.D.Disk.refusals (IsTrue g.D.Disk.is_honest) c.stores_go_on.ensures.rest_leaves c.stores_go_on.ensures.gates_rest (λ _. c.stores_go_on.ensures.append_leaves) c.stores_go_on.ensures.held_leaves
+    old new _ why c.is_kept.ensures.kept c.is_kept-2.ensures.kept c.is_kept.ensures.settled
     c.put_item-put.result it.commits.takes it.unchanged it.commits.refused it.commits.doubt it.commits.moments it.halts)
     in
     let cause =

@@ -22,8 +22,8 @@ returns-clause-replies g c =
     let it = c.put_tag-put.ensures in
     let why = RefusesTag (graph old) (facts old) c.args.tag in
     let replied =
-    replied_put g.D.Disk.files g.D.Disk.moment g.D.Disk.left_at g.D.Disk.failures g.D.Disk.refusals (IsTrue g.D.Disk.is_honest) c.stores_go_on.ensures.rest_leaves c.stores_go_on.ensures.gates_rest (λ _. c.stores_go_on.ensures.append_leaves)
-    old new (EnvTag c.args.tag) why c.is_kept.ensures.kept c.is_kept.ensures.settled
+    replied_put g.D.Disk.files g.D.Disk.moment g.D.Disk.left_at g.D.Disk.failures g.D.Disk.refusals (IsTrue g.D.Disk.is_honest) c.stores_go_on.ensures.rest_leaves c.stores_go_on.ensures.gates_rest (λ _. c.stores_go_on.ensures.append_leaves) c.stores_go_on.ensures.held_leaves
+    old new (EnvTag c.args.tag) why c.is_kept.ensures.kept c.is_kept-2.ensures.kept c.is_kept.ensures.settled
     c.put_tag-put.result it.commits.takes it.unchanged it.commits.refused it.commits.doubt it.commits.moments it.halts
     in
     let cause =
