@@ -19,7 +19,7 @@ use Rattle.commit.specs.declared.error.CoreError.TheVariants.{Store}
 use Rattle.commit.specs.Calls.{Halts, IsUnchanged}
 use Rattle.commit.specs.Core.{Core, is_halted}
 use Rattle.commit.specs.Kept.{IsKept}
-use Rattle.commit.specs.Turning.{IsImageOf, IsTooLongWith, RefusesTurn, TellsFullTurn, TurnLeaves, TurnsAs}
+use Rattle.commit.specs.Turning.{IsImageOf, IsTooLongWith, RefusesTurn, TellsFullTurn, LeavesWhileTurning, TurnsAs}
 use Rattle.commit.proofs.Roomy.{unhalted}
 
 -- an error of the vault, as one of the core
@@ -74,7 +74,7 @@ module _
     cause_of (inr long) = inr (long image (listed, lists))
 
     turned : (generation : ℕ) → calls.TurnsOver v w image (Ok generation) → (honest → calls.WritesSide files v w image (Ok generation)) → calls.IsFullWhere {T = ℕ} v.halted IsCause (Ok generation)
-        → calls.Halts {T = ℕ} failures refusals v w (Ok generation) → (honest → IsKept files old) → doubt ≡ [] → (honest → TurnLeaves files moment left_at old new) → TurnsAs files moment left_at failures refusals honest old new (Ok generation)
+        → calls.Halts {T = ℕ} failures refusals v w (Ok generation) → (honest → IsKept files old) → doubt ≡ [] → (honest → LeavesWhileTurning files moment left_at old new) → TurnsAs files moment left_at failures refusals honest old new (Ok generation)
     turned generation over writes full halting kept settled moments = record {
       ok = record { greater = over.side.0; live = (over.side.1, over.side.2); working = over.working; machine = refl; allowance = refl; latest = refl };
       ends = (image, (listed, lists), over.end);
@@ -120,7 +120,7 @@ module _
         none (inr (inr (inl is))) = cc
         none (inr (inr (inr is))) = cc
 
-    refused : (error : VaultError) → calls.IsFullWhere {T = ℕ} v.halted IsCause (Err error) → calls.Halts {T = ℕ} failures refusals v w (Err error) → (honest → TurnLeaves files moment left_at old new)
+    refused : (error : VaultError) → calls.IsFullWhere {T = ℕ} v.halted IsCause (Err error) → calls.Halts {T = ℕ} failures refusals v w (Err error) → (honest → LeavesWhileTurning files moment left_at old new)
         → TurnsAs files moment left_at failures refusals honest old new (Err (Store error))
     refused error full halting moments = record {
       ok = tt;
@@ -142,7 +142,7 @@ module _
 
     -- both together
     pub either : (result : Result ℕ VaultError) → calls.TurnsOver v w image result → (honest → calls.WritesSide files v w image result) → calls.IsFullWhere v.halted IsCause result → calls.Halts failures refusals v w result
-        → (honest → IsKept files old) → doubt ≡ [] → (honest → TurnLeaves files moment left_at old new) → TurnsAs files moment left_at failures refusals honest old new (answer_of result)
+        → (honest → IsKept files old) → doubt ≡ [] → (honest → LeavesWhileTurning files moment left_at old new) → TurnsAs files moment left_at failures refusals honest old new (answer_of result)
     either (Ok generation) over writes full halting kept settled moments = turned generation over writes full halting kept settled moments
     either (Err error) over writes full halting kept settled moments = refused error full halting moments
 
@@ -153,7 +153,7 @@ memory_device : Store NoMemory ≡ Store Device → ⊥
 memory_device is = cc
 
 -- memory for the image was refused
-pub unlisted : {D : Type 0} (files : D → Side → File) (moment : D → ℕ) (left_at : D → ℕ → Contents → Type 0) (failures refusals : D → ℕ) (honest : Type 0) (old : Core D) → is_halted old ≡ false → (honest → TurnLeaves files moment left_at old old)
+pub unlisted : {D : Type 0} (files : D → Side → File) (moment : D → ℕ) (left_at : D → ℕ → Contents → Type 0) (failures refusals : D → ℕ) (honest : Type 0) (old : Core D) → is_halted old ≡ false → (honest → LeavesWhileTurning files moment left_at old old)
     → TurnsAs files moment left_at failures refusals honest old old (Err (Store NoMemory))
 unlisted files moment left_at failures refusals honest old working moments = record {
   ok = tt;

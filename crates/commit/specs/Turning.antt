@@ -58,7 +58,7 @@ TellsFullTurn c result =
     is_halted c ≡ false → IsLast c.vault.generation ⊎ ((image : Image) → IsImageOf c image → IsTooLongWith c image) → IsErrOf result (Store Full) ⊎ IsErrOf result (Store NoMemory)
 
 -- What a crash leaves at any moment of a turnover: the facts of the core, if the other file has a first byte. If each file has one, each keeps one.
-pub record TurnLeaves {D : Type 0} (files : D → Side → File) (moment : D → ℕ) (left_at : D → ℕ → Contents → Type 0) (old new : Core D) : Type 0 where
+pub record LeavesWhileTurning {D : Type 0} (files : D → Side → File) (moment : D → ℕ) (left_at : D → ℕ → Contents → Type 0) (old new : Core D) : Type 0 where
   pub facts : (files old.vault.disk (other_side old.vault.journal.side)).content ≢ [] → LeavesOnly moment left_at old.vault.disk new.vault.disk (λ contents. Stands contents (graph old) (environment old) (facts old))
   pub gates : HasGates (contents_of (files old.vault.disk)) → LeavesOnly moment left_at old.vault.disk new.vault.disk HasGates
 
@@ -72,4 +72,4 @@ pub record TurnsAs {D : Type 0} (files : D → Side → File) (moment : D → �
   pub full : TellsFullTurn old result
   pub halts : Halts failures refusals old new result
   pub doubt : new.in_doubt ≡ old.in_doubt
-  pub moments : honest → is_halted old ≡ false → TurnLeaves files moment left_at old new
+  pub moments : honest → is_halted old ≡ false → LeavesWhileTurning files moment left_at old new
