@@ -48,7 +48,7 @@ behind both g h E F X Y ends more contents graph given all stays it =
     }
 
 -- where a journal ends after both
-ends_behind : (new mid begun first second both : ℕ) → new ≡ mid + second → mid ≡ begun + first → both ≡ first + second → new ≡ begun + both
+pub ends_behind : (new mid begun first second both : ℕ) → new ≡ mid + second → mid ≡ begun + first → both ≡ first + second → new ≡ begun + both
 ends_behind new mid begun first second both two one all = omega (arith, two, one, all)
 
 module _ {D : Type 0} (files : D → Side → File) (moment : D → ℕ) (left_at : D → ℕ → Contents → Type 0) (failures refusals : D → ℕ) (honest : Type 0) (both : AmongBoth) where

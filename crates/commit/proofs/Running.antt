@@ -85,7 +85,7 @@ module _
 with_none : (new old : ℕ) → new ≡ old → new ≡ old + 0
 with_none new old is = omega (arith, is)
 
-with_record : (new old one : ℕ) → new ≡ old + one → new ≡ old + (one + 0)
+pub with_record : (new old one : ℕ) → new ≡ old + one → new ≡ old + (one + 0)
 with_record new old one is = omega (arith, is)
 
 -- nothing has changed that is on the disk, or is on its way there

@@ -66,10 +66,10 @@ abbrev pub RefusesQuestion : (Refusal → Type 0) → CoreError → Type 0
 RefusesQuestion why (Refused refusal) = why refusal
 RefusesQuestion why (Store error) = error ≡ vault.Halted
 
--- why an item is not watched: as a question is refused, or memory was refused
-abbrev pub RefusesWatch : (Refusal → Type 0) → CoreError → Type 0
-RefusesWatch why (Refused refusal) = why refusal
-RefusesWatch why (Store error) = (error ≡ vault.Halted) ⊎ (error ≡ vault.NoMemory)
+-- why an item is not watched: as a question is refused; or memory was refused, where it may be watched
+abbrev pub RefusesWatch : (may : Type 0) → (Refusal → Type 0) → CoreError → Type 0
+RefusesWatch may why (Refused refusal) = why refusal
+RefusesWatch may why (Store error) = (error ≡ vault.Halted) ⊎ ((error ≡ vault.NoMemory) × may)
 
 -- the core is halted, and returns `Halted`
 abbrev pub SaysHalted : CoreError → Type 0

@@ -121,7 +121,7 @@ impl<J: Naming, D: Disk> Hub<J, D> {
         ensures seen { Sees J.opening pass.old pass.new × AddsNothing pass.old pass.new }
         ensures allowed { OnOk result (EnvironmentMayGet J.opening.graph addr) }
         ensures fresh { IfOk result (λ watch. watch ≡ None) }
-        ensures refused { IfErr result (RefusesWatch (RefusesGet J.opening.graph addr)) }
+        ensures refused { IfErr result (RefusesWatch (EnvironmentMayGet J.opening.graph addr) (RefusesGet J.opening.graph addr)) }
     {
         let made = Watch::pair(alloc);
         self.kept.lock(rt).watch(&self.board, pass, addr, made)

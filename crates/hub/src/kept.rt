@@ -54,7 +54,9 @@ impl<J: Naming, D: Disk> Model for Kept<J, D> {
 }
 
 impl<J: Naming, D: Disk> Kept<J, D> {
-    ghost use Rattle.std.specs.Prelude.{◌≡◌, ◌↔◌, true, false, [], None, Some, Ok, Err, OnErr, OnOk, IfErr, IfOk, IfSome, IsTrue};
+    ghost use Rattle.std.specs.Prelude.{◌≡◌, ◌↔◌, true, false, [], None, Some, Ok, Err, OnErr, OnOk, IfErr, IsErrOf, IfOk, IfSome, IsTrue};
+    ghost use Rattle.commit.specs.declared.error.CoreError.TheVariants.{Store};
+    ghost use Rattle.vault.specs.declared.error.VaultError.TheVariants.{Halted};
     ghost use Rattle.terms.specs.declared.event.Event.TheVariants.{EnvItem, EnvTag};
     ghost use Rattle.machine.specs.Machine.{IsValueAt, RefusesItem, RefusesTag, RefusesGet, RefusesRead};
     ghost use Rattle.graph.specs.Fits.{AddressIsOf};
@@ -200,7 +202,8 @@ impl<J: Naming, D: Disk> Kept<J, D> {
         ensures seen { Sees J.opening pass.old pass.new × AddsNothing pass.old pass.new }
         ensures allowed { OnOk result (EnvironmentMayGet J.opening.graph addr) }
         ensures fresh { IfOk result (λ watch. watch ≡ None) }
-        ensures refused { IfErr result (RefusesWatch (RefusesGet J.opening.graph addr)) }
+        ensures halted { IsErrOf result (Store Halted) ↔ (is_halted self.old.core ≡ true) }
+        ensures refused { IfErr result (RefusesWatch (EnvironmentMayGet J.opening.graph addr) (RefusesGet J.opening.graph addr)) }
     {
         board.show(&mut self.desk, pass);
         let place = addr;

@@ -20,13 +20,14 @@ use Rattle.vault.specs.Commits.{AppendLeaves, GatesRest, GatesStay, HeldLeaves, 
 use Rattle.vault.specs.Stands.{Stands}
 use Rattle.vault.specs.Store.{HasGates}
 use Rattle.commit.specs.declared.error.CoreError.{CoreError}
-use Rattle.commit.specs.Calls.{CrashLeaves, Halts, IsInDoubt, IsUnchanged, Refuses, Takes, KeepsStore}
+use Rattle.commit.specs.Calls.{record_length, CrashLeaves, Halts, IsInDoubt, IsUnchanged, Refuses, Takes, KeepsStore}
 use Rattle.commit.specs.Core.{Core, graph, facts, environment, is_halted}
 use Rattle.commit.specs.Kept.{IsKept}
-use Rattle.commit.specs.Runs.{AcknowledgesFrom, Runs, one_by_one, with_allowance}
+use Rattle.commit.specs.Runs.{AcknowledgesFrom, Runs, one_by_one, records_length, with_allowance}
 use Rattle.commit.proofs.Acknowledged.{carried, joined as both_acknowledged}
-use Rattle.commit.proofs.Lists.{with_nothing, with_both, one_by_one_joined, facts_joined, environment_joined, first_ends, put_nothing, legal_joined}
-use Rattle.commit.proofs.Running.{acknowledged_once, begins, legal_in_doubt, rests}
+use Rattle.commit.proofs.Joined.{ends_behind}
+use Rattle.commit.proofs.Lists.{records_joined, with_nothing, with_both, one_by_one_joined, facts_joined, environment_joined, first_ends, put_nothing, legal_joined}
+use Rattle.commit.proofs.Running.{acknowledged_once, begins, legal_in_doubt, rests, with_record}
 use Rattle.script.specs.declared.command.Command.{Command}
 use Rattle.session.specs.declared.reply.Reply.{Reply}
 use Rattle.session.specs.Answers.{Drive, Replies}
@@ -82,6 +83,7 @@ module _ {D : Type 0} (files : D → Side → File) (moment : D → ℕ) (left_a
           environment = λ fact.
               two.environment fact ∙ ap (λ (S : Facts). with_facts S (stated.environment second) fact) given
               ∙ ap (λ (S : Facts). S fact) (sym (ap (λ (list : List Fact). with_facts (environment old) list) (flat_map-append environment_facts first second) ∙ with_both both (environment old) (stated.environment first) (stated.environment second)));
+          end = λ goes. ends_behind new.vault.journal.end mid.vault.journal.end old.vault.journal.end (records_length first) (records_length second) (records_length (first ++ second)) (two.end goes) (one.end working) (records_joined first second);
           crashes = λ on.
               subst (λ (commits : List Commit). LeavesOnly moment left_at old.vault.disk new.vault.disk (StandsForBeginning (graph old) (environment old) (facts old) [] commits)) (sym pending)
               (joined moment left_at old.vault.disk mid.vault.disk new.vault.disk
@@ -111,8 +113,8 @@ module _ {D : Type 0} (files : D → Side → File) (moment : D → ℕ) (left_a
         }
 
     -- nothing comes after a halt
-    went_still : second ≡ [] → KeepsStore mid new → Went files moment left_at failures refusals honest old mid first → Went files moment left_at failures refusals honest old new (first ++ second)
-    went_still nothing same one =
+    went_still : is_halted mid ≡ true → second ≡ [] → KeepsStore mid new → Went files moment left_at failures refusals honest old mid first → Went files moment left_at failures refusals honest old new (first ++ second)
+    went_still stops nothing same one =
         let all : first ++ second ≡ first = ap (λ (events : List Event). first ++ events) nothing ∙ append-nil first in
         let doubt : first ++ mid.in_doubt ≡ (first ++ second) ++ new.in_doubt = ap (λ (events : List Event). events ++ mid.in_doubt) (sym all) ∙ ap (λ (events : List Event). (first ++ second) ++ events) (sym same.in_doubt) in
         record {
@@ -120,6 +122,7 @@ module _ {D : Type 0} (files : D → Side → File) (moment : D → ℕ) (left_a
           graph = same.graph ∙ one.graph;
           facts = λ fact. same.facts fact ∙ one.facts fact ∙ ap (λ (events : List Event). with_facts (facts old) (stated.facts events) fact) (sym all);
           environment = λ fact. same.environment fact ∙ one.environment fact ∙ ap (λ (events : List Event). with_facts (environment old) (stated.environment events) fact) (sym all);
+          end = λ goes. absurd (false≢true (sym goes ∙ same.halted ∙ stops));
           crashes = λ on.
               subst (λ (d : D). LeavesOnly moment left_at old.vault.disk d (StandsForBeginning (graph old) (environment old) (facts old) [] (one_by_one ((first ++ second) ++ new.in_doubt)))) (sym same.disk)
               (subst (λ (events : List Event). LeavesOnly moment left_at old.vault.disk mid.vault.disk (StandsForBeginning (graph old) (environment old) (facts old) [] (one_by_one events))) doubt (one.crashes on));
@@ -139,7 +142,7 @@ module _ {D : Type 0} (files : D → Side → File) (moment : D → ℕ) (left_a
       where
         at : is_halted old ≡ false → (b : Bool) → is_halted mid ≡ b → Went files moment left_at failures refusals honest old new (first ++ second)
         at working false goes = went_on goes (one.settled goes) one.later (one.went working) (two.went goes)
-        at working true stops = let last = two.stays stops in went_still last.1 last.0 (one.went working)
+        at working true stops = let last = two.stays stops in went_still stops last.1 last.0 (one.went working)
 
         still : is_halted old ≡ true → KeepsStore old new × (first ++ second ≡ [])
         still halted =
@@ -164,6 +167,7 @@ module _ {D : Type 0} (files : D → Side → File) (moment : D → ℕ) (left_a
     graph = runs.graph;
     facts = runs.facts;
     environment = λ fact. runs.environment fact ∙ ap (λ (S : Facts). S fact) (sym (ap (λ (list : List Fact). with_facts (environment old) list) (put_nothing ends (first_ends ends new.in_doubt runs.are_ends)) ∙ with_nothing (environment old)));
+    end = runs.end;
     crashes = runs.crashes;
     acknowledged = runs.acknowledged;
     gates = runs.gates;
@@ -199,6 +203,7 @@ module _ {D : Type 0} (files : D → Side → File) (moment : D → ℕ) (left_a
               graph = takes.takes.graph;
               facts = λ fact. takes.takes.facts fact ∙ ap (λ (list : List Fact). with_facts (facts old) list fact) (sym (append-nil (event_facts event)));
               environment = λ fact. takes.takes.environment fact ∙ ap (λ (list : List Fact). with_facts (environment old) list fact) (sym (append-nil (environment_facts event)));
+              end = λ _. with_record new.vault.journal.end old.vault.journal.end (record_length event) takes.moved;
               crashes = λ on.
                   subst (λ (events : List Event). LeavesOnly moment left_at old.vault.disk new.vault.disk (StandsForBeginning (graph old) (environment old) (facts old) [] (one_by_one events))) (sym one)
                   (begins files moment left_at failures refusals honest append old new event on (moments working on));
@@ -242,6 +247,7 @@ module _ {D : Type 0} (files : D → Side → File) (moment : D → ℕ) (left_a
                 graph = same.stays.graph;
                 facts = λ fact. same.stays.facts fact ∙ ap (λ (S : Facts). S fact) (sym (with_nothing (facts old)));
                 environment = λ fact. same.stays.environment fact ∙ ap (λ (S : Facts). S fact) (sym (with_nothing (environment old)));
+                end = λ goes. absurd (false≢true (sym goes ∙ stops));
                 crashes = λ on.
                     subst (λ (events : List Event). LeavesOnly moment left_at old.vault.disk new.vault.disk (StandsForBeginning (graph old) (environment old) (facts old) [] (one_by_one events))) (sym in_doubt)
                     (begins files moment left_at failures refusals honest append old new event on (moments working on));

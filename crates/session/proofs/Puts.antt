@@ -126,6 +126,7 @@ put_cause failures refusals old new why event command came puts room result take
   halts = λ run. absurd (no_run command puts run);
   device = (λ is. (puts, halts.disk.device.0 (put_device result is)), λ both. ap put_reply (halts.disk.device.1 both.1));
   full = λ is. room (put_too_long old why event result refuses is);
+  left = λ run. absurd (no_run command puts run);
 }
 
 -- ---- what stays

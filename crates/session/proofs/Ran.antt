@@ -16,4 +16,4 @@ front_legal g X (event ∷ first) more are = (are.0, front_legal g (with_facts X
 
 -- the cause of the reply is a cause for the line
 pub cause_of_run : {D : Type 0} (failures : D → ℕ) (old new : Core D) (came : List Event) (reply : Reply) → HasCauseOfRun (graph old) (facts old) old.vault.journal.end new came reply → HasCause failures old new Run came reply
-cause_of_run failures old new came reply it = record { halted = it.halted.0; halts = λ run. it.halted.1; device = (λ is. absurd (it.device is), λ both. absurd both.0); full = it.full }
+cause_of_run failures old new came reply it = record { halted = it.halted.0; halts = λ run. it.halted.1; device = (λ is. absurd (it.device is), λ both. absurd both.0); full = it.full; left = λ _. it.left }

@@ -1,5 +1,5 @@
 -- What a store shows by its facts: whether each instance is done, and which wait.
-use Rattle.std.proofs.Common.{◌≡◌, ◌≢◌, ◌∙◌, ap, refl, sym, subst, ℕ, Bool, true, false, List, [], ◌∷◌, length, Option, Some, None, is_some, Ok, arith}
+use Rattle.std.proofs.Common.{◌≡◌, ◌≢◌, ◌∙◌, ap, refl, sym, subst, inr, ℕ, Bool, true, false, List, [], ◌∷◌, length, Option, Some, None, is_some, Ok, arith}
 use Rattle.std.proofs.lemmas.Bool.{false≢true}
 use Rattle.std.proofs.lemmas.List.Sorted.{All-permutation, Contains-permutation, length_permutation}
 use Rattle.std.specs.Cmp.{IsTotalOrder}
@@ -24,11 +24,12 @@ use Rattle.machine.specs.Status.{AreBlocked, NoneIsActive}
 use Rattle.commit.specs.declared.verdict.Verdict.TheVariants.{Complete, Blocked}
 use Rattle.commit.specs.Core.{Core, graph}
 use Rattle.commit.specs.Core as core
-use Rattle.commit.specs.Runs.{TellsVerdict}
+use Rattle.commit.specs.declared.status.Status.TheVariants as status
+use Rattle.commit.specs.Runs.{IsAt, TellsVerdict}
 use Rattle.session.specs.declared.reply.Reply.{Reply}
 use Rattle.session.specs.declared.reply.Reply.TheVariants as replied
 use Rattle.session.specs.Answers.{AreAllDone, AreWaiting, TellsBlocked, TellsRun, drive_of, instance_cmp}
-use Rattle.session.specs.Went.{HasCauseOfRun}
+use Rattle.session.specs.Went.{HasCauseOfRun, IsLeft}
 use Rattle.session.proofs.Listed.{found, listed}
 use Rattle.session.proofs.Strictly.{strictly}
 
@@ -124,24 +125,24 @@ told_blocked c kept full asked spawn halted limit count blocked reply is tells_i
 
 -- ---- causes
 
--- a reply to a run that is neither `Halted`, `Device` nor `Full` needs no cause, if the core is not halted
-pub other_cause : {D : Type 0} (g : Graph) (X : Facts) (from : ℕ) (new : Core D) (came : List Event) (reply : Reply) → reply ≢ replied.Halted → reply ≢ replied.Device → reply ≢ replied.Full → core.is_halted new ≡ false → HasCauseOfRun g X from new came reply
-other_cause g X from new came reply not_halted not_device not_full working =
-    record { halted = (λ is. absurd (not_halted is), λ halted. absurd (false≢true (sym working ∙ halted))); device = not_device; full = λ is. absurd (not_full is) }
+-- a reply to a run that is neither `Halted`, `Device` nor `Full` needs no other cause than how far the core is, if the core is not halted
+pub other_cause : {D : Type 0} (g : Graph) (X : Facts) (from : ℕ) (new : Core D) (came : List Event) (reply : Reply) → reply ≢ replied.Halted → reply ≢ replied.Device → reply ≢ replied.Full → core.is_halted new ≡ false → IsLeft new reply → HasCauseOfRun g X from new came reply
+other_cause g X from new came reply not_halted not_device not_full working left =
+    record { halted = (λ is. absurd (not_halted is), λ halted. absurd (false≢true (sym working ∙ halted))); device = not_device; full = λ is. absurd (not_full is); left = left }
 
 -- and so neither reply to `Blocked` does
-pub blocked_cause : {D : Type 0} (g : Graph) (X : Facts) (from : ℕ) (c : Core D) (came : List Event) (reply : Reply) → core.is_halted c ≡ false → TellsBlocked (graph c) (core.facts c) reply → HasCauseOfRun g X from c came reply
-blocked_cause g X from c came (replied.Blocked waiting) working told = other_cause g X from c came (replied.Blocked waiting) (λ same. cc) (λ same. cc) (λ same. cc) working
-blocked_cause g X from c came replied.NoMemory working told = other_cause g X from c came replied.NoMemory (λ same. cc) (λ same. cc) (λ same. cc) working
-blocked_cause g X from c came replied.Done working told = absurd told
-blocked_cause g X from c came (replied.Value address value) working told = absurd told
-blocked_cause g X from c came (replied.Absent address) working told = absurd told
-blocked_cause g X from c came replied.Complete working told = absurd told
-blocked_cause g X from c came (replied.Stopped instance kind) working told = absurd told
-blocked_cause g X from c came replied.Limit working told = absurd told
-blocked_cause g X from c came replied.Asked working told = absurd told
-blocked_cause g X from c came (replied.Refused refusal) working told = absurd told
-blocked_cause g X from c came replied.Full working told = absurd told
-blocked_cause g X from c came replied.Halted working told = absurd told
-blocked_cause g X from c came replied.Device working told = absurd told
-blocked_cause g X from c came replied.NoThread working told = absurd told
+pub blocked_cause : {D : Type 0} (g : Graph) (X : Facts) (from : ℕ) (c : Core D) (came : List Event) (reply : Reply) → (blocked : ℕ) → blocked ≢ 0 → IsAt c (status.Quiet blocked) → TellsBlocked (graph c) (core.facts c) reply → HasCauseOfRun g X from c came reply
+blocked_cause g X from c came (replied.Blocked waiting) blocked some at told = other_cause g X from c came (replied.Blocked waiting) (λ same. cc) (λ same. cc) (λ same. cc) at.0 tt
+blocked_cause g X from c came replied.NoMemory blocked some at told = other_cause g X from c came replied.NoMemory (λ same. cc) (λ same. cc) (λ same. cc) at.0 (inr (blocked, some, at))
+blocked_cause g X from c came replied.Done blocked some at told = absurd told
+blocked_cause g X from c came (replied.Value address value) blocked some at told = absurd told
+blocked_cause g X from c came (replied.Absent address) blocked some at told = absurd told
+blocked_cause g X from c came replied.Complete blocked some at told = absurd told
+blocked_cause g X from c came (replied.Stopped instance kind) blocked some at told = absurd told
+blocked_cause g X from c came replied.Limit blocked some at told = absurd told
+blocked_cause g X from c came replied.Asked blocked some at told = absurd told
+blocked_cause g X from c came (replied.Refused refusal) blocked some at told = absurd told
+blocked_cause g X from c came replied.Full blocked some at told = absurd told
+blocked_cause g X from c came replied.Halted blocked some at told = absurd told
+blocked_cause g X from c came replied.Device blocked some at told = absurd told
+blocked_cause g X from c came replied.NoThread blocked some at told = absurd told

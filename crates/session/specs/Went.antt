@@ -1,5 +1,5 @@
 -- How a core goes on by the lines of a script: the events that came, and what a crash leaves of them at each moment.
-use Rattle.std.specs.Prelude.{⊤, ◌≡◌, ◌≢◌, ◌≤◌, ◌<◌, ◌↔◌, ℕ, true, false, List, [], ◌∷◌, ◌++◌}
+use Rattle.std.specs.Prelude.{⊤, ◌≡◌, ◌≢◌, ◌⊎◌, ◌+◌, ◌≤◌, ◌<◌, ◌↔◌, ℕ, true, false, List, [], ◌∷◌, ◌++◌}
 use Rattle.disk.specs.declared.side.Side.{Side}
 use Rattle.disk.specs.File.{File}
 use Rattle.disk.specs.Time.{Contents, HasErred, LeavesOnly}
@@ -16,7 +16,8 @@ use Rattle.vault.specs.Store.{HasGates}
 use Rattle.commit.specs.Calls.{IsTooLong, KeepsStore}
 use Rattle.commit.specs.Core.{Core, is_halted}
 use Rattle.commit.specs.Core as core
-use Rattle.commit.specs.Runs.{AcknowledgesFrom, MetFull, one_by_one}
+use Rattle.commit.specs.declared.status.Status.TheVariants as status
+use Rattle.commit.specs.Runs.{AcknowledgesFrom, IsAt, MetFull, one_by_one, records_length}
 use Rattle.script.specs.declared.command.Command.{Command}
 use Rattle.script.specs.declared.command.Command.TheVariants.{Put, Tag, Get, Run}
 use Rattle.session.specs.declared.reply.Reply.{Reply}
@@ -39,13 +40,24 @@ Puts (Tag name) = ⊤
 Puts (Get address) = ⊥
 Puts Run = ⊥
 
+-- How far the core is after a run with this reply, if the reply does not say it: something is left to do; or no memory was there for the list of those that
+-- wait.
+abbrev pub IsLeft : {D : Type 0} → Core D → Reply → Type 0
+IsLeft c replied.Limit = IsAt c status.Working
+IsLeft c replied.Asked = IsAt c status.Working
+IsLeft c replied.Full = IsAt c status.Working
+IsLeft c replied.NoThread = IsAt c status.Working
+IsLeft c replied.NoMemory = IsAt c status.Working ⊎ ((blocked : ℕ) × (blocked ≢ 0) × IsAt c (status.Quiet blocked))
+IsLeft c other = ⊤
+
 -- The cause of a reply to a command by which these events came: `Halted` if the core is halted, and for a run exactly then; `Device` exactly if the device
--- failed in a put; `Full` if a record had no room.
+-- failed in a put; `Full` if a record had no room. After a run the core is as far as its reply says.
 pub record HasCause {D : Type 0} (failures : D → ℕ) (old new : Core D) (command : Command) (came : List Event) (reply : Reply) : Type 0 where
   pub halted : reply ≡ replied.Halted → is_halted new ≡ true
   pub halts : command ≡ Run → is_halted new ≡ true → reply ≡ replied.Halted
   pub device : (reply ≡ replied.Device) ↔ (Puts command × (failures old.vault.disk < failures new.vault.disk))
   pub full : reply ≡ replied.Full → HasNoRoom old command came
+  pub left : command ≡ Run → IsLeft new reply
 
 -- The same of a run on a store that had this graph and these facts, and whose journal ended there. The device is no cause: if it fails in a run, the reply
 -- is `Halted`.
@@ -53,18 +65,21 @@ pub record HasCauseOfRun {D : Type 0} (g : Graph) (X : Facts) (from : ℕ) (new 
   pub halted : (reply ≡ replied.Halted) ↔ (is_halted new ≡ true)
   pub device : reply ≢ replied.Device
   pub full : reply ≡ replied.Full → MetFull g X from came
+  pub left : IsLeft new reply
 
 -- ---- events
 
 module _ {D : Type 0} (files : D → Side → File) (moment : D → ℕ) (left_at : D → ℕ → Contents → Type 0) (failures refusals : D → ℕ) (honest : Type 0) where
   -- From a core that is not halted these events came, one after another, each as a commit of its own; and if it is halted now, those in doubt may
-  -- have come after them. They were legal, and all that is new is what they state. At each moment a crash leaves what a prefix of them states: those
-  -- that were acknowledged by then, or these and the next one. The core is halted exactly if a call of the disk returned an error.
+  -- have come after them. They were legal, and all that is new is what they state; the journal has their records behind those that it had. At each moment a
+  -- crash leaves what a prefix of them states: those that were acknowledged by then, or these and the next one. The core is halted exactly if a call of the
+  -- disk returned an error.
   pub record Went (old new : Core D) (events : List Event) : Type 0 where
     pub legal : AreLegalFrom (core.graph old) (core.facts old) (events ++ new.in_doubt)
     pub graph : core.graph new ≡ core.graph old
     pub facts : (fact : Fact) → core.facts new fact ≡ with_facts (core.facts old) (stated.facts events) fact
     pub environment : (fact : Fact) → core.environment new fact ≡ with_facts (core.environment old) (stated.environment events) fact
+    pub end : is_halted new ≡ false → new.vault.journal.end ≡ old.vault.journal.end + records_length events
     pub crashes : honest → LeavesOnly moment left_at old.vault.disk new.vault.disk (StandsForBeginning (core.graph old) (core.environment old) (core.facts old) [] (one_by_one (events ++ new.in_doubt)))
     pub acknowledged : honest → AcknowledgesFrom (core.graph old) (core.environment old) (core.facts old) (left_at new.vault.disk) (moment new.vault.disk) (moment old.vault.disk) [] events new.in_doubt
     pub gates : honest → HasGates (contents_of (files old.vault.disk)) → LeavesOnly moment left_at old.vault.disk new.vault.disk HasGates

@@ -22,4 +22,4 @@ pub returns-in-Ok-Blocked-clause-cause : goal.returns-in-Ok-Blocked-clause-cause
 returns-in-Ok-Blocked-clause-cause g c h X from came may_be_asked may_spawn limit count told =
     let at = c.in-Ok-Blocked.is ∙ ap Ok c.in-Ok-Blocked.field-0-is in
     let is = subst (λ (r : Result Verdict RunError). TellsVerdict (MetFull h X from came) may_be_asked may_spawn c.args.core.now limit count r) at told in
-    blocked_cause h X from c.args.core.now came c.blocked.result is.0.0 (c.blocked.ensures is.0.0 is.0.1.1 (λ none. is.1 (is.0.1.2 ∙ omega (arith, none))))
+    blocked_cause h X from c.args.core.now came c.blocked.result _ is.1 is.0 (c.blocked.ensures is.0.0 is.0.1.1 (λ none. is.1 (is.0.1.2 ∙ omega (arith, none))))
