@@ -12,8 +12,8 @@ use std::sync::{Arc, Mutex, Wait};
 use steplang::Parked;
 use terms::{Addr, Tag};
 
-/// A store that threads share. Each thread calls it with a pass of its own. After each locked call the pass has seen the
-/// whole history up to then.
+/// A store that threads share. Each thread calls it with a pass of its own. After each locked call the pass has seen a
+/// history that begins with what it had seen before.
 ///
 /// The locked calls wait for each other. `graph`, `commits`, `ask_stop` and `stop_asked` wait for nobody.
 pub struct Hub<J: Naming, D: Disk> {
@@ -107,10 +107,11 @@ impl<J: Naming, D: Disk> Hub<J, D> {
         self.kept.lock(rt).get(&self.board, pass, addr)
     }
 
-    /// A watch on the item at an address, for whoever may get it. It learns the value once the item is there; if it is there
-    /// already, at its first look. The refusals are those of `get`, and then that memory was refused.
+    /// A watch on the item at an address, for whoever may get it. The refusals are those of `get`; where it may be watched,
+    /// memory may be refused too.
     ///
-    /// The watch takes no lock, and may outlive the hub: if the item has not come by then, it never learns a value.
+    /// The watch takes no lock, and may outlive the hub. It is filled when the item comes, or at once if the item is there:
+    /// that is tested, and no clause says it.
     pub fn watch<R: Wait>(
         &self,
         rt: &R,
@@ -221,7 +222,8 @@ impl<J: Naming, D: Disk> Hub<J, D> {
         &self.graph
     }
 
-    /// The number of events in the history. It waits for nobody, and takes no memory.
+    /// The number of events in the history, as far as it is told: no less than before, and no less than the pass has seen. It
+    /// waits for nobody, and takes no memory.
     pub fn commits<K: Kind>(&self, pass: &mut Pass<J, K>) -> u64
         ensures pass { pass.new ≡ told_of result pass.old }
         ensures count { IsCountFor result pass.old }

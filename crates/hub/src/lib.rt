@@ -1,8 +1,9 @@
 //! A store that threads share: one lock, one history, and two words that are read and written without the lock.
 //!
 //! A thread calls the `Hub` with a `Pass` of its own. A contract sees a pass as what its holder knows: which events it
-//! has seen, and which were made with it. After each call that takes the lock, the pass has seen the whole history, and
-//! the call's result is that of the state after it. The lock keeps `Kept`: the core, the desk with the book, which is the
+//! has seen, and which were made with it. After each call that takes the lock, the pass has seen a history that begins with
+//! what it had seen, and the call's result is that of the state after it; that it is the whole history up to then is said
+//! under the lock, by `Kept`. The lock keeps `Kept`: the core, the desk with the book, which is the
 //! history and the number of passes, and what fills the watches. The layer above uses the calls of `Hub`, and `close`,
 //! which returns the core with a history of just the passes' events.
 #![tactic(auto)]

@@ -120,7 +120,7 @@ pub fn send_report<D: Disk, S: Sink>(
     }
 }
 
-/// The same, to a writer.
+/// The same, to a writer. After an error it is not known how much was written.
 pub fn write_report<D: Disk, W: Write>(
     alloc: Global,
     core: &Core<D>,
