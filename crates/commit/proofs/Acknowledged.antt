@@ -22,6 +22,15 @@ held g E X pending contents stands = record {
   stands = subst (λ (S : Facts). Stands contents g S (with_facts X [])) (sym (with_nothing E)) (subst (λ (S : Facts). Stands contents g E S) (sym (with_nothing X)) stands);
 }
 
+-- at the last moment all of the events are acknowledged
+pub all_at_last : (g : Graph) (E X : Facts) (left : ℕ → Contents → Type 0) (last from : ℕ) (made ends doubt : List Event) → from ≤ last → AcknowledgesFrom g E X left last from made ends doubt
+    → (contents : Contents) → left last contents → StandsForBeginning g E X (one_by_one (made ++ ends)) (one_by_one doubt) contents
+all_at_last g E X left last from made [] doubt early it contents was =
+    subst (λ (events : List Event). StandsForBeginning g E X (one_by_one events) (one_by_one doubt) contents) (sym (append-nil made)) (it last contents early (omega arith) was)
+all_at_last g E X left last from made (end ∷ ends) doubt early it contents was =
+    subst (λ (events : List Event). StandsForBeginning g E X (one_by_one events) (one_by_one doubt) contents) (append_assoc made (end ∷ []) ends)
+    (all_at_last g E X left last it.0 (made ++ end ∷ []) ends doubt it.2 it.4 contents was)
+
 -- all that is acknowledged is there, whatever is pending
 pub more_pending : (g : Graph) (E X : Facts) (made pending : List Commit) (contents : Contents) → StandsForBeginning g E X made [] contents → StandsForBeginning g E X made pending contents
 more_pending g E X made pending contents it = record {

@@ -17,3 +17,4 @@ pub mod Running
 pub mod Taken
 pub mod Told
 mod TurnedOver
+pub mod Went

@@ -131,11 +131,11 @@ pub record CommitsAs {D T : Type 0} (files : D → Side → File) (moment : D �
   pub unchanged : OnErr result (IsUnchanged old new)
   pub halts : Halts failures refusals old new result
 
--- no fact has changed, nothing on the disk, and nothing in doubt: such is each claim, park, release and allowance, and each call of a halted core
+-- nothing has changed but the states of instances and the allowance: such is each claim, park, release and allowance, and each call of a halted core
 pub record KeepsStore {D : Type 0} (old new : Core D) : Type 0 where
   pub graph : graph new ≡ graph old
   pub facts : (fact : Fact) → facts new fact ≡ facts old fact
   pub environment : (fact : Fact) → environment new fact ≡ environment old fact
-  pub disk : new.vault.disk ≡ old.vault.disk
-  pub halted : is_halted new ≡ is_halted old
+  pub vault : IsSame old.vault new.vault
   pub in_doubt : new.in_doubt ≡ old.in_doubt
+  pub latest : new.latest ≡ old.latest

@@ -12,3 +12,4 @@ pub mod Runs
 pub mod Status
 pub mod Steps
 pub mod Turning
+pub mod Went

@@ -53,14 +53,14 @@ module _
     abbrev pub LeavesAt : History → (old new : D) → Type 0
     LeavesAt h old new = LeavesOnly moment left_at old new (λ contents. MayStand g h contents × HasGates contents)
 
-    both_hold : (old new : D) (P Q : Contents → Type 0) → LeavesOnly moment left_at old new P → LeavesOnly moment left_at old new Q → LeavesOnly moment left_at old new (λ c. P c × Q c)
+    pub both_hold : (old new : D) (P Q : Contents → Type 0) → LeavesOnly moment left_at old new P → LeavesOnly moment left_at old new Q → LeavesOnly moment left_at old new (λ c. P c × Q c)
     both_hold old new P Q p q = record { later = p.later; each = λ t c from to left. (p.each t c from to left, q.each t c from to left); stays = p.stays }
 
-    gated : (h : History) (disk : D) → Leaves files g h disk → HasGates (contents_of (files disk))
+    pub gated : (h : History) (disk : D) → Leaves files g h disk → HasGates (contents_of (files disk))
     gated h disk leaves = (leaves (contents_of (files disk)) (reads disk)).1
 
     -- what is left at the end of a call
-    left_at_end : (h : History) (old new : D) → LeavesAt h old new → Leaves files g h new
+    pub left_at_end : (h : History) (old new : D) → LeavesAt h old new → Leaves files g h new
     left_at_end h old new leaving contents may = at_end files moment left_at now old new (λ c. MayStand g h c × HasGates c) leaving contents may
 
     pub rest_leaves : (h : History) (disk : D) → Leaves files g h disk → LeavesAt h disk disk
@@ -83,12 +83,12 @@ module _
           graph = same.graph ∙ stood.has.graph;
           facts = λ fact. same.facts fact ∙ stood.has.facts fact;
           environment = λ fact. same.environment fact ∙ stood.has.environment fact;
-          settled = λ goes. stood.has.settled (sym same.halted ∙ goes);
+          settled = λ goes. stood.has.settled (sym same.vault.halted ∙ goes);
         };
-        leaves = subst (λ (d : D). Leaves files g h d) (sym same.disk) stood.leaves;
+        leaves = subst (λ (d : D). Leaves files g h d) (sym same.vault.disk) stood.leaves;
         keeps = keeps;
       },
-      subst (λ (d : D). LeavesAt h old.vault.disk d) (sym same.disk) (rest_leaves h old.vault.disk stood.leaves),
+      subst (λ (d : D). LeavesAt h old.vault.disk d) (sym same.vault.disk) (rest_leaves h old.vault.disk stood.leaves),
     )
 
     -- an error that did not halt the core
@@ -96,7 +96,7 @@ module _
         → Stood h new × LeavesAt h old.vault.disk new.vault.disk
     unchanged h old new error stood keeps stays halts halted =
         let same = halts.same halted in
-        rests h old new stood keeps (stayed old new stays same.0.disk halted same.1)
+        rests h old new stood keeps (stayed old new stays same.0 same.1)
 
     -- ---- a call that commits an event
 

@@ -1,5 +1,5 @@
 -- From a creation, one move after another.
-use Rattle.std.proofs.Common.{◌≡◌, ◌∙◌, ◌⊎◌, ◌↔◌, ap, sym, refl, subst, inl, inr, ℕ, List, [], ◌∷◌, ◌++◌, Result, Ok, Err, OnErr, false}
+use Rattle.std.proofs.Common.{◌≡◌, ◌∙◌, ◌⊎◌, ◌↔◌, ap, sym, refl, subst, inl, inr, ℕ, Bool, true, false, List, [], ◌∷◌, ◌++◌, Result, Ok, Err, OnErr}
 use Rattle.std.proofs.lemmas.Bool.{false≢true}
 use Rattle.std.proofs.lemmas.List.{append-nil}
 use Rattle.disk.specs.declared.side.Side.{Side}
@@ -22,13 +22,15 @@ use Rattle.commit.specs.Calls.{GivesBack, IsUnchanged, Stays}
 use Rattle.commit.specs.Core.{Core, graph, facts, is_halted}
 use Rattle.commit.specs.Kept.{Keeps}
 use Rattle.commit.specs.Outcome.{end_of}
+use Rattle.commit.specs.Went.{GoesOn}
 use Rattle.commit.proofs.Ended.{end_is_told}
 use Rattle.moves.specs.Call.{Call, Does, Tries, acknowledged, puts_item, puts_tag, claims, parks, releases, finishes, turns, allows}
-use Rattle.moves.specs.Move.{Leads, LeadsAll, Move, Place, at_core, at_disk, whole, cut, crashes, gives_back, crashes_again, opens, opening_cut}
-use Rattle.moves.specs.Order.{Extends, ExtendsAll, HaltedBy, History, TriesNone, begun as begun_order}
+use Rattle.moves.specs.Move.{Leads, LeadsAll, Move, Place, at_core, at_disk, whole, cut, goes_on, going_cut, crashes, gives_back, crashes_again, opens, opening_cut}
+use Rattle.moves.specs.Order.{Extends, ExtendsAll, HaltedBy, History, TriesNone, acknowledged_by, begun as begun_order}
 use Rattle.moves.specs.There.{IsThere, Leaves}
 use Rattle.moves.specs.Every.{Along, ForEverySchedule, IsKnown, Means}
 use Rattle.moves.proofs.Calls.{Leaving, LeavesAt, Stood, comes, leaving, rest_leaves, rests, turned, with_commit, with_doubt}
+use Rattle.moves.proofs.Going.{after_legal, leaving as leaving_in_part, part_legal, stood_after, with_doubts, with_events}
 use Rattle.moves.proofs.Kept.{allowed, claimed, moved, parked}
 use Rattle.moves.proofs.Known.{IsLegal}
 use Rattle.moves.proofs.Meant.{means, stands_within}
@@ -160,11 +162,52 @@ module _
       by_cut (allows count result) disk does left =
           cut_still (allows count result) h old new disk (rests files moment left_at failures refusals honest on both now reads held appends g h old new stood keeps (allowed old new count result does)).1 left legal
 
+      -- ---- runs and sessions
+
+      by_going : (events : List Event) → GoesOn files moment left_at failures refusals honest old new events → GoesTo (goes_on events) (at_core old) h (at_core new)
+      by_going events goes = at (is_halted old) refl
+        where
+          at : (b : Bool) → is_halted old ≡ b → GoesTo (goes_on events) (at_core old) h (at_core new)
+          at true halted =
+              let same = goes.stays halted in
+              (h, inl (halted, same.1, refl), ((rests files moment left_at failures refusals honest on both now reads held appends g h old new stood keeps same.0).0, legal))
+          at false works =
+              let went = goes.went works in (
+                with_events h events new.in_doubt,
+                inr (works, stood.has.settled works, refl),
+                (
+                  stood_after files moment left_at failures refusals honest on both now reads held appends g h old new events stood keeps legal went goes.settled,
+                  after_legal files moment left_at failures refusals honest on both now reads held appends g h old new events stood keeps legal went,
+                ),
+              )
+
+      by_going_cut : (events : List Event) (disk : D) → GoesOn files moment left_at failures refusals honest old new events → IsLeft files moment left_at old.vault.disk new.vault.disk disk → GoesTo (going_cut events new) (at_core old) h (at_disk disk)
+      by_going_cut events disk goes left = at (is_halted old) refl
+        where
+          at : (b : Bool) → is_halted old ≡ b → GoesTo (going_cut events new) (at_core old) h (at_disk disk)
+          at true halted =
+              let same = goes.stays halted in
+              let leaves = (rests files moment left_at failures refusals honest on both now reads held appends g h old new stood keeps same.0).1 in
+              (h, inl (halted, refl), (crashed files moment left_at failures refusals honest on both now reads held appends g h old.vault.disk new.vault.disk disk leaves left, legal))
+          at false works =
+              let went = goes.went works in
+              let doubts = with_doubts h (events ++ new.in_doubt) in (
+                doubts,
+                inr (works, stood.has.settled works, refl),
+                (
+                  crashed files moment left_at failures refusals honest on both now reads held appends g doubts old.vault.disk new.vault.disk disk
+                      (leaving_in_part files moment left_at failures refusals honest on both now reads held appends g h old new events stood keeps legal went) left,
+                  part_legal files moment left_at failures refusals honest on both now reads held appends g h old new events stood keeps legal went,
+                ),
+              )
+
     -- ---- each move
 
     step : (move : Move D) (from to : Place D) (h : History) → At h from → Leads files moment left_at failures refusals honest move from to → GoesTo move from h to
     step (whole call) (at_core old) (at_core new) h at leads = by_call h old new at.0 leads.1 at.1 call leads.0
     step (cut call new) (at_core old) (at_disk disk) h at leads = by_cut h old new at.0 leads.1 at.1 call disk leads.0 leads.2
+    step (goes_on events) (at_core old) (at_core new) h at leads = by_going h old new at.0 leads.1 at.1 events leads.0
+    step (going_cut events new) (at_core old) (at_disk disk) h at leads = by_going_cut h old new at.0 leads.1 at.1 events disk leads.0 leads.2
     step crashes (at_core c) (at_disk disk) h at leads = (
       h,
       refl,
@@ -232,16 +275,16 @@ module _
 
       pub holds : (moves : List (Move D)) (place : Place D) (core : Core D) → graph core ≡ g → StoodHere begun_order core → LeadsAll files moment left_at failures refusals honest moves (at_core core) place
           → (first : IsKnown files moment left_at failures refusals honest g begun_order (at_core core)) × (last : History) × Along files moment left_at failures refusals honest g moves (at_core core) place begun_order last
-          × ((before after : List (Move D)) (call : Call) → moves ≡ before ++ whole call ∷ after
-          → (at : Place D) × (earlier : History) × ExtendsAll before (at_core core) at begun_order earlier × ((later : List Commit) × (last.made ≡ earlier.made ++ acknowledged call ++ later)))
+          × ((before after : List (Move D)) (move : Move D) → moves ≡ before ++ move ∷ after
+          → (at : Place D) × (earlier : History) × ExtendsAll before (at_core core) at begun_order earlier × ((later : List Commit) × (last.made ≡ earlier.made ++ acknowledged_by move ++ later)))
       holds moves place core is stood leads =
           let it = along moves (at_core core) place begun_order (stood, tt) leads in
           let extends = order moves (at_core core) place begun_order it.0 it.1 in (
             known begun_order (at_core core) (stood, tt),
             it.0,
             it.1,
-            λ before after call same.
-                acknowledged_there D before after call (at_core core) place begun_order it.0 (subst (λ (list : List (Move D)). ExtendsAll list (at_core core) place begun_order it.0) same extends),
+            λ before after move same.
+                acknowledged_there D before after move (at_core core) place begun_order it.0 (subst (λ (list : List (Move D)). ExtendsAll list (at_core core) place begun_order it.0) same extends),
           )
 
 module _

@@ -7,8 +7,19 @@ use Rattle.instances.specs.declared.state.State.TheVariants.{Ready, Running, Wai
 use Rattle.vault.specs.declared.vault.Vault.{Vault}
 use Rattle.commit.specs.declared.error.CoreError.{CoreError}
 use Rattle.commit.specs.Calls.{KeepsStore, Stays}
-use Rattle.commit.specs.Core.{Core, graph, facts, environment, is_halted}
+use Rattle.vault.specs.Store.{IsSame}
+use Rattle.commit.specs.Core.{Core, graph, facts, environment}
 use Rattle.commit.specs.Steps.{Claims, LooksAgain, Moves, Parks, SetsAllowance}
+
+same_vault : {D : Type 0} (v w : Vault D) → w ≡ v → IsSame v w
+same_vault v w same = record {
+  disk = ap (λ (x : Vault _). x.disk) same;
+  side = ap (λ (x : Vault _). x.journal.side) same;
+  end = ap (λ (x : Vault _). x.journal.end) same;
+  generation = ap (λ (x : Vault _). x.generation) same;
+  text = ap (λ (x : Vault _). x.text) same;
+  halted = ap (λ (x : Vault _). x.halted) same;
+}
 
 module _ {D : Type 0} (old new : Core D) where
   same_core : new ≡ old → KeepsStore old new
@@ -16,9 +27,9 @@ module _ {D : Type 0} (old new : Core D) where
     graph = ap (λ (c : Core D). graph c) same;
     facts = λ fact. ap (λ (c : Core D). facts c fact) same;
     environment = λ fact. ap (λ (c : Core D). environment c fact) same;
-    disk = ap (λ (c : Core D). c.vault.disk) same;
-    halted = ap (λ (c : Core D). is_halted c) same;
+    vault = same_vault old.vault new.vault (ap (λ (c : Core D). c.vault) same);
     in_doubt = ap (λ (c : Core D). c.in_doubt) same;
+    latest = ap (λ (c : Core D). c.latest) same;
   }
 
   pub moved : (instance : Inst) (to : State) → Moves old new instance to → KeepsStore old new
@@ -26,9 +37,9 @@ module _ {D : Type 0} (old new : Core D) where
     graph = moves.machine.graph;
     facts = moves.machine.facts;
     environment = moves.machine.environment;
-    disk = ap (λ (v : Vault D). v.disk) moves.vault;
-    halted = ap (λ (v : Vault D). v.halted) moves.vault;
+    vault = same_vault old.vault new.vault moves.vault;
     in_doubt = moves.in_doubt;
+    latest = moves.latest;
   }
 
   looked : (instance : Inst) (address : Addr) → LooksAgain old new instance address → KeepsStore old new
@@ -48,9 +59,9 @@ module _ {D : Type 0} (old new : Core D) where
         graph = back.graph;
         facts = back.facts;
         environment = back.environment;
-        disk = ap (λ (v : Vault D). v.disk) parks.refused.vault;
-        halted = ap (λ (v : Vault D). v.halted) parks.refused.vault;
+        vault = same_vault old.vault new.vault parks.refused.vault;
         in_doubt = parks.refused.in_doubt;
+        latest = back.latest;
       }
 
   pub allowed : {T : Type 0} (count : ℕ) (result : Result T CoreError) → SetsAllowance old new count result → KeepsStore old new
@@ -58,12 +69,12 @@ module _ {D : Type 0} (old new : Core D) where
     graph = ap (λ (c : Core D). graph c) sets.ok.1;
     facts = λ fact. ap (λ (c : Core D). facts c fact) sets.ok.1;
     environment = λ fact. ap (λ (c : Core D). environment c fact) sets.ok.1;
-    disk = ap (λ (c : Core D). c.vault.disk) sets.ok.1;
-    halted = ap (λ (c : Core D). is_halted c) sets.ok.1;
+    vault = same_vault old.vault new.vault (ap (λ (c : Core D). c.vault) sets.ok.1);
     in_doubt = ap (λ (c : Core D). c.in_doubt) sets.ok.1;
+    latest = ap (λ (c : Core D). c.latest) sets.ok.1;
   }
   allowed count (Err error) sets = same_core sets.err.same
 
   -- what an error leaves that did not halt the core
-  pub stayed : Stays old new → new.vault.disk ≡ old.vault.disk → is_halted new ≡ is_halted old → new.in_doubt ≡ old.in_doubt → KeepsStore old new
-  stayed stays disk halted doubt = record { graph = stays.graph; facts = stays.facts; environment = stays.environment; disk = disk; halted = halted; in_doubt = doubt }
+  pub stayed : Stays old new → IsSame old.vault new.vault → new.in_doubt ≡ old.in_doubt → KeepsStore old new
+  stayed stays same doubt = record { graph = stays.graph; facts = stays.facts; environment = stays.environment; vault = same; in_doubt = doubt; latest = stays.latest }

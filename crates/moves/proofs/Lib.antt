@@ -4,4 +4,5 @@ mod Kept
 mod Calls
 mod Openings
 mod Meant
+mod Going
 mod Induction

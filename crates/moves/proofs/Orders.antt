@@ -2,9 +2,10 @@
 use Rattle.std.proofs.Common.{◌≡◌, ◌∙◌, ap, sym, refl, inl, inr, List, [], ◌∷◌, ◌++◌, Ok, Err}
 use Rattle.std.proofs.lemmas.List.{append-nil, append_assoc}
 use Rattle.terms.specs.Commits.{Commit}
+use Rattle.commit.specs.Runs.{one_by_one}
 use Rattle.moves.specs.Call.{Call, acknowledged}
-use Rattle.moves.specs.Move.{Move, Place, at_core, at_disk, whole, cut, crashes, gives_back, crashes_again, opens, opening_cut}
-use Rattle.moves.specs.Order.{AcknowledgedStays, Doubts, Extends, ExtendsAll, Forgets, History, MadeStays, begun}
+use Rattle.moves.specs.Move.{Move, Place, at_core, at_disk, whole, cut, goes_on, going_cut, crashes, gives_back, crashes_again, opens, opening_cut}
+use Rattle.moves.specs.Order.{AcknowledgedStays, Doubts, Extends, ExtendsAll, Forgets, Goes, History, MadeStays, acknowledged_by, begun}
 
 abbrev made : History → List Commit
 made h = h.made
@@ -24,6 +25,10 @@ made_by (whole call) (at_core old) (at_core new) before after (inl doubtful) = d
 made_by (whole call) (at_core old) (at_core new) before after (inr it) = (acknowledged call, ap made it.1)
 made_by (cut call core) (at_core old) (at_disk disk) before after (inl same) = stays before after same
 made_by (cut call core) (at_core old) (at_disk disk) before after (inr doubtful) = doubts call before after doubtful.1
+made_by (goes_on events) (at_core old) (at_core new) before after (inl still) = stays before after still.2
+made_by (goes_on events) (at_core old) (at_core new) before after (inr it) = (one_by_one events, ap made it.2)
+made_by (going_cut events new) (at_core old) (at_disk disk) before after (inl still) = stays before after still.1
+made_by (going_cut events new) (at_core old) (at_disk disk) before after (inr it) = ([], ap made it.2 ∙ sym (append-nil before.made))
 made_by crashes (at_core core) (at_disk disk) before after same = stays before after same
 made_by gives_back (at_core core) (at_disk disk) before after same = stays before after same
 made_by crashes_again (at_disk old) (at_disk disk) before after same = stays before after same
@@ -47,23 +52,56 @@ split (move ∷ one) two from to before after all =
     let rest = split one two all.0 to all.1 after all.3 in
     (rest.0, rest.1, (all.0, all.1, all.2, rest.2), rest.3)
 
--- what a call acknowledged comes after what was made before it
-by_call : (D : Type 0) (call : Call) (from to : Place D) (before after : History) → Extends {D = D} (whole call) from to before after → after.made ≡ before.made ++ acknowledged call
-by_call D call (at_core old) (at_core new) before after (inl doubtful) =
-    ap made doubtful.2.3 ∙ sym (append-nil before.made) ∙ ap (λ (commits : List Commit). before.made ++ commits) (sym doubtful.1)
-by_call D call (at_core old) (at_core new) before after (inr it) = ap made it.1
-by_call D call (at_core old) (at_disk new) before after it = absurd it
-by_call D call (at_disk old) (at_core new) before after it = absurd it
-by_call D call (at_disk old) (at_disk new) before after it = absurd it
+-- what a move acknowledged comes after what was made before it, and perhaps more
+abbrev Adds : {D : Type 0} → Move D → History → History → Type 0
+Adds move before after = (later : List Commit) × (after.made ≡ before.made ++ acknowledged_by move ++ later)
+
+-- a move that acknowledged nothing
+adds_none : (before after : History) → Begins before after → (later : List Commit) × (after.made ≡ before.made ++ [] ++ later)
+adds_none before after begins = (begins.0, begins.1 ∙ ap (λ (commits : List Commit). commits ++ begins.0) (sym (append-nil before.made)))
+
+-- just these commits are new
+adds_just : (commits : List Commit) (before after : History) → after.made ≡ before.made ++ commits → (later : List Commit) × (after.made ≡ before.made ++ commits ++ later)
+adds_just commits before after is = ([], is ∙ sym (append-nil (before.made ++ commits)))
+
+by_move : (D : Type 0) (move : Move D) (from to : Place D) (before after : History) → Extends move from to before after → Adds move before after
+by_move D (whole call) (at_core old) (at_core new) before after (inl doubtful) =
+    adds_just (acknowledged call) before after (ap made doubtful.2.3 ∙ sym (append-nil before.made) ∙ ap (λ (commits : List Commit). before.made ++ commits) (sym doubtful.1))
+by_move D (whole call) (at_core old) (at_core new) before after (inr it) = adds_just (acknowledged call) before after (ap made it.1)
+by_move D (whole call) (at_core old) (at_disk new) before after it = absurd it
+by_move D (whole call) (at_disk old) (at_core new) before after it = absurd it
+by_move D (whole call) (at_disk old) (at_disk new) before after it = absurd it
+by_move D (goes_on events) (at_core old) (at_core new) before after (inl still) =
+    adds_just (one_by_one events) before after (ap made still.2 ∙ sym (append-nil before.made) ∙ ap (λ (list : List _). before.made ++ one_by_one list) (sym still.1))
+by_move D (goes_on events) (at_core old) (at_core new) before after (inr it) = adds_just (one_by_one events) before after (ap made it.2)
+by_move D (goes_on events) (at_core old) (at_disk new) before after it = absurd it
+by_move D (goes_on events) (at_disk old) (at_core new) before after it = absurd it
+by_move D (goes_on events) (at_disk old) (at_disk new) before after it = absurd it
+by_move D (cut call core) from to before after it = adds_none before after (made_by (cut call core) from to before after it)
+by_move D (going_cut events core) from to before after it = adds_none before after (made_by (going_cut events core) from to before after it)
+by_move D crashes from to before after it = adds_none before after (made_by crashes from to before after it)
+by_move D gives_back from to before after it = adds_none before after (made_by gives_back from to before after it)
+by_move D crashes_again from to before after it = adds_none before after (made_by crashes_again from to before after it)
+by_move D (opens result) from to before after it = adds_none before after (made_by (opens result) from to before after it)
+by_move D (opening_cut result) from to before after it = adds_none before after (made_by (opening_cut result) from to before after it)
 
 pub acknowledged_there : (D : Type 0) → AcknowledgedStays D
-acknowledged_there D one two call from to before after all =
-    let parts = split one (whole call ∷ two) from to before after all in
+acknowledged_there D one two move from to before after all =
+    let parts = split one (move ∷ two) from to before after all in
     let place = parts.0 in
     let earlier = parts.1 in
     let rest = parts.3 in
+    let first = by_move D move place rest.0 earlier rest.1 rest.2 in
     let later = made_stays D two rest.0 to rest.1 after rest.3 in
-    (place, earlier, parts.2, (later.0, later.1 ∙ ap (λ (commits : List Commit). commits ++ later.0) (by_call D call place rest.0 earlier rest.1 rest.2)))
+    (
+      place,
+      earlier,
+      parts.2,
+      (
+        first.0 ++ later.0,
+        later.1 ∙ ap (λ (commits : List Commit). commits ++ later.0) first.1 ∙ append_assoc (earlier.made ++ acknowledged_by move) first.0 later.0,
+      ),
+    )
 
 not_there : (commit : Commit) (earlier later : List Commit) → [] ≡ earlier ++ (commit ∷ []) ++ later → ⊥
 not_there commit [] later same = cc
@@ -71,6 +109,6 @@ not_there commit (first ∷ earlier) later same = cc
 
 pub forgets : (D : Type 0) → Forgets D
 forgets D call commit core from to after is all none =
-    let there = acknowledged_there D [] (crashes ∷ opens (Ok core) ∷ []) call from to begun after all in
+    let there = acknowledged_there D [] (crashes ∷ opens (Ok core) ∷ []) (whole call) from to begun after all in
     let earlier = there.1 in
     not_there commit earlier.made there.3.0 (sym none ∙ there.3.1 ∙ ap (λ (commits : List Commit). earlier.made ++ commits ++ there.3.0) is)

@@ -24,9 +24,8 @@ use Rattle.commit.specs.Created.{IsCreated}
 use Rattle.commit.specs.Kept.{Keeps}
 use Rattle.commit.specs.Opened.{OpensAs}
 use Rattle.commit.specs.Status.{TellsStatus}
-use Rattle.moves.specs.Call.{Call, acknowledged}
-use Rattle.moves.specs.Move.{Leads, LeadsAll, Move, Place, at_core, at_disk, whole}
-use Rattle.moves.specs.Order.{Extends, ExtendsAll, History, begun}
+use Rattle.moves.specs.Move.{Leads, LeadsAll, Move, Place, at_core, at_disk}
+use Rattle.moves.specs.Order.{Extends, ExtendsAll, History, acknowledged_by, begun}
 use Rattle.moves.specs.There.{IsThere}
 
 -- ---- what a store means
@@ -74,14 +73,14 @@ module _ {D : Type 0} (files : D → Side → File) (moment : D → ℕ) (left_a
   Along g (move ∷ moves) from to before after =
       (place : Place D) × (next : History) × Leads files moment left_at failures refusals honest move from place × Extends move from place before next × IsKnown g next place × Along g moves place to next after
 
-  -- What holds of a list of moves from a creation: this is known of the new store, and along the moves. What a call acknowledged comes after all that was made before the call,
+  -- What holds of a list of moves from a creation: this is known of the new store, and along the moves. What a move acknowledged comes after all that was made before the move,
   -- and is there at the end.
   pub record Holds (core : Core D) (moves : List (Move D)) (place : Place D) : Type 0 where
     pub first : IsKnown (graph core) begun (at_core core)
     pub history : History
     pub along : Along (graph core) moves (at_core core) place begun history
-    pub acknowledged : (one two : List (Move D)) (call : Call) → moves ≡ one ++ whole call ∷ two
-        → (at : Place D) × (earlier : History) × ExtendsAll one (at_core core) at begun earlier × ((later : List Commit) × (history.made ≡ earlier.made ++ acknowledged call ++ later))
+    pub acknowledged : (one two : List (Move D)) (move : Move D) → moves ≡ one ++ move ∷ two
+        → (at : Place D) × (earlier : History) × ExtendsAll one (at_core core) at begun earlier × ((later : List Commit) × (history.made ≡ earlier.made ++ acknowledged_by move ++ later))
 
   -- However often a store is stopped, before or within any disk write, and whichever steps are committed, in whatever order: of every list of moves from a creation that
   -- returned `Ok`, this holds.

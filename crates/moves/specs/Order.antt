@@ -1,9 +1,11 @@
 -- The commit order of a store: what is known of it after each move.
 use Rattle.std.specs.Prelude.{◌≡◌, ◌⊎◌, true, false, List, [], ◌∷◌, ◌++◌, Ok, Err}
+use Rattle.terms.specs.declared.event.Event.{Event}
 use Rattle.terms.specs.Commits.{Commit}
 use Rattle.commit.specs.Core.{Core, is_halted}
+use Rattle.commit.specs.Runs.{one_by_one}
 use Rattle.moves.specs.Call.{Call, Tries, acknowledged}
-use Rattle.moves.specs.Move.{Move, Place, at_core, at_disk, whole, cut, crashes, gives_back, crashes_again, opens, opening_cut}
+use Rattle.moves.specs.Move.{Move, Place, at_core, at_disk, whole, cut, goes_on, going_cut, crashes, gives_back, crashes_again, opens, opening_cut}
 
 -- The commits made since the creation, in their order, each of which was acknowledged or found by an opening; and those in doubt after them, which may
 -- be on the disk or not, the first ones before the later ones.
@@ -27,12 +29,23 @@ TriesNone call = (commit : Commit) → Tries call commit → ⊥
 abbrev pub Doubts : Call → History → History → Type 0
 Doubts call before after = (commit : Commit) × Tries call commit × (before.doubt ≡ []) × (after ≡ record { made = before.made; doubt = commit ∷ [] })
 
+-- Events came one after another, each as a commit of its own: they are made, and what is in doubt in the core is in doubt. A core that was halted made none.
+abbrev pub Goes : {D : Type 0} → List Event → (old new : Core D) → History → History → Type 0
+Goes events old new before after =
+    ((is_halted old ≡ true) × (events ≡ []) × (after ≡ before)) ⊎ ((is_halted old ≡ false) × (before.doubt ≡ []) × (after ≡ record { made = before.made ++ one_by_one events; doubt = one_by_one new.in_doubt }))
+
+-- the same where a crash cut them off: each of the events may be there, the first ones before the later ones
+abbrev pub GoesInPart : {D : Type 0} → List Event → (old new : Core D) → History → History → Type 0
+GoesInPart events old new before after = ((is_halted old ≡ true) × (after ≡ before)) ⊎ ((is_halted old ≡ false) × (before.doubt ≡ []) × (after ≡ record { made = before.made; doubt = one_by_one (events ++ new.in_doubt) }))
+
 -- A call that returned `Ok` made its commit, after all others. One that returned an error and halted the core leaves the commit that it tried in doubt, and one that a crash cut off may. An
 -- opening finds a prefix of those in doubt, and the rest is lost. Nothing else changes the order.
 abbrev pub Extends : {D : Type 0} → Move D → (from to : Place D) → History → History → Type 0
 Extends (whole call) (at_core old) (at_core new) before after =
     (HaltedBy old new × (acknowledged call ≡ []) × Doubts call before after) ⊎ ((HaltedBy old new → TriesNone call) × (after ≡ record { made = before.made ++ acknowledged call; doubt = before.doubt }))
 Extends (cut call core) (at_core old) (at_disk disk) before after = (after ≡ before) ⊎ ((is_halted old ≡ false) × Doubts call before after)
+Extends (goes_on events) (at_core old) (at_core new) before after = Goes events old new before after
+Extends (going_cut events new) (at_core old) (at_disk disk) before after = GoesInPart events old new before after
 Extends crashes (at_core core) (at_disk disk) before after = after ≡ before
 Extends gives_back (at_core core) (at_disk disk) before after = after ≡ before
 Extends crashes_again (at_disk old) (at_disk disk) before after = after ≡ before
@@ -49,14 +62,20 @@ ExtendsAll {D} (move ∷ moves) from to before after = (place : Place D) × (nex
 
 -- ---- laws
 
--- What was made stays, in front of what comes later. So what a call acknowledged comes after all that was made before the call, and stays there.
+-- the commits that a move acknowledged
+abbrev pub acknowledged_by : {D : Type 0} → Move D → List Commit
+acknowledged_by (whole call) = acknowledged call
+acknowledged_by (goes_on events) = one_by_one events
+acknowledged_by other = []
+
+-- What was made stays, in front of what comes later. So what a move acknowledged comes after all that was made before the move, and stays there.
 abbrev pub MadeStays : Type 0 → Type 0
 MadeStays D = (moves : List (Move D)) (from to : Place D) (before after : History) → ExtendsAll moves from to before after → (later : List Commit) × (after.made ≡ before.made ++ later)
 
 abbrev pub AcknowledgedStays : Type 0 → Type 0
 AcknowledgedStays D =
-    (one two : List (Move D)) (call : Call) (from to : Place D) (before after : History) → ExtendsAll (one ++ whole call ∷ two) from to before after
-    → (place : Place D) × (earlier : History) × ExtendsAll one from place before earlier × ((later : List Commit) × (after.made ≡ earlier.made ++ acknowledged call ++ later))
+    (one two : List (Move D)) (move : Move D) (from to : Place D) (before after : History) → ExtendsAll (one ++ move ∷ two) from to before after
+    → (place : Place D) × (earlier : History) × ExtendsAll one from place before earlier × ((later : List Commit) × (after.made ≡ earlier.made ++ acknowledged_by move ++ later))
 
 -- An example that is refused: after a put that returned `Ok`, a crash, and an opening that returned `Ok`, nothing is there.
 abbrev pub Forgets : Type 0 → Type 0

@@ -18,20 +18,37 @@ use Rattle.machine.specs.declared.refusal.Refusal.{Refusal}
 use Rattle.machine.specs.State.{AreLegalFrom}
 use Rattle.vault.specs.Commits.{AppendLeaves, GatesRest, GatesStay, HeldLeaves, RestLeaves, StandsForBeginning}
 use Rattle.vault.specs.Stands.{Stands}
-use Rattle.vault.specs.Store.{HasGates}
+use Rattle.vault.specs.declared.vault.Vault.{Vault}
+use Rattle.vault.specs.Store.{HasGates, IsSame}
 use Rattle.commit.specs.declared.error.CoreError.{CoreError}
 use Rattle.commit.specs.Calls.{record_length, CrashLeaves, Halts, IsInDoubt, IsUnchanged, Refuses, Takes, KeepsStore}
 use Rattle.commit.specs.Core.{Core, graph, facts, environment, is_halted}
 use Rattle.commit.specs.Kept.{IsKept}
-use Rattle.commit.specs.Runs.{AcknowledgesFrom, Runs, one_by_one, records_length, with_allowance}
+use Rattle.commit.specs.Runs.{AcknowledgesFrom, one_by_one, records_length, with_allowance}
 use Rattle.commit.proofs.Acknowledged.{carried, joined as both_acknowledged}
 use Rattle.commit.proofs.Joined.{ends_behind}
-use Rattle.commit.proofs.Lists.{records_joined, with_nothing, with_both, one_by_one_joined, facts_joined, environment_joined, first_ends, put_nothing, legal_joined}
+use Rattle.commit.proofs.Lists.{records_joined, with_nothing, with_both, one_by_one_joined, facts_joined, environment_joined, legal_joined}
 use Rattle.commit.proofs.Running.{acknowledged_once, begins, legal_in_doubt, rests, with_record}
+use Rattle.commit.proofs.Went.{of_run}
 use Rattle.script.specs.declared.command.Command.{Command}
 use Rattle.session.specs.declared.reply.Reply.{Reply}
 use Rattle.session.specs.Answers.{Drive, Replies}
-use Rattle.session.specs.Went.{GoesOn, Went}
+use Rattle.commit.specs.Went.{GoesOn, Went}
+
+-- ---- vaults that stay as they are
+
+alike : {D : Type 0} (v : Vault D) → IsSame v v
+alike v = record { disk = refl; side = refl; end = refl; generation = refl; text = refl; halted = refl }
+
+alike_on : {D : Type 0} (first second third : Vault D) → IsSame second third → IsSame first second → IsSame first third
+alike_on first second third two one = record {
+  disk = two.disk ∙ one.disk;
+  side = two.side ∙ one.side;
+  end = two.end ∙ one.end;
+  generation = two.generation ∙ one.generation;
+  text = two.text ∙ one.text;
+  halted = two.halted ∙ one.halted;
+}
 
 -- ---- what a crash leaves
 
@@ -122,17 +139,17 @@ module _ {D : Type 0} (files : D → Side → File) (moment : D → ℕ) (left_a
           graph = same.graph ∙ one.graph;
           facts = λ fact. same.facts fact ∙ one.facts fact ∙ ap (λ (events : List Event). with_facts (facts old) (stated.facts events) fact) (sym all);
           environment = λ fact. same.environment fact ∙ one.environment fact ∙ ap (λ (events : List Event). with_facts (environment old) (stated.environment events) fact) (sym all);
-          end = λ goes. absurd (false≢true (sym goes ∙ same.halted ∙ stops));
+          end = λ goes. absurd (false≢true (sym goes ∙ same.vault.halted ∙ stops));
           crashes = λ on.
-              subst (λ (d : D). LeavesOnly moment left_at old.vault.disk d (StandsForBeginning (graph old) (environment old) (facts old) [] (one_by_one ((first ++ second) ++ new.in_doubt)))) (sym same.disk)
+              subst (λ (d : D). LeavesOnly moment left_at old.vault.disk d (StandsForBeginning (graph old) (environment old) (facts old) [] (one_by_one ((first ++ second) ++ new.in_doubt)))) (sym same.vault.disk)
               (subst (λ (events : List Event). LeavesOnly moment left_at old.vault.disk mid.vault.disk (StandsForBeginning (graph old) (environment old) (facts old) [] (one_by_one events))) doubt (one.crashes on));
           acknowledged = λ on.
               subst (λ (at : D × List Event × List Event). AcknowledgesFrom (graph old) (environment old) (facts old) (left_at at.0) (moment at.0) (moment old.vault.disk) [] at.1 at.2)
-              (λ i. (sym same.disk i, sym all i, sym same.in_doubt i)) (one.acknowledged on);
-          gates = λ on has. subst (λ (d : D). LeavesOnly moment left_at old.vault.disk d HasGates) (sym same.disk) (one.gates on has);
+              (λ i. (sym same.vault.disk i, sym all i, sym same.in_doubt i)) (one.acknowledged on);
+          gates = λ on has. subst (λ (d : D). LeavesOnly moment left_at old.vault.disk d HasGates) (sym same.vault.disk) (one.gates on has);
           halts = (
-            λ is. subst (λ (d : D). HasErred failures refusals old.vault.disk d) (sym same.disk) (one.halts.0 (sym same.halted ∙ is)),
-            λ erred. same.halted ∙ one.halts.1 (subst (λ (d : D). HasErred failures refusals old.vault.disk d) same.disk erred),
+            λ is. subst (λ (d : D). HasErred failures refusals old.vault.disk d) (sym same.vault.disk) (one.halts.0 (sym same.vault.halted ∙ is)),
+            λ erred. same.vault.halted ∙ one.halts.1 (subst (λ (d : D). HasErred failures refusals old.vault.disk d) same.vault.disk erred),
           );
         }
 
@@ -147,32 +164,17 @@ module _ {D : Type 0} (files : D → Side → File) (moment : D → ℕ) (left_a
         still : is_halted old ≡ true → KeepsStore old new × (first ++ second ≡ [])
         still halted =
             let before = one.stays halted in
-            let last = two.stays (before.0.halted ∙ halted) in (
+            let last = two.stays (before.0.vault.halted ∙ halted) in (
               record {
                 graph = last.0.graph ∙ before.0.graph;
                 facts = λ fact. last.0.facts fact ∙ before.0.facts fact;
                 environment = λ fact. last.0.environment fact ∙ before.0.environment fact;
-                disk = last.0.disk ∙ before.0.disk;
-                halted = last.0.halted ∙ before.0.halted;
+                vault = alike_on old.vault mid.vault new.vault last.0.vault before.0.vault;
                 in_doubt = last.0.in_doubt ∙ before.0.in_doubt;
+                latest = last.0.latest ∙ before.0.latest;
               },
               ap (λ (events : List Event). events ++ second) before.1 ∙ last.1,
             )
-
-  -- ---- runs
-
-  pub of_run : (old new : Core D) (limit : ℕ) (ends : List Event) → Runs files moment left_at failures refusals honest (with_allowance old limit) new ends → Went files moment left_at failures refusals honest old new ends
-  of_run old new limit ends runs = record {
-    legal = runs.legal;
-    graph = runs.graph;
-    facts = runs.facts;
-    environment = λ fact. runs.environment fact ∙ ap (λ (S : Facts). S fact) (sym (ap (λ (list : List Fact). with_facts (environment old) list) (put_nothing ends (first_ends ends new.in_doubt runs.are_ends)) ∙ with_nothing (environment old)));
-    end = runs.end;
-    crashes = runs.crashes;
-    acknowledged = runs.acknowledged;
-    gates = runs.gates;
-    halts = runs.halts;
-  }
 
   -- ---- nothing
 
@@ -184,7 +186,7 @@ module _ {D : Type 0} (files : D → Side → File) (moment : D → ℕ) (left_a
           of_run core core core.allowance []
           (rests files moment left_at failures refusals honest leaves gates_rest (with_allowance core core.allowance) core working kept
           (record { graph = refl; facts = λ _. refl; environment = λ _. refl; allowance = refl; latest = refl; disk = refl; end = refl; halted = working; settled = settled working }));
-      stays = λ halted. (record { graph = refl; facts = λ _. refl; environment = λ _. refl; disk = refl; halted = refl; in_doubt = refl }, refl);
+      stays = λ halted. (record { graph = refl; facts = λ _. refl; environment = λ _. refl; vault = alike core.vault; in_doubt = refl; latest = refl }, refl);
       settled = settled;
       later = omega arith;
     }
@@ -226,7 +228,7 @@ module _ {D : Type 0} (files : D → Side → File) (moment : D → ℕ) (left_a
           still halted =
               let stops : is_halted new ≡ true = halts.halts.1 (inl halted) in
               let kept_so = halts.same (stops ∙ sym halted) in
-              record { graph = same.stays.graph; facts = same.stays.facts; environment = same.stays.environment; disk = kept_so.0.disk; halted = stops ∙ sym halted; in_doubt = kept_so.1 }
+              record { graph = same.stays.graph; facts = same.stays.facts; environment = same.stays.environment; vault = kept_so.0; in_doubt = kept_so.1; latest = same.stays.latest }
 
           by_old : is_halted new ≡ false → (b : Bool) → is_halted old ≡ b → new.in_doubt ≡ []
           by_old goes false working = (halts.same (goes ∙ sym working)).1 ∙ settled working

@@ -25,7 +25,8 @@ use Rattle.session.specs.declared.ending.Stop.TheVariants as stop
 use Rattle.session.specs.declared.reply.Reply.TheVariants as replied
 use Rattle.session.specs.Answers.{RepliesPut, put_reply, reply_of}
 use Rattle.session.specs.Session.{stop_of}
-use Rattle.session.specs.Went.{GoesOn, HasCause, HasNoRoom, Puts}
+use Rattle.commit.specs.Went.{GoesOn}
+use Rattle.session.specs.Went.{HasCause, HasNoRoom, Puts}
 use Rattle.session.proofs.Coming.{committed, refused}
 
 -- ---- refusals

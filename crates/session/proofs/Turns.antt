@@ -12,7 +12,8 @@ use Rattle.session.specs.declared.ending.Ending.{Ending}
 use Rattle.session.specs.declared.reply.Reply.{Reply}
 use Rattle.session.specs.Answers.{Drive, Replies}
 use Rattle.session.specs.Session.{AreReplies, all_of, ending_of, stop_of, with_reply}
-use Rattle.session.specs.Went.{GoesOn, GoesOnByAll, GoesOnByLine, HasCause}
+use Rattle.commit.specs.Went.{GoesOn}
+use Rattle.session.specs.Went.{GoesOnByAll, GoesOnByLine, HasCause}
 use Rattle.session.proofs.Coming.{answered_there, graph_behind, joined_on}
 use Rattle.session.proofs.Went.{Went, begun_with, ended, one_line_more, stopped, went_on}
 

@@ -1,23 +1,18 @@
--- How a core goes on by the lines of a script: the events that came, and what a crash leaves of them at each moment.
-use Rattle.std.specs.Prelude.{⊤, ◌≡◌, ◌≢◌, ◌⊎◌, ◌+◌, ◌≤◌, ◌<◌, ◌↔◌, ℕ, true, false, List, [], ◌∷◌, ◌++◌}
+-- How a core goes on by the lines of a script, and the cause of the reply to each.
+use Rattle.std.specs.Prelude.{⊤, ◌≡◌, ◌≢◌, ◌⊎◌, ◌<◌, ◌↔◌, ℕ, true, List, [], ◌∷◌}
 use Rattle.disk.specs.declared.side.Side.{Side}
 use Rattle.disk.specs.File.{File}
-use Rattle.disk.specs.Time.{Contents, HasErred, LeavesOnly}
+use Rattle.disk.specs.Time.{Contents}
 use Rattle.terms.specs.declared.event.Event.{Event}
 use Rattle.terms.specs.declared.event.Event.TheVariants.{EnvItem, EnvTag}
-use Rattle.terms.specs.Facts.{Fact}
-use Rattle.terms.specs.Facts as stated
-use Rattle.terms.specs.Sets.{Facts, with_facts}
+use Rattle.terms.specs.Sets.{Facts}
 use Rattle.graph.specs.Graph.{Graph}
-use Rattle.machine.specs.State.{AreLegalFrom}
-use Rattle.vault.specs.Commits.{StandsForBeginning}
-use Rattle.vault.specs.Opened.{contents_of}
-use Rattle.vault.specs.Store.{HasGates}
-use Rattle.commit.specs.Calls.{IsTooLong, KeepsStore}
+use Rattle.commit.specs.declared.status.Status.TheVariants as status
+use Rattle.commit.specs.Calls.{IsTooLong}
 use Rattle.commit.specs.Core.{Core, is_halted}
 use Rattle.commit.specs.Core as core
-use Rattle.commit.specs.declared.status.Status.TheVariants as status
-use Rattle.commit.specs.Runs.{AcknowledgesFrom, IsAt, MetFull, one_by_one, records_length}
+use Rattle.commit.specs.Runs.{IsAt, MetFull}
+use Rattle.commit.specs.Went.{GoesOn}
 use Rattle.script.specs.declared.command.Command.{Command}
 use Rattle.script.specs.declared.command.Command.TheVariants.{Put, Tag, Get, Run}
 use Rattle.session.specs.declared.reply.Reply.{Reply}
@@ -67,31 +62,9 @@ pub record HasCauseOfRun {D : Type 0} (g : Graph) (X : Facts) (from : ℕ) (new 
   pub full : reply ≡ replied.Full → MetFull g X from came
   pub left : IsLeft new reply
 
--- ---- events
+-- ---- lines
 
 module _ {D : Type 0} (files : D → Side → File) (moment : D → ℕ) (left_at : D → ℕ → Contents → Type 0) (failures refusals : D → ℕ) (honest : Type 0) where
-  -- From a core that is not halted these events came, one after another, each as a commit of its own; and if it is halted now, those in doubt may
-  -- have come after them. They were legal, and all that is new is what they state; the journal has their records behind those that it had. At each moment a
-  -- crash leaves what a prefix of them states: those that were acknowledged by then, or these and the next one. The core is halted exactly if a call of the
-  -- disk returned an error.
-  pub record Went (old new : Core D) (events : List Event) : Type 0 where
-    pub legal : AreLegalFrom (core.graph old) (core.facts old) (events ++ new.in_doubt)
-    pub graph : core.graph new ≡ core.graph old
-    pub facts : (fact : Fact) → core.facts new fact ≡ with_facts (core.facts old) (stated.facts events) fact
-    pub environment : (fact : Fact) → core.environment new fact ≡ with_facts (core.environment old) (stated.environment events) fact
-    pub end : is_halted new ≡ false → new.vault.journal.end ≡ old.vault.journal.end + records_length events
-    pub crashes : honest → LeavesOnly moment left_at old.vault.disk new.vault.disk (StandsForBeginning (core.graph old) (core.environment old) (core.facts old) [] (one_by_one (events ++ new.in_doubt)))
-    pub acknowledged : honest → AcknowledgesFrom (core.graph old) (core.environment old) (core.facts old) (left_at new.vault.disk) (moment new.vault.disk) (moment old.vault.disk) [] events new.in_doubt
-    pub gates : honest → HasGates (contents_of (files old.vault.disk)) → LeavesOnly moment left_at old.vault.disk new.vault.disk HasGates
-    pub halts : (is_halted new ≡ true) ↔ HasErred failures refusals old.vault.disk new.vault.disk
-
-  -- A core that was halted stays as it was, and no event comes. If the core is not halted afterwards, nothing is in doubt.
-  pub record GoesOn (old new : Core D) (events : List Event) : Type 0 where
-    pub went : is_halted old ≡ false → Went old new events
-    pub stays : is_halted old ≡ true → KeepsStore old new × (events ≡ [])
-    pub settled : is_halted new ≡ false → new.in_doubt ≡ []
-    pub later : failures old.vault.disk ≤ failures new.vault.disk
-
   -- Line by line: from one line to the next the core goes on by the events of that line, and the reply has its cause. So the events of a line are
   -- there when the next one begins, and no crash undoes them from then on.
   abbrev pub GoesOnByLine : Core D → Core D → List Command → List Reply → (events : List (List Event)) → Type 0

@@ -13,7 +13,8 @@ ghost use Rattle.script.specs.declared.command.Command.TheVariants.{Get, Put, Ru
 ghost use Rattle.pool.specs.Driver.{may_be_asked, may_spawn};
 ghost use Rattle.session.specs.Answers.{Replies, RepliesGet, RepliesPut, RepliesRun, TellsBlocked, TellsRun, drive_of, put_reply, reply_of, run_reply};
 ghost use Rattle.session.specs.Session.{stop_of};
-ghost use Rattle.session.specs.Went.{GoesOn, HasCause, HasCauseOfRun};
+ghost use Rattle.commit.specs.Went.{GoesOn};
+ghost use Rattle.session.specs.Went.{HasCause, HasCauseOfRun};
 
 use crate::reply::Reply;
 use crate::waiting::sort_by_name;

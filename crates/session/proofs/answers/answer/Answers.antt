@@ -4,7 +4,8 @@ use Rattle.commit.specs.Core.{facts, graph, is_halted}
 use Rattle.script.specs.declared.command.Command.{Command}
 use Rattle.pool.specs.Driver.{may_be_asked, may_spawn}
 use Rattle.session.specs.Answers.{Replies, drive_of}
-use Rattle.session.specs.Went.{GoesOn, HasCause}
+use Rattle.commit.specs.Went.{GoesOn}
+use Rattle.session.specs.Went.{HasCause}
 use Rattle.session.proofs.answers.answer.Goals as goal
 
 pub returns-in-Run-clause-replies : goal.returns-in-Run-clause-replies

@@ -8,7 +8,8 @@ use Rattle.session.specs.declared.reply.Reply.{Reply}
 use Rattle.session.specs.declared.reply.Reply.TheVariants.{Halted}
 use Rattle.session.specs.Answers.{RepliesPut}
 use Rattle.session.specs.Session.{stop_of}
-use Rattle.session.specs.Went.{GoesOn, HasCause}
+use Rattle.commit.specs.Went.{GoesOn}
+use Rattle.session.specs.Went.{HasCause}
 use Rattle.session.proofs.Puts.{put_cause, put_halt, put_idle, put_stays, replied_put}
 use Rattle.session.proofs.answers.put_tag.Goals as goal
 

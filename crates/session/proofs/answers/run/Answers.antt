@@ -14,8 +14,10 @@ use Rattle.commit.proofs.Told.{told_for}
 use Rattle.script.specs.declared.command.Command.TheVariants.{Run}
 use Rattle.pool.specs.Driver.{may_be_asked, may_spawn}
 use Rattle.session.specs.Answers.{RepliesRun, TellsRun, drive_of, run_reply}
-use Rattle.session.specs.Went.{GoesOn, HasCause}
-use Rattle.session.proofs.Coming.{nothing_came, of_run}
+use Rattle.commit.specs.Went.{GoesOn}
+use Rattle.session.specs.Went.{HasCause}
+use Rattle.commit.proofs.Went.{of_run}
+use Rattle.session.proofs.Coming.{nothing_came}
 use Rattle.session.proofs.Ran.{cause_of_run, front_legal}
 use Rattle.session.proofs.answers.run.Goals as goal
 

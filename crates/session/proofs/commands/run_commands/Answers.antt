@@ -7,7 +7,8 @@ use Rattle.session.specs.declared.ending.Ending.{Ending}
 use Rattle.terms.specs.declared.event.Event.{Event}
 use Rattle.session.specs.Answers.{Replies, drive_of}
 use Rattle.session.specs.Session.{AreReplies, ending_of, stop_of}
-use Rattle.session.specs.Went.{GoesOn, GoesOnByLine, HasCause}
+use Rattle.commit.specs.Went.{GoesOn}
+use Rattle.session.specs.Went.{GoesOnByLine, HasCause}
 use Rattle.session.proofs.Coming.{nothing_came}
 use Rattle.session.proofs.Failing.{calm_twice, calm_where_ok, failed_where_err, then_failed}
 use Rattle.session.proofs.Lines.{appends_nothing, none, not_none, split_at, up_to, where_ok, written_more}

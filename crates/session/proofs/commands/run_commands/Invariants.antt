@@ -8,7 +8,7 @@ use Rattle.report.specs.Sinks.{StaysCalm}
 use Rattle.session.specs.declared.reply.Reply.{Reply}
 use Rattle.session.specs.Answers.{drive_of}
 use Rattle.session.specs.Session.{all_of, replies_text}
-use Rattle.session.specs.Went.{GoesOn}
+use Rattle.commit.specs.Went.{GoesOn}
 use Rattle.session.proofs.Turns.{Linked}
 use Rattle.session.proofs.Went.{Went}
 use Rattle.session.proofs.commands.run_commands.Given as goal
