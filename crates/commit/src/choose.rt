@@ -1,7 +1,7 @@
 ghost use Rattle.std.specs.Prelude.{◌≡◌, ◌<◌};
 
-/// Picks which of the ready instances runs next. What a run comes to doesn't depend on the choice, except which fault is
-/// reported and where a limit is met.
+/// Picks which of the ready instances runs next. If a run comes to `Complete` or `Blocked`, its facts are the same whatever
+/// was picked. Which fault stops it and where a limit is met may depend on the choice, and with them the facts.
 pub trait Choose {
     /// The number of one of `ready` instances, from 0.
     fn pick(&mut self, ready: usize) -> usize

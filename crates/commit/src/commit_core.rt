@@ -11,7 +11,7 @@ use vault::Vault;
 /// A store on two files, with its state in memory.
 ///
 /// Each event that it takes is on the disk before the call returns `Ok`, and a refusal leaves each fact as it was. If a
-/// call of the disk returns an error the core halts: from then on it returns `Halted`, until its disk is opened again.
+/// call of the disk returns an error the core halts: from then on each call that has an error returns `Halted`.
 pub struct Core<D: Disk> {
     pub(crate) vault: Vault<D>,
     pub(crate) machine: Machine,

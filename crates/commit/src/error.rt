@@ -12,12 +12,12 @@ use vault::VaultError;
 /// `Store(Full)`, or of success.
 #[derive(Clone, Copy, Debug, PartialEq, Eq, Error)]
 pub enum CoreError {
-    /// The event may not come, or the item may not be read. Nothing has changed.
+    /// The event may not come, or the item may not be read. No fact has changed.
     #[error("{0}")]
     Refused(Refusal),
     /// The store did not take it: `Full`, `Halted`, `Device` or `NoMemory`. If a call of the disk returned an error, as
     /// it did at each `Device`, the core is halted: the event may be on the disk or not, and the store must be opened
-    /// again. Otherwise nothing has changed.
+    /// again. Otherwise no fact has changed. Either way the instance of a task is ready again.
     #[error("{0}")]
     Store(VaultError),
 }

@@ -1,7 +1,7 @@
 //! The core of a store: its files and its state in memory, as one.
 //!
-//! Contracts see a `Core` as its vault, its machine, the events in doubt and its allowance. It takes each event exactly
-//! if the event is legal, and a crash at any moment leaves the facts before the event or after it. The layers above use
+//! Contracts see a `Core` as its vault, its machine, the events in doubt, those of the latest commit, and its allowance. It
+//! takes only events that are legal, and a crash at any moment leaves the facts before the event or after it. The layers above use
 //! `put_item`, `put_tag`, `finish` and `turn`, `claim`, `park` and `release`, and `status`, which says when nothing is
 //! left to do: then the facts are the meaning of the graph.
 #![tactic(auto)]

@@ -13,8 +13,8 @@ use terms::facts_are_told_apart;
 use vault::{VaultError, stores_go_on};
 
 /// Runs the steps of a store on one thread, until nothing is left to do, or `limit` of them came to their end. The
-/// chooser picks which instance runs next; the result doesn't depend on it, except which fault is reported and where the
-/// limit is met.
+/// chooser picks which instance runs next: where nothing is left to do the facts don't depend on it; which fault is
+/// reported may, and where the limit is met.
 ///
 /// Returns the core with the verdict. An error leaves all that was committed. No instance may run in the core that is
 /// given, and none runs in the one that is returned.

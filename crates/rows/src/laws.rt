@@ -108,4 +108,5 @@ fn stores_hold() {
     vault::half_a_commit();
     moves::acknowledged_stays::<MemDisk>();
     moves::for_every_schedule::<MemDisk>();
+    moves::runs_are_moves::<MemDisk>();
 }
