@@ -79,6 +79,7 @@ module _
       ok = record { greater = over.side.0; live = (over.side.1, over.side.2); working = over.working; machine = refl; allowance = refl; latest = refl };
       ends = (image, (listed, lists), over.end);
       written = λ on. (image, (listed, lists), (writes on).written ∙ ap (λ (text : List ℕ). at_rest (new_side generation text image)) ((kept on).holds working).text);
+      live = λ on. (writes on).live;
       err = tt;
       refused = tt;
       full = λ _ cause. elim (full.told working (cause_of cause)) [ inl is ↦ absurd (no_error generation Full is) | inr is ↦ absurd (no_error generation NoMemory is) ];
@@ -120,12 +121,13 @@ module _
         none (inr (inr (inl is))) = cc
         none (inr (inr (inr is))) = cc
 
-    refused : (error : VaultError) → calls.IsFullWhere {T = ℕ} v.halted IsCause (Err error) → calls.Halts {T = ℕ} failures refusals v w (Err error) → (honest → LeavesWhileTurning files moment left_at old new)
+    refused : (error : VaultError) → (honest → calls.WritesSide files v w image (Err error)) → calls.IsFullWhere {T = ℕ} v.halted IsCause (Err error) → calls.Halts {T = ℕ} failures refusals v w (Err error) → (honest → LeavesWhileTurning files moment left_at old new)
         → TurnsAs files moment left_at failures refusals honest old new (Err (Store error))
-    refused error full halting moments = record {
+    refused error writes full halting moments = record {
       ok = tt;
       ends = tt;
       written = λ _. tt;
+      live = λ on. (writes on).live;
       err = record { stays = record { graph = refl; facts = λ _. refl; environment = λ _. refl; allowance = refl; latest = refl }; states = λ _. refl };
       refused = refuses error halting.causes full.why halting.halted.0;
       full = λ _ cause. elim (full.told working (cause_of cause)) [ inl is ↦ inl (store error Full is) | inr is ↦ inr (store error NoMemory is) ];
@@ -144,7 +146,7 @@ module _
     pub either : (result : Result ℕ VaultError) → calls.TurnsOver v w image result → (honest → calls.WritesSide files v w image result) → calls.IsFullWhere v.halted IsCause result → calls.Halts failures refusals v w result
         → (honest → IsKept files old) → doubt ≡ [] → (honest → LeavesWhileTurning files moment left_at old new) → TurnsAs files moment left_at failures refusals honest old new (answer_of result)
     either (Ok generation) over writes full halting kept settled moments = turned generation over writes full halting kept settled moments
-    either (Err error) over writes full halting kept settled moments = refused error full halting moments
+    either (Err error) over writes full halting kept settled moments = refused error writes full halting moments
 
 memory_halts : Store NoMemory ≡ Store Halted → ⊥
 memory_halts is = cc
@@ -159,6 +161,7 @@ unlisted files moment left_at failures refusals honest old working moments = rec
   ok = tt;
   ends = tt;
   written = λ _. tt;
+  live = λ _. refl;
   err = record { stays = record { graph = refl; facts = λ _. refl; environment = λ _. refl; allowance = refl; latest = refl }; states = λ _. refl };
   refused = working;
   full = λ _ cause. inr refl;

@@ -62,11 +62,12 @@ pub record LeavesWhileTurning {D : Type 0} (files : D → Side → File) (moment
   pub facts : (files old.vault.disk (other_side old.vault.journal.side)).content ≢ [] → LeavesOnly moment left_at old.vault.disk new.vault.disk (λ contents. Stands contents (graph old) (environment old) (facts old))
   pub gates : HasGates (contents_of (files old.vault.disk)) → LeavesOnly moment left_at old.vault.disk new.vault.disk HasGates
 
--- What a turnover promises.
+-- What a turnover promises. On an honest disk the file that was live stays as it was, whatever is returned.
 pub record TurnsAs {D : Type 0} (files : D → Side → File) (moment : D → ℕ) (left_at : D → ℕ → Contents → Type 0) (failures refusals : D → ℕ) (honest : Type 0) (old new : Core D) (result : Result ℕ CoreError) : Type 0 where
   pub ok : IfOk result (Turns old new)
   pub ends : IfOk result (EndsAnew old new)
   pub written : honest → IfOk result (WritesAnew files old new)
+  pub live : honest → files new.vault.disk old.vault.journal.side ≡ files old.vault.disk old.vault.journal.side
   pub err : OnErr result (IsUnchanged old new)
   pub refused : IfErr result (RefusesTurn old)
   pub full : TellsFullTurn old result
