@@ -23,6 +23,7 @@ use Rattle.commit.specs.declared.error.CoreError.{CoreError}
 use Rattle.commit.specs.Calls.{Commits, Halts, KeepsStore, Stays}
 use Rattle.commit.specs.Core.{Core, graph, facts, environment, is_halted}
 use Rattle.commit.specs.Kept.{Keeps}
+use Rattle.commit.specs.Runs.{one_by_one}
 use Rattle.commit.specs.Turning.{TurnsAs}
 use Rattle.commit.proofs.Running.{legal_in_doubt}
 use Rattle.commit.proofs.Taken.{at_end}
@@ -83,6 +84,7 @@ module _
           graph = same.graph ∙ stood.has.graph;
           facts = λ fact. same.facts fact ∙ stood.has.facts fact;
           environment = λ fact. same.environment fact ∙ stood.has.environment fact;
+          doubt = stood.has.doubt ∙ ap one_by_one (sym same.in_doubt);
           settled = λ goes. stood.has.settled (sym same.vault.halted ∙ goes);
         };
         leaves = subst (λ (d : D). Leaves files g h d) (sym same.vault.disk) stood.leaves;
@@ -150,6 +152,7 @@ module _
                 takes.takes.environment fact ∙ ap (λ (E : Facts). with_facts E (environment_facts event) fact) (given g h old stood.has)
                 ∙ ap (λ (list : List Fact). with_facts (environment_behind nothing h.made) list fact) (sym (append-nil (environment_facts event)))
                 ∙ ap (λ (E : Facts). E fact) (sym (environment_after both nothing h.made (commit ∷ [])));
+            doubt = none ∙ ap one_by_one (sym (keeps.settled works));
             settled = λ _. none;
           } in (
             record {
@@ -172,6 +175,7 @@ module _
                 graph = stays.graph ∙ stood.has.graph;
                 facts = λ fact. stays.facts fact ∙ stood.has.facts fact;
                 environment = λ fact. stays.environment fact ∙ stood.has.environment fact;
+                doubt = ap one_by_one (sym (it.doubt goes stops));
                 settled = λ works. absurd (false≢true (sym works ∙ stops));
               };
               leaves = left_at_end (with_doubt h commit) old.vault.disk new.vault.disk (cut_short {T = T} (Err error) it goes);
@@ -228,6 +232,7 @@ module _
                 graph = ap (λ (m : Machine). m.graph) same ∙ stood.has.graph;
                 facts = λ fact. ap (λ (m : Machine). machine.facts m fact) same ∙ stood.has.facts fact;
                 environment = λ fact. ap (λ (m : Machine). machine.environment m fact) same ∙ stood.has.environment fact;
+                doubt = stood.has.doubt ∙ ap one_by_one (sym it.doubt);
                 settled = λ _. stood.has.settled goes;
               };
               leaves = left_at_end h old.vault.disk new.vault.disk leaves;
@@ -253,6 +258,7 @@ module _
                         graph = stays.graph ∙ stood.has.graph;
                         facts = λ fact. stays.facts fact ∙ stood.has.facts fact;
                         environment = λ fact. stays.environment fact ∙ stood.has.environment fact;
+                        doubt = stood.has.doubt ∙ ap one_by_one (sym it.doubt);
                         settled = λ works. absurd (false≢true (sym works ∙ stops));
                       };
                       leaves = left_at_end h old.vault.disk new.vault.disk leaves;

@@ -108,6 +108,7 @@ module _
             went.environment fact ∙ ap (λ (E : Facts). with_facts E (stated.environment events) fact) (given g h old stood.has)
             ∙ ap (λ (list : List Event). with_facts (environment_behind nothing h.made) (stated.environment list) fact) (sym (events_back events))
             ∙ ap (λ (E : Facts). E fact) (sym (environment_after both nothing h.made (one_by_one events)));
+        doubt = refl;
         settled = λ works. ap one_by_one (settled works);
       };
       leaves = λ contents may.
