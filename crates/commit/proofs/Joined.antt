@@ -79,6 +79,7 @@ module _ {D : Type 0} (files : D → Side → File) (moment : D → ℕ) (left_a
         environment = λ fact. two.environment fact ∙ one.environment fact;
         spent = ap (λ n. new.allowance + n) (length-append first second) ∙ omega (arith, one.spent, two.spent);
         latest = two.latest ∙ ap (λ (events : List Event). latest_after events second) one.latest ∙ sym (latest_joined begun.latest first second);
+        generation = λ goes. two.generation goes ∙ one.generation working;
         end = λ goes. ends_behind new.vault.journal.end mid.vault.journal.end begun.end (records_length first) (records_length second) (records_length (first ++ second)) (two.end goes) (one.end working) (records_joined first second);
         crashes = λ on.
             subst (λ (commits : List Commit). LeavesSince moment left_at begun.moment left new.vault.disk (StandsForBeginning begun.graph begun.environment begun.facts [] commits)) (sym pending)

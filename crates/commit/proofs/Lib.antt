@@ -14,6 +14,7 @@ mod Putting
 pub mod Ran
 pub mod Roomy
 pub mod Running
+pub mod Same
 pub mod Taken
 pub mod Told
 mod TurnedOver

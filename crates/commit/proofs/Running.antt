@@ -96,6 +96,7 @@ pub record SameStore {D : Type 0} (old new : Core D) : Type 0 where
   pub allowance : new.allowance ≡ old.allowance
   pub latest : new.latest ≡ old.latest
   pub disk : new.vault.disk ≡ old.vault.disk
+  pub generation : new.vault.generation ≡ old.vault.generation
   pub end : new.vault.journal.end ≡ old.vault.journal.end
   pub halted : is_halted new ≡ false
   pub settled : new.in_doubt ≡ []
@@ -108,6 +109,7 @@ moved old new instance to moves working settled = record {
   allowance = moves.allowance;
   latest = moves.latest;
   disk = ap (λ v. v.disk) moves.vault;
+  generation = ap (λ v. v.generation) moves.vault;
   end = ap (λ v. v.journal.end) moves.vault;
   halted = ap (λ v. v.halted) moves.vault ∙ working;
   settled = moves.in_doubt ∙ settled;
@@ -127,6 +129,7 @@ handed_back old new instance back vault doubt working settled = record {
   allowance = back.stays.allowance;
   latest = back.stays.latest;
   disk = ap (λ v. v.disk) vault;
+  generation = ap (λ v. v.generation) vault;
   end = ap (λ v. v.journal.end) vault;
   halted = ap (λ v. v.halted) vault ∙ working;
   settled = doubt ∙ settled;
@@ -154,6 +157,7 @@ module _ {D : Type 0} (files : D → Side → File) (moment : D → ℕ) (left_a
         environment = same.environment;
         spent = omega (arith, same.allowance);
         latest = same.latest;
+        generation = λ _. same.generation;
         end = λ _. with_none new.vault.journal.end old.vault.journal.end same.end;
         crashes = crash;
         acknowledged = λ on t contents after before was. (crash on).each t contents after before was;
@@ -171,7 +175,7 @@ module _ {D : Type 0} (files : D → Side → File) (moment : D → ℕ) (left_a
   pub as_it_was : (honest → RestLeaves files moment left_at) → (honest → GatesRest files moment left_at) → (core : Core D) → is_halted core ≡ false → core.in_doubt ≡ [] → (honest → IsKept files core) → RunsOn files moment left_at failures refusals honest core core
   as_it_was leaves gates_rest core working settled kept = record {
     ends = [];
-    runs = rests leaves gates_rest core core working kept (record { graph = refl; facts = λ _. refl; environment = λ _. refl; allowance = refl; latest = refl; disk = refl; end = refl; halted = working; settled = settled });
+    runs = rests leaves gates_rest core core working kept (record { graph = refl; facts = λ _. refl; environment = λ _. refl; allowance = refl; latest = refl; disk = refl; generation = refl; end = refl; halted = working; settled = settled });
   }
 
   -- ---- an end
@@ -222,6 +226,7 @@ module _ {D : Type 0} (files : D → Side → File) (moment : D → ℕ) (left_a
         environment = λ fact. takes.takes.environment fact ∙ ap (λ (list : List Fact). with_facts (environment old) list fact) (puts_nothing end is) ∙ ap (λ (E : Facts). E fact) (with_nothing (environment old));
         spent = omega (arith, takes.allowance, costs_one end is);
         latest = takes.latest;
+        generation = λ _. takes.generation;
         end = λ _. with_record new.vault.journal.end old.vault.journal.end (record_length end) takes.moved;
         crashes = λ on.
             subst (λ (events : List Event). LeavesOnly moment left_at old.vault.disk new.vault.disk (StandsForBeginning (graph old) (environment old) (facts old) [] (one_by_one events))) (sym one)
@@ -268,6 +273,7 @@ module _ {D : Type 0} (files : D → Side → File) (moment : D → ℕ) (left_a
             allowance = back.stays.allowance;
             latest = back.stays.latest;
             disk = same.0.disk;
+            generation = same.0.generation;
             end = same.0.end;
             halted = goes;
             settled = same.1 ∙ settled;
@@ -284,6 +290,7 @@ module _ {D : Type 0} (files : D → Side → File) (moment : D → ℕ) (left_a
             environment = back.stays.environment;
             spent = omega (arith, back.stays.allowance);
             latest = back.stays.latest;
+            generation = λ goes. absurd (false≢true (sym goes ∙ stops));
             end = λ goes. absurd (false≢true (sym goes ∙ stops));
             crashes = λ on.
                 subst (λ (events : List Event). LeavesOnly moment left_at old.vault.disk new.vault.disk (StandsForBeginning (graph old) (environment old) (facts old) [] (one_by_one events))) (sym doubt)

@@ -18,6 +18,7 @@ module _ {D : Type 0} (files : D → Side → File) (moment : D → ℕ) (left_a
     graph = runs.graph;
     facts = runs.facts;
     environment = λ fact. runs.environment fact ∙ ap (λ (S : Facts). S fact) (sym (ap (λ (list : List Fact). with_facts (environment old) list) (put_nothing ends (first_ends ends new.in_doubt runs.are_ends)) ∙ with_nothing (environment old)));
+    generation = runs.generation;
     end = runs.end;
     crashes = runs.crashes;
     acknowledged = runs.acknowledged;

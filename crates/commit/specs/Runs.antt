@@ -64,14 +64,15 @@ AcknowledgesFrom g E X left last from made (end ∷ ends) doubt =
     × ((t : ℕ) (contents : Contents) → from ≤ t → t ≤ next → left t contents → StandsForBeginning g E X (one_by_one made) ((end ∷ []) ∷ []) contents)
     × AcknowledgesFrom g E X left last next (made ++ end ∷ []) ends doubt
 
--- what a store was when a run began: its graph and facts, how many steps it might commit, the events of its latest commit, and where its journal ended;
--- and of its disk the moment, the counts of errors, and the contents of both files
+-- what a store was when a run began: its graph and facts, how many steps it might commit, the events of its latest commit, its generation, and where its
+-- journal ended; and of its disk the moment, the counts of errors, and the contents of both files
 pub record Begun : Type 0 where
   pub graph : Graph
   pub facts : Facts
   pub environment : Facts
   pub allowance : ℕ
   pub latest : List Event
+  pub generation : ℕ
   pub end : ℕ
   pub moment : ℕ
   pub failures : ℕ
@@ -85,6 +86,7 @@ begun_by files moment failures refusals c = record {
   environment = core.environment c;
   allowance = c.allowance;
   latest = c.latest;
+  generation = c.vault.generation;
   end = c.vault.journal.end;
   moment = moment c.vault.disk;
   failures = failures c.vault.disk;
@@ -104,7 +106,7 @@ latest_after before (event ∷ events) = latest_after (event ∷ []) events
 
 -- Since a core that was like this, was not halted, and of which a crash might leave this, these ends of instances were committed, one after another;
 -- if the core is halted now, one more is in doubt. They were legal, and state all that is new; each used one of the allowance, and the last of them
--- is the latest commit. The journal has their records behind those that it had. At each moment a
+-- is the latest commit. The journal has their records behind those that it had, and the generation stays. At each moment a
 -- crash leaves what a prefix of them states, each of which is there whole: those that were acknowledged by then, or these and the next one. The core is halted exactly if a call of the
 -- disk returned an error.
 pub record RunsSince {D : Type 0} (moment : D → ℕ) (left_at : D → ℕ → Contents → Type 0) (failures refusals : D → ℕ) (honest : Type 0) (begun : Begun) (left : ℕ → Contents → Type 0) (new : Core D) (ends : List Event) : Type 0 where
@@ -115,6 +117,7 @@ pub record RunsSince {D : Type 0} (moment : D → ℕ) (left_at : D → ℕ → 
   pub environment : (fact : Fact) → core.environment new fact ≡ begun.environment fact
   pub spent : new.allowance + length ends ≡ begun.allowance
   pub latest : new.latest ≡ latest_after begun.latest ends
+  pub generation : is_halted new ≡ false → new.vault.generation ≡ begun.generation
   pub end : is_halted new ≡ false → new.vault.journal.end ≡ begun.end + records_length ends
   pub crashes : honest → LeavesSince moment left_at begun.moment left new.vault.disk (StandsForBeginning begun.graph begun.environment begun.facts [] (one_by_one (ends ++ new.in_doubt)))
   pub acknowledged : honest → AcknowledgesFrom begun.graph begun.environment begun.facts (left_at new.vault.disk) (moment new.vault.disk) begun.moment [] ends new.in_doubt

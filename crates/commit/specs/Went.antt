@@ -18,7 +18,7 @@ use Rattle.commit.specs.Runs.{AcknowledgesFrom, one_by_one, records_length}
 
 module _ {D : Type 0} (files : D → Side → File) (moment : D → ℕ) (left_at : D → ℕ → Contents → Type 0) (failures refusals : D → ℕ) (honest : Type 0) where
   -- From a core that is not halted these events came, one after another, each as a commit of its own; and if it is halted now, those in doubt may
-  -- have come after them. They were legal, and all that is new is what they state; the journal has their records behind those that it had. At each moment a
+  -- have come after them. They were legal, and all that is new is what they state; the journal has their records behind those that it had, and the generation stays. At each moment a
   -- crash leaves what a prefix of them states: those that were acknowledged by then, or these and the next one. The core is halted exactly if a call of the
   -- disk returned an error.
   pub record Went (old new : Core D) (events : List Event) : Type 0 where
@@ -26,6 +26,7 @@ module _ {D : Type 0} (files : D → Side → File) (moment : D → ℕ) (left_a
     pub graph : core.graph new ≡ core.graph old
     pub facts : (fact : Fact) → core.facts new fact ≡ with_facts (core.facts old) (stated.facts events) fact
     pub environment : (fact : Fact) → core.environment new fact ≡ with_facts (core.environment old) (stated.environment events) fact
+    pub generation : is_halted new ≡ false → new.vault.generation ≡ old.vault.generation
     pub end : is_halted new ≡ false → new.vault.journal.end ≡ old.vault.journal.end + records_length events
     pub crashes : honest → LeavesOnly moment left_at old.vault.disk new.vault.disk (StandsForBeginning (core.graph old) (core.environment old) (core.facts old) [] (one_by_one (events ++ new.in_doubt)))
     pub acknowledged : honest → AcknowledgesFrom (core.graph old) (core.environment old) (core.facts old) (left_at new.vault.disk) (moment new.vault.disk) (moment old.vault.disk) [] events new.in_doubt

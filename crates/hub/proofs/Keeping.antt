@@ -11,11 +11,12 @@ use Rattle.commit.specs.declared.error.CoreError.{CoreError}
 use Rattle.commit.specs.Core.{Core, facts, is_halted}
 use Rattle.commit.specs.Calls.{Takes, Halts, Stays, IsInDoubt, CommitsAs, record_length}
 use Rattle.commit.specs.Runs.{records_length}
+use Rattle.commit.proofs.Same.{same_vault}
 use Rattle.commit.specs.Kept.{IsHaltedByTurn}
 use Rattle.commit.specs.Kept.{IsKept as KeepsFiles}
 use Rattle.terms.specs.Sets.{Facts}
 use Rattle.graph.specs.Graph.{Graph}
-use Rattle.vault.specs.Store.{StandsBeforeOrAfter}
+use Rattle.vault.specs.Store.{IsSame, StandsBeforeOrAfter}
 use Rattle.terms.specs.declared.name.Addr.{Addr}
 use Rattle.graph.specs.Fits.{IsAbsent}
 use Rattle.instances.specs.declared.state.State.TheVariants as state
@@ -33,7 +34,7 @@ use Rattle.hub.proofs.States.{legal_more, behind_more, behind_same}
 
 -- what is known of how events were committed stays, if nothing happens on the disk
 abbrev pub RanStays : {D : Type 0} → (List Event → Core D → Type 0) → Type 0
-RanStays {D = D} Ran = (events : List Event) (old new : Core D) → Stays old new → new.vault.disk ≡ old.vault.disk → new.vault.journal.end ≡ old.vault.journal.end → is_halted new ≡ is_halted old → new.in_doubt ≡ old.in_doubt → Ran events old → Ran events new
+RanStays {D = D} Ran = (events : List Event) (old new : Core D) → Stays old new → IsSame old.vault new.vault → new.in_doubt ≡ old.in_doubt → Ran events old → Ran events new
 
 -- a record has bytes
 has_bytes : (event : Event) → 1 ≤ record_length event
@@ -96,7 +97,7 @@ kept_on {D = D} Ran ran_stays opening passes d old new kept stays files doubt = 
   end = λ working. ap (λ (v : Vault D). v.journal.end) files ∙ kept.end (ap (λ (v : Vault D). v.halted) (sym files) ∙ working);
   short = λ working. subst (λ (end : ℕ). length d.book.history ≤ end) (ap (λ (v : Vault D). v.journal.end) (sym files)) (kept.short (ap (λ (v : Vault D). v.halted) (sym files) ∙ working));
   turned = λ turned. kept.turned (ap (λ (v : Vault D). v.halted) (sym files) ∙ turned.0, sym doubt ∙ turned.1);
-  ran = ran_stays (events d.book.history) old new stays (ap (λ (v : Vault D). v.disk) files) (ap (λ (v : Vault D). v.journal.end) files) (ap (λ (v : Vault D). v.halted) files) doubt kept.ran;
+  ran = ran_stays (events d.book.history) old new stays (same_vault old.vault new.vault files) doubt kept.ran;
 }
 
 pub moves_stay : {D : Type 0} (old new : Core D) (instance : Inst) (to : State) → Moves old new instance to → Stays old new

@@ -39,7 +39,7 @@ module _ {D : Type 0} (files : D → Side → File) (moment : D → ℕ) (left_a
 
   -- nothing happens on the disk
   pub ran_stays : RanStays (HasRun moment left_at failures refusals honest opening left envs)
-  ran_stays events old new stays disk end halted doubt ran = record {
+  ran_stays events old new stays same doubt ran = record {
     run = λ none working.
         let begun : Begun = begun_with opening in
         let it = ran.run none working in
@@ -51,20 +51,21 @@ module _ {D : Type 0} (files : D → Side → File) (moment : D → ℕ) (left_a
           environment = λ fact. stays.environment fact ∙ it.environment fact;
           spent = ap (λ n. n + length events) stays.allowance ∙ it.spent;
           latest = stays.latest ∙ it.latest;
-          end = λ goes. end ∙ it.end (sym halted ∙ goes);
+          generation = λ goes. same.generation ∙ it.generation (sym same.halted ∙ goes);
+          end = λ goes. same.end ∙ it.end (sym same.halted ∙ goes);
           crashes = λ on.
               subst (λ (at : D × List Event). LeavesSince moment left_at begun.moment left at.0 (StandsForBeginning begun.graph begun.environment begun.facts [] (one_by_one (events ++ at.1))))
-              (λ i. (sym disk i, sym doubt i)) (it.crashes on);
+              (λ i. (sym same.disk i, sym doubt i)) (it.crashes on);
           acknowledged = λ on.
               subst (λ (at : D × List Event). AcknowledgesFrom begun.graph begun.environment begun.facts (left_at at.0) (moment at.0) begun.moment [] events at.1)
-              (λ i. (sym disk i, sym doubt i)) (it.acknowledged on);
-          gates = λ on has. subst (λ (d : D). LeavesSince moment left_at begun.moment left d HasGates) (sym disk) (it.gates on has);
-          halts = subst (λ (at : Bool × D). (at.0 ≡ true) ↔ ((begun.failures < failures at.1) ⊎ (refusals at.1 ≢ begun.refusals))) (λ i. (sym halted i, sym disk i)) it.halts;
-          later = subst (λ (d : D). begun.failures ≤ failures d) (sym disk) it.later;
+              (λ i. (sym same.disk i, sym doubt i)) (it.acknowledged on);
+          gates = λ on has. subst (λ (d : D). LeavesSince moment left_at begun.moment left d HasGates) (sym same.disk) (it.gates on has);
+          halts = subst (λ (at : Bool × D). (at.0 ≡ true) ↔ ((begun.failures < failures at.1) ⊎ (refusals at.1 ≢ begun.refusals))) (λ i. (sym same.halted i, sym same.disk i)) it.halts;
+          later = subst (λ (d : D). begun.failures ≤ failures d) (sym same.disk) it.later;
           one_in_doubt = λ is.
-              subst (λ (list : List Event). (end : Event) × (list ≡ end ∷ []) × (length events < begun.allowance)) (sym doubt) (it.one_in_doubt (sym halted ∙ is));
+              subst (λ (list : List Event). (end : Event) × (list ≡ end ∷ []) × (length events < begun.allowance)) (sym doubt) (it.one_in_doubt (sym same.halted ∙ is));
         };
-    rests = λ opened. let before = ran.rests opened in (before.0, rests_same old new disk halted before.1);
+    rests = λ opened. let before = ran.rests opened in (before.0, rests_same old new same.disk same.halted before.1);
   }
 
   -- a core that commits was not halted when the hub was opened
@@ -111,7 +112,7 @@ module _ {D : Type 0} (files : D → Side → File) (moment : D → ℕ) (left_a
         by_case true halted =
             let is : is_halted new ≡ is_halted old = halts.halts.1 (inl halted) ∙ sym halted in
             let same = halts.same is in
-            ran_stays events old new stays same.0.disk same.0.end is same.1 ran
+            ran_stays events old new stays same.0 same.1 ran
 
 -- what a crash might have left, by its other name
 as_named : {D : Type 0} (moment : D → ℕ) (left_at : D → ℕ → Contents → Type 0) (left : ℕ → Contents → Type 0) (d : D) (P : Contents → Type 0) → ((t : ℕ) (contents : Contents) → left t contents ↔ left_at d t contents)
@@ -131,7 +132,7 @@ ran_nothing {D = D} files moment left_at failures refusals honest opening left e
       let goes : is_halted c ≡ false = ap (λ (o : Opening). o.halted) (sym opened) ∙ working in
       let here : Runs files moment left_at failures refusals honest c c [] =
       rests files moment left_at failures refusals honest rest_leaves gates_rest c c goes kept
-      (record { graph = refl; facts = λ _. refl; environment = λ _. refl; allowance = refl; latest = refl; end = refl; disk = refl; halted = goes; settled = settled goes }) in
+      (record { graph = refl; facts = λ _. refl; environment = λ _. refl; allowance = refl; latest = refl; generation = refl; end = refl; disk = refl; halted = goes; settled = settled goes }) in
       subst (λ (o : Opening). RunsSince moment left_at failures refusals honest (begun_with o) left c []) (sym opened) (record {
         are_ends = here.are_ends;
         legal = here.legal;
@@ -140,6 +141,7 @@ ran_nothing {D = D} files moment left_at failures refusals honest opening left e
         environment = here.environment;
         spent = here.spent;
         latest = here.latest;
+        generation = here.generation;
         end = here.end;
         crashes = λ on. as_named moment left_at left c.vault.disk _ alike (here.crashes on);
         acknowledged = here.acknowledged;

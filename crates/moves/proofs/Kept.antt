@@ -8,18 +8,9 @@ use Rattle.vault.specs.declared.vault.Vault.{Vault}
 use Rattle.commit.specs.declared.error.CoreError.{CoreError}
 use Rattle.commit.specs.Calls.{KeepsStore, Stays}
 use Rattle.vault.specs.Store.{IsSame}
+use Rattle.commit.proofs.Same.{same_vault}
 use Rattle.commit.specs.Core.{Core, graph, facts, environment}
 use Rattle.commit.specs.Steps.{Claims, LooksAgain, Moves, Parks, SetsAllowance}
-
-same_vault : {D : Type 0} (v w : Vault D) → w ≡ v → IsSame v w
-same_vault v w same = record {
-  disk = ap (λ (x : Vault _). x.disk) same;
-  side = ap (λ (x : Vault _). x.journal.side) same;
-  end = ap (λ (x : Vault _). x.journal.end) same;
-  generation = ap (λ (x : Vault _). x.generation) same;
-  text = ap (λ (x : Vault _). x.text) same;
-  halted = ap (λ (x : Vault _). x.halted) same;
-}
 
 module _ {D : Type 0} (old new : Core D) where
   same_core : new ≡ old → KeepsStore old new

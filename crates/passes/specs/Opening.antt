@@ -6,13 +6,14 @@ use Rattle.terms.specs.Sets.{Facts}
 use Rattle.graph.specs.Graph.{Graph}
 
 -- The graph, the facts that the store had, which of them the environment put, how many steps the core might commit, the events of its latest
--- commit, and where its journal ended; whether it was halted, and which events were in doubt then; and of its disk the moment, the counts of errors, and the contents of both files.
+-- commit, its generation, and where its journal ended; whether it was halted, and which events were in doubt then; and of its disk the moment, the counts of errors, and the contents of both files.
 pub record Opening : Type 0 where
   pub graph : Graph
   pub facts : Facts
   pub environment : Facts
   pub allowance : ℕ
   pub latest : List Event
+  pub generation : ℕ
   pub end : ℕ
   pub halted : Bool
   pub in_doubt : List Event
@@ -29,6 +30,7 @@ nothing = record {
   environment = λ _. false;
   allowance = 0;
   latest = [];
+  generation = 0;
   end = 0;
   halted = false;
   in_doubt = [];

@@ -84,6 +84,7 @@ module _ {D : Type 0} (files : D → Side → File) (moment : D → ℕ) (left_a
         environment = it.environment;
         spent = it.spent;
         latest = it.latest;
+        generation = it.generation;
         end = it.end;
         crashes = λ on. unnamed (moment old.vault.disk) left (left_at old.vault.disk) new.vault.disk _ alike (it.crashes on);
         acknowledged = it.acknowledged;

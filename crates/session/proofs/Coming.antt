@@ -18,8 +18,7 @@ use Rattle.machine.specs.declared.refusal.Refusal.{Refusal}
 use Rattle.machine.specs.State.{AreLegalFrom}
 use Rattle.vault.specs.Commits.{AppendLeaves, GatesRest, GatesStay, HeldLeaves, RestLeaves, StandsForBeginning}
 use Rattle.vault.specs.Stands.{Stands}
-use Rattle.vault.specs.declared.vault.Vault.{Vault}
-use Rattle.vault.specs.Store.{HasGates, IsSame}
+use Rattle.vault.specs.Store.{HasGates}
 use Rattle.commit.specs.declared.error.CoreError.{CoreError}
 use Rattle.commit.specs.Calls.{record_length, CrashLeaves, Halts, IsInDoubt, IsUnchanged, Refuses, Takes, KeepsStore}
 use Rattle.commit.specs.Core.{Core, graph, facts, environment, is_halted}
@@ -29,26 +28,12 @@ use Rattle.commit.proofs.Acknowledged.{carried, joined as both_acknowledged}
 use Rattle.commit.proofs.Joined.{ends_behind}
 use Rattle.commit.proofs.Lists.{records_joined, with_nothing, with_both, one_by_one_joined, facts_joined, environment_joined, legal_joined}
 use Rattle.commit.proofs.Running.{acknowledged_once, begins, legal_in_doubt, rests, with_record}
+use Rattle.commit.proofs.Same.{alike, alike_on}
 use Rattle.commit.proofs.Went.{of_run}
 use Rattle.script.specs.declared.command.Command.{Command}
 use Rattle.session.specs.declared.reply.Reply.{Reply}
 use Rattle.session.specs.Answers.{Drive, Replies}
 use Rattle.commit.specs.Went.{GoesOn, Went}
-
--- ---- vaults that stay as they are
-
-alike : {D : Type 0} (v : Vault D) → IsSame v v
-alike v = record { disk = refl; side = refl; end = refl; generation = refl; text = refl; halted = refl }
-
-alike_on : {D : Type 0} (first second third : Vault D) → IsSame second third → IsSame first second → IsSame first third
-alike_on first second third two one = record {
-  disk = two.disk ∙ one.disk;
-  side = two.side ∙ one.side;
-  end = two.end ∙ one.end;
-  generation = two.generation ∙ one.generation;
-  text = two.text ∙ one.text;
-  halted = two.halted ∙ one.halted;
-}
 
 -- ---- what a crash leaves
 
@@ -100,6 +85,7 @@ module _ {D : Type 0} (files : D → Side → File) (moment : D → ℕ) (left_a
           environment = λ fact.
               two.environment fact ∙ ap (λ (S : Facts). with_facts S (stated.environment second) fact) given
               ∙ ap (λ (S : Facts). S fact) (sym (ap (λ (list : List Fact). with_facts (environment old) list) (flat_map-append environment_facts first second) ∙ with_both both (environment old) (stated.environment first) (stated.environment second)));
+          generation = λ goes. two.generation goes ∙ one.generation working;
           end = λ goes. ends_behind new.vault.journal.end mid.vault.journal.end old.vault.journal.end (records_length first) (records_length second) (records_length (first ++ second)) (two.end goes) (one.end working) (records_joined first second);
           crashes = λ on.
               subst (λ (commits : List Commit). LeavesOnly moment left_at old.vault.disk new.vault.disk (StandsForBeginning (graph old) (environment old) (facts old) [] commits)) (sym pending)
@@ -139,6 +125,7 @@ module _ {D : Type 0} (files : D → Side → File) (moment : D → ℕ) (left_a
           graph = same.graph ∙ one.graph;
           facts = λ fact. same.facts fact ∙ one.facts fact ∙ ap (λ (events : List Event). with_facts (facts old) (stated.facts events) fact) (sym all);
           environment = λ fact. same.environment fact ∙ one.environment fact ∙ ap (λ (events : List Event). with_facts (environment old) (stated.environment events) fact) (sym all);
+          generation = λ goes. absurd (false≢true (sym goes ∙ same.vault.halted ∙ stops));
           end = λ goes. absurd (false≢true (sym goes ∙ same.vault.halted ∙ stops));
           crashes = λ on.
               subst (λ (d : D). LeavesOnly moment left_at old.vault.disk d (StandsForBeginning (graph old) (environment old) (facts old) [] (one_by_one ((first ++ second) ++ new.in_doubt)))) (sym same.vault.disk)
@@ -185,7 +172,7 @@ module _ {D : Type 0} (files : D → Side → File) (moment : D → ℕ) (left_a
       went = λ working.
           of_run core core core.allowance []
           (rests files moment left_at failures refusals honest leaves gates_rest (with_allowance core core.allowance) core working kept
-          (record { graph = refl; facts = λ _. refl; environment = λ _. refl; allowance = refl; latest = refl; disk = refl; end = refl; halted = working; settled = settled working }));
+          (record { graph = refl; facts = λ _. refl; environment = λ _. refl; allowance = refl; latest = refl; disk = refl; generation = refl; end = refl; halted = working; settled = settled working }));
       stays = λ halted. (record { graph = refl; facts = λ _. refl; environment = λ _. refl; vault = alike core.vault; in_doubt = refl; latest = refl }, refl);
       settled = settled;
       later = omega arith;
@@ -205,6 +192,7 @@ module _ {D : Type 0} (files : D → Side → File) (moment : D → ℕ) (left_a
               graph = takes.takes.graph;
               facts = λ fact. takes.takes.facts fact ∙ ap (λ (list : List Fact). with_facts (facts old) list fact) (sym (append-nil (event_facts event)));
               environment = λ fact. takes.takes.environment fact ∙ ap (λ (list : List Fact). with_facts (environment old) list fact) (sym (append-nil (environment_facts event)));
+              generation = λ _. takes.generation;
               end = λ _. with_record new.vault.journal.end old.vault.journal.end (record_length event) takes.moved;
               crashes = λ on.
                   subst (λ (events : List Event). LeavesOnly moment left_at old.vault.disk new.vault.disk (StandsForBeginning (graph old) (environment old) (facts old) [] (one_by_one events))) (sym one)
@@ -239,7 +227,7 @@ module _ {D : Type 0} (files : D → Side → File) (moment : D → ℕ) (left_a
               let kept_so = halts.same (goes ∙ sym working) in
               of_run old new new.allowance []
               (rests files moment left_at failures refusals honest leaves gates_rest (with_allowance old new.allowance) new working (λ on. record { holds = (kept on).holds; left = (kept on).left })
-              (record { graph = same.stays.graph; facts = same.stays.facts; environment = same.stays.environment; allowance = refl; latest = same.stays.latest; disk = kept_so.0.disk; end = kept_so.0.end; halted = goes; settled = kept_so.1 ∙ settled working }))
+              (record { graph = same.stays.graph; facts = same.stays.facts; environment = same.stays.environment; allowance = refl; latest = same.stays.latest; disk = kept_so.0.disk; generation = kept_so.0.generation; end = kept_so.0.end; halted = goes; settled = kept_so.1 ∙ settled working }))
           at working true stops =
               let in_doubt : new.in_doubt ≡ event ∷ [] = doubt working stops in
               let erred : HasErred failures refusals old.vault.disk new.vault.disk = elim (halts.halts.0 stops) [ inl before ↦ absurd (false≢true (sym working ∙ before)) | inr it ↦ it ] in
@@ -249,6 +237,7 @@ module _ {D : Type 0} (files : D → Side → File) (moment : D → ℕ) (left_a
                 graph = same.stays.graph;
                 facts = λ fact. same.stays.facts fact ∙ ap (λ (S : Facts). S fact) (sym (with_nothing (facts old)));
                 environment = λ fact. same.stays.environment fact ∙ ap (λ (S : Facts). S fact) (sym (with_nothing (environment old)));
+                generation = λ goes. absurd (false≢true (sym goes ∙ stops));
                 end = λ goes. absurd (false≢true (sym goes ∙ stops));
                 crashes = λ on.
                     subst (λ (events : List Event). LeavesOnly moment left_at old.vault.disk new.vault.disk (StandsForBeginning (graph old) (environment old) (facts old) [] (one_by_one events))) (sym in_doubt)
