@@ -3,6 +3,7 @@ pub mod Coming
 pub mod Counts
 pub mod Creation
 pub mod Examples
+pub mod Group
 pub mod Imaging
 pub mod Laws
 pub mod Legal

@@ -17,6 +17,7 @@ mod end;
 mod ends;
 mod events;
 mod examples;
+mod group;
 mod growth;
 mod imaging;
 mod items_of;
@@ -43,6 +44,7 @@ pub use examples::{
     fibonacci_numbers, item_put_twice, meant_and_not_reached, refused_examples, room_is_counted,
 };
 pub use items_of::ItemsOf;
+pub use group::Ended;
 pub use keeping::given_are_of_graph;
 pub use laws::{
     each_instance_can_go_on, legal_events_fit, legal_lists_go_on, one_end, quiet_is_meaning,

@@ -1,0 +1,98 @@
+-- Ends of instances that come together, each behind those before it: how many of them come as they are, and whether the next one is a fault.
+use Rattle.std.specs.Prelude.{◌≡◌, ◌≤◌, ⊤, List, [], ◌∷◌, ◌++◌, take, drop, length, Option, Some, None}
+use Rattle.std.specs.List.{AllByRecursion}
+use Rattle.terms.specs.declared.name.Inst.{Inst}
+use Rattle.terms.specs.declared.fault.FaultKind.{FaultKind}
+use Rattle.terms.specs.declared.fault.FaultKind.TheVariants.{DoublePut}
+use Rattle.terms.specs.declared.put.Put.{Put}
+use Rattle.terms.specs.declared.event.Event.{Event}
+use Rattle.terms.specs.declared.event.Event.TheVariants as event
+use Rattle.terms.specs.Sets.{Facts}
+use Rattle.graph.specs.Graph.{Graph}
+use Rattle.items.specs.Once.{IsOnceEach}
+use Rattle.instances.specs.declared.state.State.TheVariants.{Running}
+use Rattle.machine.specs.declared.group.Ended.{Ended}
+use Rattle.machine.specs.Machine.{Machine, Takes, facts, puts_of, state_of}
+use Rattle.machine.specs.Meaning.{BodyFaults, BodyGives}
+use Rattle.machine.specs.State.{AreLegalFrom}
+
+-- ---- the ends of a group, before they are looked at
+
+-- the event ends an instance that runs here, as its body says over the items that are here
+abbrev pub MayEndAs : Machine → Event → Type 0
+MayEndAs m (event.EnvItem address value) = ⊥
+MayEndAs m (event.EnvTag name) = ⊥
+MayEndAs m (event.Done instance puts) = (state_of m instance ≡ Some Running) × BodyGives m.graph (facts m) instance puts
+MayEndAs m (event.Stopped instance kind) = (state_of m instance ≡ Some Running) × BodyFaults m.graph (facts m) instance kind
+
+-- the instances that the events end, in their order
+abbrev pub ended_by : List Event → List Inst
+ended_by [] = []
+ended_by (event.EnvItem address value ∷ events) = ended_by events
+ended_by (event.EnvTag name ∷ events) = ended_by events
+ended_by (event.Done instance puts ∷ events) = instance ∷ ended_by events
+ended_by (event.Stopped instance kind ∷ events) = instance ∷ ended_by events
+
+-- each ends an instance that runs here, and no two of them the same
+pub record AreEndsHere (m : Machine) (events : List Event) : Type 0 where
+  pub each : AllByRecursion (MayEndAs m) events
+  pub once : IsOnceEach (ended_by events)
+
+-- the puts of all, in their order
+abbrev pub puts_of_all : List Event → List Put
+puts_of_all [] = []
+puts_of_all (event ∷ events) = puts_of event ++ puts_of_all events
+
+-- ---- what of them comes
+
+-- the event, as a fault of this kind of the instance that it ends
+abbrev pub stopped_as : FaultKind → Event → Event
+stopped_as kind (event.EnvItem address value) = event.EnvItem address value
+stopped_as kind (event.EnvTag name) = event.EnvTag name
+stopped_as kind (event.Done instance puts) = event.Stopped instance kind
+stopped_as kind (event.Stopped instance own) = event.Stopped instance kind
+
+-- the first of these events as such a fault, if there is one; none without a fault
+abbrev pub stop_at : Option FaultKind → List Event → List Event
+stop_at None rest = []
+stop_at (Some kind) [] = []
+stop_at (Some kind) (event ∷ rest) = stopped_as kind event ∷ []
+
+-- what of these ends comes: the first ones as they are, and then perhaps one more, as a fault
+abbrev pub cut : Ended → List Event → List Event
+cut ended events = take ended.done events ++ stop_at ended.stopped (drop ended.done events)
+
+-- the event says that its instance is done
+abbrev pub IsDone : Event → Type 0
+IsDone (event.EnvItem address value) = ⊥
+IsDone (event.EnvTag name) = ⊥
+IsDone (event.Done instance puts) = ⊤
+IsDone (event.Stopped instance kind) = ⊥
+
+-- why the next of these events is a fault of this kind: it is one, or its puts conflict
+abbrev pub StopsNext : FaultKind → List Event → Type 0
+StopsNext kind [] = ⊥
+StopsNext kind (event.EnvItem address value ∷ rest) = ⊥
+StopsNext kind (event.EnvTag name ∷ rest) = ⊥
+StopsNext kind (event.Done instance puts ∷ rest) = kind ≡ DoublePut
+StopsNext kind (event.Stopped instance own ∷ rest) = kind ≡ own
+
+-- without a fault all of them come; with one, there is a next event that stops so
+abbrev pub StopsAt : Option FaultKind → List Event → Type 0
+StopsAt None rest = rest ≡ []
+StopsAt (Some kind) rest = StopsNext kind rest
+
+-- The answer to a look at a group of ends: the first `done` of them are ends of instances that are done, and then comes a fault, or no more. What comes
+-- is legal, each behind those before it. So the answer is as far as the group can come, and no other answer is.
+pub record EndsTogether (g : Graph) (X : Facts) (events : List Event) (ended : Ended) : Type 0 where
+  pub within : ended.done ≤ length events
+  pub done : AllByRecursion IsDone (take ended.done events)
+  pub stops : StopsAt ended.stopped (drop ended.done events)
+  pub legal : AreLegalFrom g X (cut ended events)
+
+-- ---- how they are taken
+
+-- the events are taken, one behind another
+abbrev pub TakesInTurn : Machine → List Event → Machine → Type 0
+TakesInTurn old [] new = new ≡ old
+TakesInTurn old (event ∷ events) new = (mid : Machine) × Takes old mid event × TakesInTurn mid events new
