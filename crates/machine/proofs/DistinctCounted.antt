@@ -29,6 +29,12 @@ at_front : (address : Addr) (before behind : List Addr) → times address (befor
 at_front address before behind =
     omega (arith, sum_by-append (one_if_same address) before (address ∷ behind), first_counts address address behind, counts_itself address)
 
+pub in_counts : (address : Addr) (list : List Addr) → IsIn address list → 1 ≤ times address list
+in_counts address list it = omega (arith, ap (times address) it.2, at_front address it.0 it.1)
+
+pub times_both : (address : Addr) (one other : List Addr) → times address (one ++ other) ≡ times address one + times address other
+times_both address one other = sum_by-append (one_if_same address) one other
+
 pub twice_counts : (address : Addr) (list : List Addr) → IsTwiceIn address list → 2 ≤ times address list
 twice_counts address list twice =
     omega (arith, ap (times address) twice.3, at_front address (twice.0 ++ address ∷ twice.1) twice.2, at_front address twice.0 twice.1)

@@ -131,7 +131,7 @@ module _ (told : OneFact) where
   new_or_conflict : (before : List Fact) (puts : List Put) → AreNew (among before) puts ⊎ Conflicts (among before) puts
   new_or_conflict before puts = elim (new_or_conflict_at before (addresses puts)) [ inl new ↦ inl (record { absent = new.0; distinct = new.1 }) | inr it ↦ inr it ]
 
-  not_both_ways : (X : Facts) (puts : List Put) → AreNew X puts → Conflicts X puts → ⊥
+  pub not_both_ways : (X : Facts) (puts : List Put) → AreNew X puts → Conflicts X puts → ⊥
   not_both_ways X puts new conflict = elim conflict.1 [
     | inl twice ↦ new.distinct conflict.0 twice
     | inr it ↦ not_both (X (item conflict.0 it.1.0 it.1.1)) it.1.2 (new.absent conflict.0 it.0 it.1.0 it.1.1)

@@ -22,10 +22,10 @@ module _ (told : OneFact) (both : AmongBoth) (once : LookUpEndsOnce) where
   G = two_putters
 
   -- what p and q give
-  p_gives : (X : Facts) → BodyGives G X (of_step 0) (put.Item (named_item 0) (pos 1) ∷ [])
+  pub p_gives : (X : Facts) → BodyGives G X (of_step 0) (put.Item (named_item 0) (pos 1) ∷ [])
   p_gives X = record { step = _; is_step = refl; means = record { reads = []; among = tt; along = refl; needs = λ address asks. absurd (cc) } }
 
-  q_gives : (X : Facts) → BodyGives G X (of_step 1) (put.Item (named_item 0) (pos 2) ∷ [])
+  pub q_gives : (X : Facts) → BodyGives G X (of_step 1) (put.Item (named_item 0) (pos 2) ∷ [])
   q_gives X = record { step = _; is_step = refl; means = record { reads = []; among = tt; along = refl; needs = λ address asks. absurd (cc) } }
 
   -- ---- it is meant

@@ -33,7 +33,7 @@ use Rattle.machine.proofs.Within.{kept_from_nothing, stays_within}
 use Rattle.machine.proofs.Quiet.{one_end, stopped_or_quiet}
 
 -- one item at an absent address is new
-new_one : (X : Facts) (address : Addr) (value : ℤ) → IsAbsent X address → AreNew X (put.Item address value ∷ [])
+pub new_one : (X : Facts) (address : Addr) (value : ℤ) → IsAbsent X address → AreNew X (put.Item address value ∷ [])
 new_one X address value absent = record { absent = λ other it. here other it.0 it.1 it.2; distinct = λ other it. no other it.0 it.1 it.2 it.3 }
   where
     here : (other : Addr) (before behind : List Addr) → address ∷ [] ≡ before ++ other ∷ behind → IsAbsent X other

@@ -4,6 +4,8 @@ pub mod Counts
 pub mod Creation
 pub mod Examples
 pub mod Group
+pub mod GroupExample
+pub mod GroupLaws
 pub mod Imaging
 pub mod Laws
 pub mod Legal
@@ -23,4 +25,5 @@ pub mod StateLaws
 pub mod Status
 pub mod Taking
 pub mod Tally
+pub mod Together
 pub mod Waking

@@ -1,5 +1,5 @@
 -- A tally of a list of puts: how many of them go to each collection.
-use Rattle.std.specs.Prelude.{◌≡◌, ℕ, ◌+◌, ◌<◌, ◌≤◌, ◌^◌, List, [], ◌∷◌, length, get_or}
+use Rattle.std.specs.Prelude.{◌≡◌, ℕ, ◌+◌, ◌<◌, ◌≤◌, ◌^◌, List, length, get_or}
 use Rattle.terms.specs.declared.name.ItemCollection.{ItemCollection}
 use Rattle.terms.specs.declared.name.TagCollection.{TagCollection}
 use Rattle.terms.specs.declared.put.Put.{Put}
@@ -25,8 +25,13 @@ HasPlace t (put.Tag name) = name.collection.0 < length t.tags.items
 
 -- one more put of the collection can be counted
 abbrev pub IsBelowMost : Tally → Put → Type 0
-IsBelowMost t (put.Item address value) = items_counted t address.collection + 1 < 2 ^ 64
-IsBelowMost t (put.Tag name) = tags_counted t name.collection + 1 < 2 ^ 64
+IsBelowMost t (put.Item address value) = items_counted t address.collection + 1 < 2 ^ 128
+IsBelowMost t (put.Tag name) = tags_counted t name.collection + 1 < 2 ^ 128
+
+-- no count is above this number
+pub record IsUpTo (most : ℕ) (t : Tally) : Type 0 where
+  pub items : (collection : ItemCollection) → items_counted t collection ≤ most
+  pub tags : (collection : TagCollection) → tags_counted t collection ≤ most
 
 -- it has a place for each collection of the graph
 pub record HasPlaces (g : Graph) (t : Tally) : Type 0 where
@@ -43,10 +48,10 @@ pub record Counts (t : Tally) (puts : List Put) : Type 0 where
   pub items : (collection : ItemCollection) → items_counted t collection ≡ items_to collection puts
   pub tags : (collection : TagCollection) → tags_counted t collection ≡ tags_to collection puts
 
--- one more put was counted
-pub record Adds (old new : Tally) (one : Put) : Type 0 where
-  pub items : (collection : ItemCollection) → items_counted new collection ≡ items_counted old collection + items_to collection (one ∷ [])
-  pub tags : (collection : TagCollection) → tags_counted new collection ≡ tags_counted old collection + tags_to collection (one ∷ [])
+-- the puts of one more list were counted
+pub record Adds (old new : Tally) (puts : List Put) : Type 0 where
+  pub items : (collection : ItemCollection) → items_counted new collection ≡ items_counted old collection + items_to collection puts
+  pub tags : (collection : TagCollection) → tags_counted new collection ≡ tags_counted old collection + tags_to collection puts
   pub collections : AreAsMany old new
 
 -- each collection has room for as many entries as were counted for it

@@ -1,5 +1,6 @@
 //! Worked examples of what a graph means. Each is a contract, with nothing to run.
 ghost use Rattle.machine.specs.Examples.{FiveNumbers, OneNumber, Conflict, PutTwice, Refused};
+ghost use Rattle.machine.specs.GroupExample.{TwoMeet};
 ghost use Rattle.machine.specs.Mixed.{MixedIsRefused};
 ghost use Rattle.machine.specs.Putting.{EachIsCounted};
 
@@ -36,6 +37,14 @@ pub fn refused_examples()
 /// there.
 pub fn meant_and_not_reached()
     ensures { MixedIsRefused }
+{
+    facts_are_told_apart();
+    ends_once();
+}
+
+/// Two ends that put one item: of the group the first is done, and the second is at fault.
+pub fn two_ends_meet()
+    ensures { TwoMeet }
 {
     facts_are_told_apart();
     ends_once();

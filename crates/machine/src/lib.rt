@@ -35,6 +35,7 @@ mod states;
 mod status;
 mod taking;
 mod tally;
+mod turns;
 mod waking;
 mod working;
 
@@ -42,9 +43,10 @@ pub use counts::Counts;
 pub use end::End;
 pub use examples::{
     fibonacci_numbers, item_put_twice, meant_and_not_reached, refused_examples, room_is_counted,
+    two_ends_meet,
 };
-pub use items_of::ItemsOf;
 pub use group::Ended;
+pub use items_of::ItemsOf;
 pub use keeping::given_are_of_graph;
 pub use laws::{
     each_instance_can_go_on, legal_events_fit, legal_lists_go_on, one_end, quiet_is_meaning,
@@ -54,3 +56,4 @@ pub use machine::Machine;
 pub use refusal::Refusal;
 pub use results::results_are_meant;
 pub use states::{reached_and_quiet, reached_goes_on, reached_within, unfinished_wait};
+pub use turns::{legal_in_turn, room_in_turn, run_in_turn, taken_in_turn};

@@ -1,0 +1,35 @@
+-- The laws of events that are taken one after another.
+use Rattle.std.specs.Prelude.{◌≡◌, List, ◌∷◌, ◌++◌, Some}
+use Rattle.terms.specs.declared.name.Inst.{Inst}
+use Rattle.terms.specs.declared.event.Event.{Event}
+use Rattle.terms.specs.Facts.{Fact}
+use Rattle.terms.specs.Facts as stated
+use Rattle.terms.specs.Sets.{Facts, with_facts}
+use Rattle.graph.specs.Graph.{Graph}
+use Rattle.instances.specs.declared.state.State.TheVariants.{Running}
+use Rattle.machine.specs.Group.{puts_of_all, TakesInTurn}
+use Rattle.machine.specs.Machine.{Machine, Ends, HasRoom, Takes, environment, facts, puts_of, state_of}
+use Rattle.machine.specs.State.{AreLegalFrom}
+
+-- where there is room for the puts of all, there is room for those of the first, and after it for those of the others
+abbrev pub RoomInTurn : Type 0
+RoomInTurn = (old : Machine) (event : Event) (rest : List Event) → HasRoom old (puts_of_all (event ∷ rest))
+    → HasRoom old (puts_of event) × ((mid : Machine) → Takes old mid event → HasRoom mid (puts_of_all rest))
+
+-- an instance that runs still runs after an event that does not end it
+abbrev pub RunInTurn : Type 0
+RunInTurn = (old new : Machine) (event : Event) (instance : Inst) → Takes old new event → (Ends event instance → ⊥) → state_of old instance ≡ Some Running → state_of new instance ≡ Some Running
+
+-- the graph stays, and the facts of all the events are added, and among them those that the environment put
+pub record AddsAllFacts (old : Machine) (events : List Event) (new : Machine) : Type 0 where
+  pub graph : new.graph ≡ old.graph
+  pub all : (fact : Fact) → facts new fact ≡ with_facts (facts old) (stated.facts events) fact
+  pub given : (fact : Fact) → environment new fact ≡ with_facts (environment old) (stated.environment events) fact
+
+abbrev pub TakenInTurn : Type 0
+TakenInTurn = (old : Machine) (events : List Event) (new : Machine) → TakesInTurn old events new → AddsAllFacts old events new
+
+-- of a legal list the first part is legal, and the second part after it
+abbrev pub LegalInTurn : Type 0
+LegalInTurn = (g : Graph) (X : Facts) (first second : List Event) → AreLegalFrom g X (first ++ second)
+    → AreLegalFrom g X first × AreLegalFrom g (with_facts X (stated.facts first)) second
