@@ -37,11 +37,11 @@ impl Machine {
         self.is_working()
     }
 
-    /// How these ends come together, each behind those before it. Those of instances that are done come up to the first fault: one
-    /// of the ends says so, or an item of its puts is there already, or appears twice among the puts up to it.
+    /// How far these ends come together, each after those before it: up to the first fault. An end is a fault if its body says so,
+    /// or if an item of its puts is there already, or appears twice among its puts and those before it.
     ///
-    /// It looks each item up, and sorts the addresses of all puts once; if two items meet, once more for each halving of the
-    /// group. It is refused only if there is no memory for these addresses.
+    /// It looks each item up, and sorts the addresses of all items once. If two items meet, it halves the group until it has the
+    /// place, and does the same for each half. The error is that there is no memory for the addresses; then nothing changed.
     pub fn look_at_ends(&mut self, ends: &[Event]) -> Result<Ended, AllocError>
         requires working { HasNoFault (facts self.old) }
         requires ends { AreEndsHere self.old ends.now }
@@ -52,7 +52,7 @@ impl Machine {
         facts_are_told_apart();
         puts_are_stated();
         let ended = up_to_fault(ends);
-        if are_new(&self.memory.items, &mut self.addresses, &ends[..ended.done])? {
+        if are_new_together(&self.memory.items, &mut self.addresses, &ends[..ended.done])? {
             return Ok(ended);
         }
         let done = new_in_front(&self.memory.items, &mut self.addresses, ends, ended.done)?;
@@ -63,8 +63,8 @@ impl Machine {
     }
 }
 
-// How many of these ends, from the first one on, have puts that are new together, if those of the first `most` have not. It halves
-// the range in each turn.
+// How many of these ends, from the first one on, have puts that are new together, if those of the first `most` are not. Each turn
+// halves the range.
 fn new_in_front(
     items: &Items,
     addresses: &mut Vec<Addr>,
@@ -82,7 +82,7 @@ fn new_in_front(
     let mut not_new = most;
     while not_new - new > 1 {
         let middle = new + (not_new - new) / 2;
-        if are_new(items, addresses, &ends[..middle])? {
+        if are_new_together(items, addresses, &ends[..middle])? {
             new = middle;
         } else {
             not_new = middle;
@@ -92,7 +92,11 @@ fn new_in_front(
 }
 
 // Whether the puts of these ends of instances that are done are new together.
-fn are_new(items: &Items, addresses: &mut Vec<Addr>, ends: &[Event]) -> Result<bool, AllocError>
+fn are_new_together(
+    items: &Items,
+    addresses: &mut Vec<Addr>,
+    ends: &[Event],
+) -> Result<bool, AllocError>
     requires { AllByRecursion IsDone ends.now }
     ensures new { IfOk result (λ new. MatchBool new (AreAllNew items.now (puts_of_all ends.now)) (IsOneNotNew items.now (puts_of_all ends.now))) }
     ensures capacity { vec_capacity addresses.old ≤ vec_capacity addresses.new }

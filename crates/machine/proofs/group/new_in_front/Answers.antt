@@ -9,8 +9,8 @@ loop-not_new-init c =
     let held = c.args.items.now in
     (some_not_new held c.args.most c.args.ends.now c.requires.not_new, omega arith, none_are_new held, c.requires.not_new, omega arith)
 
-pub are_new-requires : goal.are_new-requires
-are_new-requires c =
+pub are_new_together-requires : goal.are_new_together-requires
+are_new_together-requires c =
     let new = c.loop-not_new.new in
     let not_new = c.loop-not_new.not_new in
     fewer_done (new + (not_new - new) / 2) c.args.most c.args.ends.now (omega (arith, c.loop-not_new-test.true, c.loop-not_new.invariant.1)) c.requires.done

@@ -17,7 +17,7 @@ returns-then-branch-clause-together c =
     let ended = c.up_to_fault-ended.result in
     let says = c.up_to_fault-ended.ensures in
     let puts = puts_of_all (take ended.done events) in
-    let new = subst (λ b. MatchBool b (AreAllNew mem.items puts) (IsOneNotNew mem.items puts)) c.if-branch.true c.in_ok-are_new.ensures.new in
+    let new = subst (λ b. MatchBool b (AreAllNew mem.items puts) (IsOneNotNew mem.items puts)) c.if-branch.true c.in_ok-are_new_together.ensures.new in
     subst (λ (m : Machine). HasNoFault (facts m) → AreEndsHere m events → EndsTogether m.graph (facts m) events ended) c.self.view_is
     (as_they_say c.facts_are_told_apart.ensures.one c.puts_are_stated.ensures.end_nothing c.self.inside.graph.value mem c.self.invariant.0 c.are_there_together.ensures events ended says.within says.done says.next new)
     c.requires.working c.requires.ends

@@ -1,6 +1,6 @@
 use Rattle.machine.specs.Group.{puts_of_all}
 use Rattle.machine.proofs.NewTogether.{told_new}
-use Rattle.machine.proofs.group.are_new.Goals as goal
+use Rattle.machine.proofs.group.are_new_together.Goals as goal
 
 pub returns-clause-new : goal.returns-clause-new
 returns-clause-new c =
