@@ -7,11 +7,13 @@
 //!   if that is not 0
 //! - `full WORDS`: the same, but each write of the output fails
 //! - `unreadable WORDS`: the same, but each read of the input fails
+//! - `alone LIMIT`: the script that stands below, on the store that is on the disk, with this limit for each run, by a
+//!   session that has no threads. The result is what it wrote, and after `! ` why it did not come to its end
 //! - `words WORDS`: the command that these words ask for, with the file that it reads, its directory and its workers
 //! - `fail N`: the N-th call of the disk from now fails
 //! - `byte SIDE PLACE VALUE`: changes this byte
 //! - `sizes`: how many bytes the two files have
-use crate::calls;
+use crate::{alone, calls};
 use cases::{Names, texts};
 use disk::{Disk, DiskError, MemDisk, Side};
 use std::alloc::{AllocError, Global};
@@ -59,11 +61,22 @@ impl<'a, R: Threads + Wait + Sync> Commands<'a, R> {
                 Ok(String::new(alloc))
             }
             "words" => calls::read(alloc, command),
+            "alone" => self.alone(alloc, rest, input),
             "cnc" => self.call(alloc, command, input, calls::Streams::Work),
             "full" => self.call(alloc, command, input, calls::Streams::OutputFails),
             "unreadable" => self.call(alloc, command, input, calls::Streams::InputFails),
             _ => self.on_disk(alloc, word, rest),
         }
+    }
+
+    // Runs a script on the store on the disk, on this thread.
+    fn alone(&mut self, alloc: Global, limit: &str, input: &str) -> Result<String, AllocError> {
+        let text = texts::lines_of(alloc, input)?;
+        let limit = limit.parse::<u64>().unwrap_or(0);
+        let disk = mem::replace(&mut self.disk, MemDisk::new(alloc));
+        let (disk, told) = alone::run(alloc, disk, text.as_str(), limit)?;
+        self.disk = disk;
+        Ok(told)
     }
 
     // Calls the program on the disk.

@@ -6,6 +6,7 @@
 //! example.
 #![tactic(auto)]
 
+mod alone;
 mod calls;
 mod commands;
 mod examples;

@@ -3,12 +3,15 @@ pub mod Coming
 pub mod Failing
 pub mod Lines
 pub mod Listed
+pub mod OneLine
 pub mod OneRefusal
 pub mod OneReply
 pub mod OneWaiting
 pub mod Puts
 pub mod Ran
+pub mod Reporting
 pub mod SameText
+pub mod Standing
 pub mod Strictly
 pub mod Taken
 pub mod Told

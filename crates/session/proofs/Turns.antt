@@ -11,24 +11,20 @@ use Rattle.script.specs.declared.command.Command.{Command}
 use Rattle.session.specs.declared.ending.Ending.{Ending}
 use Rattle.session.specs.declared.reply.Reply.{Reply}
 use Rattle.session.specs.Answers.{Drive, Replies}
+use Rattle.session.specs.Lines.{Answered, Linked}
 use Rattle.session.specs.Session.{AreReplies, all_of, ending_of, stop_of, with_reply}
 use Rattle.commit.specs.Went.{GoesOn}
 use Rattle.session.specs.Went.{GoesOnByAll, GoesOnByLine, HasCause}
 use Rattle.session.proofs.Coming.{answered_there, graph_behind, joined_on}
-use Rattle.session.proofs.Went.{Went, begun_with, ended, one_line_more, stopped, went_on}
+use Rattle.session.proofs.Went.{begun_with, ended, one_line_more, stopped, went_on}
 
 module _ {D : Type 0} (files : D → Side → File) (moment : D → ℕ) (left_at : D → ℕ → Contents → Type 0) (failures refusals : D → ℕ) (honest : Type 0) where
-  -- the core went on by these lines, and may go on by more
-  pub record Linked (old new : Core D) (begun : List Command) (replies : List Reply) (events : List (List Event)) : Type 0 where
-    pub follows : (last : Core D) (more : List Command) (rest : List Reply) (later : List (List Event)) → GoesOnByLine files moment left_at failures refusals honest new last more rest later
-        → GoesOnByLine files moment left_at failures refusals honest old last (begun ++ more) (replies ++ rest) (events ++ later)
-
-  pub linked_nowhere : (core : Core D) → Linked core core [] [] []
+  pub linked_nowhere : (core : Core D) → Linked files moment left_at failures refusals honest core core [] [] []
   linked_nowhere core = record { follows = λ last more rest later it. it }
 
   -- it went on by one more line
-  linked_on : (old mid new : Core D) (begun : List Command) (replies : List Reply) (events : List (List Event)) → Linked old mid begun replies events → (command : Command) (reply : Reply) (came : List Event)
-      → GoesOn files moment left_at failures refusals honest mid new came → HasCause failures mid new command came reply → Linked old new (begun ++ command ∷ []) (replies ++ reply ∷ []) (events ++ came ∷ [])
+  linked_on : (old mid new : Core D) (begun : List Command) (replies : List Reply) (events : List (List Event)) → Linked files moment left_at failures refusals honest old mid begun replies events → (command : Command) (reply : Reply) (came : List Event)
+      → GoesOn files moment left_at failures refusals honest mid new came → HasCause failures mid new command came reply → Linked files moment left_at failures refusals honest old new (begun ++ command ∷ []) (replies ++ reply ∷ []) (events ++ came ∷ [])
   linked_on old mid new begun replies events linked command reply came goes cause = record {
     follows = λ last more rest later it.
         subst (λ (commands : List Command). GoesOnByLine files moment left_at failures refusals honest old last commands ((replies ++ reply ∷ []) ++ rest) ((events ++ came ∷ []) ++ later)) (sym (append_assoc begun (command ∷ []) more))
@@ -38,7 +34,7 @@ module _ {D : Type 0} (files : D → Side → File) (moment : D → ℕ) (left_a
   }
 
   -- it went on by these alone, whatever commands are left
-  pub by_these : (old new : Core D) (begun left : List Command) (replies : List Reply) (events : List (List Event)) → Linked old new begun replies events
+  pub by_these : (old new : Core D) (begun left : List Command) (replies : List Reply) (events : List (List Event)) → Linked files moment left_at failures refusals honest old new begun replies events
       → GoesOnByLine files moment left_at failures refusals honest old new (begun ++ left) replies events
   by_these old new begun left replies events linked =
       subst (λ (all : List Reply). GoesOnByLine files moment left_at failures refusals honest old new (begun ++ left) all events) (append-nil replies)
@@ -49,15 +45,15 @@ module _ {D : Type 0} (files : D → Side → File) (moment : D → ℕ) (left_a
     pub record Turned (old new : Core D) (begun : List Command) (command : Command) (ending : Ending) (replies : List Reply) (reply : Reply) : Type 0 where
       pub events : List (List Event)
       pub goes : GoesOn files moment left_at failures refusals honest old new (all_of events)
-      pub linked : Linked old new (begun ++ command ∷ []) (replies ++ reply ∷ []) events
+      pub linked : Linked files moment left_at failures refusals honest old new (begun ++ command ∷ []) (replies ++ reply ∷ []) events
       pub same_graph : graph new ≡ graph old
-      pub on : stop_of reply ≡ None → Went (graph old) drive (facts old) (begun ++ command ∷ []) (with_reply ending command reply) (replies ++ reply ∷ []) events
+      pub on : stop_of reply ≡ None → Answered (graph old) drive (facts old) (begun ++ command ∷ []) (with_reply ending command reply) (replies ++ reply ∷ []) events
       pub last : (left : List Command) → stop_of reply ≢ None → AreReplies (graph old) drive (facts old) (begun ++ command ∷ left) (replies ++ reply ∷ []) events
       pub ends : (left : List Command) → with_reply ending command reply ≡ ending_of (begun ++ command ∷ left) (replies ++ reply ∷ [])
       pub answered : AreReplies (graph old) drive (facts old) (begun ++ command ∷ []) (replies ++ reply ∷ []) events
 
     pub turned : AmongBoth → (honest → GatesStay files moment left_at) → (old mid new : Core D) (begun : List Command) (command : Command) (ending : Ending) (replies : List Reply) (reply : Reply) (events : List (List Event))
-        → GoesOn files moment left_at failures refusals honest old mid (all_of events) → Linked old mid begun replies events → Went (graph old) drive (facts old) begun ending replies events
+        → GoesOn files moment left_at failures refusals honest old mid (all_of events) → Linked files moment left_at failures refusals honest old mid begun replies events → Answered (graph old) drive (facts old) begun ending replies events
         → (came : List Event) × GoesOn files moment left_at failures refusals honest mid new came × Replies (graph mid) drive (facts mid) command came reply × HasCause failures mid new command came reply
         → Turned old new begun command ending replies reply
     turned both gates_stay old mid new begun command ending replies reply events before linked went (came, after, replied, cause) =

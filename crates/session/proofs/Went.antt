@@ -12,9 +12,10 @@ use Rattle.session.specs.declared.ending.Ending.{Ending}
 use Rattle.session.specs.declared.ending.Stop.{Stop}
 use Rattle.session.specs.declared.reply.Reply.{Reply}
 use Rattle.session.specs.Answers.{Drive, Replies}
+use Rattle.session.specs.Lines.{Answered}
 use Rattle.session.specs.Session.{AreReplies, all_of, ending_from, no_ending, stop_of, with_reply}
 
-some_is_not_none : (end : Stop) → ◌≡◌ {A = Option Stop} (Some end) None → ⊥
+pub some_is_not_none : (end : Stop) → ◌≡◌ {A = Option Stop} (Some end) None → ⊥
 some_is_not_none end is = cc
 
 -- one command, and one reply to it
@@ -27,22 +28,17 @@ last g drive X command came reply is (Some end) stops = (is, inr ((λ none. some
 pub one_line_more : (events : List (List Event)) (came : List Event) → all_of (events ++ came ∷ []) ≡ all_of events ++ came
 one_line_more events came = flat_map-append (λ (line : List Event). line) events (came ∷ []) ∙ ap (λ (more : List Event). all_of events ++ more) (append-nil came)
 
--- From these facts on the commands `begun` were answered with these replies, and these events came; the session went on, with this ending so far.
-pub record Went (g : Graph) (drive : Drive) (X : Facts) (begun : List Command) (ending : Ending) (replies : List Reply) (events : List (List Event)) : Type 0 where
-  pub follows : (more : List Command) (rest : List Reply) (later : List (List Event)) → AreReplies g drive (with_facts X (stated.facts (all_of events))) more rest later → AreReplies g drive X (begun ++ more) (replies ++ rest) (events ++ later)
-  pub ends : (more : List Command) (rest : List Reply) → ending_from no_ending (begun ++ more) (replies ++ rest) ≡ ending_from ending more rest
-
-pub went_nowhere : (g : Graph) (drive : Drive) (X : Facts) → Went g drive X [] no_ending [] []
+pub went_nowhere : (g : Graph) (drive : Drive) (X : Facts) → Answered g drive X [] no_ending [] []
 went_nowhere g drive X = record { follows = λ more rest later are. subst (λ (Y : Facts). AreReplies g drive Y more rest later) (with_nothing X) are; ends = λ more rest. refl }
 
-module _ (both : AmongBoth) (g : Graph) (drive : Drive) (X : Facts) (begun : List Command) (ending : Ending) (replies : List Reply) (events : List (List Event)) (went : Went g drive X begun ending replies events) (command : Command)
+module _ (both : AmongBoth) (g : Graph) (drive : Drive) (X : Facts) (begun : List Command) (ending : Ending) (replies : List Reply) (events : List (List Event)) (went : Answered g drive X begun ending replies events) (command : Command)
     (came : List Event) (reply : Reply) (answered : Replies g drive (with_facts X (stated.facts (all_of events))) command came reply) where
   joined_facts : with_facts X (stated.facts (all_of (events ++ came ∷ []))) ≡ with_facts (with_facts X (stated.facts (all_of events))) (stated.facts came)
   joined_facts =
       ap (λ (list : List Event). with_facts X (stated.facts list)) (one_line_more events came) ∙ ap (λ (list : List Fact). with_facts X list) (flat_map-append event_facts (all_of events) came)
       ∙ with_both both X (stated.facts (all_of events)) (stated.facts came)
 
-  pub went_on : stop_of reply ≡ None → Went g drive X (begun ++ command ∷ []) (with_reply ending command reply) (replies ++ reply ∷ []) (events ++ came ∷ [])
+  pub went_on : stop_of reply ≡ None → Answered g drive X (begun ++ command ∷ []) (with_reply ending command reply) (replies ++ reply ∷ []) (events ++ came ∷ [])
   went_on goes_on = record {
     follows = λ more rest later are.
         subst (λ (commands : List Command). AreReplies g drive X commands ((replies ++ reply ∷ []) ++ rest) ((events ++ came ∷ []) ++ later)) (sym (append_assoc begun (command ∷ []) more))
@@ -72,7 +68,7 @@ module _ (both : AmongBoth) (g : Graph) (drive : Drive) (X : Facts) (begun : Lis
   begun_with = went.follows (command ∷ []) (reply ∷ []) (came ∷ []) (last g drive (with_facts X (stated.facts (all_of events))) command came reply answered (stop_of reply) refl)
 
 -- all lines were answered
-pub finished : (g : Graph) (drive : Drive) (X : Facts) (commands : List Command) (ending : Ending) (replies : List Reply) (events : List (List Event)) → Went g drive X commands ending replies events →
+pub finished : (g : Graph) (drive : Drive) (X : Facts) (commands : List Command) (ending : Ending) (replies : List Reply) (events : List (List Event)) → Answered g drive X commands ending replies events →
     AreReplies g drive X commands replies events × (ending ≡ ending_from no_ending commands replies)
 finished g drive X commands ending replies events went = (
   subst (λ (all : List Command). AreReplies g drive X all replies events) (append-nil commands)

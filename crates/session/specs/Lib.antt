@@ -1,7 +1,9 @@
 pub mod Answers
 pub mod Errors
 pub mod Fails
+pub mod Lines
 pub mod OneText
+pub mod Progress
 pub mod Replies
 pub mod Session
 pub mod Streams

@@ -9,9 +9,9 @@ ghost use Rattle.machine.specs.Machine.{RefusesItem, RefusesTag, waiting_count};
 ghost use Rattle.machine.specs.Status.{NoneIsActive};
 ghost use Rattle.commit.specs.Core.{facts, graph, is_halted};
 ghost use Rattle.commit.specs.Runs.{MetFull, NoneRuns, TellsVerdict};
-ghost use Rattle.script.specs.declared.command.Command.TheVariants.{Get, Put, Run, Tag as Label};
-ghost use Rattle.pool.specs.Driver.{may_be_asked, may_spawn};
-ghost use Rattle.session.specs.Answers.{Replies, RepliesGet, RepliesPut, RepliesRun, TellsBlocked, TellsRun, drive_of, put_reply, reply_of, run_reply};
+ghost use Rattle.script.specs.declared.command.Command.TheVariants.{Get, Put, Tag as Label};
+ghost use Rattle.session.specs.Answers.{RepliesGet, RepliesPut, TellsBlocked, TellsRun, drive_of, put_reply, reply_of, run_reply};
+ghost use Rattle.session.specs.Lines.{AnswersAtOnce, AnswersVerdict};
 ghost use Rattle.session.specs.Session.{stop_of};
 ghost use Rattle.commit.specs.Went.{GoesOn};
 ghost use Rattle.session.specs.Went.{HasCause, HasCauseOfRun};
@@ -20,46 +20,22 @@ use crate::reply::Reply;
 use crate::waiting::sort_by_name;
 use commit::{Core, CoreError, RunError, Verdict};
 use disk::Disk;
-use pool::{Driver, Probe};
 use script::Command;
 use std::alloc::Global;
-use std::marker::Sync;
-use std::sync::Wait;
-use std::thread::Threads;
 use terms::{Addr, Tag, orders_are_total};
 use vault::{VaultError, stores_go_on};
 
-/// Does what a command asks for, and returns the store with the reply.
-pub(crate) fn answer<D: Disk + Send, H: Threads + Wait + Sync, P: Probe>(
-    alloc: Global,
-    core: Core<D>,
-    command: Command,
-    driver: &Driver<'_, H, P>,
-    limit: u64,
-) -> (Core<D>, Reply)
-    requires idle { NoneRuns core }
-    ensures idle { NoneRuns result.0 }
-    ensures replies { (came : List Came) × GoesOn D.files D.moment D.left_at D.failures D.refusals (IsTrue D.is_honest) core result.0 came
-        × Replies (graph core) (drive_of limit (may_be_asked P.may_stop driver.now) (may_spawn driver.now) (is_halted core)) (facts core) command came result.1
-        × HasCause D.failures core result.0 command came result.1 }
-    ensures stays { stop_of result.1 ≡ None → is_halted result.0 ≡ is_halted core }
+/// Does what a command asks for, and returns the reply; but it does not run the steps.
+pub(crate) fn answer<D: Disk>(core: &mut Core<D>, command: Command) -> Option<Reply>
+    requires idle { NoneRuns core.old }
+    ensures idle { NoneRuns core.new }
+    ensures answers { AnswersAtOnce D.files D.moment D.left_at D.failures D.refusals (IsTrue D.is_honest) core.old core.new command result }
 {
     match command {
-        Command::Run => run(alloc, core, driver, limit),
-        Command::Put(address, value) => {
-            let mut core = core;
-            let reply = put_item(&mut core, address, value);
-            (core, reply)
-        }
-        Command::Tag(tag) => {
-            let mut core = core;
-            let reply = put_tag(&mut core, tag);
-            (core, reply)
-        }
-        Command::Get(address) => {
-            let reply = get(&core, address);
-            (core, reply)
-        }
+        Command::Run => None,
+        Command::Put(address, value) => Some(put_item(core, address, value)),
+        Command::Tag(tag) => Some(put_tag(core, tag)),
+        Command::Get(address) => Some(get(core, address)),
     }
 }
 
@@ -147,27 +123,17 @@ fn refusal(error: CoreError) -> Reply
     }
 }
 
-// Runs the steps.
-fn run<D: Disk + Send, H: Threads + Wait + Sync, P: Probe>(
+/// The reply to a run that returned this verdict and left this core.
+pub(crate) fn ran<D: Disk>(
     alloc: Global,
-    core: Core<D>,
-    driver: &Driver<'_, H, P>,
-    limit: u64,
-) -> (Core<D>, Reply)
-    requires idle { NoneRuns core }
-    ensures idle { NoneRuns result.0 }
-    ensures replies { (came : List Came) × GoesOn D.files D.moment D.left_at D.failures D.refusals (IsTrue D.is_honest) core result.0 came
-        × RepliesRun (graph core) (drive_of limit (may_be_asked P.may_stop driver.now) (may_spawn driver.now) (is_halted core)) (facts core) came result.1
-        × HasCause D.failures core result.0 Run came result.1 }
-    ensures halt { is_halted core ≡ true → result.1 ≡ Halted }
-    ensures stays { stop_of result.1 ≡ None → is_halted result.0 ≡ is_halted core }
+    core: &Core<D>,
+    verdict: Result<Verdict, RunError>,
+) -> Reply
+    ensures { AnswersVerdict D.files D.moment D.left_at D.failures D.refusals (IsTrue D.is_honest) core.now verdict result }
 {
     stores_go_on::<D>();
     core.is_kept();
-    let (core, verdict) = driver.run(alloc, core, limit);
-    core.is_kept();
-    let reply = told(alloc, &core, verdict);
-    (core, reply)
+    told(alloc, core, verdict)
 }
 
 // The reply to a run with this verdict.

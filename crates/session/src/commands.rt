@@ -1,16 +1,16 @@
-//! The lines of a script, one after another.
-ghost use Rattle.std.specs.Prelude.{IsTrue};
+//! The lines of a script and its report. Who runs the steps has the core while they run; `Progress` has all other lines.
+ghost use Rattle.std.specs.Prelude.{IsTrue, false};
 ghost use Rattle.commit.specs.Core.{is_halted};
 ghost use Rattle.commit.specs.Runs.{NoneRuns};
 ghost use Rattle.pool.specs.Driver.{may_be_asked, may_spawn};
 ghost use Rattle.session.specs.Answers.{drive_of};
-ghost use Rattle.session.specs.Fails.{AnswersLines};
+ghost use Rattle.session.specs.Fails.{AnswersCommands};
 ghost use Rattle.session.specs.Streams.{TellsSink};
 
-use crate::answers::answer;
-use crate::reply::NamedReply;
+use crate::closing::close;
+use crate::progress::Progress;
 use crate::{Ending, SessionError};
-use commit::Core;
+use commit::{Core, First, run_with};
 use disk::Disk;
 use pool::{Driver, Probe};
 use report::Sink;
@@ -19,11 +19,10 @@ use std::alloc::Global;
 use std::marker::Sync;
 use std::sync::Wait;
 use std::thread::Threads;
-use terms::facts_are_told_apart;
 use vault::stores_go_on;
 
-/// Does what the commands ask for, one after another, up to a reply that ends the session, and writes the replies.
-pub(crate) fn run_commands<D: Disk + Send, O: Sink, H: Threads + Wait + Sync, P: Probe>(
+/// Does what the commands ask for, and writes the replies and the report. The driver runs the steps.
+pub(crate) fn run_script<D: Disk + Send, O: Sink, H: Threads + Wait + Sync, P: Probe>(
     alloc: Global,
     core: Core<D>,
     commands: &[Command],
@@ -33,28 +32,44 @@ pub(crate) fn run_commands<D: Disk + Send, O: Sink, H: Threads + Wait + Sync, P:
 ) -> (Core<D>, Result<Ending, SessionError>)
     requires idle { NoneRuns core }
     ensures idle { NoneRuns result.0 }
-    ensures answers { AnswersLines D.files D.moment D.left_at D.failures D.refusals (IsTrue D.is_honest) (drive_of limit (may_be_asked P.may_stop driver.now) (may_spawn driver.now) (is_halted core)) commands.now (O.contents out.old) (O.contents out.new) core result.0 result.1 }
+    ensures answers { AnswersCommands D.files D.moment D.left_at D.failures D.refusals (IsTrue D.is_honest) (drive_of limit (may_be_asked P.may_stop driver.now) (may_spawn driver.now) (is_halted core)) commands.now (O.contents out.old) (O.contents out.new) core result.0 result.1 }
     ensures sink { TellsSink O.target O.has_failed out.old out.new result.1 }
 {
-    facts_are_told_apart();
     stores_go_on::<D>();
     core.is_kept();
     let mut core = core;
-    let mut ending = Ending::new();
-    for command in commands {
-        let (next, reply) = answer(alloc, core, *command, driver, limit);
+    let mut progress = Progress::new(commands);
+    while progress.reach_run(&mut core, out) {
+        let (next, verdict) = driver.run(alloc, core, limit);
         core = next;
-        let named = NamedReply {
-            graph: core.graph(),
-            reply: &reply,
-        };
-        if out.write_fmt(named).is_err() {
-            return (core, Err(SessionError::Write));
-        }
-        ending = ending.with_reply(*command, &reply);
-        if ending.stop.is_some() {
-            return (core, Ok(ending));
-        }
+        progress.answer_run(alloc, &core, verdict, out);
     }
-    (core, Ok(ending))
+    let ended = close(alloc, &core, progress.went(), out);
+    (core, ended)
+}
+
+/// Does the same on the calling thread, which waits for nobody.
+pub(crate) fn run_script_alone<D: Disk, O: Sink>(
+    alloc: Global,
+    core: Core<D>,
+    commands: &[Command],
+    out: &mut O,
+    limit: u64,
+) -> (Core<D>, Result<Ending, SessionError>)
+    requires idle { NoneRuns core }
+    ensures idle { NoneRuns result.0 }
+    ensures answers { AnswersCommands D.files D.moment D.left_at D.failures D.refusals (IsTrue D.is_honest) (drive_of limit false false (is_halted core)) commands.now (O.contents out.old) (O.contents out.new) core result.0 result.1 }
+    ensures sink { TellsSink O.target O.has_failed out.old out.new result.1 }
+{
+    stores_go_on::<D>();
+    core.is_kept();
+    let mut core = core;
+    let mut progress = Progress::new(commands);
+    while progress.reach_run(&mut core, out) {
+        let (next, verdict) = run_with(alloc, core, &mut First, limit);
+        core = next;
+        progress.answer_run(alloc, &core, verdict, out);
+    }
+    let ended = close(alloc, &core, progress.went(), out);
+    (core, ended)
 }

@@ -1,23 +1,20 @@
 //! A script, from its bytes to its replies.
-ghost use Rattle.std.specs.Prelude.{◌≡◌, List, IfErr, IfOk, IsTrue, None, ℕ};
-ghost use Rattle.std.specs.Io.KnownBytes.{Appends};
+ghost use Rattle.std.specs.Prelude.{IfErr, IfOk, IsTrue, List, false, ℕ};
 ghost use Rattle.script.specs.Script.{IsScript};
-ghost use Rattle.commit.specs.Core.{facts, graph, is_halted};
+ghost use Rattle.commit.specs.Core.{is_halted};
 ghost use Rattle.commit.specs.Runs.{NoneRuns};
 ghost use Rattle.pool.specs.Driver.{may_be_asked, may_spawn};
 ghost use Rattle.session.specs.Answers.{drive_of};
-ghost use Rattle.session.specs.Fails.{Answers, AnswersCommands, FailsToRead, IsAllOf, IsOfOutput, IsRefusedAs};
-ghost use Rattle.session.specs.Session.{IsClosing};
+ghost use Rattle.session.specs.Fails.{Answers, FailsToRead, IsAllOf, IsRefusedAs};
 ghost use Rattle.session.specs.Streams.{TellsSink, TellsSource};
-ghost use Rattle.session.specs.declared.error.SessionError.TheVariants.{NoMemory};
 
-use crate::commands::run_commands;
+use crate::commands::{run_script, run_script_alone};
 use crate::{Ending, SessionError, Source};
 use commit::Core;
 use disk::Disk;
 use graph::Graph;
 use pool::{Driver, Probe};
-use report::{Sink, send_report};
+use report::Sink;
 use script::{Command, MOST_BYTES, parse_script};
 use std::alloc::Global;
 use std::marker::Sync;
@@ -54,6 +51,27 @@ pub fn session<D: Disk + Send, S: Source, O: Sink, H: Threads + Wait + Sync, P: 
     }
 }
 
+/// Runs a script on a store as `session` does, with a run on the calling thread at each `run`. It takes the first of the
+/// ready instances each time, needs no threads, and waits for nobody: so it returns.
+pub fn session_alone<D: Disk, S: Source, O: Sink>(
+    alloc: Global,
+    core: Core<D>,
+    input: &mut S,
+    out: &mut O,
+    limit: u64,
+) -> (Core<D>, Result<Ending, SessionError>)
+    requires idle { NoneRuns core }
+    ensures idle { NoneRuns result.0 }
+    ensures answers { Answers D.files D.moment D.left_at D.failures D.refusals (IsTrue D.is_honest) (drive_of limit false false (is_halted core)) (S.remaining input.old) (O.contents out.old) (O.contents out.new) core result.0 result.1 }
+    ensures source { TellsSource S.has_failed input.old input.new result.1 }
+    ensures sink { TellsSink O.target O.has_failed out.old out.new result.1 }
+{
+    match read_script(alloc, core.graph(), input) {
+        Ok(commands) => run_script_alone(alloc, core, commands.as_slice(), out, limit),
+        Err(error) => (core, Err(error)),
+    }
+}
+
 // The commands of the script that a source has. It reads at most one byte more than the longest script has.
 fn read_script<S: Source>(
     alloc: Global,
@@ -78,50 +96,5 @@ fn parsed(alloc: Global, graph: &Graph, text: &[u8]) -> Result<Vec<Command>, Ses
     match parse_script(alloc, graph, text) {
         Ok(commands) => Ok(commands),
         Err(error) => Err(SessionError::of_script(error)),
-    }
-}
-
-// Does what the commands ask for, and writes the replies and the report.
-fn run_script<D: Disk + Send, O: Sink, H: Threads + Wait + Sync, P: Probe>(
-    alloc: Global,
-    core: Core<D>,
-    commands: &[Command],
-    out: &mut O,
-    driver: &Driver<'_, H, P>,
-    limit: u64,
-) -> (Core<D>, Result<Ending, SessionError>)
-    requires idle { NoneRuns core }
-    ensures idle { NoneRuns result.0 }
-    ensures answers { AnswersCommands D.files D.moment D.left_at D.failures D.refusals (IsTrue D.is_honest) (drive_of limit (may_be_asked P.may_stop driver.now) (may_spawn driver.now) (is_halted core)) commands.now (O.contents out.old) (O.contents out.new) core result.0 result.1 }
-    ensures sink { TellsSink O.target O.has_failed out.old out.new result.1 }
-{
-    let (core, went) = run_commands(alloc, core, commands, out, driver, limit);
-    match went {
-        Ok(ending) => {
-            let closed = close(alloc, &core, ending, out);
-            (core, closed)
-        }
-        Err(error) => (core, Err(error)),
-    }
-}
-
-// Writes the report, unless a reply ended the session.
-fn close<D: Disk, O: Sink>(
-    alloc: Global,
-    core: &Core<D>,
-    ending: Ending,
-    out: &mut O,
-) -> Result<Ending, SessionError>
-    ensures closed { IfOk result (λ closed. (closed ≡ ending) × ((text : List ℕ) × IsClosing (graph core.now) (facts core.now) ending.stop text × Appends (O.contents out.old) (O.contents out.new) text)) }
-    ensures err { IfErr result IsOfOutput }
-    ensures unwritten { result ≡ Err NoMemory → (ending.stop ≡ None) × (O.contents out.new ≡ O.contents out.old) }
-    ensures sink { TellsSink O.target O.has_failed out.old out.new result }
-{
-    if ending.stop.is_some() {
-        return Ok(ending);
-    }
-    match send_report(alloc, core, out) {
-        Ok(()) => Ok(ending),
-        Err(error) => Err(SessionError::of_report(error)),
     }
 }

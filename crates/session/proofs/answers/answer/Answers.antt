@@ -1,17 +1,28 @@
-use Rattle.std.proofs.Common.{List, sym, subst, IsTrue}
-use Rattle.terms.specs.declared.event.Event.{Event}
-use Rattle.commit.specs.Core.{facts, graph, is_halted}
+use Rattle.std.proofs.Common.{◌≡◌, ◌↔◌, Bool, Some, [], refl, sym, subst, true, IsTrue}
 use Rattle.script.specs.declared.command.Command.{Command}
-use Rattle.pool.specs.Driver.{may_be_asked, may_spawn}
-use Rattle.session.specs.Answers.{Replies, drive_of}
-use Rattle.commit.specs.Went.{GoesOn}
-use Rattle.session.specs.Went.{HasCause}
+use Rattle.script.specs.declared.command.Command.TheVariants.{Get, Put, Tag}
+use Rattle.session.specs.declared.reply.Reply.TheVariants.{Halted}
+use Rattle.session.specs.Lines.{AnswersAtOnce}
+use Rattle.session.proofs.OneLine.{at_once}
 use Rattle.session.proofs.answers.answer.Goals as goal
 
-pub returns-in-Run-clause-replies : goal.returns-in-Run-clause-replies
-returns-in-Run-clause-replies g c =
-    let it = c.run.ensures.replies in
-    subst (λ (command : Command). (came : List Event) × GoesOn g.D.Disk.files g.D.Disk.moment g.D.Disk.left_at g.D.Disk.failures g.D.Disk.refusals (IsTrue g.D.Disk.is_honest) c.args.core c.run.result.0 came
-    × Replies (graph c.args.core) (drive_of c.args.limit (may_be_asked g.P.Probe.may_stop c.args.driver.now) (may_spawn c.args.driver.now) (is_halted c.args.core)) (facts c.args.core) command came c.run.result.1
-    × HasCause g.D.Disk.failures c.args.core c.run.result.0 command came c.run.result.1) (sym c.in-Run.is)
-    (it.0, it.1, (it.2, c.run.ensures.halt), it.3)
+pub returns-in-Put-clause-answers : goal.returns-in-Put-clause-answers
+returns-in-Put-clause-answers g c =
+    let it = c.put_item.ensures in
+    subst (λ (command : Command). AnswersAtOnce g.D.Disk.files g.D.Disk.moment g.D.Disk.left_at g.D.Disk.failures g.D.Disk.refusals (IsTrue g.D.Disk.is_honest) c.args.core.now c.put_item.new.core command (Some c.put_item.result)) (sym c.in-Put.is)
+    (at_once g.D.Disk.files g.D.Disk.moment g.D.Disk.left_at g.D.Disk.failures g.D.Disk.refusals (IsTrue g.D.Disk.is_honest) c.args.core.now c.put_item.new.core (Put c.in-Put.address c.in-Put.value) c.put_item.result it.replies.0 it.replies.1 (λ drive. it.replies.2)
+    (λ halted is. subst (λ (b : Bool). (c.put_item.result ≡ Halted) ↔ (b ≡ true)) is it.halt) it.replies.3 it.stays)
+
+pub returns-in-Tag-clause-answers : goal.returns-in-Tag-clause-answers
+returns-in-Tag-clause-answers g c =
+    let it = c.put_tag.ensures in
+    subst (λ (command : Command). AnswersAtOnce g.D.Disk.files g.D.Disk.moment g.D.Disk.left_at g.D.Disk.failures g.D.Disk.refusals (IsTrue g.D.Disk.is_honest) c.args.core.now c.put_tag.new.core command (Some c.put_tag.result)) (sym c.in-Tag.is)
+    (at_once g.D.Disk.files g.D.Disk.moment g.D.Disk.left_at g.D.Disk.failures g.D.Disk.refusals (IsTrue g.D.Disk.is_honest) c.args.core.now c.put_tag.new.core (Tag c.in-Tag.tag) c.put_tag.result it.replies.0 it.replies.1 (λ drive. it.replies.2)
+    (λ halted is. subst (λ (b : Bool). (c.put_tag.result ≡ Halted) ↔ (b ≡ true)) is it.halt) it.replies.3 it.stays)
+
+pub returns-in-Get-clause-answers : goal.returns-in-Get-clause-answers
+returns-in-Get-clause-answers g c =
+    let it = c.get.ensures in
+    subst (λ (command : Command). AnswersAtOnce g.D.Disk.files g.D.Disk.moment g.D.Disk.left_at g.D.Disk.failures g.D.Disk.refusals (IsTrue g.D.Disk.is_honest) c.args.core.now c.args.core.now command (Some c.get.result)) (sym c.in-Get.is)
+    (at_once g.D.Disk.files g.D.Disk.moment g.D.Disk.left_at g.D.Disk.failures g.D.Disk.refusals (IsTrue g.D.Disk.is_honest) c.args.core.now c.args.core.now (Get c.in-Get.address) c.get.result [] it.goes_on (λ drive. it.replies)
+    (λ halted is. subst (λ (b : Bool). (c.get.result ≡ Halted) ↔ (b ≡ true)) is it.halt) it.cause (λ _. refl))

@@ -1,0 +1,43 @@
+-- How far the lines of a script are, and what its calls do with them, however a session came there.
+use Rattle.std.specs.Prelude.{◌≡◌, ℕ, Bool, true, false, List, ◌∷◌, Option, None, Result}
+use Rattle.std.specs.Borrow.{GName}
+use Rattle.disk.specs.declared.side.Side.{Side}
+use Rattle.disk.specs.File.{File}
+use Rattle.disk.specs.Time.{Contents}
+use Rattle.commit.specs.declared.verdict.RunError.{RunError}
+use Rattle.commit.specs.declared.verdict.Verdict.{Verdict}
+use Rattle.commit.specs.Core.{Core, is_halted}
+use Rattle.script.specs.declared.command.Command.{Command}
+use Rattle.script.specs.declared.command.Command.TheVariants.{Run}
+use Rattle.session.specs.declared.progress.Progress.{Progress}
+use Rattle.session.specs.Answers.{Drive, drive_of}
+use Rattle.session.specs.Fails.{AnswersLines}
+use Rattle.session.specs.Lines.{HasRunTo, Stands, went_of}
+use Rattle.session.specs.Streams.{TellsSink}
+
+module _ {D : Type 0} (files : D → Side → File) (moment : D → ℕ) (left_at : D → ℕ → Contents → Type 0) (failures refusals : D → ℕ) (honest : Type 0)
+    {S : Type 0} (target : S → GName) (has_failed : S → Bool) (contents : S → Option (List ℕ)) where
+  -- how a session stands whose lines are so far
+  abbrev pub StandsAt : Drive → List Command → (first now : S) → (old new : Core D) → Progress → Type 0
+  StandsAt drive commands first now old new progress = Stands files moment left_at failures refusals honest target has_failed contents drive commands progress.left.now first now old new progress.ending progress.failed
+
+  -- it goes on, and the next line is a run
+  abbrev pub IsAtRun : Drive → List Command → (first now : S) → (old new : Core D) → Progress → Type 0
+  IsAtRun drive commands first now old new progress =
+      Stands files moment left_at failures refusals honest target has_failed contents drive commands (Run ∷ progress.left.now) first now old new progress.ending progress.failed × (progress.failed ≡ false) × (progress.ending.stop ≡ None)
+
+  -- no line is left to answer
+  abbrev pub IsOver : Drive → List Command → (first now : S) → (old new : Core D) → Progress → Type 0
+  IsOver drive commands first now old new progress =
+      AnswersLines files moment left_at failures refusals honest drive commands (contents first) (contents now) old new (went_of progress.failed progress.ending) × TellsSink target has_failed first now (went_of progress.failed progress.ending)
+
+  -- however the session came here, it comes to a run, or to its end
+  abbrev pub ReachesRun : (before after : Progress) → (here there : S) → (from new : Core D) → (at_run : Bool) → Type 0
+  ReachesRun before after here there from new true = (drive : Drive) (commands : List Command) (first : S) (old : Core D) → StandsAt drive commands first here old from before → IsAtRun drive commands first there old new after
+  ReachesRun before after here there from new false = (drive : Drive) (commands : List Command) (first : S) (old : Core D) → StandsAt drive commands first here old from before → IsOver drive commands first there old new after
+
+  -- however it came to the run, it goes on from what the run returned
+  abbrev pub AnswersRun : (before after : Progress) → (here there : S) → Core D → Result Verdict RunError → Type 0
+  AnswersRun before after here there new verdict =
+      (most : ℕ) (may_be_asked may_spawn was_halted : Bool) (commands : List Command) (first : S) (old from : Core D) → IsAtRun (drive_of most may_be_asked may_spawn was_halted) commands first here old from before
+      → HasRunTo files moment left_at failures refusals honest most may_be_asked may_spawn from new verdict → StandsAt (drive_of most may_be_asked may_spawn was_halted) commands first there old new after
