@@ -11,6 +11,7 @@ pub mod Puts
 pub mod Ran
 pub mod Reporting
 pub mod SameText
+pub mod Scripted
 pub mod Standing
 pub mod Strictly
 pub mod Taken

@@ -25,13 +25,13 @@ pub(crate) fn close<D: Disk, O: Sink>(
     ensures sink { SinkFollows O.target O.has_failed out.old out.new went result }
 {
     match went {
-        Ok(ending) => report(alloc, core, ending, out),
+        Ok(ending) => with_report(alloc, core, ending, out),
         Err(error) => Err(error),
     }
 }
 
 // Writes the report, unless a reply ended the session.
-fn report<D: Disk, O: Sink>(
+fn with_report<D: Disk, O: Sink>(
     alloc: Global,
     core: &Core<D>,
     ending: Ending,

@@ -1,31 +1,18 @@
-use Rattle.std.proofs.Common.{◌∙◌, List, refl, sym, subst, inl, inr}
-use Rattle.graph.specs.Graph.{Graph}
-use Rattle.script.specs.declared.command.Command.{Command}
-use Rattle.script.specs.Script.{IsScript}
-use Rattle.session.specs.Fails.{FailsToRead}
+use Rattle.std.proofs.Common.{◌∙◌, IsTrue, false}
+use Rattle.commit.specs.Core.{is_halted}
+use Rattle.session.specs.Answers.{drive_of}
 use Rattle.session.proofs.Failing.{ran_calm, unwritten_told}
+use Rattle.session.proofs.Scripted.{answered, unread}
 use Rattle.session.proofs.sessions.session_alone.Goals as goal
 
 pub returns-in-Ok-clause-answers : goal.returns-in-Ok-clause-answers
 returns-in-Ok-clause-answers g c =
-    let read = c.in-Ok.ensures.read in
-    let commands = c.as_slice.result.now in
-    inr (record {
-      script = read.0;
-      is_all = read.1;
-      commands = commands;
-      is_script = subst (λ (h : Graph). IsScript h read.0 commands) (c.deref.ensures ∙ c.graph.ensures) (subst (λ (list : List Command). IsScript c.deref.result.now read.0 list) (sym c.as_slice.ensures.value) read.2);
-      answers = c.run_script_alone.ensures.answers;
-    })
+    answered g.D.Disk.files g.D.Disk.moment g.D.Disk.left_at g.D.Disk.failures g.D.Disk.refusals (IsTrue g.D.Disk.is_honest) (drive_of c.args.limit false false (is_halted c.args.core)) (g.S.Source.remaining c.args.input.now) (g.O.Sink.contents c.args.out.now) (g.O.Sink.contents c.run_script_alone.new.out) c.args.core c.run_script_alone.result.0 c.deref.result.now (c.deref.ensures ∙ c.graph.ensures)
+    c.run_script_alone.result.1 c.in-Ok.commands.items c.as_slice.result.now c.as_slice.ensures.value c.in-Ok.ensures.read c.run_script_alone.ensures.answers
 
 pub returns-in-Err-clause-answers : goal.returns-in-Err-clause-answers
-returns-in-Err-clause-answers g c = inl (record {
-  error = c.in-Err.error;
-  told = refl;
-  why = subst (λ (h : Graph). FailsToRead h (g.S.Source.remaining c.args.input.now) c.in-Err.error) (c.deref.ensures ∙ c.graph.ensures) c.in-Err.ensures.fails;
-  same = refl;
-  nothing_written = refl;
-})
+returns-in-Err-clause-answers g c =
+    unread g.D.Disk.files g.D.Disk.moment g.D.Disk.left_at g.D.Disk.failures g.D.Disk.refusals (IsTrue g.D.Disk.is_honest) (drive_of c.args.limit false false (is_halted c.args.core)) (g.S.Source.remaining c.args.input.now) (g.O.Sink.contents c.args.out.now) (g.O.Sink.contents c.args.out.now) c.args.core c.args.core c.deref.result.now (c.deref.ensures ∙ c.graph.ensures) c.in-Err.error c.in-Err.ensures.fails
 
 pub returns-in-Ok-clause-source : goal.returns-in-Ok-clause-source
 returns-in-Ok-clause-source g c =

@@ -5,7 +5,7 @@ use Rattle.session.specs.declared.error.SessionError.{SessionError}
 use Rattle.session.specs.Fails.{IsOfOutput}
 use Rattle.session.specs.Streams.{TellsSink}
 use Rattle.session.proofs.Failing.{of_output, report_told}
-use Rattle.session.proofs.closing.report.Goals as goal
+use Rattle.session.proofs.closing.with_report.Goals as goal
 
 pub returns-in-Err-clause-err : goal.returns-in-Err-clause-err
 returns-in-Err-clause-err g c = subst IsOfOutput (sym c.of_report.ensures) (of_output c.in-Err.error)
