@@ -1,4 +1,5 @@
-use Rattle.std.proofs.Common.{◌≡◌, ◌↔◌, Bool, Some, [], refl, sym, subst, true, IsTrue}
+use Rattle.std.proofs.Common.{◌≡◌, ◌↔◌, ℤ, Bool, SFits, Some, [], refl, rules, sym, subst, true, w64, IsTrue}
+use Rattle.std.proofs.lemmas.Int.{to_z-of_z}
 use Rattle.script.specs.declared.command.Command.{Command}
 use Rattle.script.specs.declared.command.Command.TheVariants.{Get, Put, Tag}
 use Rattle.session.specs.declared.reply.Reply.TheVariants.{Halted}
@@ -9,9 +10,11 @@ use Rattle.session.proofs.answers.answer.Goals as goal
 pub returns-in-Put-clause-answers : goal.returns-in-Put-clause-answers
 returns-in-Put-clause-answers g c =
     let it = c.put_item.ensures in
+    let fits : SFits w64 c.in-Put.value = search rules in
     subst (λ (command : Command). AnswersAtOnce g.D.Disk.files g.D.Disk.moment g.D.Disk.left_at g.D.Disk.failures g.D.Disk.refusals (IsTrue g.D.Disk.is_honest) c.args.core.now c.put_item.new.core command (Some c.put_item.result)) (sym c.in-Put.is)
-    (at_once g.D.Disk.files g.D.Disk.moment g.D.Disk.left_at g.D.Disk.failures g.D.Disk.refusals (IsTrue g.D.Disk.is_honest) c.args.core.now c.put_item.new.core (Put c.in-Put.address c.in-Put.value) c.put_item.result it.replies.0 it.replies.1 (λ drive. it.replies.2)
-    (λ halted is. subst (λ (b : Bool). (c.put_item.result ≡ Halted) ↔ (b ≡ true)) is it.halt) it.replies.3 it.stays)
+    (subst (λ (value : ℤ). AnswersAtOnce g.D.Disk.files g.D.Disk.moment g.D.Disk.left_at g.D.Disk.failures g.D.Disk.refusals (IsTrue g.D.Disk.is_honest) c.args.core.now c.put_item.new.core (Put c.in-Put.address value) (Some c.put_item.result)) (to_z-of_z w64 c.in-Put.value fits)
+    (at_once g.D.Disk.files g.D.Disk.moment g.D.Disk.left_at g.D.Disk.failures g.D.Disk.refusals (IsTrue g.D.Disk.is_honest) c.args.core.now c.put_item.new.core _ c.put_item.result it.replies.0 it.replies.1 (λ drive. it.replies.2)
+    (λ halted is. subst (λ (b : Bool). (c.put_item.result ≡ Halted) ↔ (b ≡ true)) is it.halt) it.replies.3 it.stays))
 
 pub returns-in-Tag-clause-answers : goal.returns-in-Tag-clause-answers
 returns-in-Tag-clause-answers g c =
