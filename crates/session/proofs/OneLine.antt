@@ -78,7 +78,7 @@ module _ {D : Type 0} (files : D → Side → File) (moment : D → ℕ) (left_a
           replies = (
             record {
               are_ends = first_ends it.ends new.in_doubt it.runs.are_ends;
-              legal = front_legal _ _ it.ends new.in_doubt it.runs.legal;
+              legal = front_legal (graph old) (facts old) it.ends new.in_doubt it.runs.legal;
               within = omega (arith, it.runs.spent);
               told = subst (λ (h : Graph). TellsRun h (drive_of most may_be_asked may_spawn (is_halted old)) (with_facts (facts old) (stated.facts it.ends)) (length it.ends) reply) it.runs.graph
                   (subst (λ (X : Facts). TellsRun (graph new) (drive_of most may_be_asked may_spawn (is_halted old)) X (length it.ends) reply) all
