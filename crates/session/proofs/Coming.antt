@@ -170,7 +170,7 @@ module _ {D : Type 0} (files : D → Side → File) (moment : D → ℕ) (left_a
     pub nothing_came : (core : Core D) → (honest → IsKept files core) → (is_halted core ≡ false → core.in_doubt ≡ []) → GoesOn files moment left_at failures refusals honest core core []
     nothing_came core kept settled = record {
       went = λ working.
-          of_run core core core.allowance []
+          of_run files moment left_at failures refusals honest core core core.allowance []
           (rests files moment left_at failures refusals honest leaves gates_rest (with_allowance core core.allowance) core working kept
           (record { graph = refl; facts = λ _. refl; environment = λ _. refl; allowance = refl; latest = refl; disk = refl; generation = refl; end = refl; halted = working; settled = settled working }));
       stays = λ halted. (record { graph = refl; facts = λ _. refl; environment = λ _. refl; vault = alike core.vault; in_doubt = refl; latest = refl }, refl);
@@ -225,7 +225,7 @@ module _ {D : Type 0} (files : D → Side → File) (moment : D → ℕ) (left_a
           at : is_halted old ≡ false → (b : Bool) → is_halted new ≡ b → Went files moment left_at failures refusals honest old new []
           at working false goes =
               let kept_so = halts.same (goes ∙ sym working) in
-              of_run old new new.allowance []
+              of_run files moment left_at failures refusals honest old new new.allowance []
               (rests files moment left_at failures refusals honest leaves gates_rest (with_allowance old new.allowance) new working (λ on. record { holds = (kept on).holds; left = (kept on).left })
               (record { graph = same.stays.graph; facts = same.stays.facts; environment = same.stays.environment; allowance = refl; latest = same.stays.latest; disk = kept_so.0.disk; generation = kept_so.0.generation; end = kept_so.0.end; halted = goes; settled = kept_so.1 ∙ settled working }))
           at working true stops =

@@ -69,10 +69,10 @@ module _ {D : Type 0} (files : D → Side → File) (moment : D → ℕ) (left_a
   -- there when the next one begins, and no crash undoes them from then on.
   abbrev pub GoesOnByLine : Core D → Core D → List Command → List Reply → (events : List (List Event)) → Type 0
   GoesOnByLine old new commands replies [] = new ≡ old
-  GoesOnByLine old new (command ∷ more) (reply ∷ rest) (came ∷ later) = (mid : Core D) × GoesOn old mid came × HasCause failures old mid command came reply × GoesOnByLine mid new more rest later
+  GoesOnByLine old new (command ∷ more) (reply ∷ rest) (came ∷ later) = (mid : Core D) × GoesOn files moment left_at failures refusals honest old mid came × HasCause failures old mid command came reply × GoesOnByLine mid new more rest later
   GoesOnByLine old new commands replies events = ⊥
 
   -- how the core goes on by these lines: by all their events together, and line by line
   pub record GoesOnByAll (old new : Core D) (commands : List Command) (replies : List Reply) (events : List (List Event)) : Type 0 where
-    pub together : GoesOn old new (all_of events)
+    pub together : GoesOn files moment left_at failures refusals honest old new (all_of events)
     pub by_line : GoesOnByLine old new commands replies events

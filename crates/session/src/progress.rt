@@ -55,8 +55,8 @@ impl<'a> Progress<'a> {
         facts_are_told_apart();
         stores_go_on::<D>();
         while let Some(command) = self.next() {
-            match answer(core, command) {
-                Some(reply) => self.reply(core.graph(), command, &reply, out),
+            match answer(core, *command) {
+                Some(reply) => self.reply(core.graph(), *command, &reply, out),
                 None => return true,
             }
         }
@@ -91,8 +91,8 @@ impl<'a> Progress<'a> {
     }
 
     // Takes the next line, unless the session has ended.
-    fn next(&mut self) -> Option<Command>
-        ensures some { IfSome result (λ command. (self.old.failed ≡ false) × (self.old.ending.stop ≡ None) × (self.old.left.now ≡ command ∷ self.new.left.now)) }
+    fn next(&mut self) -> Option<&'a Command>
+        ensures some { IfSome result (λ command. (self.old.failed ≡ false) × (self.old.ending.stop ≡ None) × (self.old.left.now ≡ command.now ∷ self.new.left.now)) }
         ensures none { result ≡ None → self.old.failed ≡ false → self.old.ending.stop ≡ None → self.old.left.now ≡ [] }
         ensures same { (self.new.ending ≡ self.old.ending) × (self.new.failed ≡ self.old.failed) }
     {
@@ -104,7 +104,7 @@ impl<'a> Progress<'a> {
             None => match self.left {
                 [command, more @ ..] => {
                     self.left = more;
-                    Some(*command)
+                    Some(command)
                 }
                 _ => None,
             },
