@@ -1,5 +1,5 @@
 -- What events that come one after another make of the commit order, and what a crash leaves at each moment of them.
-use Rattle.std.proofs.Common.{◌≡◌, ◌∙◌, ◌↔◌, ap, refl, sym, subst, ℕ, false, List, [], ◌∷◌, ◌++◌}
+use Rattle.std.proofs.Common.{◌≡◌, ◌∙◌, ◌↔◌, ap, refl, sym, subst, ℕ, false, List, [], ◌++◌}
 use Rattle.std.proofs.lemmas.List.{append-nil, append_assoc}
 use Rattle.disk.specs.declared.side.Side.{Side}
 use Rattle.disk.specs.File.{File}
@@ -7,7 +7,6 @@ use Rattle.disk.specs.Moments.{weakened}
 use Rattle.disk.specs.Time.{Contents, MayLeaveNow, LeavesOnly}
 use Rattle.terms.specs.declared.event.Event.{Event}
 use Rattle.terms.specs.Commits.{Commit, events_of, facts_behind, environment_behind}
-use Rattle.terms.specs.Facts.{Fact}
 use Rattle.terms.specs.Facts as stated
 use Rattle.terms.specs.Sets.{AmongBoth, Facts, with_facts}
 use Rattle.graph.specs.Graph.{Graph}
@@ -23,7 +22,7 @@ use Rattle.commit.specs.Went.{Went}
 use Rattle.commit.proofs.Acknowledged.{all_at_last}
 use Rattle.commit.proofs.Lists.{events_back, events_joined, legal_joined, one_by_one_joined}
 use Rattle.moves.specs.Order.{History}
-use Rattle.moves.specs.There.{Has, Leaves, MayStand}
+use Rattle.moves.specs.There.{MayStand}
 use Rattle.moves.proofs.Calls.{LeavesAt, Stood, both_hold, gated, left_at_end}
 use Rattle.moves.proofs.Known.{IsLegal, all, carried, environment_after, facts_after, given, legal_after, prefix_legal}
 
@@ -113,8 +112,7 @@ module _
       };
       leaves = λ contents may.
           let was = (now new.vault.disk contents).1 may in
-          let here = all_at_last (graph old) (environment old) (facts old) (left_at new.vault.disk) (moment new.vault.disk) (moment old.vault.disk) [] events new.in_doubt (went.crashes on).later (went.acknowledged on) contents was in
-          (
+          let here = all_at_last (graph old) (environment old) (facts old) (left_at new.vault.disk) (moment new.vault.disk) (moment old.vault.disk) [] events new.in_doubt (went.crashes on).later (went.acknowledged on) contents was in (
             from_start both g h.made (one_by_one events) (one_by_one new.in_doubt) contents
                 (carried g h old stood.has (λ k E X. StandsForBeginning k E X (one_by_one events) (one_by_one new.in_doubt) contents) here),
             (left_at_end files moment left_at failures refusals honest on both now reads held appends g in_part old.vault.disk new.vault.disk leaving contents may).1,

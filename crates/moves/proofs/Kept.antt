@@ -4,7 +4,6 @@ use Rattle.terms.specs.declared.name.Addr.{Addr}
 use Rattle.terms.specs.declared.name.Inst.{Inst}
 use Rattle.instances.specs.declared.state.State.{State}
 use Rattle.instances.specs.declared.state.State.TheVariants.{Ready, Running, Waiting}
-use Rattle.vault.specs.declared.vault.Vault.{Vault}
 use Rattle.commit.specs.declared.error.CoreError.{CoreError}
 use Rattle.commit.specs.Calls.{KeepsStore, Stays}
 use Rattle.vault.specs.Store.{IsSame}

@@ -5,7 +5,7 @@ use Rattle.terms.specs.Commits.{Commit}
 use Rattle.commit.specs.Runs.{one_by_one}
 use Rattle.moves.specs.Call.{Call, acknowledged}
 use Rattle.moves.specs.Move.{Move, Place, at_core, at_disk, whole, cut, goes_on, going_cut, crashes, gives_back, crashes_again, opens, opening_cut}
-use Rattle.moves.specs.Order.{AcknowledgedStays, Doubts, Extends, ExtendsAll, Forgets, Goes, History, MadeStays, acknowledged_by, begun}
+use Rattle.moves.specs.Order.{AcknowledgedStays, Doubts, Extends, ExtendsAll, Forgets, History, MadeStays, acknowledged_by, begun}
 
 abbrev made : History → List Commit
 made h = h.made
@@ -92,8 +92,7 @@ acknowledged_there D one two move from to before after all =
     let earlier = parts.1 in
     let rest = parts.3 in
     let first = by_move D move place rest.0 earlier rest.1 rest.2 in
-    let later = made_stays D two rest.0 to rest.1 after rest.3 in
-    (
+    let later = made_stays D two rest.0 to rest.1 after rest.3 in (
       place,
       earlier,
       parts.2,
