@@ -26,6 +26,22 @@ returns-clause-reaches g c drive commands first old stands =
     drive commands it.self.left.now first it.out old it.core it.self.ending c.next.new.self.ending it.self.failed c.next.new.self.failed
     (c.in_default.ensures.none refl) same.0 same.1 (it.invariant.stands drive commands first old stands)
 
+pub loop-command-preserved : goal.loop-command-preserved
+loop-command-preserved g c =
+    let it = c.loop-command in
+    let some = c.in-Some.ensures.some in
+    let same = c.next.ensures.same in
+    record {
+      idle = c.answer.ensures.idle;
+      stands = λ drive commands first old stands.
+          subst (λ (list : List Command). Stands g.D.Disk.files g.D.Disk.moment g.D.Disk.left_at g.D.Disk.failures g.D.Disk.refusals (IsTrue g.D.Disk.is_honest) g.O.Sink.target g.O.Sink.has_failed g.O.Sink.contents drive commands list first c.reply.new.out old c.answer.new.core c.reply.new.self.ending c.reply.new.self.failed) (sym c.reply.ensures.left)
+          (stands_on g.D.Disk.files g.D.Disk.moment g.D.Disk.left_at g.D.Disk.failures g.D.Disk.refusals (IsTrue g.D.Disk.is_honest) g.O.Sink.target g.O.Sink.has_failed g.O.Sink.contents c.facts_are_told_apart.ensures.among c.stores_go_on.ensures.gates_stay
+          drive commands it.self.left.now c.next.new.self.left.now first it.out c.reply.new.out old it.core c.answer.new.core c.in-Some.command.now c.in-Some-answer.reply it.self.ending c.reply.new.self.ending it.self.failed c.reply.new.self.failed c.deref.result.now
+          some.2 some.0 some.1 (c.deref.ensures ∙ c.graph.ensures) (it.invariant.stands drive commands first old stands) (c.in-Some-answer.ensures.answers drive)
+          (subst (λ (before : Ending). TellsReply g.O.Sink.target g.O.Sink.has_failed g.O.Sink.contents c.deref.result.now c.in-Some.command.now c.in-Some-answer.reply it.out c.reply.new.out before c.reply.new.self.ending c.reply.new.self.failed) same.0 (c.reply.ensures.tells (same.1 ∙ some.0))));
+      fewer = omega (arith, it.invariant.fewer, ap length some.2, ap length c.reply.ensures.left);
+    }
+
 pub loop-command-preserved-in-Some-answer : goal.loop-command-preserved-in-Some-answer
 loop-command-preserved-in-Some-answer g c =
     let it = c.loop-command in
