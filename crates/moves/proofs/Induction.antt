@@ -262,24 +262,26 @@ module _
       known h place at = record { legal = (as_set g [] (events_of (h.made ++ h.doubt))).1 (legal_at h place at); is_there = there h place at; means = meant h place at }
 
       -- along the moves one order goes on
-      along : (moves : List (Move D)) (from to : Place D) (h : History) → At h from → LeadsAll files moment left_at failures refusals honest moves from to → (last : History) × Along files moment left_at failures refusals honest g moves from to h last
-      along [] from to h at leads = (h, (leads, refl))
+      along : (moves : List (Move D)) (from to : Place D) (h : History) → At h from → (leads : LeadsAll files moment left_at failures refusals honest moves from to)
+          → (last : History) × Along files moment left_at failures refusals honest g moves from to leads h last
+      along [] from to h at leads = (h, refl)
       along (move ∷ moves) from to h at leads =
           let first = step move from leads.0 h at leads.1 in
           let rest = along moves leads.0 to first.0 first.2 leads.2 in
-          (rest.0, (leads.0, first.0, leads.1, first.1, known first.0 leads.0 first.2, rest.1))
+          (rest.0, (first.0, first.1, known first.0 leads.0 first.2, rest.1))
 
-      order : (moves : List (Move D)) (from to : Place D) (h last : History) → Along files moment left_at failures refusals honest g moves from to h last → ExtendsAll moves from to h last
-      order [] from to h last it = it
-      order (move ∷ moves) from to h last it = (it.0, it.1, it.3, order moves it.0 to it.1 last it.5)
+      order : (moves : List (Move D)) (from to : Place D) (leads : LeadsAll files moment left_at failures refusals honest moves from to) (h last : History)
+          → Along files moment left_at failures refusals honest g moves from to leads h last → ExtendsAll moves from to h last
+      order [] from to leads h last it = (leads, it)
+      order (move ∷ moves) from to leads h last it = (leads.0, it.0, it.1, order moves leads.0 to leads.2 it.0 last it.3)
 
-      pub holds : (moves : List (Move D)) (place : Place D) (core : Core D) → graph core ≡ g → StoodHere begun_order core → LeadsAll files moment left_at failures refusals honest moves (at_core core) place
-          → (first : IsKnown files moment left_at failures refusals honest g begun_order (at_core core)) × (last : History) × Along files moment left_at failures refusals honest g moves (at_core core) place begun_order last
+      pub holds : (moves : List (Move D)) (place : Place D) (core : Core D) → graph core ≡ g → StoodHere begun_order core → (leads : LeadsAll files moment left_at failures refusals honest moves (at_core core) place)
+          → (first : IsKnown files moment left_at failures refusals honest g begun_order (at_core core)) × (last : History) × Along files moment left_at failures refusals honest g moves (at_core core) place leads begun_order last
           × ((before after : List (Move D)) (move : Move D) → moves ≡ before ++ move ∷ after
           → (at : Place D) × (earlier : History) × ExtendsAll before (at_core core) at begun_order earlier × ((later : List Commit) × (last.made ≡ earlier.made ++ acknowledged_by move ++ later)))
       holds moves place core is stood leads =
           let it = along moves (at_core core) place begun_order (stood, tt) leads in
-          let extends = order moves (at_core core) place begun_order it.0 it.1 in (
+          let extends = order moves (at_core core) place leads begun_order it.0 it.1 in (
             known begun_order (at_core core) (stood, tt),
             it.0,
             it.1,

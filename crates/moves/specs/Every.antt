@@ -24,7 +24,7 @@ use Rattle.commit.specs.Created.{IsCreated}
 use Rattle.commit.specs.Kept.{Keeps}
 use Rattle.commit.specs.Opened.{OpensAs}
 use Rattle.commit.specs.Status.{TellsStatus}
-use Rattle.moves.specs.Move.{Leads, LeadsAll, Move, Place, at_core, at_disk}
+use Rattle.moves.specs.Move.{LeadsAll, Move, Place, at_core, at_disk}
 use Rattle.moves.specs.Order.{Extends, ExtendsAll, History, acknowledged_by, begun}
 use Rattle.moves.specs.There.{IsThere}
 
@@ -67,18 +67,17 @@ module _ {D : Type 0} (files : D → Side → File) (moment : D → ℕ) (left_a
     pub is_there : IsThere files g h place
     pub means : Means g place
 
-  -- Along the moves one commit order goes on, and after each of them this is known.
-  abbrev pub Along : Graph → List (Move D) → (from to : Place D) → History → History → Type 0
-  Along g [] from to before after = (to ≡ from) × (after ≡ before)
-  Along g (move ∷ moves) from to before after =
-      (place : Place D) × (next : History) × Leads files moment left_at failures refusals honest move from place × Extends move from place before next × IsKnown g next place × Along g moves place to next after
+  -- Along the moves, from each place that they led to, one commit order goes on, and after each of them this is known.
+  abbrev pub Along : Graph → (moves : List (Move D)) (from to : Place D) → LeadsAll files moment left_at failures refusals honest moves from to → History → History → Type 0
+  Along g [] from to leads before after = after ≡ before
+  Along g (move ∷ moves) from to leads before after = (next : History) × Extends move from leads.0 before next × IsKnown g next leads.0 × Along g moves leads.0 to leads.2 next after
 
   -- What holds of a list of moves from a creation: this is known of the new store, and along the moves. What a move acknowledged comes after all that was made before the move,
   -- and is there at the end.
-  pub record Holds (core : Core D) (moves : List (Move D)) (place : Place D) : Type 0 where
+  pub record Holds (core : Core D) (moves : List (Move D)) (place : Place D) (leads : LeadsAll files moment left_at failures refusals honest moves (at_core core) place) : Type 0 where
     pub first : IsKnown (graph core) begun (at_core core)
     pub history : History
-    pub along : Along (graph core) moves (at_core core) place begun history
+    pub along : Along (graph core) moves (at_core core) place leads begun history
     pub acknowledged : (one two : List (Move D)) (move : Move D) → moves ≡ one ++ move ∷ two
         → (at : Place D) × (earlier : History) × ExtendsAll one (at_core core) at begun earlier × ((later : List Commit) × (history.made ≡ earlier.made ++ acknowledged_by move ++ later))
 
@@ -87,4 +86,4 @@ module _ {D : Type 0} (files : D → Side → File) (moment : D → ℕ) (left_a
   abbrev pub ForEverySchedule : Type 0
   ForEverySchedule =
       (text : List ℕ) (core : Core D) (moves : List (Move D)) (place : Place D) → IsCreated files honest text core → Keeps files honest core
-      → LeadsAll files moment left_at failures refusals honest moves (at_core core) place → Holds core moves place
+      → (leads : LeadsAll files moment left_at failures refusals honest moves (at_core core) place) → Holds core moves place leads
