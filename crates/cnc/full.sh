@@ -48,9 +48,14 @@ then_full() {
     awk '/^ok$/ && !full { next } /^refused 7: full$/ { full = 1; next } { wrong = 1 } END { exit (wrong || !full) }'
 }
 
-# The number of bytes of both files.
+# The checksum and the number of bytes of both files.
+files() {
+    cksum "$room/store/A" "$room/store/B" | cut -d ' ' -f 1,2 | tr '\n' ' '
+}
+
+# The number of bytes of the first file.
 size() {
-    stat -c %s "$room/store/A" "$room/store/B" | tr '\n' ' '
+    stat -c %s "$room/store/A"
 }
 
 "$cnc" create "$room/graph" "$room/store" >"$room/created"
@@ -58,12 +63,13 @@ replies fill 1
 test "$(tail -n 1 "$room/fill.out")" = 'refused 7: full'
 test "$(head -n 7000 "$room/fill.out" | sort -u)" = 'ok'
 after_fill=$(size)
+full=$(files)
 
 # A run on four workers is refused too, and writes nothing.
 echo run >"$room/again"
 replies again 4
 test "$(cat "$room/again.out")" = 'refused 7: full'
-test "$(size)" = "$after_fill"
+test "$(files)" = "$full"
 
 # Small puts fit until they don't; from then on each is refused, and so are the tags after some more.
 replies more 1
@@ -75,12 +81,13 @@ test "$(sed -n 20001p "$room/more.out")" = 'refused 4: already put as 0'
 test "$(sed -n 20002p "$room/more.out")" = '[out: 0, 0, 0, 3999] = 3999'
 test "$(sed -n 20003p "$room/more.out")" = 'refused 7: full'
 after_more=$(size)
+full=$(files)
 
 # An image of all this is too long.
 status=0
 "$cnc" turn "$room/store" >"$room/turned" 2>"$room/err" || status=$?
 test "$status" = 4
-test "$(size)" = "$after_more"
+test "$(files)" = "$full"
 
 "$cnc" report "$room/store" | tail -n 1 >"$room/last"
-echo "files of $after_fill bytes when the run was full, and of $after_more after $puts puts and $tags tags; turnover: status $status, $(cat "$room/err"); $(cat "$room/last")"
+echo "$after_fill bytes when the run was full, and $after_more after $puts puts and $tags tags; turnover: status $status, $(cat "$room/err"); $(cat "$room/last")"
