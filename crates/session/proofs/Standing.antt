@@ -157,6 +157,16 @@ module _ {D : Type 0} (files : D → Side → File) (moment : D → ℕ) (left_a
       let so_far = subst (λ (list : List Command). SoFar files moment left_at failures refusals honest drive commands list (contents first) (contents here) old mid before) is (stands.going works none) in
       next both gates_stay drive commands more first here there old mid new command reply before ending failed g of_graph (calm_so_far drive commands left first here old mid before was works stands) so_far (comes so_far.same) tells
 
+  -- so however it stood before the line, it stands so after it
+  pub keeps_on : AmongBoth → (honest → GatesStay files moment left_at) → (start was took now : Progress) (begin here there : S) (from mid new : Core D) (command : Command) (reply : Reply) (g : Graph)
+      → was.left.now ≡ command ∷ took.left.now → was.failed ≡ false → was.ending.stop ≡ None → took.ending ≡ was.ending → now.left.now ≡ took.left.now → g ≡ graph new
+      → ((drive : Drive) → drive.was_halted ≡ is_halted mid → ComesTo files moment left_at failures refusals honest drive mid new command reply) → TellsReply target has_failed contents g command reply here there took.ending now.ending now.failed
+      → KeepsStanding start was begin here from mid → KeepsStanding start now begin there from new
+  keeps_on both gates_stay start was took now begin here there from mid new command reply g is works none same left of_graph comes tells stood drive commands first old stands =
+      subst (λ (list : List Command). Stands files moment left_at failures refusals honest target has_failed contents drive commands list first there old new now.ending now.failed) (sym left)
+      (stands_on both gates_stay drive commands was.left.now took.left.now first here there old mid new command reply was.ending now.ending was.failed now.failed g is works none of_graph (stood drive commands first old stands) (comes drive)
+      (subst (λ (before : Ending). TellsReply target has_failed contents g command reply here there before now.ending now.failed) same tells))
+
   -- ---- where the lines come to
 
   -- the next line is a run

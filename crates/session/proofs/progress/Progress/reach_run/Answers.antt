@@ -1,8 +1,5 @@
-use Rattle.std.proofs.Common.{◌∙◌, ap, arith, length, refl, List, subst, sym, IsTrue}
-use Rattle.script.specs.declared.command.Command.{Command}
-use Rattle.session.specs.declared.ending.Ending.{Ending}
-use Rattle.session.specs.Lines.{Stands, TellsReply}
-use Rattle.session.proofs.Standing.{at_run, is_over, stands_on}
+use Rattle.std.proofs.Common.{◌∙◌, ap, arith, length, refl, IsTrue}
+use Rattle.session.proofs.Standing.{at_run, is_over, keeps_on}
 use Rattle.session.proofs.progress.Progress.reach_run.Goals as goal
 
 pub loop-command-init : goal.loop-command-init
@@ -33,12 +30,9 @@ loop-command-preserved g c =
     let same = c.next.ensures.same in
     record {
       idle = c.answer.ensures.idle;
-      stands = λ drive commands first old stands.
-          subst (λ (list : List Command). Stands g.D.Disk.files g.D.Disk.moment g.D.Disk.left_at g.D.Disk.failures g.D.Disk.refusals (IsTrue g.D.Disk.is_honest) g.O.Sink.target g.O.Sink.has_failed g.O.Sink.contents drive commands list first c.reply.new.out old c.answer.new.core c.reply.new.self.ending c.reply.new.self.failed) (sym c.reply.ensures.left)
-          (stands_on g.D.Disk.files g.D.Disk.moment g.D.Disk.left_at g.D.Disk.failures g.D.Disk.refusals (IsTrue g.D.Disk.is_honest) g.O.Sink.target g.O.Sink.has_failed g.O.Sink.contents c.facts_are_told_apart.ensures.among c.stores_go_on.ensures.gates_stay
-          drive commands it.self.left.now c.next.new.self.left.now first it.out c.reply.new.out old it.core c.answer.new.core c.in-Some.command.now c.in-Some-answer.reply it.self.ending c.reply.new.self.ending it.self.failed c.reply.new.self.failed c.deref.result.now
-          some.2 some.0 some.1 (c.deref.ensures ∙ c.graph.ensures) (it.invariant.stands drive commands first old stands) (c.in-Some-answer.ensures.answers drive)
-          (subst (λ (before : Ending). TellsReply g.O.Sink.target g.O.Sink.has_failed g.O.Sink.contents c.deref.result.now c.in-Some.command.now c.in-Some-answer.reply it.out c.reply.new.out before c.reply.new.self.ending c.reply.new.self.failed) same.0 (c.reply.ensures.tells (same.1 ∙ some.0))));
+      stands = keeps_on g.D.Disk.files g.D.Disk.moment g.D.Disk.left_at g.D.Disk.failures g.D.Disk.refusals (IsTrue g.D.Disk.is_honest) g.O.Sink.target g.O.Sink.has_failed g.O.Sink.contents c.facts_are_told_apart.ensures.among c.stores_go_on.ensures.gates_stay
+          c.args.self.now it.self c.next.new.self c.reply.new.self c.args.out.now it.out c.reply.new.out c.args.core.now it.core c.answer.new.core c.in-Some.command.now c.in-Some-answer.reply c.deref.result.now
+          some.2 some.0 some.1 same.0 c.reply.ensures.left (c.deref.ensures ∙ c.graph.ensures) c.in-Some-answer.ensures.answers (c.reply.ensures.tells (same.1 ∙ some.0)) it.invariant.stands;
       fewer = omega (arith, it.invariant.fewer, ap length some.2, ap length c.reply.ensures.left);
     }
 
@@ -49,11 +43,8 @@ loop-command-preserved-in-Some-answer g c =
     let same = c.next.ensures.same in
     record {
       idle = c.answer.ensures.idle;
-      stands = λ drive commands first old stands.
-          subst (λ (list : List Command). Stands g.D.Disk.files g.D.Disk.moment g.D.Disk.left_at g.D.Disk.failures g.D.Disk.refusals (IsTrue g.D.Disk.is_honest) g.O.Sink.target g.O.Sink.has_failed g.O.Sink.contents drive commands list first c.reply.new.out old c.answer.new.core c.reply.new.self.ending c.reply.new.self.failed) (sym c.reply.ensures.left)
-          (stands_on g.D.Disk.files g.D.Disk.moment g.D.Disk.left_at g.D.Disk.failures g.D.Disk.refusals (IsTrue g.D.Disk.is_honest) g.O.Sink.target g.O.Sink.has_failed g.O.Sink.contents c.facts_are_told_apart.ensures.among c.stores_go_on.ensures.gates_stay
-          drive commands it.self.left.now c.next.new.self.left.now first it.out c.reply.new.out old it.core c.answer.new.core c.in-Some.command.now c.in-Some-answer.reply it.self.ending c.reply.new.self.ending it.self.failed c.reply.new.self.failed c.deref.result.now
-          some.2 some.0 some.1 (c.deref.ensures ∙ c.graph.ensures) (it.invariant.stands drive commands first old stands) (c.in-Some-answer.ensures.answers drive)
-          (subst (λ (before : Ending). TellsReply g.O.Sink.target g.O.Sink.has_failed g.O.Sink.contents c.deref.result.now c.in-Some.command.now c.in-Some-answer.reply it.out c.reply.new.out before c.reply.new.self.ending c.reply.new.self.failed) same.0 (c.reply.ensures.tells (same.1 ∙ some.0))));
+      stands = keeps_on g.D.Disk.files g.D.Disk.moment g.D.Disk.left_at g.D.Disk.failures g.D.Disk.refusals (IsTrue g.D.Disk.is_honest) g.O.Sink.target g.O.Sink.has_failed g.O.Sink.contents c.facts_are_told_apart.ensures.among c.stores_go_on.ensures.gates_stay
+          c.args.self.now it.self c.next.new.self c.reply.new.self c.args.out.now it.out c.reply.new.out c.args.core.now it.core c.answer.new.core c.in-Some.command.now c.in-Some-answer.reply c.deref.result.now
+          some.2 some.0 some.1 same.0 c.reply.ensures.left (c.deref.ensures ∙ c.graph.ensures) c.in-Some-answer.ensures.answers (c.reply.ensures.tells (same.1 ∙ some.0)) it.invariant.stands;
       fewer = omega (arith, it.invariant.fewer, ap length some.2, ap length c.reply.ensures.left);
     }
