@@ -20,6 +20,7 @@ mod step;
 mod step_instances;
 mod tag_walk;
 mod task;
+mod tasks;
 
 pub use instance_walk::InstanceWalk;
 pub use instances::Instances;
@@ -27,3 +28,4 @@ pub use running::runs_are_counted;
 pub use state::State;
 pub use tag_walk::TagWalk;
 pub use task::Task;
+pub use tasks::Tasks;

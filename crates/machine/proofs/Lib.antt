@@ -7,8 +7,12 @@ pub mod DistinctSorted
 pub mod Ending
 pub mod Fit
 pub mod Gathered
+pub mod GivenBack
 pub mod GoesOn
+pub mod GroupCut
+pub mod GroupFit
 pub mod GroupRow
+pub mod GroupSpent
 pub mod Growing
 pub mod Grown
 pub mod Holding
@@ -22,6 +26,7 @@ pub mod Left
 pub mod MixedRow
 pub mod Moved
 pub mod NewTogether
+pub mod OnceOnly
 pub mod Parked
 pub mod Promised
 pub mod PutFacts
@@ -34,6 +39,7 @@ pub mod RestoredTags
 pub mod Roomier
 pub mod Rows
 pub mod Sets
+pub mod StillRunning
 pub mod Tagging
 pub mod Tallied
 pub mod Taken

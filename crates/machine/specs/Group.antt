@@ -1,18 +1,19 @@
 -- Ends of instances that come together, each behind those before it: how many of them come as they are, and whether the next one is a fault.
 use Rattle.std.specs.Prelude.{◌≡◌, ◌≤◌, ⊤, List, [], ◌∷◌, ◌++◌, take, drop, length, Option, Some, None}
-use Rattle.std.specs.List.{AllByRecursion}
+use Rattle.std.specs.List.{AllByRecursion, Contains}
 use Rattle.terms.specs.declared.name.Inst.{Inst}
 use Rattle.terms.specs.declared.fault.FaultKind.{FaultKind}
 use Rattle.terms.specs.declared.fault.FaultKind.TheVariants.{DoublePut}
 use Rattle.terms.specs.declared.put.Put.{Put}
 use Rattle.terms.specs.declared.event.Event.{Event}
 use Rattle.terms.specs.declared.event.Event.TheVariants as event
+use Rattle.terms.specs.Facts.{Fact}
 use Rattle.terms.specs.Sets.{Facts}
 use Rattle.graph.specs.Graph.{Graph}
 use Rattle.items.specs.Once.{IsOnceEach}
-use Rattle.instances.specs.declared.state.State.TheVariants.{Running}
+use Rattle.instances.specs.declared.state.State.TheVariants.{Ready, Running}
 use Rattle.machine.specs.declared.group.Ended.{Ended}
-use Rattle.machine.specs.Machine.{Machine, Takes, facts, puts_of, state_of}
+use Rattle.machine.specs.Machine.{Ends, Machine, Takes, environment, facts, puts_of, state_of}
 use Rattle.machine.specs.Meaning.{BodyFaults, BodyGives}
 use Rattle.machine.specs.State.{AreLegalFrom}
 
@@ -37,6 +38,17 @@ ended_by (event.Stopped instance kind ∷ events) = instance ∷ ended_by events
 pub record AreEndsHere (m : Machine) (events : List Event) : Type 0 where
   pub each : AllByRecursion (MayEndAs m) events
   pub once : IsOnceEach (ended_by events)
+
+-- each event ends the instance at its place; more instances may follow
+abbrev pub AreEndedBy : List Event → List Inst → Type 0
+AreEndedBy [] instances = ⊤
+AreEndedBy (event ∷ events) [] = ⊥
+AreEndedBy (event ∷ events) (instance ∷ instances) = Ends event instance × AreEndedBy events instances
+
+-- each of these instances runs here, and none is listed twice
+pub record AreRunning (m : Machine) (instances : List Inst) : Type 0 where
+  pub each : AllByRecursion (λ instance. state_of m instance ≡ Some Running) instances
+  pub once : IsOnceEach instances
 
 -- the puts of all, in their order
 abbrev pub puts_of_all : List Event → List Put
@@ -96,3 +108,11 @@ pub record EndsTogether (g : Graph) (X : Facts) (events : List Event) (ended : E
 abbrev pub TakesInTurn : Machine → List Event → Machine → Type 0
 TakesInTurn old [] new = new ≡ old
 TakesInTurn old (event ∷ events) new = (mid : Machine) × Takes old mid event × TakesInTurn mid events new
+
+-- each of these instances is ready again, and nothing else has changed
+pub record GivesAllBack (old new : Machine) (instances : List Inst) : Type 0 where
+  pub graph : new.graph ≡ old.graph
+  pub facts : (fact : Fact) → facts new fact ≡ facts old fact
+  pub environment : (fact : Fact) → environment new fact ≡ environment old fact
+  pub ready : AllByRecursion (λ instance. state_of new instance ≡ Some Ready) instances
+  pub others : (other : Inst) → (Contains instances other → ⊥) → state_of new other ≡ state_of old other

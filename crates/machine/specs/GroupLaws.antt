@@ -1,13 +1,17 @@
 -- The laws of events that are taken one after another.
-use Rattle.std.specs.Prelude.{◌≡◌, List, ◌∷◌, ◌++◌, Some}
+use Rattle.std.specs.Prelude.{◌≡◌, ◌≤◌, List, ◌∷◌, ◌++◌, Some, length}
+use Rattle.std.specs.List.{AllByRecursion}
 use Rattle.terms.specs.declared.name.Inst.{Inst}
 use Rattle.terms.specs.declared.event.Event.{Event}
 use Rattle.terms.specs.Facts.{Fact}
 use Rattle.terms.specs.Facts as stated
 use Rattle.terms.specs.Sets.{Facts, with_facts}
-use Rattle.graph.specs.Graph.{Graph}
+use Rattle.codec.specs.Spelling.{HasFewPuts}
+use Rattle.graph.specs.Graph.{Graph, IsGraph}
+use Rattle.graph.specs.Fits.{FitAfter, FitsState, PutIsOf}
 use Rattle.instances.specs.declared.state.State.TheVariants.{Running}
-use Rattle.machine.specs.Group.{puts_of_all, TakesInTurn}
+use Rattle.machine.specs.declared.group.Ended.{Ended}
+use Rattle.machine.specs.Group.{AreEndedBy, AreEndsHere, EndsTogether, TakesInTurn, cut, ended_by, puts_of_all}
 use Rattle.machine.specs.Machine.{Machine, Ends, HasRoom, Takes, environment, facts, puts_of, state_of}
 use Rattle.machine.specs.State.{AreLegalFrom}
 
@@ -33,3 +37,21 @@ TakenInTurn = (old : Machine) (events : List Event) (new : Machine) → TakesInT
 abbrev pub LegalInTurn : Type 0
 LegalInTurn = (g : Graph) (X : Facts) (first second : List Event) → AreLegalFrom g X (first ++ second)
     → AreLegalFrom g X first × AreLegalFrom g (with_facts X (stated.facts first)) second
+
+-- events that are legal one after another fit, each has no more puts than an instance may make, and all their puts belong to the graph
+pub record AreFit (g : Graph) (X : Facts) (events : List Event) : Type 0 where
+  pub fit : FitAfter g X events
+  pub few : AllByRecursion HasFewPuts events
+  pub of_graph : AllByRecursion (PutIsOf g) (puts_of_all events)
+
+abbrev pub LegalFitInTurn : Type 0
+LegalFitInTurn = (g : Graph) → IsGraph g → (E X : Facts) (events : List Event) → FitsState g E X → AreLegalFrom g X events → AreFit g X events
+
+-- What comes of some ends: no more events than there are ends, at least one if there are any, and each ends the instance at its place.
+pub record IsOfEnds (events commit : List Event) : Type 0 where
+  pub few : length commit ≤ length events
+  pub some : 1 ≤ length events → 1 ≤ length commit
+  pub ended : AreEndedBy commit (ended_by events)
+
+abbrev pub CutIsOfEnds : Type 0
+CutIsOfEnds = (m : Machine) (events : List Event) (ended : Ended) → AreEndsHere m events → EndsTogether m.graph (facts m) events ended → IsOfEnds events (cut ended events)

@@ -6,6 +6,7 @@ pub mod Examples
 pub mod Group
 pub mod GroupExample
 pub mod GroupLaws
+pub mod GroupTaking
 pub mod Imaging
 pub mod Laws
 pub mod Legal

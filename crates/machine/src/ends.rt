@@ -3,7 +3,7 @@ use crate::distinct::are_distinct;
 use crate::keeping::given_are_of_graph;
 use crate::{End, Machine, Refusal};
 use instances::{State, Task};
-use terms::{FaultKind, Put, facts_are_told_apart};
+use terms::{FaultKind, Inst, Put, facts_are_told_apart};
 
 impl Machine {
     ghost use Rattle.std.specs.Prelude.{◌≡◌, ◌↔◌, ◌≤◌, IfErr, IfOk, IsTrue, MatchBool, OnErr, OnOk, Some, length};
@@ -20,7 +20,14 @@ impl Machine {
     pub fn runs(&self, task: &Task) -> bool
         ensures { IsTrue result ↔ (state_of self.now task.now ≡ Some Running) }
     {
-        self.memory.instances.state(task.inst()) == Some(State::Running)
+        self.runs_here(task.inst())
+    }
+
+    // Whether an instance is running here.
+    pub(crate) fn runs_here(&self, inst: Inst) -> bool
+        ensures { IsTrue result ↔ (state_of self.now inst ≡ Some Running) }
+    {
+        self.memory.instances.state(inst) == Some(State::Running)
     }
 
     /// How an instance ends after its body gave these puts, reading the items that are here: it is done, or at fault because

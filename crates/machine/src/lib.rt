@@ -5,8 +5,8 @@
 //!
 //! Contracts see a `Machine` as its graph and what it holds: the sets `facts` and `environment`, and the state of each
 //! instance. It checks whether an event is legal (`may_put_item`, `may_end`), makes room (`make_room`), and takes the event
-//! (`take_item`, `take_end`); `is_kept` states its invariant. `look_at_ends` says how far several ends come together.
-//! `image` lists what it holds, and `of_image` restores it from such a list.
+//! (`take_item`, `take_end`); `is_kept` states its invariant. `look_at_ends` says how far several ends come together,
+//! and `take_ends` takes them. `image` lists what it holds, and `of_image` restores it from such a list.
 #![tactic(auto)]
 
 mod absence;
@@ -18,6 +18,7 @@ mod ends;
 mod events;
 mod examples;
 mod group;
+mod group_taking;
 mod growth;
 mod imaging;
 mod items_of;
@@ -35,6 +36,7 @@ mod states;
 mod status;
 mod taking;
 mod tally;
+mod tasks;
 mod turns;
 mod waking;
 mod working;
@@ -56,4 +58,7 @@ pub use machine::Machine;
 pub use refusal::Refusal;
 pub use results::results_are_meant;
 pub use states::{reached_and_quiet, reached_goes_on, reached_within, unfinished_wait};
-pub use turns::{legal_in_turn, room_in_turn, run_in_turn, taken_in_turn};
+pub use tasks::are_once;
+pub use turns::{
+    cut_in_turn, fit_in_turn, legal_in_turn, room_in_turn, run_in_turn, taken_in_turn,
+};

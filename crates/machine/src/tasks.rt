@@ -1,0 +1,31 @@
+ghost use Rattle.std.specs.Prelude.{◌≡◌, MatchBool, drop};
+ghost use Rattle.items.specs.Once.{IsOnceEach, is_one_of};
+
+use instances::Tasks;
+use terms::{Inst, inst_order};
+
+/// Whether no instance is among these tasks twice. It compares each with each.
+pub fn are_once(tasks: &Tasks) -> bool
+    ensures { MatchBool result (IsOnceEach tasks.now) (IsOnceEach tasks.now → ⊥) }
+{
+    for number in 0..tasks.len() {
+        let inst = tasks.get(number).unwrap();
+        if is_from(tasks, number + 1, inst) {
+            return false;
+        }
+    }
+    true
+}
+
+// Whether an instance is among these tasks from this number on.
+fn is_from(tasks: &Tasks, from: usize, inst: Inst) -> bool
+    ensures { result ≡ is_one_of inst (drop from tasks.now) }
+{
+    for number in from..tasks.len() {
+        let other = tasks.get(number).unwrap();
+        if inst_order(&inst, &other).is_eq() {
+            return true;
+        }
+    }
+    false
+}
