@@ -1,11 +1,12 @@
 -- Histories, and prefixes of lists.
-use Rattle.std.proofs.Common.{◌≡◌, ◌≢◌, ◌⊎◌, ℕ, zero, suc, ◌≤◌, Bool, true, false, eqb, eq-eqb, ne_eqb, List, [], ◌∷◌, ◌++◌, length, refl, sym, ap, ◌∙◌, inl, inr, ⊎_elim, arith, append_assoc, length-append, if◌then◌else◌}
+use Rattle.std.proofs.Common.{◌≡◌, ◌≢◌, ◌⊎◌, ℕ, zero, suc, ◌+◌, ◌≤◌, Bool, true, false, eqb, eq-eqb, ne_eqb, List, [], ◌∷◌, ◌++◌, length, refl, sym, ap, ◌∙◌, inl, inr, ⊎_elim, arith, append_assoc, length-append, if◌then◌else◌}
 use Rattle.std.proofs.lemmas.List.{append-nil}
 use mathlib.Core.List.{IsPrefix}
 use mathlib.Core.Option.{some, some-injective, some-ne-none}
 use lib.ListN.{get_elem?}
 use Rattle.terms.specs.declared.event.Event.{Event}
-use Rattle.passes.specs.Known.{Made, events, made_by}
+use Rattle.terms.specs.Commits.{Commit, events_of}
+use Rattle.passes.specs.Known.{Made, commits, count_of, made_by}
 
 pub prefix_self : {A : Type 0} (xs : List A) → IsPrefix xs xs
 prefix_self xs = ([], append-nil xs)
@@ -19,38 +20,52 @@ prefix_further xs ys zs one two = (one.0 ++ two.0, sym (append_assoc xs one.0 tw
 pub prefix_length : {A : Type 0} (xs ys : List A) → IsPrefix xs ys → length xs ≤ length ys
 prefix_length xs ys begins = omega (arith, sym (ap length begins.1) ∙ length-append xs begins.0)
 
--- the events of one history after another
-pub events_append : (one two : List Made) → events (one ++ two) ≡ events one ++ events two
-events_append [] two = refl
-events_append (made ∷ one) two = ap (λ rest. made.event ∷ rest) (events_append one two)
+-- the commits of one history after another
+pub commits_append : (one two : List Made) → commits (one ++ two) ≡ commits one ++ commits two
+commits_append [] two = refl
+commits_append (made ∷ one) two = ap (λ (rest : List Commit). made.commit ∷ rest) (commits_append one two)
 
-pub events_length : (history : List Made) → length (events history) ≡ length history
-events_length [] = refl
-events_length (made ∷ history) = omega (arith, events_length history)
+-- the events of some commits and then others
+pub events_joined : (first second : List Commit) → events_of (first ++ second) ≡ events_of first ++ events_of second
+events_joined [] second = refl
+events_joined (commit ∷ first) second = ap (λ (rest : List Event). commit ++ rest) (events_joined first second) ∙ sym (append_assoc commit (events_of first) (events_of second))
 
-abbrev one : ℕ → Event → List Made
-one number event = record { pass = number; event = event } ∷ []
+-- .. and how many they are
+pub count_joined : (first second : List Commit) → count_of (first ++ second) ≡ count_of first + count_of second
+count_joined first second = ap (λ (all : List Event). length all) (events_joined first second) ∙ length-append (events_of first) (events_of second)
 
--- with one event more, the pass that made it has one more ..
-pub made_by_own : (number : ℕ) (event : Event) (history : List Made) → made_by number (history ++ one number event) ≡ made_by number history ++ event ∷ []
-made_by_own number event [] = ap (λ same. if same then event ∷ [] else []) (eq-eqb number number refl)
-made_by_own number event (made ∷ history) = by_case (made_by_own number event history) (eqb made.pass number)
+pub count_prefix : (xs ys : List Commit) → IsPrefix xs ys → count_of xs ≤ count_of ys
+count_prefix xs ys begins = omega (arith, sym (ap (λ (all : List Commit). count_of all) begins.1) ∙ count_joined xs begins.0)
+
+abbrev one : ℕ → Commit → List Made
+one number commit = record { pass = number; commit = commit } ∷ []
+
+-- a commit more has its events more
+pub count_more : (history : List Made) (number : ℕ) (commit : Commit) → count_of (commits (history ++ one number commit)) ≡ count_of (commits history) + length commit
+count_more history number commit =
+    ap (λ (all : List Commit). count_of all) (commits_append history (one number commit)) ∙ count_joined (commits history) (commit ∷ [])
+    ∙ ap (λ (all : List Event). count_of (commits history) + length all) (append-nil commit)
+
+-- with one commit more, the pass that made it has one more ..
+pub made_by_own : (number : ℕ) (commit : Commit) (history : List Made) → made_by number (history ++ one number commit) ≡ made_by number history ++ commit ∷ []
+made_by_own number commit [] = ap (λ same. if same then commit ∷ [] else []) (eq-eqb number number refl)
+made_by_own number commit (made ∷ history) = by_case (made_by_own number commit history) (eqb made.pass number)
   where
-    by_case : made_by number (history ++ one number event) ≡ made_by number history ++ event ∷ [] → (same : Bool)
-        → (if same then made.event ∷ made_by number (history ++ one number event) else made_by number (history ++ one number event))
-        ≡ (if same then made.event ∷ made_by number history else made_by number history) ++ event ∷ []
-    by_case rest true = ap (λ all. made.event ∷ all) rest
+    by_case : made_by number (history ++ one number commit) ≡ made_by number history ++ commit ∷ [] → (same : Bool)
+        → (if same then made.commit ∷ made_by number (history ++ one number commit) else made_by number (history ++ one number commit))
+        ≡ (if same then made.commit ∷ made_by number history else made_by number history) ++ commit ∷ []
+    by_case rest true = ap (λ all. made.commit ∷ all) rest
     by_case rest false = rest
 
 -- .. and each other has what it had
-pub made_by_other : (number other : ℕ) (event : Event) (history : List Made) → other ≢ number → made_by number (history ++ one other event) ≡ made_by number history
-made_by_other number other event [] apart = ap (λ same. if same then event ∷ [] else []) (ne_eqb other number apart)
-made_by_other number other event (made ∷ history) apart = by_case (made_by_other number other event history apart) (eqb made.pass number)
+pub made_by_other : (number other : ℕ) (commit : Commit) (history : List Made) → other ≢ number → made_by number (history ++ one other commit) ≡ made_by number history
+made_by_other number other commit [] apart = ap (λ same. if same then commit ∷ [] else []) (ne_eqb other number apart)
+made_by_other number other commit (made ∷ history) apart = by_case (made_by_other number other commit history apart) (eqb made.pass number)
   where
-    by_case : made_by number (history ++ one other event) ≡ made_by number history → (same : Bool)
-        → (if same then made.event ∷ made_by number (history ++ one other event) else made_by number (history ++ one other event))
-        ≡ (if same then made.event ∷ made_by number history else made_by number history)
-    by_case rest true = ap (λ all. made.event ∷ all) rest
+    by_case : made_by number (history ++ one other commit) ≡ made_by number history → (same : Bool)
+        → (if same then made.commit ∷ made_by number (history ++ one other commit) else made_by number (history ++ one other commit))
+        ≡ (if same then made.commit ∷ made_by number history else made_by number history)
+    by_case rest true = ap (λ all. made.commit ∷ all) rest
     by_case rest false = rest
 
 -- an element of a list with one more was in it before, or is the last

@@ -1,17 +1,17 @@
 -- Each step of the table keeps its rule.
-use Rattle.std.proofs.Common.{◌≡◌, ◌≢◌, ◌⊎◌, ℕ, zero, suc, ◌+◌, ◌%◌, ◌^◌, ◌<◌, Bool, true, false, true≢false, eqb, eq-eqb, ne_eqb, List, [], ◌∷◌, ◌++◌, length, set, refl, sym, ap, ◌∙◌, subst, inl, inr, ⊎_elim, arith, length-append, if◌then◌else◌, Option, Some, None, IfSome}
+use Rattle.std.proofs.Common.{◌≡◌, ◌≢◌, ◌⊎◌, ℕ, zero, suc, ◌+◌, ◌%◌, ◌^◌, ◌<◌, Bool, true, false, true≢false, eqb, eq-eqb, ne_eqb, List, [], ◌∷◌, ◌++◌, length, set, refl, sym, ap, ◌∙◌, subst, inl, inr, ⊎_elim, arith, if◌then◌else◌, Option, Some, None, IfSome}
 use Rattle.std.specs.Prelude.{slice_index, slice_set, bit_or}
 use mathlib.Core.List.{IsPrefix}
 use mathlib.Core.Option.{some, none, some-injective, some-ne-none}
 use lib.ListN.{get_elem?}
-use Rattle.terms.specs.declared.event.Event.{Event}
+use Rattle.terms.specs.Commits.{Commit}
 use Rattle.atomic_table.specs.Table.{State, step, keeps, stepped, opening, Allows, Splits, Joins}
 use Rattle.atomic_table.proofs.Lists.{at_set}
-use Rattle.passes.specs.Known.{Known, Made, Book, Desk, SeatView, nobody, pass, desk, events, newcomer, first_desk, up_to_date, with_event, told_of, asked_of, heard_of, written, one_more}
+use Rattle.passes.specs.Known.{Known, Made, Book, Desk, SeatView, nobody, pass, desk, commits, count_of, newcomer, first_desk, up_to_date, with_commit, told_of, asked_of, heard_of, written, one_more}
 use Rattle.passes.specs.Rule.{IsInHistory, HasNoneFrom, HasAsker, IsPassOf, Fits, IsRuled}
 use Rattle.passes.specs.Steps.{Seated, lent, guest_gone, guest_out, one_made, new_one, written_to, telling, asking}
 use Rattle.passes.specs.Steps as steps
-use Rattle.passes.proofs.Lists.{prefix_self, prefix_more, prefix_length, events_append, events_length, made_by_own, made_by_other, at_end}
+use Rattle.passes.proofs.Lists.{prefix_self, prefix_more, commits_append, count_prefix, count_more, made_by_own, made_by_other, at_end}
 
 -- ---- places
 
@@ -114,8 +114,8 @@ looks state h word seat slots view which own = record {
   home = h.home;
   asked = h.asked;
   words = ⊎_elim
-      (λ (is : word ≡ 0). subst (λ (n : ℕ). slice_set state.words n (slice_index state.words n) ≡ length h.book.history ∷ h.stop ∷ []) (sym is) (ap (λ words. slice_set words 0 (slice_index words 0)) h.words))
-      (λ (is : word ≡ 1). subst (λ (n : ℕ). slice_set state.words n (slice_index state.words n) ≡ length h.book.history ∷ h.stop ∷ []) (sym is) (ap (λ words. slice_set words 1 (slice_index words 1)) h.words))
+      (λ (is : word ≡ 0). subst (λ (n : ℕ). slice_set state.words n (slice_index state.words n) ≡ count_of (commits h.book.history) ∷ h.stop ∷ []) (sym is) (ap (λ words. slice_set words 0 (slice_index words 0)) h.words))
+      (λ (is : word ≡ 1). subst (λ (n : ℕ). slice_set state.words n (slice_index state.words n) ≡ count_of (commits h.book.history) ∷ h.stop ∷ []) (sym is) (ap (λ words. slice_set words 1 (slice_index words 1)) h.words))
       which;
   flag = h.flag;
   asker = h.asker;
@@ -149,7 +149,7 @@ pub counts : (slots seat : ℕ) (known : Known) (held : List (ℕ × Unit {0})) 
 counts slots seat known held state h _ at _ =
     let is = h.each seat (pass known) at in
     let old = is.in_history in
-    let found : slice_index state.words 0 ≡ length h.book.history = ap (λ words. slice_index words 0) h.words in (
+    let found : slice_index state.words 0 ≡ count_of (commits h.book.history) = ap (λ words. slice_index words 0) h.words in (
       pass (told_of (slice_index state.words 0) known),
       keeps,
       tt,
@@ -160,7 +160,7 @@ counts slots seat known held state h _ at _ =
         asks = is.asks;
         hears = is.hears;
       }),
-      (refl, (omega (arith, found, old.told), omega (arith, found, prefix_length known.seen (events h.book.history) old.seen, events_length h.book.history))),
+      (refl, (omega (arith, found, old.told), omega (arith, found, count_prefix known.seen (commits h.book.history) old.seen))),
     )
 
 -- a pass that asked is among those that did
@@ -233,7 +233,7 @@ asks slots seat known held state h _ at _ =
         keeper = h.keeper;
         home = h.home;
         asked = asked;
-        words = ap (λ words. slice_set words 1 (bit_or (slice_index words 1) 1)) h.words ∙ ap (λ (n : ℕ). length h.book.history ∷ n ∷ []) one_then;
+        words = ap (λ words. slice_set words 1 (bit_or (slice_index words 1) 1)) h.words ∙ ap (λ (n : ℕ). count_of (commits h.book.history) ∷ n ∷ []) one_then;
         flag = inr refl;
         asker = (λ _. (number, is.numbered, marked_here h.asked number), λ _. refl);
         none_else = h.none_else;
@@ -257,38 +257,38 @@ asks slots seat known held state h _ at _ =
       refl,
     )
 
--- ---- an event is added
+-- ---- a commit is added
 
 -- what a longer history has of another pass
-others_history : (history : List Made) (number : ℕ) (event : Event) (known : Known) → number ≢ known.number → IsInHistory history known → IsInHistory (history ++ record { pass = number; event = event } ∷ []) known
-others_history history number event known apart was = record {
-  seen = subst (IsPrefix known.seen) (sym (events_append history (record { pass = number; event = event } ∷ []))) (prefix_more known.seen (events history) (event ∷ []) was.seen);
-  mine = made_by_other known.number number event history apart ∙ was.mine;
-  told = omega (arith, was.told, length-append history (record { pass = number; event = event } ∷ []));
+others_history : (history : List Made) (number : ℕ) (commit : Commit) (known : Known) → number ≢ known.number → IsInHistory history known → IsInHistory (history ++ record { pass = number; commit = commit } ∷ []) known
+others_history history number commit known apart was = record {
+  seen = subst (IsPrefix known.seen) (sym (commits_append history (record { pass = number; commit = commit } ∷ []))) (prefix_more known.seen (commits history) (commit ∷ []) was.seen);
+  mine = made_by_other known.number number commit history apart ∙ was.mine;
+  told = omega (arith, was.told, count_more history number commit);
 }
 
--- and what it has of the pass that made the event
-own_history : (history : List Made) (event : Event) (known : Known) → IsInHistory history known → IsInHistory (history ++ record { pass = known.number; event = event } ∷ []) (with_event event known)
-own_history history event known was = record {
-  seen = subst (IsPrefix known.seen) (sym (events_append history (record { pass = known.number; event = event } ∷ []))) (prefix_more known.seen (events history) (event ∷ []) was.seen);
-  mine = made_by_own known.number event history ∙ ap (λ all. all ++ event ∷ []) was.mine;
-  told = omega (arith, was.told, length-append history (record { pass = known.number; event = event } ∷ []));
+-- and what it has of the pass that made the commit
+own_history : (history : List Made) (commit : Commit) (known : Known) → IsInHistory history known → IsInHistory (history ++ record { pass = known.number; commit = commit } ∷ []) (with_commit commit known)
+own_history history commit known was = record {
+  seen = subst (IsPrefix known.seen) (sym (commits_append history (record { pass = known.number; commit = commit } ∷ []))) (prefix_more known.seen (commits history) (commit ∷ []) was.seen);
+  mine = made_by_own known.number commit history ∙ ap (λ all. all ++ commit ∷ []) was.mine;
+  told = omega (arith, was.told, count_more history known.number commit);
 }
 
--- the keeper adds an event for its guest
-pub adds : (slots seat : ℕ) (event : Event) (book : Book) (known : Known) (held : List (ℕ × Unit {0})) → length book.history + 1 < 2 ^ 64
-    → Allows IsRuled slots seat (desk record { book = book; guest = Some known }, held) 0 (λ n. (n + 1) % 2 ^ 64) (steps.Adds event (step slots 0 1 0 none) (desk record { book = book; guest = Some known }, held))
-adds slots seat event book known held room state h _ at _ =
+-- the keeper adds a commit of this many events for its guest
+pub adds : (slots seat count : ℕ) (commit : Commit) (book : Book) (known : Known) (held : List (ℕ × Unit {0})) → count ≡ length commit → count_of (commits book.history) + count < 2 ^ 64
+    → Allows IsRuled slots seat (desk record { book = book; guest = Some known }, held) 0 (λ n. (n + count) % 2 ^ 64) (steps.Adds commit (step slots 0 count 0 none) (desk record { book = book; guest = Some known }, held))
+adds slots seat count commit book known held counted room state h _ at _ =
     let fits = h.each seat (desk record { book = book; guest = Some known }) at in
     let same : book ≡ h.book = fits.1 in
     let is = fits.2 in
     let number : ℕ = known.number in
-    let new : Book = written number event h.book in
-    let longer : length h.book.history + 1 ≡ length new.history = omega (arith, length-append h.book.history (record { pass = number; event = event } ∷ [])) in
-    let small : length h.book.history + 1 < 2 ^ 64 = subst (λ (b : Book). length b.history + 1 < 2 ^ 64) same room in
-    let found : slice_index state.words 0 ≡ length h.book.history = ap (λ words. slice_index words 0) h.words in
-    let count : (slice_index state.words 0 + 1) % 2 ^ 64 ≡ length new.history = omega (arith, found, longer, small) in
-    let view : SeatView = desk record { book = written number event book; guest = Some (with_event event known) } in (
+    let new : Book = written number commit h.book in
+    let longer : count_of (commits h.book.history) + count ≡ count_of (commits new.history) = omega (arith, counted, count_more h.book.history number commit) in
+    let small : count_of (commits h.book.history) + count < 2 ^ 64 = subst (λ (b : Book). count_of (commits b.history) + count < 2 ^ 64) same room in
+    let found : slice_index state.words 0 ≡ count_of (commits h.book.history) = ap (λ words. slice_index words 0) h.words in
+    let sum : (slice_index state.words 0 + count) % 2 ^ 64 ≡ count_of (commits new.history) = omega (arith, found, longer, small) in
+    let view : SeatView = desk record { book = written number commit book; guest = Some (with_commit commit known) } in (
       view,
       keeps,
       tt,
@@ -298,26 +298,26 @@ adds slots seat event book known held room state h _ at _ =
         keeper = h.keeper;
         home = h.home;
         asked = h.asked;
-        words = ap (λ words. slice_set words 0 ((slice_index state.words 0 + 1) % 2 ^ 64)) h.words ∙ ap (λ (n : ℕ). n ∷ h.stop ∷ []) count;
+        words = ap (λ words. slice_set words 0 ((slice_index state.words 0 + count) % 2 ^ 64)) h.words ∙ ap (λ (n : ℕ). n ∷ h.stop ∷ []) sum;
         flag = h.flag;
         asker = h.asker;
-        none_else = λ other le. made_by_other other number event h.book.history (λ same_number. absurd (omega (arith, same_number, le, is.numbered))) ∙ h.none_else other le;
+        none_else = λ other le. made_by_other other number commit h.book.history (λ same_number. absurd (omega (arith, same_number, le, is.numbered))) ∙ h.none_else other le;
         each = each_set new h.stop h.keeper h.home h.asked state.views seat view
             (λ other its apart there. elsewhere h.book new h.stop h.stop h.keeper h.home h.home h.asked h.asked other its (inl (λ at_desk. apart (at_desk ∙ sym fits.0)))
             (λ own was. record {
               at_home = was.at_home;
               numbered = was.numbered;
-              in_history = others_history h.book.history number event own (λ same_number. apart_from h.book h.stop h.home h.asked seat other known own apart is was (sym same_number)) was.in_history;
+              in_history = others_history h.book.history number commit own (λ same_number. apart_from h.book h.stop h.home h.asked seat other known own apart is was (sym same_number)) was.in_history;
               asks = was.asks;
               hears = was.hears;
             })
             (h.each other its there)) (
               fits.0,
-              ap (written number event) same,
+              ap (written number commit) same,
               record {
                 at_home = is.at_home;
                 numbered = is.numbered;
-                in_history = own_history h.book.history event known is.in_history;
+                in_history = own_history h.book.history commit known is.in_history;
                 asks = is.asks;
                 hears = is.hears;
               },
@@ -365,7 +365,7 @@ makes seat d state h at =
     let one : IsPassOf new h.stop home asked place (newcomer number) = record {
       at_home = moved_here h.home number place;
       numbered = omega arith;
-      in_history = record { seen = (events h.book.history, refl); mine = h.none_else number (omega arith); told = omega arith };
+      in_history = record { seen = (commits h.book.history, refl); mine = h.none_else number (omega arith); told = omega arith };
       asks = sym (cleared_here h.asked number);
       hears = λ heard. absurd (true≢false (sym heard));
     } in record {
@@ -449,7 +449,7 @@ returns seat book known state h at =
             at_home = own.at_home;
             numbered = own.numbered;
             in_history = record {
-              seen = subst (λ (b : Book). IsPrefix (events b.history) (events h.book.history)) (sym fits.1) (prefix_self (events h.book.history));
+              seen = subst (λ (b : Book). IsPrefix (commits b.history) (commits h.book.history)) (sym fits.1) (prefix_self (commits h.book.history));
               mine = own.in_history.mine;
               told = own.in_history.told;
             };

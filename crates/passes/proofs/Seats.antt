@@ -2,9 +2,9 @@
 use Rattle.std.proofs.Common.{◌≡◌, ℕ, ◌+◌, ◌%◌, ◌^◌, ◌<◌, true≢false, List, [], ◌∷◌, length, sym, ap, ◌∙◌, subst, Option, Some, None, IsSome}
 use Rattle.std.specs.Prelude.{bit_or}
 use mathlib.Core.Option.{none}
-use Rattle.terms.specs.declared.event.Event.{Event}
+use Rattle.terms.specs.Commits.{Commit}
 use Rattle.atomic_table.specs.Table.{step, Allows, Splits, Joins}
-use Rattle.passes.specs.Known.{Known, Desk, SeatView, nobody, pass, desk}
+use Rattle.passes.specs.Known.{Known, Desk, SeatView, nobody, pass, desk, commits, count_of}
 use Rattle.passes.specs.Rule.{IsRuled}
 use Rattle.passes.specs.Steps.{Seated, lent, guest_gone, guest_out, one_made, new_one, known, desk_of}
 use Rattle.passes.specs.Steps as steps
@@ -43,14 +43,15 @@ lends_at seat view other its d own is alone its_is =
     (λ i. (sym (is ∙ ap (λ (guest : Option Known). desk record { book = d.book; guest = guest }) alone) i, sym its_is i))
     (lends seat d.book other own)
 
-pub adds_at : (slots seat : ℕ) (event : Event) (me : Seated) (d : Desk) → me.0 ≡ desk d → IsSome d.guest → length d.book.history + 1 < 2 ^ 64
-    → Allows IsRuled slots seat me 0 (λ n. (n + 1) % 2 ^ 64) (steps.Adds event (step slots 0 1 0 none) me)
-adds_at slots seat event me d is has room =
-    subst (λ (view : SeatView). Allows IsRuled slots seat (view, me.1) 0 (λ n. (n + 1) % 2 ^ 64) (steps.Adds event (step slots 0 1 0 none) (view, me.1))) (sym is) (at d.guest has)
+pub adds_at : (slots seat count : ℕ) (commit : Commit) (me : Seated) (d : Desk) → me.0 ≡ desk d → IsSome d.guest → count ≡ length commit → count_of (commits d.book.history) + count < 2 ^ 64
+    → Allows IsRuled slots seat me 0 (λ n. (n + count) % 2 ^ 64) (steps.Adds commit (step slots 0 count 0 none) me)
+adds_at slots seat count commit me d is has counted room =
+    subst (λ (view : SeatView). Allows IsRuled slots seat (view, me.1) 0 (λ n. (n + count) % 2 ^ 64) (steps.Adds commit (step slots 0 count 0 none) (view, me.1))) (sym is) (at d.guest has)
   where
-    at : (guest : Option Known) → IsSome guest → Allows IsRuled slots seat (desk record { book = d.book; guest = guest }, me.1) 0 (λ n. (n + 1) % 2 ^ 64) (steps.Adds event (step slots 0 1 0 none) (desk record { book = d.book; guest = guest }, me.1))
+    at : (guest : Option Known) → IsSome guest
+        → Allows IsRuled slots seat (desk record { book = d.book; guest = guest }, me.1) 0 (λ n. (n + count) % 2 ^ 64) (steps.Adds commit (step slots 0 count 0 none) (desk record { book = d.book; guest = guest }, me.1))
     at None has = absurd (true≢false (sym has))
-    at (Some own) has = adds slots seat event d.book own me.1 room
+    at (Some own) has = adds slots seat count commit d.book own me.1 counted room
 
 pub returns_at : (seat : ℕ) (view : SeatView) (d : Desk) → view ≡ desk d → IsSome d.guest → Splits IsRuled seat view (guest_gone view) (guest_out view)
 returns_at seat view d is has = subst (λ (own : SeatView). Splits IsRuled seat own (guest_gone own) (guest_out own)) (sym is) (at d.guest has)

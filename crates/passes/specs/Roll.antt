@@ -2,6 +2,7 @@
 use Rattle.std.specs.Prelude.{◌+◌, ℕ, suc, zero, Bool, true, false, List, [], ◌∷◌, ◌++◌, if◌then◌else◌, nat_eq}
 use Rattle.std.specs.List.{AllByRecursion}
 use Rattle.terms.specs.declared.event.Event.{Event}
+use Rattle.terms.specs.Commits.{Commit, events_of}
 use Rattle.atomic_table.specs.Seated.{TableId}
 use Rattle.passes.specs.Known.{Known, newcomer}
 
@@ -21,11 +22,11 @@ abbrev pub has_number : ℕ → List Known → Bool
 has_number number [] = false
 has_number number (known ∷ rest) = if nat_eq known.number number then true else has_number number rest
 
--- the events that were made with the pass of this number; none where there is no such pass
-abbrev pub mine_of : ℕ → List Known → List Event
+-- the commits that were made with the pass of this number; none where there is no such pass
+abbrev pub mine_of : ℕ → List Known → List Commit
 mine_of number [] = []
 mine_of number (known ∷ rest) = if nat_eq known.number number then known.mine else mine_of number rest
 
--- each event of each of the passes is such an event
+-- each event of each commit that was made with one of the passes is such an event
 abbrev pub AllMade : (Event → Type 0) → List Known → Type 0
-AllMade such passes = AllByRecursion (λ known. AllByRecursion such known.mine) passes
+AllMade such passes = AllByRecursion (λ known. AllByRecursion such (events_of known.mine)) passes

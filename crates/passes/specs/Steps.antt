@@ -1,10 +1,10 @@
 -- What each step of the table changes, and what it says.
-use Rattle.std.specs.Prelude.{◌≡◌, ◌⊎◌, ◌≤◌, ⊤, ℕ, Bool, false, List, [], ◌∷◌, length, Option, true, IfSome, Some, None}
-use Rattle.terms.specs.declared.event.Event.{Event}
+use Rattle.std.specs.Prelude.{◌≡◌, ◌⊎◌, ◌≤◌, ⊤, ℕ, Bool, false, List, [], ◌∷◌, Option, true, IfSome, Some, None}
+use Rattle.terms.specs.Commits.{Commit}
 use Rattle.atomic_table.specs.Table.{Me, Step}
 use Rattle.atomic_table.specs.Seated.{TableId}
 use Rattle.atomic_table.specs.declared.badge.Badge.{Badge}
-use Rattle.passes.specs.Known.{Known, Book, Desk, SeatView, nobody, pass, desk, newcomer, first_desk, up_to_date, told_of, asked_of, heard_of, hosting, alone, writing, one_more}
+use Rattle.passes.specs.Known.{Known, Book, Desk, SeatView, nobody, pass, desk, count_of, newcomer, first_desk, up_to_date, told_of, asked_of, heard_of, hosting, alone, writing, one_more}
 use Rattle.passes.specs.Rule.{IsInHistory, HasNoneFrom}
 
 -- a seat: what it knows, and the slots that it holds, of which the table has none
@@ -41,15 +41,15 @@ abbrev pub new_one : SeatView → SeatView
 new_one (desk d) = pass (newcomer d.book.passes)
 new_one view = nobody
 
--- The event is written for the guest.
-abbrev pub written_to : Event → SeatView → SeatView
-written_to event (desk d) = desk (writing event d)
-written_to event view = view
+-- The commit is written for the guest.
+abbrev pub written_to : Commit → SeatView → SeatView
+written_to commit (desk d) = desk (writing commit d)
+written_to commit view = view
 
-abbrev pub Adds : Event → Step (Unit {0}) → Seated → ℕ → Seated → Type 0
-Adds event step before found after = after ≡ (written_to event before.0, before.1)
+abbrev pub Adds : Commit → Step (Unit {0}) → Seated → ℕ → Seated → Type 0
+Adds commit step before found after = after ≡ (written_to commit before.0, before.1)
 
--- The history has what the guest knows, and no events of a number that no pass has.
+-- The history has what the guest knows, and no commits of a number that no pass has.
 pub record IsCompared (d : Desk) : Type 0 where
   pub guest : IfSome d.guest (IsInHistory d.book.history)
   pub none_else : HasNoneFrom d.book.passes d.book.history
@@ -68,9 +68,9 @@ abbrev pub telling : ℕ → SeatView → SeatView
 telling count (pass known) = pass (told_of count known)
 telling count view = view
 
--- the number of events is not below what the pass was told, or has seen
+-- the number of events is not below what the pass was told, nor below the events that it has seen
 abbrev pub IsCountFor : ℕ → Known → Type 0
-IsCountFor count known = (known.told ≤ count) × (length known.seen ≤ count)
+IsCountFor count known = (known.told ≤ count) × (count_of known.seen ≤ count)
 
 abbrev pub TellsCount : ℕ → SeatView → Type 0
 TellsCount count (pass known) = IsCountFor count known

@@ -1,8 +1,8 @@
 ghost use Rattle.std.specs.Prelude.{◌≡◌, ◌+◌, ◌<◌, ◌≤◌, ◌^◌, [], ◌∷◌, None, IfSome, IsSome, length, true};
-ghost use Rattle.passes.specs.Known.{pass, newcomer, alone, hosting, one_more, up_to_date, writing, told_of, asked_of, heard_of};
+ghost use Rattle.passes.specs.Known.{pass, commits, count_of, newcomer, alone, hosting, one_more, up_to_date, writing, told_of, asked_of, heard_of};
 ghost use Rattle.passes.specs.Steps.{IsBadge, IsCompared, IsCountFor, known};
 
-use crate::rule::{Adds, Asks, Commit, Counts, Hears, Learns, Lends, Makes, Words};
+use crate::rule::{Adds, Asks, Committing, Counts, Hears, Learns, Lends, Makes, Words};
 use crate::{Desk, Naming, View};
 use atomic_table::Badge;
 use std::marker::PhantomData;
@@ -30,13 +30,16 @@ impl<J: Naming> Board<J> {
         shared.load::<Learns>(&mut desk.seat, 0);
     }
 
-    // Writes the event of `M` for the guest.
-    pub(crate) fn write<M: Commit>(&self, desk: &mut Desk<J>)
+    // Writes the commit of `M`, which has this many events, for the guest.
+    pub(crate) fn write<M: Committing>(&self, desk: &mut Desk<J>, count: u64)
         requires guest { IsSome desk.old.guest }
-        requires room { length desk.old.book.history + 1 < 2 ^ 64 }
-        ensures { desk.new ≡ writing M.event desk.old }
+        requires count { count ≡ length M.commit }
+        requires room { count_of (commits desk.old.book.history) + count < 2 ^ 64 }
+        ensures { desk.new ≡ writing M.commit desk.old }
     {
-        self.words.shared.fetch_add::<Adds<M>>(&mut desk.seat, 0, 1);
+        self.words
+            .shared
+            .fetch_add::<Adds<M>>(&mut desk.seat, 0, count);
     }
 
     // The guest is given back, and has seen all.
@@ -51,7 +54,7 @@ impl<J: Naming> Board<J> {
             .into_badge()
     }
 
-    /// Compares the desk with the words: no event was made with a pass whose number is not below the count of passes.
+    /// Compares the desk with the words: no commit was made with a pass whose number is not below the count of passes.
     pub fn look(&self, desk: &mut Desk<J>)
         ensures same { desk.new ≡ desk.old }
         ensures compared { IsCompared desk.new }

@@ -27,6 +27,7 @@ pub struct Pass<J: Naming, K: Kind> {
 impl<J: Naming, K: Kind> Model for Pass<J, K> {
     ghost use Rattle.std.specs.Prelude.{◌≡◌};
     ghost use Rattle.std.specs.List.{AllByRecursion};
+    ghost use Rattle.terms.specs.Commits.{events_of};
     ghost use Rattle.passes.specs.Known.{Known};
     ghost use Rattle.passes.specs.Steps.{known, IsBadge};
 
@@ -34,7 +35,7 @@ impl<J: Naming, K: Kind> Model for Pass<J, K> {
 
     ghost view = { λ p. known p.badge.views };
 
-    ghost invariant = { λ p. IsBadge J.table p.badge × (p.number ≡ (known p.badge.views).number) × AllByRecursion K.makes (known p.badge.views).mine × K.is_numbered J.envs (known p.badge.views).number };
+    ghost invariant = { λ p. IsBadge J.table p.badge × (p.number ≡ (known p.badge.views).number) × AllByRecursion K.makes (events_of (known p.badge.views).mine) × K.is_numbered J.envs (known p.badge.views).number };
 }
 
 impl<J: Naming, K: Kind> Pass<J, K> {

@@ -21,18 +21,17 @@ pub type Words = Table<(), View, (), Law, Global>;
 
 pub type Keeper = Seat<(), View>;
 
-/// The event that a commit adds. Each commit picks it.
-pub trait Commit {
-    ghost use Rattle.terms.specs.declared.event.Event.{Event};
+/// The events that a commit adds, together. Each commit picks them.
+pub trait Committing {
+    ghost use Rattle.terms.specs.Commits.{Commit};
 
-    ghost event: { Event };
+    ghost commit: { Commit };
 }
 
-impl Commit for Brand {
+impl Committing for Brand {
     ghost use Rattle.std.specs.Prelude.{[]};
-    ghost use Rattle.terms.specs.declared.event.Event.TheVariants.{EnvTag};
 
-    ghost event = { EnvTag record { collection = record { 0 = 0 }; key = [] } };
+    ghost commit = { [] };
 }
 
 /// The keeper's `fetch_add` on word 0.
@@ -40,8 +39,8 @@ pub struct Adds<M> {
     commit: PhantomData<M>,
 }
 
-impl<M: Commit> Play<(), View> for Adds<M> {
-    ghost then = { steps.Adds M.event };
+impl<M: Committing> Play<(), View> for Adds<M> {
+    ghost then = { steps.Adds M.commit };
 }
 
 /// A load of word 0 by the keeper, at which the rule says that the history has what the guest knows.

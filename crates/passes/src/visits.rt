@@ -1,10 +1,11 @@
 //! What a pass does on the board: a visit at the desk, and what needs no lock.
 ghost use Rattle.std.specs.Prelude.{◌≡◌, ◌+◌, ◌<◌, ◌^◌, None, length, true};
-ghost use Rattle.passes.specs.Known.{asked_of, heard_of, told_of, writing_by};
+ghost use Rattle.std.specs.List.{AllByRecursion};
+ghost use Rattle.passes.specs.Known.{asked_of, commits, count_of, heard_of, told_of, writing_by};
 ghost use Rattle.passes.specs.Steps.{IsCountFor};
 ghost use Rattle.passes.specs.Visits.{Shows, Writes};
 
-use crate::rule::Commit;
+use crate::rule::Committing;
 use crate::{Board, Desk, Kind, Naming, Pass};
 use atomic_table::Badge;
 use std::mem;
@@ -21,17 +22,24 @@ impl<J: Naming> Board<J> {
         pass.badge = self.give_back(desk);
     }
 
-    /// Makes the event of `M` with the pass, which then sees the history with the event at its end.
-    pub fn record<K: Kind, M: Commit>(&self, desk: &mut Desk<J>, pass: &mut Pass<J, K>)
+    /// Makes the commit of `M` with the pass, which then sees the history with the commit at its end. `count` is how many
+    /// events the commit has: the number of events grows by all of them at once.
+    pub fn record<K: Kind, M: Committing>(
+        &self,
+        desk: &mut Desk<J>,
+        pass: &mut Pass<J, K>,
+        count: u64,
+    )
         requires alone { desk.old.guest ≡ None }
-        requires room { length desk.old.book.history + 1 < 2 ^ 64 }
-        requires kind { K.makes M.event }
-        ensures desk { desk.new ≡ writing_by pass.old.number M.event desk.old }
-        ensures pass { Writes M.event desk.old.book.history desk.new.book.history pass.old pass.new }
+        requires count { count ≡ length M.commit }
+        requires room { count_of (commits desk.old.book.history) + count < 2 ^ 64 }
+        requires kind { AllByRecursion K.makes M.commit }
+        ensures desk { desk.new ≡ writing_by pass.old.number M.commit desk.old }
+        ensures pass { Writes M.commit desk.old.book.history desk.new.book.history pass.old pass.new }
     {
         let badge = mem::replace(&mut pass.badge, Badge::blank());
         self.lend(desk, badge);
-        self.write::<M>(desk);
+        self.write::<M>(desk, count);
         pass.badge = self.give_back(desk);
     }
 
