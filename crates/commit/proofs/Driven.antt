@@ -65,7 +65,7 @@ module _
         → RunsOn files moment left_at failures refusals honest claimed new → RunsOn files moment left_at failures refusals honest first new
     runs_on first mid claimed new task driven kept moves came =
         let same = moved mid claimed task Running moves driven.working driven.settled in
-        let claim : RunsOn files moment left_at failures refusals honest mid claimed = record { ends = []; runs = rests files moment left_at failures refusals honest rest_leaves gates_rest mid claimed driven.working kept same } in
+        let claim : RunsOn files moment left_at failures refusals honest mid claimed = record { commits = []; runs = rests files moment left_at failures refusals honest rest_leaves gates_rest mid claimed driven.working kept same } in
         goes_on files moment left_at failures refusals honest both gates_stay first claimed new same.halted same.settled
         (goes_on files moment left_at failures refusals honest both gates_stay first mid claimed driven.working driven.settled driven.runs claim) came
 

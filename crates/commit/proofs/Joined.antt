@@ -1,7 +1,6 @@
 -- Runs, one after another.
-use Rattle.std.proofs.Common.{◌<◌, ◌≡◌, ◌∙◌, ◌+◌, ◌++◌, ap, sym, subst, ℕ, false, List, [], arith}
+use Rattle.std.proofs.Common.{◌≤◌, ◌≡◌, ◌∙◌, ◌+◌, ◌++◌, ap, length, sym, subst, ℕ, false, List, [], arith}
 use Rattle.std.proofs.lemmas.Bool.{false≢true}
-use Rattle.std.proofs.lemmas.Grind.{flat_map-append}
 use Rattle.std.proofs.lemmas.List.{append_assoc, append-nil, length-append}
 use Rattle.std.specs.List.{AllByRecursion}
 use Rattle.disk.specs.declared.side.Side.{Side}
@@ -10,19 +9,17 @@ use Rattle.disk.specs.File.{File}
 use Rattle.disk.specs.Moments.{joined_since, leaves_at_last}
 use Rattle.disk.specs.Time.{Contents, LeavesSince}
 use Rattle.terms.specs.declared.event.Event.{Event}
-use Rattle.terms.specs.Commits.{Commit, facts_behind, environment_behind}
-use Rattle.terms.specs.Facts.{Fact, event_facts}
-use Rattle.terms.specs.Facts as stated
-use Rattle.terms.specs.Sets.{Facts, AmongBoth, with_facts}
+use Rattle.terms.specs.Commits.{Commit, environment_behind, events_of, facts_behind}
+use Rattle.terms.specs.Sets.{Facts, AmongBoth}
 use Rattle.graph.specs.Graph.{Graph}
 use Rattle.machine.specs.State.{AreLegalFrom}
 use Rattle.vault.specs.Commits.{StandsForBeginning, GatesStay}
 use Rattle.vault.specs.Stands.{Stands}
 use Rattle.vault.specs.Store.{HasGates}
 use Rattle.commit.specs.Core.{Core, graph, facts, environment, is_halted}
-use Rattle.commit.specs.Runs.{AcknowledgesFrom, Begun, IsEnd, Runs, RunsOn, RunsSince, begun_by, latest_after, one_by_one, records_length}
+use Rattle.commit.specs.Runs.{AcknowledgesFrom, Begun, IsEnd, Runs, RunsOn, RunsSince, begun_by, in_one, latest_after, records_length}
 use Rattle.commit.proofs.Acknowledged.{carried, joined as ends_acknowledged}
-use Rattle.commit.proofs.Lists.{with_both, one_by_one_joined, facts_joined, ends_joined, first_ends, given_by_ends, environment_stays, latest_joined, legal_joined, records_joined}
+use Rattle.commit.proofs.Lists.{ends_joined, environment_stays, events_joined, facts_joined, first_ends, given_by_ends, latest_joined, legal_joined, records_joined}
 
 -- bytes that stand for a prefix of some commits stand for a prefix of more of them
 extended : (g : Graph) (E X : Facts) (some more : List Commit) (contents : Contents) → StandsForBeginning g E X [] some contents → StandsForBeginning g E X [] (some ++ more) contents
@@ -31,76 +28,85 @@ extended g E X some more contents it =
 
 -- and so do bytes that stand for a prefix of later commits, after the first ones
 behind :
-    AmongBoth → (g h : Graph) (E F X Y : Facts) (ends : List Event) (more : List Commit) (contents : Contents) → h ≡ g → F ≡ E → Y ≡ with_facts X (stated.facts ends) → ((made : List Commit) → environment_behind E (one_by_one ends ++ made) ≡ environment_behind E made) →
-    StandsForBeginning h F Y [] more contents → StandsForBeginning g E X [] (one_by_one ends ++ more) contents
-behind both g h E F X Y ends more contents graph given all stays it =
+    AmongBoth → (g h : Graph) (E F X Y : Facts) (first more : List Commit) (contents : Contents) → h ≡ g → F ≡ E → Y ≡ facts_behind X first → ((made : List Commit) → environment_behind E (first ++ made) ≡ environment_behind E made) →
+    StandsForBeginning h F Y [] more contents → StandsForBeginning g E X [] (first ++ more) contents
+behind both g h E F X Y first more contents graph given all stays it =
     let of_graph = subst (λ (k : Graph). Stands contents k (environment_behind F it.made) (facts_behind Y it.made)) graph it.stands in
-    let of_given : Stands contents g (environment_behind E (one_by_one ends ++ it.made)) (facts_behind Y it.made) =
+    let of_given : Stands contents g (environment_behind E (first ++ it.made)) (facts_behind Y it.made) =
     subst (λ (S : Facts). Stands contents g S (facts_behind Y it.made)) (ap (λ (S : Facts). environment_behind S it.made) given ∙ sym (stays it.made)) of_graph
     in
     record {
-      made = one_by_one ends ++ it.made;
+      made = first ++ it.made;
       later = it.later;
-      beginning = ap (λ (list : List Commit). one_by_one ends ++ list) it.beginning ∙ sym (append_assoc (one_by_one ends) it.made it.later);
+      beginning = ap (λ (list : List Commit). first ++ list) it.beginning ∙ sym (append_assoc first it.made it.later);
       stands =
-          subst (λ (S : Facts). Stands contents g (environment_behind E (one_by_one ends ++ it.made)) S)
-          (ap (λ (S : Facts). facts_behind S it.made) all ∙ sym (facts_joined both X ends it.made)) of_given;
+          subst (λ (S : Facts). Stands contents g (environment_behind E (first ++ it.made)) S)
+          (ap (λ (S : Facts). facts_behind S it.made) all ∙ sym (facts_joined both X first it.made)) of_given;
     }
 
 -- where a journal ends after both
 pub ends_behind : (new mid begun first second both : ℕ) → new ≡ mid + second → mid ≡ begun + first → both ≡ first + second → new ≡ begun + both
 ends_behind new mid begun first second both two one all = omega (arith, two, one, all)
 
+-- what both use of the allowance
+both_spent : (new mid begun first second both : ℕ) → both ≡ first + second → mid + first ≡ begun → new + second ≡ mid → new + both ≡ begun
+both_spent new mid begun first second both all one two = omega (arith, all, one, two)
+
+both_within : (mid begun first second both doubt : ℕ) → both ≡ first + second → mid + first ≡ begun → second + doubt ≤ mid → both + doubt ≤ begun
+both_within mid begun first second both doubt all one two = omega (arith, all, one, two)
+
 module _ {D : Type 0} (files : D → Side → File) (moment : D → ℕ) (left_at : D → ℕ → Contents → Type 0) (failures refusals : D → ℕ) (honest : Type 0) (both : AmongBoth) where
   -- a run after another one, of which nothing is in doubt
-  pub since_joined : (honest → GatesStay files moment left_at) → (begun : Begun) (left : ℕ → Contents → Type 0) (mid new : Core D) (first second : List Event)
+  pub since_joined : (honest → GatesStay files moment left_at) → (begun : Begun) (left : ℕ → Contents → Type 0) (mid new : Core D) (first second : List Commit)
       → is_halted mid ≡ false → mid.in_doubt ≡ []
       → RunsSince moment left_at failures refusals honest begun left mid first → Runs files moment left_at failures refusals honest mid new second
       → RunsSince moment left_at failures refusals honest begun left new (first ++ second)
   since_joined gates_stay begun left mid new first second working settled one two =
-      let all_of_first = subst (λ (events : List Event). first ++ events ≡ first) (sym settled) (append-nil first) in
-      let sets : facts mid ≡ with_facts begun.facts (stated.facts first) = λ i fact. one.facts fact i in
+      let all_of_first = subst (λ (events : List Event). events_of first ++ events ≡ events_of first) (sym settled) (append-nil (events_of first)) in
+      let all_commits = subst (λ (events : List Event). first ++ in_one events ≡ first) (sym settled) (append-nil first) in
+      let sets : facts mid ≡ facts_behind begun.facts first = λ i fact. one.facts fact i in
       let given : environment mid ≡ begun.environment = λ i fact. one.environment fact i in
-      let first_are = first_ends first mid.in_doubt one.are_ends in
-      let order = append_assoc first second new.in_doubt in
-      let pending : one_by_one (first ++ second ++ new.in_doubt) ≡ one_by_one first ++ one_by_one (second ++ new.in_doubt) = ap one_by_one order ∙ one_by_one_joined first (second ++ new.in_doubt) in
+      let first_are = first_ends (events_of first) mid.in_doubt one.are_ends in
+      let order : events_of (first ++ second) ++ new.in_doubt ≡ events_of first ++ (events_of second ++ new.in_doubt) =
+      ap (λ (events : List Event). events ++ new.in_doubt) (events_joined first second) ∙ append_assoc (events_of first) (events_of second) new.in_doubt
+      in
+      let pending : (first ++ second) ++ in_one new.in_doubt ≡ first ++ (second ++ in_one new.in_doubt) = append_assoc first second (in_one new.in_doubt) in
+      let counted : length (events_of (first ++ second)) ≡ length (events_of first) + length (events_of second) = ap length (events_joined first second) ∙ length-append (events_of first) (events_of second) in
       let calm : HasErredFrom begun.failures (failures mid.vault.disk) begun.refusals (refusals mid.vault.disk) → ⊥ = λ erred. false≢true (sym working ∙ one.halts.1 erred) in
       record {
-        are_ends = subst (λ (events : List Event). AllByRecursion IsEnd events) (sym order) (ends_joined first (second ++ new.in_doubt) first_are two.are_ends);
+        are_ends = subst (λ (events : List Event). AllByRecursion IsEnd events) (sym order) (ends_joined (events_of first) (events_of second ++ new.in_doubt) first_are two.are_ends);
         legal =
             subst (λ (events : List Event). AreLegalFrom begun.graph begun.facts events) (sym order)
-            (legal_joined both begun.graph begun.facts first (second ++ new.in_doubt) (subst (λ (events : List Event). AreLegalFrom begun.graph begun.facts events) all_of_first one.legal)
-            (subst (λ (g : Graph). AreLegalFrom g (with_facts begun.facts (stated.facts first)) (second ++ new.in_doubt)) one.graph
-            (subst (λ (S : Facts). AreLegalFrom (graph mid) S (second ++ new.in_doubt)) sets two.legal)));
+            (legal_joined both begun.graph begun.facts (events_of first) (events_of second ++ new.in_doubt) (subst (λ (events : List Event). AreLegalFrom begun.graph begun.facts events) all_of_first one.legal)
+            (subst (λ (g : Graph). AreLegalFrom g (facts_behind begun.facts first) (events_of second ++ new.in_doubt)) one.graph
+            (subst (λ (S : Facts). AreLegalFrom (graph mid) S (events_of second ++ new.in_doubt)) sets two.legal)));
         graph = two.graph ∙ one.graph;
-        facts = λ fact.
-            two.facts fact ∙ ap (λ (S : Facts). with_facts S (stated.facts second) fact) sets
-            ∙ ap (λ (S : Facts). S fact) (sym (ap (λ (list : List Fact). with_facts begun.facts list) (flat_map-append event_facts first second) ∙ with_both both begun.facts (stated.facts first) (stated.facts second)));
+        facts = λ fact. two.facts fact ∙ ap (λ (S : Facts). facts_behind S second fact) sets ∙ ap (λ (S : Facts). S fact) (sym (facts_joined both begun.facts first second));
         environment = λ fact. two.environment fact ∙ one.environment fact;
-        spent = ap (λ n. new.allowance + n) (length-append first second) ∙ omega (arith, one.spent, two.spent);
-        latest = two.latest ∙ ap (λ (events : List Event). latest_after events second) one.latest ∙ sym (latest_joined begun.latest first second);
+        spent = both_spent new.allowance mid.allowance begun.allowance (length (events_of first)) (length (events_of second)) (length (events_of (first ++ second))) counted one.spent two.spent;
+        latest = two.latest ∙ ap (λ (commit : Commit). latest_after commit second) one.latest ∙ sym (latest_joined begun.latest first second);
         generation = λ goes. two.generation goes ∙ one.generation working;
         end = λ goes. ends_behind new.vault.journal.end mid.vault.journal.end begun.end (records_length first) (records_length second) (records_length (first ++ second)) (two.end goes) (one.end working) (records_joined first second);
         crashes = λ on.
             subst (λ (commits : List Commit). LeavesSince moment left_at begun.moment left new.vault.disk (StandsForBeginning begun.graph begun.environment begun.facts [] commits)) (sym pending)
             (joined_since moment left_at begun.moment left mid.vault.disk new.vault.disk
-            (StandsForBeginning begun.graph begun.environment begun.facts [] (one_by_one (first ++ mid.in_doubt)))
-            (StandsForBeginning (graph mid) (environment mid) (facts mid) [] (one_by_one (second ++ new.in_doubt)))
-            (StandsForBeginning begun.graph begun.environment begun.facts [] (one_by_one first ++ one_by_one (second ++ new.in_doubt)))
+            (StandsForBeginning begun.graph begun.environment begun.facts [] (first ++ in_one mid.in_doubt))
+            (StandsForBeginning (graph mid) (environment mid) (facts mid) [] (second ++ in_one new.in_doubt))
+            (StandsForBeginning begun.graph begun.environment begun.facts [] (first ++ (second ++ in_one new.in_doubt)))
             (one.crashes on) (two.crashes on)
             (λ contents stands.
-            extended begun.graph begun.environment begun.facts (one_by_one first) (one_by_one (second ++ new.in_doubt)) contents
-            (subst (λ (events : List Event). StandsForBeginning begun.graph begun.environment begun.facts [] (one_by_one events) contents) all_of_first stands))
+            extended begun.graph begun.environment begun.facts first (second ++ in_one new.in_doubt) contents
+            (subst (λ (commits : List Commit). StandsForBeginning begun.graph begun.environment begun.facts [] commits contents) all_commits stands))
             (λ contents stands.
-            behind both begun.graph (graph mid) begun.environment (environment mid) begun.facts (facts mid) first (one_by_one (second ++ new.in_doubt)) contents one.graph given sets
+            behind both begun.graph (graph mid) begun.environment (environment mid) begun.facts (facts mid) first (second ++ in_one new.in_doubt) contents one.graph given sets
             (λ made. environment_stays both begun.environment first made first_are) stands));
         acknowledged = λ on.
             let second_leaves = two.crashes on in
             ends_acknowledged begun.graph begun.environment begun.facts (left_at mid.vault.disk) (left_at new.vault.disk) (moment mid.vault.disk) (moment new.vault.disk) second_leaves.later (λ t contents early was. (second_leaves.stays t contents early).0 was)
-            begun.moment [] first second new.in_doubt (one.crashes on).later
-            (subst (λ (doubt : List Event). AcknowledgesFrom begun.graph begun.environment begun.facts (left_at mid.vault.disk) (moment mid.vault.disk) begun.moment [] first doubt) settled (one.acknowledged on))
-            (subst (λ (made : List Event). AcknowledgesFrom begun.graph begun.environment begun.facts (left_at new.vault.disk) (moment new.vault.disk) (moment mid.vault.disk) made second new.in_doubt) (append-nil first)
-            (carried both begun.graph (graph mid) begun.environment (environment mid) begun.facts (facts mid) first one.graph (given ∙ sym (given_by_ends begun.environment first first_are)) sets (left_at new.vault.disk) (moment new.vault.disk) (moment mid.vault.disk) [] second new.in_doubt (two.acknowledged on)));
+            begun.moment [] first second (in_one new.in_doubt) (one.crashes on).later
+            (subst (λ (doubt : List Event). AcknowledgesFrom begun.graph begun.environment begun.facts (left_at mid.vault.disk) (moment mid.vault.disk) begun.moment [] first (in_one doubt)) settled (one.acknowledged on))
+            (subst (λ (made : List Commit). AcknowledgesFrom begun.graph begun.environment begun.facts (left_at new.vault.disk) (moment new.vault.disk) (moment mid.vault.disk) made second (in_one new.in_doubt)) (append-nil first)
+            (carried both begun.graph (graph mid) begun.environment (environment mid) begun.facts (facts mid) first one.graph (given ∙ sym (given_by_ends begun.environment (events_of first) first_are)) sets (left_at new.vault.disk) (moment new.vault.disk) (moment mid.vault.disk) [] second (in_one new.in_doubt) (two.acknowledged on)));
         gates = λ on has.
             let here = one.gates on has in
             let at_last = leaves_at_last moment left_at begun.moment left mid.vault.disk HasGates here in
@@ -111,12 +117,14 @@ module _ {D : Type 0} (files : D → Side → File) (moment : D → ℕ) (left_a
           λ erred. two.halts.1 (erred_later begun.failures (failures mid.vault.disk) (failures new.vault.disk) begun.refusals (refusals mid.vault.disk) (refusals new.vault.disk) one.later calm erred),
         );
         later = omega (arith, one.later, two.later);
-        one_in_doubt = λ stops. let last = two.one_in_doubt stops in (last.0, last.1, subst (λ n. n < begun.allowance) (sym (length-append first second)) (omega (arith, one.spent, last.2)));
+        some_in_doubt = λ stops.
+            let last = two.some_in_doubt stops in
+            (last.0, both_within mid.allowance begun.allowance (length (events_of first)) (length (events_of second)) (length (events_of (first ++ second))) (length new.in_doubt) counted one.spent last.1);
       }
 
   pub goes_on : (honest → GatesStay files moment left_at) → (old mid new : Core D) → is_halted mid ≡ false → mid.in_doubt ≡ []
       → RunsOn files moment left_at failures refusals honest old mid → RunsOn files moment left_at failures refusals honest mid new → RunsOn files moment left_at failures refusals honest old new
   goes_on gates_stay old mid new working settled one two = record {
-    ends = one.ends ++ two.ends;
-    runs = since_joined gates_stay (begun_by files moment failures refusals old) (left_at old.vault.disk) mid new one.ends two.ends working settled one.runs two.runs;
+    commits = one.commits ++ two.commits;
+    runs = since_joined gates_stay (begun_by files moment failures refusals old) (left_at old.vault.disk) mid new one.commits two.commits working settled one.runs two.runs;
   }

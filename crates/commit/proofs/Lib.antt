@@ -1,6 +1,7 @@
 pub mod Acknowledged
 pub mod Allowed
 pub mod Answered
+mod Batches
 pub mod Counted
 pub mod Driven
 pub mod Ended
@@ -16,6 +17,7 @@ pub mod Roomy
 pub mod Running
 pub mod Same
 pub mod Taken
+pub mod Together
 pub mod Told
 mod TurnedOver
 pub mod Went

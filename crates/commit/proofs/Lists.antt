@@ -2,7 +2,7 @@
 use Rattle.std.proofs.Common.{◌≡◌, ◌∙◌, ◌||◌, ◌+◌, ◌++◌, ap, refl, sym, subst, ℕ, List, [], ◌∷◌, arith}
 use Rattle.std.proofs.Math.Bool.{or-false, or_assoc}
 use Rattle.std.proofs.lemmas.Grind.{flat_map-append}
-use Rattle.std.proofs.lemmas.List.{append_assoc, map-append}
+use Rattle.std.proofs.lemmas.List.{append_assoc, append-nil}
 use Rattle.std.specs.List.{AllByRecursion}
 use Rattle.terms.specs.declared.event.Event.{Event}
 use Rattle.terms.specs.declared.event.Event.TheVariants as event
@@ -11,8 +11,8 @@ use Rattle.terms.specs.Facts.{Fact, event_facts, environment_facts, facts, envir
 use Rattle.terms.specs.Sets.{Facts, AmongBoth, among, with_facts}
 use Rattle.graph.specs.Graph.{Graph}
 use Rattle.machine.specs.State.{AreLegalFrom}
-use Rattle.commit.specs.Calls.{record_length}
-use Rattle.commit.specs.Runs.{IsEnd, latest_after, one_by_one, records_length}
+use Rattle.commit.specs.Calls.{commit_length}
+use Rattle.commit.specs.Runs.{IsEnd, in_one, latest_after, records_length}
 
 -- ---- sets
 
@@ -24,27 +24,24 @@ with_both both X one two = λ i fact. (ap (λ b. X fact || b) (both one two fact
 
 -- ---- commits
 
-pub events_back : (events : List Event) → events_of (one_by_one events) ≡ events
-events_back [] = refl
-events_back (first ∷ events) = ap (λ (rest : List Event). first ∷ rest) (events_back events)
+pub events_in_one : (events : List Event) → events_of (in_one events) ≡ events
+events_in_one [] = refl
+events_in_one (first ∷ events) = append-nil (first ∷ events)
 
 pub events_joined : (first second : List Commit) → events_of (first ++ second) ≡ events_of first ++ events_of second
 events_joined [] second = refl
 events_joined (commit ∷ first) second = ap (λ (rest : List Event). commit ++ rest) (events_joined first second) ∙ sym (append_assoc commit (events_of first) (events_of second))
 
-pub one_by_one_joined : (first second : List Event) → one_by_one (first ++ second) ≡ one_by_one first ++ one_by_one second
-one_by_one_joined first second = map-append (λ one. one ∷ []) first second
-
--- what is there after events and then commits
-pub facts_joined : AmongBoth → (X : Facts) (first : List Event) (made : List Commit) → facts_behind X (one_by_one first ++ made) ≡ facts_behind (with_facts X (facts first)) made
+-- what is there after commits and then more of them
+pub facts_joined : AmongBoth → (X : Facts) (first made : List Commit) → facts_behind X (first ++ made) ≡ facts_behind (facts_behind X first) made
 facts_joined both X first made =
-    ap (λ (events : List Event). with_facts X (facts events)) (events_joined (one_by_one first) made ∙ ap (λ (events : List Event). events ++ events_of made) (events_back first))
-    ∙ ap (λ (list : List Fact). with_facts X list) (flat_map-append event_facts first (events_of made)) ∙ with_both both X (facts first) (facts (events_of made))
+    ap (λ (events : List Event). with_facts X (facts events)) (events_joined first made)
+    ∙ ap (λ (list : List Fact). with_facts X list) (flat_map-append event_facts (events_of first) (events_of made)) ∙ with_both both X (facts (events_of first)) (facts (events_of made))
 
-pub environment_joined : AmongBoth → (E : Facts) (first : List Event) (made : List Commit) → environment_behind E (one_by_one first ++ made) ≡ environment_behind (with_facts E (environment first)) made
+pub environment_joined : AmongBoth → (E : Facts) (first made : List Commit) → environment_behind E (first ++ made) ≡ environment_behind (environment_behind E first) made
 environment_joined both E first made =
-    ap (λ (events : List Event). with_facts E (environment events)) (events_joined (one_by_one first) made ∙ ap (λ (events : List Event). events ++ events_of made) (events_back first))
-    ∙ ap (λ (list : List Fact). with_facts E list) (flat_map-append environment_facts first (events_of made)) ∙ with_both both E (environment first) (environment (events_of made))
+    ap (λ (events : List Event). with_facts E (environment events)) (events_joined first made)
+    ∙ ap (λ (list : List Fact). with_facts E list) (flat_map-append environment_facts (events_of first) (events_of made)) ∙ with_both both E (environment (events_of first)) (environment (events_of made))
 
 -- ---- ends of instances
 
@@ -67,9 +64,9 @@ pub put_nothing : (ends : List Event) → AllByRecursion IsEnd ends → environm
 put_nothing [] all = refl
 put_nothing (end ∷ ends) all = ap (λ (list : List Fact). list ++ environment ends) (puts_nothing end all.0) ∙ put_nothing ends all.1
 
-pub environment_stays : AmongBoth → (E : Facts) (ends : List Event) (made : List Commit) → AllByRecursion IsEnd ends → environment_behind E (one_by_one ends ++ made) ≡ environment_behind E made
-environment_stays both E ends made all =
-    environment_joined both E ends made ∙ ap (λ (Y : Facts). environment_behind Y made) (ap (λ (list : List Fact). with_facts E list) (put_nothing ends all) ∙ with_nothing E)
+pub environment_stays : AmongBoth → (E : Facts) (first made : List Commit) → AllByRecursion IsEnd (events_of first) → environment_behind E (first ++ made) ≡ environment_behind E made
+environment_stays both E first made all =
+    environment_joined both E first made ∙ ap (λ (Y : Facts). environment_behind Y made) (ap (λ (list : List Fact). with_facts E list) (put_nothing (events_of first) all) ∙ with_nothing E)
 
 pub given_by_ends : (E : Facts) (ends : List Event) → AllByRecursion IsEnd ends → with_facts E (environment ends) ≡ E
 given_by_ends E ends all = ap (λ (list : List Fact). with_facts E list) (put_nothing ends all) ∙ with_nothing E
@@ -83,14 +80,14 @@ one_more : (one first both second : ℕ) → both ≡ first + second → one + b
 one_more one first both second is = omega (arith, is)
 
 -- the records of both lists
-pub records_joined : (first second : List Event) → records_length (first ++ second) ≡ records_length first + records_length second
+pub records_joined : (first second : List Commit) → records_length (first ++ second) ≡ records_length first + records_length second
 records_joined [] second = none (records_length second)
-records_joined (event ∷ first) second = one_more (record_length event) (records_length first) (records_length (first ++ second)) (records_length second) (records_joined first second)
+records_joined (commit ∷ first) second = one_more (commit_length commit) (records_length first) (records_length (first ++ second)) (records_length second) (records_joined first second)
 
 -- the latest commit after both lists
-pub latest_joined : (before first second : List Event) → latest_after before (first ++ second) ≡ latest_after (latest_after before first) second
+pub latest_joined : (before : Commit) (first second : List Commit) → latest_after before (first ++ second) ≡ latest_after (latest_after before first) second
 latest_joined before [] second = refl
-latest_joined before (event ∷ first) second = latest_joined (event ∷ []) first second
+latest_joined before (commit ∷ first) second = latest_joined commit first second
 
 -- ---- legal lists
 

@@ -1,10 +1,10 @@
 -- The whole of what a put and a finish promise, from the parts that the calls within them promise.
-use Rattle.std.proofs.Common.{◌≡◌, ◌∙◌, ap, sym, refl, subst, inl, inr, ◌⊎◌, ℕ, true, false, Some, [], ◌∷◌, Result, Ok, Err, OnOk, OnErr, IfErr, arith}
+use Rattle.std.proofs.Common.{◌≡◌, ◌∙◌, ap, sym, refl, subst, inl, inr, ◌⊎◌, ℕ, true, Some, [], ◌∷◌, Result, Err, OnOk, OnErr, IfErr, arith}
 use Rattle.std.proofs.lemmas.Bool.{false≢true}
 use Rattle.std.specs.Prelude.{is_some}
 use Rattle.disk.specs.declared.side.Side.{Side}
 use Rattle.disk.specs.File.{File}
-use Rattle.disk.specs.Time.{Contents, HasCauses, HasErred}
+use Rattle.disk.specs.Time.{Contents, HasCauses}
 use Rattle.terms.specs.declared.name.Inst.{Inst}
 use Rattle.terms.specs.declared.name.Tag.{Tag}
 use Rattle.terms.specs.declared.event.Event.{Event}
@@ -28,7 +28,7 @@ use Rattle.commit.specs.declared.error.CoreError.{CoreError}
 use Rattle.commit.specs.declared.error.CoreError.TheVariants.{Refused, Store}
 use Rattle.commit.specs.declared.outcome.Outcome.{Outcome}
 use Rattle.commit.specs.declared.outcome.Committed.{Committed}
-use Rattle.commit.specs.Calls.{Commits, CommitsAs, CrashLeaves, GivesBack, Halts, IsInDoubt, IsUnchanged, NoCause, Refuses, Takes, TellsFull}
+use Rattle.commit.specs.Calls.{CommitsAs, CrashLeaves, Halts, IsInDoubt, IsUnchanged, NoCause, Refuses, Takes, TellsFull}
 use Rattle.commit.specs.Core.{Core, graph, facts, is_halted}
 use Rattle.commit.specs.Kept.{IsKept}
 use Rattle.commit.specs.Outcome.{IsEndOf}

@@ -1,5 +1,5 @@
 -- What is committed after room was made is committed from the state before that.
-use Rattle.std.proofs.Common.{◌≡◌, ◌∙◌, ◌↔◌, ◌⊎◌, ◌<◌, ◌≤◌, ◌+◌, ◌||◌, ap, sym, refl, subst, inl, inr, ℕ, ℤ, true, false, List, [], ◌∷◌, length, Result, Ok, Err, IsErrOf, arith}
+use Rattle.std.proofs.Common.{◌≡◌, ◌∙◌, ◌↔◌, ◌⊎◌, ◌≤◌, ◌+◌, ◌||◌, ap, sym, refl, subst, inl, inr, ℕ, ℤ, true, false, List, [], ◌∷◌, Result, Ok, Err, IsErrOf, arith}
 use Rattle.std.proofs.lemmas.Bool.{false≢true}
 use Rattle.disk.specs.declared.side.Side.{Side}
 use Rattle.disk.specs.File.{File}

@@ -40,7 +40,7 @@ use Rattle.commit.specs.Calls.{Commits, CrashLeaves, GivesBack, Halts, Refuses, 
 use Rattle.commit.specs.Core.{Core, graph, facts, environment, is_halted}
 use Rattle.commit.specs.Kept.{IsKept}
 use Rattle.commit.specs.Outcome.{EndsGiven, Finishes, IsEndOf, IsEndOfGiven, Tells}
-use Rattle.commit.specs.Runs.{AcknowledgesFrom, EndRuns, EndsEarly, IsEnd, IsFull, Runs, RunsOn, one_by_one}
+use Rattle.commit.specs.Runs.{AcknowledgesFrom, EndRuns, EndsEarly, IsEnd, IsFull, Runs, RunsOn, in_one}
 use Rattle.commit.specs.Steps.{LooksAgain, Moves}
 use Rattle.commit.proofs.Answered.{if_ok}
 use Rattle.commit.proofs.Lists.{with_nothing, puts_nothing}
@@ -142,12 +142,12 @@ module _ {D : Type 0} (files : D → Side → File) (moment : D → ℕ) (left_a
       → Runs files moment left_at failures refusals honest old new []
   rests leaves gates_rest old new working kept same =
       let none : [] ++ new.in_doubt ≡ [] = same.settled in
-      let crash : honest → LeavesOnly moment left_at old.vault.disk new.vault.disk (StandsForBeginning (graph old) (environment old) (facts old) [] (one_by_one ([] ++ new.in_doubt))) = λ on.
+      let crash : honest → LeavesOnly moment left_at old.vault.disk new.vault.disk (StandsForBeginning (graph old) (environment old) (facts old) [] ([] ++ in_one new.in_doubt)) = λ on.
       let holds = (kept on).holds working in
       let of_store = subst (λ (E : Facts). Holds files old.vault (graph old) E (with_facts (facts old) [])) (sym (with_nothing (environment old))) (subst (λ (X : Facts). Holds files old.vault (graph old) (environment old) X) (sym (with_nothing (facts old))) holds) in
       let here = leaves on old.vault (graph old) (environment old) (facts old) [] of_store in
-      subst (λ (d : D). LeavesOnly moment left_at old.vault.disk d (StandsForBeginning (graph old) (environment old) (facts old) [] (one_by_one ([] ++ new.in_doubt)))) (sym same.disk)
-      (subst (λ (events : List Event). LeavesOnly moment left_at old.vault.disk old.vault.disk (StandsForBeginning (graph old) (environment old) (facts old) [] (one_by_one events))) (sym none) here)
+      subst (λ (d : D). LeavesOnly moment left_at old.vault.disk d (StandsForBeginning (graph old) (environment old) (facts old) [] ([] ++ in_one new.in_doubt))) (sym same.disk)
+      (subst (λ (events : List Event). LeavesOnly moment left_at old.vault.disk old.vault.disk (StandsForBeginning (graph old) (environment old) (facts old) [] (in_one events))) (sym none) here)
       in
       record {
         are_ends = subst (λ (events : List Event). AllByRecursion IsEnd events) (sym none) tt;
@@ -164,7 +164,7 @@ module _ {D : Type 0} (files : D → Side → File) (moment : D → ℕ) (left_a
         gates = λ on has. subst (λ (d : D). LeavesOnly moment left_at old.vault.disk d HasGates) (sym same.disk) (gates_rest on old.vault (graph old) (environment old) (facts old) ((kept on).holds working) has);
         halts = (λ is. absurd (false≢true (sym same.halted ∙ is)), λ erred. absurd (calm (subst (λ (d : D). HasErred failures refusals old.vault.disk d) same.disk erred)));
         later = omega (arith, ap failures same.disk);
-        one_in_doubt = λ is. absurd (false≢true (sym same.halted ∙ is));
+        some_in_doubt = λ is. absurd (false≢true (sym same.halted ∙ is));
       }
     where
       calm : HasErred failures refusals old.vault.disk old.vault.disk → ⊥
@@ -174,7 +174,7 @@ module _ {D : Type 0} (files : D → Side → File) (moment : D → ℕ) (left_a
   -- no call of the disk was made
   pub as_it_was : (honest → RestLeaves files moment left_at) → (honest → GatesRest files moment left_at) → (core : Core D) → is_halted core ≡ false → core.in_doubt ≡ [] → (honest → IsKept files core) → RunsOn files moment left_at failures refusals honest core core
   as_it_was leaves gates_rest core working settled kept = record {
-    ends = [];
+    commits = [];
     runs = rests leaves gates_rest core core working kept (record { graph = refl; facts = λ _. refl; environment = λ _. refl; allowance = refl; latest = refl; disk = refl; generation = refl; end = refl; halted = working; settled = settled });
   }
 
@@ -182,7 +182,7 @@ module _ {D : Type 0} (files : D → Side → File) (moment : D → ℕ) (left_a
 
   -- at each moment of a commit of one event a crash leaves a prefix of this one commit
   pub begins : (honest → AppendLeaves files moment left_at) → (old new : Core D) (end : Event) → honest → CrashLeaves files moment left_at old new (end ∷ [])
-      → LeavesOnly moment left_at old.vault.disk new.vault.disk (StandsForBeginning (graph old) (environment old) (facts old) [] (one_by_one (end ∷ [])))
+      → LeavesOnly moment left_at old.vault.disk new.vault.disk (StandsForBeginning (graph old) (environment old) (facts old) [] ((end ∷ []) ∷ []))
   begins leaves old new end on it =
       leaves on old.vault new.vault (graph old) (environment old) (facts old) [] (end ∷ [])
       (subst (λ (E : Facts). LeavesOnly moment left_at old.vault.disk new.vault.disk (StandsBeforeOrAfter (graph old) E (with_facts (facts old) []) (end ∷ []))) (sym (with_nothing (environment old)))
@@ -190,7 +190,7 @@ module _ {D : Type 0} (files : D → Side → File) (moment : D → ℕ) (left_a
 
   -- from the last moment of its call on the end is acknowledged
   acknowledged_at : (honest → HeldLeaves files moment left_at) → (old new : Core D) (end : Event) → Takes old new end → (honest → IsKept files new) → (doubt : List Event) → honest
-      → AcknowledgesFrom (graph old) (environment old) (facts old) (left_at new.vault.disk) (moment new.vault.disk) (moment new.vault.disk) (end ∷ []) [] doubt
+      → AcknowledgesFrom (graph old) (environment old) (facts old) (left_at new.vault.disk) (moment new.vault.disk) (moment new.vault.disk) ((end ∷ []) ∷ []) [] (in_one doubt)
   acknowledged_at held old new end takes kept doubt on t contents after before was =
       let stands = (held on new.vault (graph new) (environment new) (facts new) ((kept on).holds takes.working.1)).each t contents after before was in
       let all : facts new ≡ with_facts (facts old) (event_facts end ++ []) = λ i fact. (takes.takes.facts fact ∙ ap (λ (list : List Fact). with_facts (facts old) list fact) (sym (append-nil (event_facts end)))) i in
@@ -199,7 +199,7 @@ module _ {D : Type 0} (files : D → Side → File) (moment : D → ℕ) (left_a
       in
       record {
         made = [];
-        later = one_by_one doubt;
+        later = in_one doubt;
         beginning = refl;
         stands =
             subst (λ (X : Facts). Stands contents (graph old) (with_facts (environment old) (environment_facts end ++ [])) X) all
@@ -208,14 +208,14 @@ module _ {D : Type 0} (files : D → Side → File) (moment : D → ℕ) (left_a
 
   -- one event that was taken
   pub acknowledged_once : (honest → AppendLeaves files moment left_at) → (honest → HeldLeaves files moment left_at) → (old new : Core D) (end : Event) → Takes old new end → (honest → CrashLeaves files moment left_at old new (end ∷ []))
-      → (honest → IsKept files new) → honest → AcknowledgesFrom (graph old) (environment old) (facts old) (left_at new.vault.disk) (moment new.vault.disk) (moment old.vault.disk) [] (end ∷ []) new.in_doubt
+      → (honest → IsKept files new) → honest → AcknowledgesFrom (graph old) (environment old) (facts old) (left_at new.vault.disk) (moment new.vault.disk) (moment old.vault.disk) [] ((end ∷ []) ∷ []) (in_one new.in_doubt)
   acknowledged_once leaves held old new end takes moments kept on =
       let crash = begins leaves old new end on (moments on) in
       (moment new.vault.disk, crash.later, omega arith, λ t contents after before was. crash.each t contents after before was, acknowledged_at held old new end takes kept new.in_doubt on)
 
   pub ended : {T : Type 0} → (honest → AppendLeaves files moment left_at) → (honest → HeldLeaves files moment left_at) → (old new : Core D) (end : Event) (result : Result T CoreError) → is_halted old ≡ false → IsEnd end
       → Takes old new end → new.in_doubt ≡ [] → (honest → CrashLeaves files moment left_at old new (end ∷ [])) → (honest → IsKept files new) → Halts failures refusals old new result
-      → Runs files moment left_at failures refusals honest old new (end ∷ [])
+      → Runs files moment left_at failures refusals honest old new ((end ∷ []) ∷ [])
   ended leaves held old new end result working is takes settled moments kept halts =
       let one : end ∷ [] ++ new.in_doubt ≡ end ∷ [] = ap (λ (events : List Event). end ∷ events) settled in
       record {
@@ -229,13 +229,13 @@ module _ {D : Type 0} (files : D → Side → File) (moment : D → ℕ) (left_a
         generation = λ _. takes.generation;
         end = λ _. with_record new.vault.journal.end old.vault.journal.end (record_length end) takes.moved;
         crashes = λ on.
-            subst (λ (events : List Event). LeavesOnly moment left_at old.vault.disk new.vault.disk (StandsForBeginning (graph old) (environment old) (facts old) [] (one_by_one events))) (sym one)
+            subst (λ (events : List Event). LeavesOnly moment left_at old.vault.disk new.vault.disk (StandsForBeginning (graph old) (environment old) (facts old) [] ((end ∷ []) ∷ in_one events))) (sym settled)
             (begins leaves old new end on (moments on));
         acknowledged = acknowledged_once leaves held old new end takes moments kept;
         gates = λ on has. (moments on).gates has;
         halts = (λ halted. elim (halts.halts.0 halted) [ inl before ↦ absurd (false≢true (sym working ∙ before)) | inr erred ↦ erred ], λ erred. halts.halts.1 (inr erred));
         later = halts.disk.later;
-        one_in_doubt = λ is. absurd (false≢true (sym takes.working.1 ∙ is));
+        some_in_doubt = λ is. absurd (false≢true (sym takes.working.1 ∙ is));
       }
 
   -- ---- an end that is refused
@@ -293,14 +293,14 @@ module _ {D : Type 0} (files : D → Side → File) (moment : D → ℕ) (left_a
             generation = λ goes. absurd (false≢true (sym goes ∙ stops));
             end = λ goes. absurd (false≢true (sym goes ∙ stops));
             crashes = λ on.
-                subst (λ (events : List Event). LeavesOnly moment left_at old.vault.disk new.vault.disk (StandsForBeginning (graph old) (environment old) (facts old) [] (one_by_one events))) (sym doubt)
+                subst (λ (events : List Event). LeavesOnly moment left_at old.vault.disk new.vault.disk (StandsForBeginning (graph old) (environment old) (facts old) [] (in_one events))) (sym doubt)
                 (begins leaves old new end on (commits.moments on working));
             acknowledged = λ on t contents after before was.
-                subst (λ (events : List Event). StandsForBeginning (graph old) (environment old) (facts old) [] (one_by_one events) contents) (sym doubt) ((begins leaves old new end on (commits.moments on working)).each t contents after before was);
+                subst (λ (events : List Event). StandsForBeginning (graph old) (environment old) (facts old) [] (in_one events) contents) (sym doubt) ((begins leaves old new end on (commits.moments on working)).each t contents after before was);
             gates = λ on has. (commits.moments on working).gates has;
             halts = (λ _. erred, λ _. stops);
             later = halts.disk.later;
-            one_in_doubt = λ _. (end, doubt, allowed);
+            some_in_doubt = λ _. let counted : length new.in_doubt ≡ 1 = ap length doubt in (omega (arith, counted), omega (arith, counted, allowed));
           }
 
   -- a finish is a run by itself

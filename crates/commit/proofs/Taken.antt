@@ -1,6 +1,7 @@
 -- What an append makes of a core: if the event is taken, and if an error is returned.
-use Rattle.std.proofs.Common.{◌≡◌, ◌∙◌, ◌↔◌, ap, sym, refl, subst, inl, ℕ, Bool, true, false, cond, List, [], ◌∷◌, Option, Some, None, Result, Ok, Err, OnOk, OnErr, arith}
+use Rattle.std.proofs.Common.{◌≡◌, ◌∙◌, ◌↔◌, ap, sym, refl, subst, inl, ℕ, Bool, true, false, cond, List, [], ◌∷◌, Result, Ok, Err, OnOk, OnErr, arith}
 use Rattle.std.proofs.lemmas.Bool.{false≢true}
+use Rattle.std.specs.Global.{Vec}
 use Rattle.std.proofs.lemmas.List.{append-nil}
 use Rattle.disk.specs.declared.side.Side.{Side}
 use Rattle.disk.specs.File.{File}
@@ -12,24 +13,35 @@ use Rattle.terms.specs.Sets.{Facts, with_facts}
 use Rattle.graph.specs.Graph.{Graph}
 use Rattle.codec.specs.Spelling.{HasFewPuts}
 use Rattle.graph.specs.Fits.{Fits}
+use Rattle.terms.specs.declared.name.Inst.{Inst}
+use Rattle.machine.specs.Group.{GivesAllBack, TakesInTurn}
+use Rattle.machine.specs.GroupLaws.{AreFit, LegalFitInTurn, TakenInTurn}
 use Rattle.machine.specs.Laws.{LegalFitsState}
 use Rattle.machine.specs.Legal.{IsLegal}
 use Rattle.machine.specs.Promise as machine_kept
+use Rattle.machine.specs.State.{AreLegalFrom}
 use Rattle.machine.specs.Machine.{Machine, facts as facts_of, environment as environment_of}
 use Rattle.machine.specs.Machine as machine
 use Rattle.vault.specs.declared.vault.Vault.{Vault}
 use Rattle.vault.specs.declared.error.VaultError.{VaultError}
-use Rattle.vault.specs.declared.error.VaultError.TheVariants.{Device, NoMemory, Halted}
-use Rattle.vault.specs.Calls as calls
 use Rattle.vault.specs.Commits.{HeldLeaves, RefusedStore}
 use Rattle.vault.specs.Stands.{Stands}
 use Rattle.vault.specs.Store.{Holds, IsSame, StandsBeforeOrAfter}
-use Rattle.commit.specs.declared.error.CoreError.{CoreError}
-use Rattle.commit.specs.declared.error.CoreError.TheVariants.{Store}
 use Rattle.commit.specs.Core.{graph}
-use Rattle.commit.specs.Calls.{Halts}
+use Rattle.commit.specs.declared.events.Events.{Events}
+use Rattle.commit.specs.declared.events.Events.TheVariants.{Nothing, One, Several}
 use Rattle.commit.specs.Doubt.{events_in}
 use Rattle.commit.specs.Kept.{IsKept}
+
+-- what is in doubt after one event that was tried
+pub one_kept : (halted : Bool) (event : Event) (before after : Events) → after ≡ cond halted (One event) before → events_in after ≡ cond halted (event ∷ []) (events_in before)
+one_kept true event before after is = ap events_in is
+one_kept false event before after is = ap events_in is
+
+-- and after several
+pub several_kept : (halted : Bool) (events : Vec Event) (slice : List Event) (before after : Events) → slice ≡ events.items → after ≡ cond halted (Several events) before → events_in after ≡ cond halted slice (events_in before)
+several_kept true events slice before after same is = ap events_in is ∙ sym same
+several_kept false events slice before after same is = ap events_in is
 
 -- if a vault holds sets of facts, it holds sets that agree with them at each fact
 pub holds_alike :
@@ -55,6 +67,10 @@ stands_alike g h E F X Y events contents graph given facts stands =
 -- a legal event fits what a machine holds, and has no more puts than it may
 pub fits : LegalFitsState → (m : Machine) → machine_kept.IsKept m → (event : Event) → IsLegal m.graph (facts_of m) event → Fits m.graph (facts_of m) event × HasFewPuts event
 fits law m kept event legal = law m.graph kept.graph (environment_of m) (facts_of m) event kept.fits legal
+
+-- legal events fit what a machine holds, one after another
+pub all_fit : LegalFitInTurn → (m : Machine) → machine_kept.IsKept m → (events : List Event) → AreLegalFrom m.graph (facts_of m) events → AreFit m.graph (facts_of m) events
+all_fit law m kept events legal = law m.graph kept.graph (environment_of m) (facts_of m) events kept.fits legal
 
 module _ {D : Type 0} (files : D → Side → File) (moment : D → ℕ) (left_at : D → ℕ → Contents → Type 0) (now : (disk : D) (contents : Contents) → left_at disk (moment disk) contents ↔ MayLeaveNow (files disk) contents) where
   -- what a crash leaves after calls is what one leaves at their last moment
@@ -87,9 +103,19 @@ module _ {D : Type 0} (files : D → Side → File) (moment : D → ℕ) (left_a
       (λ fact. takes.facts fact ∙ ap (λ (more : List Fact). with_facts (facts_of m) more fact) (sym (append-nil (event_facts event))))
       holds)
 
+  -- and so does one by which several events were taken, after which some instances were given back
+  pub kept_taken_all : TakenInTurn → HeldLeaves files moment left_at → (v : Vault D) (m mid n : Machine) (commit : List Event) (tasks : List Inst) (doubt latest : List Event) (allowance : ℕ) → TakesInTurn m commit mid → GivesAllBack mid n tasks
+      → Holds files v m.graph (with_facts (environment_of m) (facts.environment commit)) (with_facts (facts_of m) (facts.facts commit))
+      → IsKept files (record { vault = v; machine = n; in_doubt = doubt; latest = latest; allowance = allowance })
+  kept_taken_all law leaves v m mid n commit tasks doubt latest allowance takes back holds =
+      let adds = law m commit mid takes in
+      kept leaves v n doubt latest allowance
+      (holds_alike files v m.graph n.graph (with_facts (environment_of m) (facts.environment commit)) (environment_of n) (with_facts (facts_of m) (facts.facts commit)) (facts_of n) (back.graph ∙ adds.graph)
+      (λ fact. back.environment fact ∙ adds.given fact) (λ fact. back.facts fact ∙ adds.all fact) holds)
+
   -- a turnover that returns an error leaves the core kept
-  pub kept_turned : HeldLeaves files moment left_at → RefusedStore files moment left_at → (v w : Vault D) (m : Machine) (doubt : Option Event) (latest : List Event) (allowance : ℕ)
-      → v.halted ≡ false → doubt ≡ None → Holds files v m.graph (environment_of m) (facts_of m) → (w.halted ≡ v.halted → IsSame v w)
+  pub kept_turned : HeldLeaves files moment left_at → RefusedStore files moment left_at → (v w : Vault D) (m : Machine) (doubt : Events) (latest : List Event) (allowance : ℕ)
+      → v.halted ≡ false → doubt ≡ Nothing → Holds files v m.graph (environment_of m) (facts_of m) → (w.halted ≡ v.halted → IsSame v w)
       → IsKept files (record { vault = w; machine = m; in_doubt = events_in doubt; latest = latest; allowance = allowance })
   kept_turned leaves refused v w m doubt latest allowance working none holds same = at w.halted refl
     where
@@ -98,25 +124,25 @@ module _ {D : Type 0} (files : D → Side → File) (moment : D → ℕ) (left_a
       at true is = record { holds = λ goes. absurd (false≢true (sym goes ∙ is)); left = λ apart. absurd (apart (is, ap events_in none)) }
 
   -- and so does one that returns `Ok`
-  pub kept_either : HeldLeaves files moment left_at → RefusedStore files moment left_at → (v w : Vault D) (m : Machine) (doubt : Option Event) (latest : List Event) (allowance : ℕ) (result : Result ℕ VaultError)
-      → v.halted ≡ false → doubt ≡ None → Holds files v m.graph (environment_of m) (facts_of m) → OnOk result (Holds files w m.graph (environment_of m) (facts_of m)) → OnErr result (w.halted ≡ v.halted → IsSame v w)
+  pub kept_either : HeldLeaves files moment left_at → RefusedStore files moment left_at → (v w : Vault D) (m : Machine) (doubt : Events) (latest : List Event) (allowance : ℕ) (result : Result ℕ VaultError)
+      → v.halted ≡ false → doubt ≡ Nothing → Holds files v m.graph (environment_of m) (facts_of m) → OnOk result (Holds files w m.graph (environment_of m) (facts_of m)) → OnErr result (w.halted ≡ v.halted → IsSame v w)
       → IsKept files (record { vault = w; machine = m; in_doubt = events_in doubt; latest = latest; allowance = allowance })
   kept_either leaves refused v w m doubt latest allowance (Ok generation) working none holds turned same = kept leaves w m (events_in doubt) latest allowance turned
   kept_either leaves refused v w m doubt latest allowance (Err error) working none holds turned same = kept_turned leaves refused v w m doubt latest allowance working none holds same
 
   -- an error leaves the core kept, with the event in doubt if the error halted the vault
-  pub kept_refused : HeldLeaves files moment left_at → RefusedStore files moment left_at → (v w : Vault D) (m : Machine) (event : Event) (before after : Option Event) (latest : List Event) (allowance : ℕ)
-      → v.halted ≡ false → after ≡ cond w.halted (Some event) before → Holds files v m.graph (environment_of m) (facts_of m) → (w.halted ≡ v.halted → IsSame v w)
-      → LeavesOnly moment left_at v.disk w.disk (StandsBeforeOrAfter m.graph (environment_of m) (facts_of m) (event ∷ []))
+  pub kept_refused : HeldLeaves files moment left_at → RefusedStore files moment left_at → (v w : Vault D) (m : Machine) (commit : List Event) (before after : Events) (latest : List Event) (allowance : ℕ)
+      → v.halted ≡ false → events_in after ≡ cond w.halted commit (events_in before) → Holds files v m.graph (environment_of m) (facts_of m) → (w.halted ≡ v.halted → IsSame v w)
+      → LeavesOnly moment left_at v.disk w.disk (StandsBeforeOrAfter m.graph (environment_of m) (facts_of m) commit)
       → IsKept files (record { vault = w; machine = m; in_doubt = events_in after; latest = latest; allowance = allowance })
-  kept_refused leaves refused v w m event before after latest allowance working doubt holds same moments = at w.halted refl
+  kept_refused leaves refused v w m commit before after latest allowance working doubt holds same moments = at w.halted refl
     where
       at : (b : Bool) → w.halted ≡ b → IsKept files (record { vault = w; machine = m; in_doubt = events_in after; latest = latest; allowance = allowance })
       at false is = kept leaves w m (events_in after) latest allowance (refused v w m.graph (environment_of m) (facts_of m) holds (same (is ∙ sym working)))
       at true is = record {
         holds = λ goes. absurd (false≢true (sym goes ∙ is));
         left = λ _ contents may.
-            let event_is : event ∷ [] ≡ events_in after = sym (ap events_in (doubt ∙ ap (λ b. cond b (Some event) before) is)) in
-            subst (λ (events : List Event). StandsBeforeOrAfter m.graph (environment_of m) (facts_of m) events contents) event_is
-            (at_end v.disk w.disk (StandsBeforeOrAfter m.graph (environment_of m) (facts_of m) (event ∷ [])) moments contents may);
+            let commit_is : commit ≡ events_in after = sym (doubt ∙ ap (λ b. cond b commit (events_in before)) is) in
+            subst (λ (events : List Event). StandsBeforeOrAfter m.graph (environment_of m) (facts_of m) events contents) commit_is
+            (at_end v.disk w.disk (StandsBeforeOrAfter m.graph (environment_of m) (facts_of m) commit) moments contents may);
       }

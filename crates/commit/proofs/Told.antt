@@ -1,11 +1,10 @@
 -- What a run returns, where `Full` is said of the whole run.
-use Rattle.std.proofs.Common.{◌≡◌, ◌+◌, ◌≤◌, subst, ℕ, Bool, false, List, [], Result, Ok, Err}
+use Rattle.std.proofs.Common.{◌≡◌, ◌+◌, ◌≤◌, subst, ℕ, Bool, false, List, [], ◌∷◌, arith, Result, Ok, Err}
 use Rattle.std.proofs.lemmas.List.{append-nil}
 use Rattle.journal.specs.declared.journal.TheConstants.{LIMIT}
-use Rattle.terms.specs.declared.event.Event.{Event}
+use Rattle.terms.specs.Commits.{Commit, facts_behind}
 use Rattle.terms.specs.Facts.{Fact}
-use Rattle.terms.specs.Facts as stated
-use Rattle.terms.specs.Sets.{Facts, with_facts}
+use Rattle.terms.specs.Sets.{Facts}
 use Rattle.graph.specs.Graph.{Graph}
 use Rattle.machine.specs.Legal.{IsLegal}
 use Rattle.commit.specs.declared.verdict.Verdict.{Verdict}
@@ -16,17 +15,18 @@ use Rattle.commit.specs.Calls.{record_length}
 use Rattle.commit.specs.Core.{Core, graph, facts, is_halted}
 use Rattle.commit.specs.Runs.{IsFull, MetFull, TellsVerdict, records_length}
 
--- an end that is refused now is refused after all the ends of the run
-pub met_full : {D : Type 0} (g : Graph) (X : Facts) (from : ℕ) (c : Core D) (ends : List Event) → graph c ≡ g → ((fact : Fact) → facts c fact ≡ with_facts X (stated.facts ends) fact)
-    → c.vault.journal.end ≡ from + records_length ends → IsFull c → MetFull g X from ends
-met_full g X from c ends graph_is sets ends_at full =
-    let all : facts c ≡ with_facts X (stated.facts ends) = λ i fact. sets fact i in
+-- an end that is refused now is refused after all the commits of the run
+pub met_full : {D : Type 0} (g : Graph) (X : Facts) (from : ℕ) (c : Core D) (commits : List Commit) → graph c ≡ g → ((fact : Fact) → facts c fact ≡ facts_behind X commits fact)
+    → c.vault.journal.end ≡ from + records_length commits → IsFull c → MetFull g X from commits
+met_full g X from c commits graph_is sets ends_at full =
+    let all : facts c ≡ facts_behind X commits = λ i fact. sets fact i in
     record {
-      before = ends;
-      starts = ([], append-nil ends);
-      end = full.0;
-      is_end = full.1;
-      legal = subst (λ (Y : Facts). IsLegal g Y full.0) all (subst (λ (h : Graph). IsLegal h (facts c) full.0) graph_is full.2);
+      before = commits;
+      starts = ([], append-nil commits);
+      refused = full.0 ∷ [];
+      some = omega arith;
+      are_ends = (full.1, tt);
+      legal = (subst (λ (Y : Facts). IsLegal g Y full.0) all (subst (λ (h : Graph). IsLegal h (facts c) full.0) graph_is full.2), tt);
       too_long = subst (λ n. LIMIT ≤ n + record_length full.0) ends_at full.3;
     }
 

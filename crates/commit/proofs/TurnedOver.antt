@@ -1,13 +1,11 @@
 -- The whole of what a turnover of a core promises, from what its vault's turnover promises.
-use Rattle.std.proofs.Common.{◌≡◌, ◌∙◌, ◌⊎◌, ◌+◌, ap, sym, refl, inl, inr, ℕ, true, false, List, [], Result, Ok, Err, IsErrOf}
-use Rattle.std.proofs.lemmas.Bool.{false≢true}
+use Rattle.std.proofs.Common.{◌≡◌, ◌∙◌, ◌⊎◌, ◌+◌, ap, refl, inl, inr, ℕ, true, false, List, [], Result, Ok, Err}
 use Rattle.disk.specs.declared.side.Side.{Side}
 use Rattle.disk.specs.File.{File, at_rest}
 use Rattle.disk.specs.Time.{Contents, HasCauses}
 use Rattle.terms.specs.declared.event.Event.{Event}
 use Rattle.codec.specs.declared.image.Image.{Image}
 use Rattle.codec.specs.Image.{IsListed, Lists}
-use Rattle.graph.specs.Canonical.{canonical}
 use Rattle.machine.specs.Machine.{Machine, environment as environment_of, facts as facts_of}
 use Rattle.vault.specs.declared.vault.Vault.{Vault}
 use Rattle.vault.specs.declared.error.VaultError.{VaultError}
@@ -16,10 +14,9 @@ use Rattle.vault.specs.Calls as calls
 use Rattle.vault.specs.Store.{IsLast, IsTooLong, new_side}
 use Rattle.commit.specs.declared.error.CoreError.{CoreError}
 use Rattle.commit.specs.declared.error.CoreError.TheVariants.{Store}
-use Rattle.commit.specs.Calls.{Halts, IsUnchanged}
 use Rattle.commit.specs.Core.{Core, is_halted}
 use Rattle.commit.specs.Kept.{IsKept}
-use Rattle.commit.specs.Turning.{IsImageOf, IsTooLongWith, RefusesTurn, TellsFullTurn, LeavesWhileTurning, TurnsAs}
+use Rattle.commit.specs.Turning.{IsImageOf, IsTooLongWith, RefusesTurn, LeavesWhileTurning, TurnsAs}
 use Rattle.commit.proofs.Roomy.{unhalted}
 
 -- an error of the vault, as one of the core

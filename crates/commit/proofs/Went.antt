@@ -1,23 +1,22 @@
--- A run as events by which a core goes on.
-use Rattle.std.proofs.Common.{◌≡◌, ◌∙◌, ap, sym, ℕ, List}
+-- A run as commits by which a core goes on.
+use Rattle.std.proofs.Common.{◌∙◌, ap, sym, ℕ, List}
 use Rattle.disk.specs.declared.side.Side.{Side}
 use Rattle.disk.specs.File.{File}
 use Rattle.disk.specs.Time.{Contents}
-use Rattle.terms.specs.declared.event.Event.{Event}
-use Rattle.terms.specs.Facts.{Fact}
-use Rattle.terms.specs.Sets.{Facts, with_facts}
+use Rattle.terms.specs.Commits.{Commit, events_of}
+use Rattle.terms.specs.Sets.{Facts}
 use Rattle.commit.specs.Core.{Core, environment}
 use Rattle.commit.specs.Runs.{Runs, with_allowance}
 use Rattle.commit.specs.Went.{Went}
-use Rattle.commit.proofs.Lists.{first_ends, put_nothing, with_nothing}
+use Rattle.commit.proofs.Lists.{first_ends, given_by_ends}
 
 module _ {D : Type 0} (files : D → Side → File) (moment : D → ℕ) (left_at : D → ℕ → Contents → Type 0) (failures refusals : D → ℕ) (honest : Type 0) where
-  pub of_run : (old new : Core D) (limit : ℕ) (ends : List Event) → Runs files moment left_at failures refusals honest (with_allowance old limit) new ends → Went files moment left_at failures refusals honest old new ends
-  of_run old new limit ends runs = record {
+  pub of_run : (old new : Core D) (limit : ℕ) (commits : List Commit) → Runs files moment left_at failures refusals honest (with_allowance old limit) new commits → Went files moment left_at failures refusals honest old new commits
+  of_run old new limit commits runs = record {
     legal = runs.legal;
     graph = runs.graph;
     facts = runs.facts;
-    environment = λ fact. runs.environment fact ∙ ap (λ (S : Facts). S fact) (sym (ap (λ (list : List Fact). with_facts (environment old) list) (put_nothing ends (first_ends ends new.in_doubt runs.are_ends)) ∙ with_nothing (environment old)));
+    environment = λ fact. runs.environment fact ∙ ap (λ (S : Facts). S fact) (sym (given_by_ends (environment old) (events_of commits) (first_ends (events_of commits) new.in_doubt runs.are_ends)));
     generation = runs.generation;
     end = runs.end;
     crashes = runs.crashes;

@@ -1,11 +1,12 @@
 -- What the calls of a core promise: the event that comes at `Ok`, and what an error says and leaves.
-use Rattle.std.specs.Prelude.{◌≡◌, ◌≢◌, ◌⊎◌, ◌↔◌, ◌<◌, ◌≤◌, ◌+◌, ℕ, true, false, List, [], ◌∷◌, length, Result, Some, IsErrOf, OnOk, OnErr, IfErr}
+use Rattle.std.specs.Prelude.{◌≡◌, ◌≢◌, ◌⊎◌, ◌↔◌, ◌≤◌, ◌+◌, ℕ, true, false, List, [], ◌∷◌, length, Result, Some, IsErrOf, OnOk, OnErr, IfErr}
 use Rattle.disk.specs.declared.side.Side.{Side}
 use Rattle.disk.specs.File.{File}
 use Rattle.disk.specs.Time.{Contents, LeavesOnly, HasCauses, HasErred}
 use Rattle.terms.specs.declared.name.Inst.{Inst}
 use Rattle.terms.specs.declared.event.Event.{Event}
 use Rattle.terms.specs.declared.event.Event.TheVariants.{EnvItem, EnvTag, Done, Stopped}
+use Rattle.terms.specs.Commits.{Commit}
 use Rattle.terms.specs.Facts.{Fact}
 use Rattle.codec.specs.Commits.{commit_bytes}
 use Rattle.journal.specs.Records.{record_of}
@@ -30,9 +31,12 @@ step_count (EnvTag name) = 0
 step_count (Done instance puts) = 1
 step_count (Stopped instance kind) = 1
 
--- how many bytes the record of an event has
+-- how many bytes the record of a commit has, and that of one event
+abbrev pub commit_length : Commit → ℕ
+commit_length commit = length (record_of (commit_bytes commit))
+
 abbrev pub record_length : Event → ℕ
-record_length event = length (record_of (commit_bytes (event ∷ [])))
+record_length event = commit_length (event ∷ [])
 
 -- The event was legal, and was taken: into the state in memory, and into the journal of the live side, which ends after its record now. It is the latest
 -- commit.
@@ -66,9 +70,12 @@ pub record GivesBack {D : Type 0} (old new : Core D) (instance : Inst) : Type 0 
 
 -- ---- refusals
 
--- the closed gate after the event's record would not lie below the limit
+-- the closed gate after the record of the commit, or of the event, would not lie below the limit
+abbrev pub AreTooLong : {D : Type 0} → Core D → Commit → Type 0
+AreTooLong c commit = LIMIT ≤ c.vault.journal.end + commit_length commit
+
 abbrev pub IsTooLong : {D : Type 0} → Core D → Event → Type 0
-IsTooLong c event = LIMIT ≤ c.vault.journal.end + record_length event
+IsTooLong c event = AreTooLong c (event ∷ [])
 
 -- Why an event is refused. A halted core returns `Halted`, and nothing else. Then come the causes why the event may not come; an event that
 -- may come is refused if its record does not fit, if the device failed, or if memory was refused.
@@ -98,9 +105,12 @@ pub record Halts {D T : Type 0} (failures refusals : D → ℕ) (old new : Core 
   pub same : OnErr result (is_halted new ≡ is_halted old → IsSame old.vault new.vault × (new.in_doubt ≡ old.in_doubt))
   pub settled : OnOk result (new.in_doubt ≡ [])
 
--- the event is in doubt, if this call halted the core
+-- the commit, or the event, is in doubt, if this call halted the core
+abbrev pub AreInDoubt : {D T : Type 0} → Core D → Core D → Commit → Result T CoreError → Type 0
+AreInDoubt old new commit result = OnErr result (is_halted old ≡ false → is_halted new ≡ true → new.in_doubt ≡ commit)
+
 abbrev pub IsInDoubt : {D T : Type 0} → Core D → Core D → Event → Result T CoreError → Type 0
-IsInDoubt old new event result = OnErr result (is_halted old ≡ false → is_halted new ≡ true → new.in_doubt ≡ event ∷ [])
+IsInDoubt old new event result = AreInDoubt old new (event ∷ []) result
 
 -- ---- crashes
 

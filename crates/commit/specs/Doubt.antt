@@ -1,8 +1,11 @@
--- An event that there may be, as a list: the one in doubt, after a call that halted a core, and the one of the latest commit.
-use Rattle.std.specs.Prelude.{List, [], ◌∷◌, Option, Some, None}
+-- The events of a commit as a list: of the one in doubt, after a call that halted a core, and of the latest one.
+use Rattle.std.specs.Prelude.{List, [], ◌∷◌}
 use Rattle.terms.specs.declared.event.Event.{Event}
+use Rattle.commit.specs.declared.events.Events.{Events}
+use Rattle.commit.specs.declared.events.Events.TheVariants.{Nothing, One, Several}
 
--- the event, if there is one, as a list
-abbrev pub events_in : Option Event → List Event
-events_in None = []
-events_in (Some event) = event ∷ []
+-- the events, in their order
+abbrev pub events_in : Events → List Event
+events_in Nothing = []
+events_in (One event) = event ∷ []
+events_in (Several events) = events.items

@@ -1,5 +1,5 @@
 -- A run of the steps of a core: the ends of instances that it commits, and what it returns.
-use Rattle.std.specs.Prelude.{◌≡◌, ◌≢◌, ◌⊎◌, ◌↔◌, ◌+◌, ◌<◌, ◌≤◌, ⊤, ℕ, Bool, true, false, List, [], ◌∷◌, ◌++◌, map, length, Some, Result, Ok, Err, OnErr}
+use Rattle.std.specs.Prelude.{◌≡◌, ◌≢◌, ◌⊎◌, ◌↔◌, ◌+◌, ◌<◌, ◌≤◌, ⊤, ℕ, Bool, true, false, List, [], ◌∷◌, ◌++◌, length, Some, Result, Ok, Err, OnErr}
 use Rattle.std.specs.List.{AllByRecursion}
 use mathlib.Core.List.{IsPrefix}
 use Rattle.journal.specs.declared.journal.TheConstants.{LIMIT}
@@ -9,10 +9,9 @@ use Rattle.disk.specs.Time.{Contents, LeavesSince}
 use Rattle.terms.specs.declared.name.Inst.{Inst}
 use Rattle.terms.specs.declared.event.Event.{Event}
 use Rattle.terms.specs.declared.event.Event.TheVariants as event
-use Rattle.terms.specs.Commits.{Commit}
+use Rattle.terms.specs.Commits.{Commit, events_of, facts_behind}
 use Rattle.terms.specs.Facts.{Fact}
-use Rattle.terms.specs.Facts as stated
-use Rattle.terms.specs.Sets.{Facts, with_facts}
+use Rattle.terms.specs.Sets.{Facts}
 use Rattle.graph.specs.Graph.{Graph}
 use Rattle.instances.specs.declared.state.State.TheVariants.{Running}
 use Rattle.machine.specs.Legal.{IsLegal}
@@ -31,7 +30,7 @@ use Rattle.commit.specs.declared.verdict.RunError.{RunError}
 use Rattle.commit.specs.declared.verdict.RunError.TheVariants.{Spawn, NoMemory, Full}
 use Rattle.commit.specs.declared.outcome.Outcome.{Outcome}
 use Rattle.commit.specs.declared.outcome.Committed.{Committed}
-use Rattle.commit.specs.Calls.{GivesBack, Halts, IsTooLong, record_length}
+use Rattle.commit.specs.Calls.{GivesBack, Halts, IsTooLong, commit_length}
 use Rattle.commit.specs.Outcome.{Finishes, IsEndOf, Tells}
 use Rattle.commit.specs.Core.{Core, graph, facts, state_of, is_halted}
 use Rattle.commit.specs.Core as core
@@ -50,19 +49,20 @@ IsEnd (event.EnvTag name) = ⊥
 IsEnd (event.Done instance puts) = ⊤
 IsEnd (event.Stopped instance kind) = ⊤
 
--- each event is a commit of its own
-abbrev pub one_by_one : List Event → List Commit
-one_by_one events = map (λ one. one ∷ []) events
+-- these events as one commit; no commit, if there are none
+abbrev pub in_one : List Event → List Commit
+in_one [] = []
+in_one (first ∷ events) = (first ∷ events) ∷ []
 
--- From this moment on a crash leaves what the ends that are made state; these are acknowledged. Until the next end is acknowledged, a crash may leave that end too; and so on. From the
--- last one on it leaves all of them, perhaps with those in doubt.
-abbrev pub AcknowledgesFrom : Graph → Facts → Facts → (left : ℕ → Contents → Type 0) → (last from : ℕ) → (made ends doubt : List Event) → Type 0
+-- From this moment on a crash leaves what the commits that are made state; these are acknowledged. Until the next commit is acknowledged, a crash may leave that one too; and so on. From the
+-- last one on it leaves all of them, perhaps with the one in doubt.
+abbrev pub AcknowledgesFrom : Graph → Facts → Facts → (left : ℕ → Contents → Type 0) → (last from : ℕ) → (made commits doubt : List Commit) → Type 0
 AcknowledgesFrom g E X left last from made [] doubt =
-    (t : ℕ) (contents : Contents) → from ≤ t → t ≤ last → left t contents → StandsForBeginning g E X (one_by_one made) (one_by_one doubt) contents
-AcknowledgesFrom g E X left last from made (end ∷ ends) doubt =
+    (t : ℕ) (contents : Contents) → from ≤ t → t ≤ last → left t contents → StandsForBeginning g E X made doubt contents
+AcknowledgesFrom g E X left last from made (commit ∷ commits) doubt =
     (next : ℕ) × (from ≤ next) × (next ≤ last)
-    × ((t : ℕ) (contents : Contents) → from ≤ t → t ≤ next → left t contents → StandsForBeginning g E X (one_by_one made) ((end ∷ []) ∷ []) contents)
-    × AcknowledgesFrom g E X left last next (made ++ end ∷ []) ends doubt
+    × ((t : ℕ) (contents : Contents) → from ≤ t → t ≤ next → left t contents → StandsForBeginning g E X made (commit ∷ []) contents)
+    × AcknowledgesFrom g E X left last next (made ++ commit ∷ []) commits doubt
 
 -- what a store was when a run began: its graph and facts, how many steps it might commit, the events of its latest commit, its generation, and where its
 -- journal ended; and of its disk the moment, the counts of errors, and the contents of both files
@@ -94,41 +94,41 @@ begun_by files moment failures refusals c = record {
   contents = contents_of (files c.vault.disk);
 }
 
--- how many bytes the records of these events have
-abbrev pub records_length : List Event → ℕ
+-- how many bytes the records of these commits have
+abbrev pub records_length : List Commit → ℕ
 records_length [] = 0
-records_length (event ∷ events) = record_length event + records_length events
+records_length (commit ∷ commits) = commit_length commit + records_length commits
 
--- the latest commit, where this one was the latest before these events
-abbrev pub latest_after : List Event → List Event → List Event
+-- the latest commit, where this one was the latest before these
+abbrev pub latest_after : Commit → List Commit → Commit
 latest_after before [] = before
-latest_after before (event ∷ events) = latest_after (event ∷ []) events
+latest_after before (commit ∷ commits) = latest_after commit commits
 
--- Since a core that was like this, was not halted, and of which a crash might leave this, these ends of instances were committed, one after another;
--- if the core is halted now, one more is in doubt. They were legal, and state all that is new; each used one of the allowance, and the last of them
--- is the latest commit. The journal has their records behind those that it had, and the generation stays. At each moment a
+-- Since a core that was like this, was not halted, and of which a crash might leave this, these commits of ends of instances came, one after another;
+-- if the core is halted now, one more is in doubt. They were legal, and state all that is new; each end used one of the allowance, and the last of the commits
+-- is the latest. The journal has their records behind those that it had, and the generation stays. At each moment a
 -- crash leaves what a prefix of them states, each of which is there whole: those that were acknowledged by then, or these and the next one. The core is halted exactly if a call of the
 -- disk returned an error.
-pub record RunsSince {D : Type 0} (moment : D → ℕ) (left_at : D → ℕ → Contents → Type 0) (failures refusals : D → ℕ) (honest : Type 0) (begun : Begun) (left : ℕ → Contents → Type 0) (new : Core D) (ends : List Event) : Type 0 where
-  pub are_ends : AllByRecursion IsEnd (ends ++ new.in_doubt)
-  pub legal : AreLegalFrom begun.graph begun.facts (ends ++ new.in_doubt)
+pub record RunsSince {D : Type 0} (moment : D → ℕ) (left_at : D → ℕ → Contents → Type 0) (failures refusals : D → ℕ) (honest : Type 0) (begun : Begun) (left : ℕ → Contents → Type 0) (new : Core D) (commits : List Commit) : Type 0 where
+  pub are_ends : AllByRecursion IsEnd (events_of commits ++ new.in_doubt)
+  pub legal : AreLegalFrom begun.graph begun.facts (events_of commits ++ new.in_doubt)
   pub graph : core.graph new ≡ begun.graph
-  pub facts : (fact : Fact) → core.facts new fact ≡ with_facts begun.facts (stated.facts ends) fact
+  pub facts : (fact : Fact) → core.facts new fact ≡ facts_behind begun.facts commits fact
   pub environment : (fact : Fact) → core.environment new fact ≡ begun.environment fact
-  pub spent : new.allowance + length ends ≡ begun.allowance
-  pub latest : new.latest ≡ latest_after begun.latest ends
+  pub spent : new.allowance + length (events_of commits) ≡ begun.allowance
+  pub latest : new.latest ≡ latest_after begun.latest commits
   pub generation : is_halted new ≡ false → new.vault.generation ≡ begun.generation
-  pub end : is_halted new ≡ false → new.vault.journal.end ≡ begun.end + records_length ends
-  pub crashes : honest → LeavesSince moment left_at begun.moment left new.vault.disk (StandsForBeginning begun.graph begun.environment begun.facts [] (one_by_one (ends ++ new.in_doubt)))
-  pub acknowledged : honest → AcknowledgesFrom begun.graph begun.environment begun.facts (left_at new.vault.disk) (moment new.vault.disk) begun.moment [] ends new.in_doubt
+  pub end : is_halted new ≡ false → new.vault.journal.end ≡ begun.end + records_length commits
+  pub crashes : honest → LeavesSince moment left_at begun.moment left new.vault.disk (StandsForBeginning begun.graph begun.environment begun.facts [] (commits ++ in_one new.in_doubt))
+  pub acknowledged : honest → AcknowledgesFrom begun.graph begun.environment begun.facts (left_at new.vault.disk) (moment new.vault.disk) begun.moment [] commits (in_one new.in_doubt)
   pub gates : honest → HasGates begun.contents → LeavesSince moment left_at begun.moment left new.vault.disk HasGates
   pub halts : (is_halted new ≡ true) ↔ ((begun.failures < failures new.vault.disk) ⊎ (refusals new.vault.disk ≢ begun.refusals))
   pub later : begun.failures ≤ failures new.vault.disk
-  pub one_in_doubt : is_halted new ≡ true → (end : Event) × (new.in_doubt ≡ end ∷ []) × (length ends < begun.allowance)
+  pub some_in_doubt : is_halted new ≡ true → (0 < length new.in_doubt) × (length (events_of commits) + length new.in_doubt ≤ begun.allowance)
 
 -- the same from one core to another
-abbrev pub Runs : {D : Type 0} → (D → Side → File) → (D → ℕ) → (D → ℕ → Contents → Type 0) → (failures refusals : D → ℕ) → Type 0 → (old new : Core D) → List Event → Type 0
-Runs files moment left_at failures refusals honest old new ends = RunsSince moment left_at failures refusals honest (begun_by files moment failures refusals old) (left_at old.vault.disk) new ends
+abbrev pub Runs : {D : Type 0} → (D → Side → File) → (D → ℕ) → (D → ℕ → Contents → Type 0) → (failures refusals : D → ℕ) → Type 0 → (old new : Core D) → List Commit → Type 0
+Runs files moment left_at failures refusals honest old new commits = RunsSince moment left_at failures refusals honest (begun_by files moment failures refusals old) (left_at old.vault.disk) new commits
 
 -- ---- what is returned
 
@@ -140,15 +140,16 @@ IsAt c status = (is_halted c ≡ false) × TellsStatus c status × SaysOfMeaning
 abbrev pub IsFull : {D : Type 0} → Core D → Type 0
 IsFull c = (end : Event) × IsEnd end × IsLegal (graph c) (facts c) end × IsTooLong c end
 
--- In a store of this graph, with these facts, and whose journal ended there, these ends were committed; and after a prefix of them some end of an instance
--- might have come, but its record did not fit.
-pub record MetFull (g : Graph) (X : Facts) (from : ℕ) (ends : List Event) : Type 0 where
-  pub before : List Event
-  pub starts : IsPrefix before ends
-  pub end : Event
-  pub is_end : IsEnd end
-  pub legal : IsLegal g (with_facts X (stated.facts before)) end
-  pub too_long : LIMIT ≤ from + records_length before + record_length end
+-- In a store of this graph, with these facts, and whose journal ended there, these commits came; and after a prefix of them some ends of instances might have come as one more, but its record
+-- did not fit.
+pub record MetFull (g : Graph) (X : Facts) (from : ℕ) (commits : List Commit) : Type 0 where
+  pub before : List Commit
+  pub starts : IsPrefix before commits
+  pub refused : Commit
+  pub some : 0 < length refused
+  pub are_ends : AllByRecursion IsEnd refused
+  pub legal : AreLegalFrom g (facts_behind X before) refused
+  pub too_long : LIMIT ≤ from + records_length before + commit_length refused
 
 -- This is returned after a run with this limit, in which `count` ends were committed, by a driver that may be asked to stop, or may start threads.
 -- The first line that holds is returned, in this order: the core is halted; it is stopped; it is quiet. In the other lines something is ready, and
@@ -175,18 +176,18 @@ abbrev pub with_allowance : {D : Type 0} → Core D → ℕ → Core D
 with_allowance c count = record c { allowance = count }
 
 pub record RunsWithin {D : Type 0} (files : D → Side → File) (moment : D → ℕ) (left_at : D → ℕ → Contents → Type 0) (failures refusals : D → ℕ) (honest : Type 0) (may_be_asked may_spawn : Bool) (old new : Core D) (limit : ℕ) (result : Result Verdict RunError) : Type 0 where
-  pub ends : List Event
-  pub runs : Runs files moment left_at failures refusals honest (with_allowance old limit) new ends
-  pub told : TellsVerdict (MetFull (graph old) (facts old) old.vault.journal.end ends × (may_spawn ≡ false → IsFull new)) may_be_asked may_spawn new limit (length ends) result
+  pub commits : List Commit
+  pub runs : Runs files moment left_at failures refusals honest (with_allowance old limit) new commits
+  pub told : TellsVerdict (MetFull (graph old) (facts old) old.vault.journal.end commits × (may_spawn ≡ false → IsFull new)) may_be_asked may_spawn new limit (length (events_of commits)) result
 
--- the same, for some list of ends
+-- the same, for some commits
 pub record RunsOn {D : Type 0} (files : D → Side → File) (moment : D → ℕ) (left_at : D → ℕ → Contents → Type 0) (failures refusals : D → ℕ) (honest : Type 0) (old new : Core D) : Type 0 where
-  pub ends : List Event
-  pub runs : Runs files moment left_at failures refusals honest old new ends
+  pub commits : List Commit
+  pub runs : Runs files moment left_at failures refusals honest old new commits
 
 -- A finish is a run by itself: of one end at `Ok`, and of none at an error.
 abbrev pub EndRuns : {D : Type 0} → (D → Side → File) → (D → ℕ) → (D → ℕ → Contents → Type 0) → (failures refusals : D → ℕ) → Type 0 → (old new : Core D) → Inst → Outcome → Result Committed CoreError → Type 0
-EndRuns files moment left_at failures refusals honest old new instance outcome (Ok committed) = (end : Event) × IsEndOf outcome instance end × Tells committed end × Runs files moment left_at failures refusals honest old new (end ∷ [])
+EndRuns files moment left_at failures refusals honest old new instance outcome (Ok committed) = (end : Event) × IsEndOf outcome instance end × Tells committed end × Runs files moment left_at failures refusals honest old new ((end ∷ []) ∷ [])
 EndRuns files moment left_at failures refusals honest old new instance outcome (Err error) = Runs files moment left_at failures refusals honest old new []
 
 -- What a finish promises: an end of the instance is committed, or refused; at an error the instance is ready; and it is a run by itself.

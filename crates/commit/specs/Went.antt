@@ -1,12 +1,10 @@
--- How a core goes on by events that come one after another: by those of a run, or of a session, or of any other calls.
+-- How a core goes on by commits that come one after another: by those of a run, or of a session, or of any other calls.
 use Rattle.std.specs.Prelude.{◌≡◌, ◌≤◌, ◌+◌, ◌↔◌, ℕ, true, false, List, [], ◌++◌}
 use Rattle.disk.specs.declared.side.Side.{Side}
 use Rattle.disk.specs.File.{File}
 use Rattle.disk.specs.Time.{Contents, HasErred, LeavesOnly}
-use Rattle.terms.specs.declared.event.Event.{Event}
+use Rattle.terms.specs.Commits.{Commit, environment_behind, events_of, facts_behind}
 use Rattle.terms.specs.Facts.{Fact}
-use Rattle.terms.specs.Facts as stated
-use Rattle.terms.specs.Sets.{with_facts}
 use Rattle.machine.specs.State.{AreLegalFrom}
 use Rattle.vault.specs.Commits.{StandsForBeginning}
 use Rattle.vault.specs.Opened.{contents_of}
@@ -14,28 +12,28 @@ use Rattle.vault.specs.Store.{HasGates}
 use Rattle.commit.specs.Calls.{KeepsStore}
 use Rattle.commit.specs.Core.{Core, is_halted}
 use Rattle.commit.specs.Core as core
-use Rattle.commit.specs.Runs.{AcknowledgesFrom, one_by_one, records_length}
+use Rattle.commit.specs.Runs.{AcknowledgesFrom, in_one, records_length}
 
 module _ {D : Type 0} (files : D → Side → File) (moment : D → ℕ) (left_at : D → ℕ → Contents → Type 0) (failures refusals : D → ℕ) (honest : Type 0) where
-  -- From a core that is not halted these events came, one after another, each as a commit of its own; and if it is halted now, those in doubt may
-  -- have come after them. They were legal, and all that is new is what they state; the journal has their records behind those that it had, and the generation stays. At each moment a
-  -- crash leaves what a prefix of them states: those that were acknowledged by then, or these and the next one. The core is halted exactly if a call of the
+  -- From a core that is not halted these commits came, one after another; and if it is halted now, the one in doubt may
+  -- have come after them. Their events were legal, and all that is new is what they state; the journal has their records behind those that it had, and the generation stays. At each moment a
+  -- crash leaves what a prefix of the commits states: those that were acknowledged by then, or these and the next one. The core is halted exactly if a call of the
   -- disk returned an error.
-  pub record Went (old new : Core D) (events : List Event) : Type 0 where
-    pub legal : AreLegalFrom (core.graph old) (core.facts old) (events ++ new.in_doubt)
+  pub record Went (old new : Core D) (commits : List Commit) : Type 0 where
+    pub legal : AreLegalFrom (core.graph old) (core.facts old) (events_of commits ++ new.in_doubt)
     pub graph : core.graph new ≡ core.graph old
-    pub facts : (fact : Fact) → core.facts new fact ≡ with_facts (core.facts old) (stated.facts events) fact
-    pub environment : (fact : Fact) → core.environment new fact ≡ with_facts (core.environment old) (stated.environment events) fact
+    pub facts : (fact : Fact) → core.facts new fact ≡ facts_behind (core.facts old) commits fact
+    pub environment : (fact : Fact) → core.environment new fact ≡ environment_behind (core.environment old) commits fact
     pub generation : is_halted new ≡ false → new.vault.generation ≡ old.vault.generation
-    pub end : is_halted new ≡ false → new.vault.journal.end ≡ old.vault.journal.end + records_length events
-    pub crashes : honest → LeavesOnly moment left_at old.vault.disk new.vault.disk (StandsForBeginning (core.graph old) (core.environment old) (core.facts old) [] (one_by_one (events ++ new.in_doubt)))
-    pub acknowledged : honest → AcknowledgesFrom (core.graph old) (core.environment old) (core.facts old) (left_at new.vault.disk) (moment new.vault.disk) (moment old.vault.disk) [] events new.in_doubt
+    pub end : is_halted new ≡ false → new.vault.journal.end ≡ old.vault.journal.end + records_length commits
+    pub crashes : honest → LeavesOnly moment left_at old.vault.disk new.vault.disk (StandsForBeginning (core.graph old) (core.environment old) (core.facts old) [] (commits ++ in_one new.in_doubt))
+    pub acknowledged : honest → AcknowledgesFrom (core.graph old) (core.environment old) (core.facts old) (left_at new.vault.disk) (moment new.vault.disk) (moment old.vault.disk) [] commits (in_one new.in_doubt)
     pub gates : honest → HasGates (contents_of (files old.vault.disk)) → LeavesOnly moment left_at old.vault.disk new.vault.disk HasGates
     pub halts : (is_halted new ≡ true) ↔ HasErred failures refusals old.vault.disk new.vault.disk
 
-  -- A core that was halted stays as it was, and no event comes. If the core is not halted afterwards, nothing is in doubt.
-  pub record GoesOn (old new : Core D) (events : List Event) : Type 0 where
-    pub went : is_halted old ≡ false → Went old new events
-    pub stays : is_halted old ≡ true → KeepsStore old new × (events ≡ [])
+  -- A core that was halted stays as it was, and no commit comes. If the core is not halted afterwards, nothing is in doubt.
+  pub record GoesOn (old new : Core D) (commits : List Commit) : Type 0 where
+    pub went : is_halted old ≡ false → Went old new commits
+    pub stays : is_halted old ≡ true → KeepsStore old new × (commits ≡ [])
     pub settled : is_halted new ≡ false → new.in_doubt ≡ []
     pub later : failures old.vault.disk ≤ failures new.vault.disk

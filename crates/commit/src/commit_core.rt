@@ -1,9 +1,9 @@
+use crate::events::Events;
 use disk::Disk;
 use graph::Graph;
 use instances::Task;
 use machine::Machine;
 use std::marker::Model;
-use std::slice;
 use std::sync::Arc;
 use terms::{Event, FaultKind, Inst};
 use vault::Vault;
@@ -15,10 +15,10 @@ use vault::Vault;
 pub struct Core<D: Disk> {
     pub(crate) vault: Vault<D>,
     pub(crate) machine: Machine,
-    // The event of the call that halted the core, if that call had one.
-    pub(crate) in_doubt: Option<Event>,
-    // The event of the latest commit since the opening.
-    pub(crate) latest: Option<Event>,
+    // The commit that the call that halted the core tried, if it tried one.
+    pub(crate) in_doubt: Events,
+    // The latest commit since the opening.
+    pub(crate) latest: Events,
     // How many more steps may be committed, including those that run.
     pub(crate) allowance: u64,
 }
@@ -37,11 +37,12 @@ impl<D: Disk + Drop> Drop for Core<D> {
 }
 
 impl<D: Disk> Model for Core<D> {
-    ghost use Rattle.std.specs.Prelude.{◌≡◌, ◌≤◌, false, None, IsTrue};
+    ghost use Rattle.std.specs.Prelude.{◌≡◌, ◌≤◌, false, IsTrue};
     ghost use Rattle.std.specs.Coded.{codes};
     ghost use Rattle.machine.specs.contracts.machine.Machine as of_machine;
     ghost use Rattle.commit.specs.Core.{Core as Seen};
     ghost use Rattle.machine.specs.Machine.{running_count};
+    ghost use Rattle.commit.specs.declared.events.Events.TheVariants.{Nothing};
     ghost use Rattle.commit.specs.Doubt.{events_in};
     ghost use Rattle.commit.specs.Kept.{IsKept};
 
@@ -51,7 +52,7 @@ impl<D: Disk> Model for Core<D> {
 
     ghost view = { λ c. record { vault = c.vault; machine = c.machine; in_doubt = events_in c.in_doubt; latest = events_in c.latest; allowance = c.allowance } };
 
-    ghost invariant = { λ c. (c.vault.halted ≡ false → c.in_doubt ≡ None)
+    ghost invariant = { λ c. (c.vault.halted ≡ false → c.in_doubt ≡ Nothing)
         × (IsTrue D.is_honest → IsKept D.files (record { vault = c.vault; machine = c.machine; in_doubt = events_in c.in_doubt; latest = events_in c.latest; allowance = c.allowance }))
         × (running_count c.machine ≤ c.allowance) };
 }
@@ -63,10 +64,7 @@ impl<D: Disk> Core<D> {
     pub fn last_commit(&self) -> &[Event]
         ensures { result.now ≡ self.now.latest }
     {
-        match &self.latest {
-            Some(event) => slice::from_ref(event),
-            None => &[],
-        }
+        self.latest.as_slice()
     }
 
     /// Gives the disk back, for another opening.

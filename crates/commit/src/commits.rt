@@ -1,5 +1,7 @@
-ghost use Rattle.std.specs.Prelude.{◌≡◌, cond, Some};
+ghost use Rattle.std.specs.Prelude.{◌≡◌, cond};
+ghost use Rattle.commit.specs.declared.events.Events.TheVariants.{One};
 
+use crate::events::Events;
 use crate::{Core, CoreError};
 use disk::Disk;
 use instances::{Task, runs_are_counted};
@@ -83,17 +85,17 @@ impl<D: Disk> Core<D> {
 }
 
 // Keeps the event of an append that returned an error, if the error halted the vault.
-fn keep_in_doubt(in_doubt: &mut Option<Event>, halted: bool, event: Event)
-    ensures { in_doubt.new ≡ cond halted (Some event) in_doubt.old }
+fn keep_in_doubt(in_doubt: &mut Events, halted: bool, event: Event)
+    ensures { in_doubt.new ≡ cond halted (One event) in_doubt.old }
 {
     if halted {
-        *in_doubt = Some(event);
+        *in_doubt = Events::One(event);
     }
 }
 
 // Keeps the event of a commit as the latest.
-fn keep_latest(latest: &mut Option<Event>, event: Event)
-    ensures { latest.new ≡ Some event }
+fn keep_latest(latest: &mut Events, event: Event)
+    ensures { latest.new ≡ One event }
 {
-    *latest = Some(event);
+    *latest = Events::One(event);
 }

@@ -5,6 +5,7 @@ ghost use Rattle.machine.specs.Machine.{environment as environment_of, facts as 
 
 use crate::Core;
 use crate::commit_core::FIRST_ALLOWANCE;
+use crate::events::Events;
 use disk::Disk;
 use graph::{Graph, GraphFault, canonical_reads, parse_spelled, reads_textual};
 use machine::Machine;
@@ -101,8 +102,8 @@ impl<D: Disk> Core<D> {
                     Ok(Core {
                         vault,
                         machine,
-                        in_doubt: None,
-                        latest: None,
+                        in_doubt: Events::Nothing,
+                        latest: Events::Nothing,
                         allowance: FIRST_ALLOWANCE,
                     })
                 }

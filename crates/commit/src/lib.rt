@@ -6,6 +6,7 @@
 //! left to do: then the facts are the meaning of the graph.
 #![tactic(auto)]
 
+mod batch;
 mod bodies;
 mod choose;
 mod commit_core;
@@ -13,7 +14,9 @@ mod commits;
 mod counts;
 mod creation;
 mod error;
+mod events;
 mod finish;
+mod finish_all;
 mod gets;
 mod keeping;
 mod opening;
@@ -25,6 +28,7 @@ mod steps;
 mod turning;
 mod verdict;
 
+pub use batch::{Batch, MOST_TOGETHER};
 pub use bodies::{Came, run_body};
 pub use choose::{Choose, First};
 pub use commit_core::{Core, FIRST_ALLOWANCE};

@@ -5,6 +5,7 @@ ghost use Rattle.machine.specs.Restored.{Restores};
 
 use crate::Core;
 use crate::commit_core::FIRST_ALLOWANCE;
+use crate::events::Events;
 use codec::Image;
 use disk::Disk;
 use graph::Graph;
@@ -56,8 +57,8 @@ impl<D: Disk> Core<D> {
                 Ok(Core {
                     vault,
                     machine,
-                    in_doubt: None,
-                    latest: None,
+                    in_doubt: Events::Nothing,
+                    latest: Events::Nothing,
                     allowance: FIRST_ALLOWANCE,
                 })
             }

@@ -4,9 +4,10 @@ use Rattle.machine.specs.Legal.{IsLegal}
 use Rattle.machine.specs.Machine.{HasRoom, puts_of, state_of, environment as environment_of, facts as facts_of}
 use Rattle.commit.specs.Core.{Core, facts, graph, is_halted}
 use Rattle.commit.specs.Calls.{CrashLeaves}
+use Rattle.commit.specs.declared.events.Events.TheVariants.{One}
 use Rattle.commit.specs.Doubt.{events_in}
 use Rattle.commit.proofs.Allowed.{behind_end, behind_move, some_left}
-use Rattle.commit.proofs.Taken.{fits, kept_alike, kept_taken, kept_refused}
+use Rattle.commit.proofs.Taken.{fits, kept_alike, kept_taken, kept_refused, one_kept}
 use Rattle.commit.proofs.commit_core.Core.commit_step.Goals as goal
 
 pub append-requires-clause-puts : goal.append-requires-clause-puts
@@ -44,14 +45,15 @@ invariant_of-self-in-Err g c =
     let working : before.vault.halted ≡ false = ap is_halted c.self.view_is ∙ c.requires.working in
     let legal = subst (λ (old : Core g.row.D.Denot). IsLegal (graph old) (facts old) c.args.event) (sym c.self.view_is) c.requires.legal in
     let it = fits c.legal_events_fit.ensures.fit_state before.machine c.is_kept.ensures c.args.event legal in
-    let doubt : c.keep_in_doubt.new.in_doubt ≡ cond c.append.new.self.halted (Some c.args.event) before.in_doubt = c.keep_in_doubt.ensures ∙ ap (λ h. cond h (Some c.args.event) before.in_doubt) c.is_halted.ensures in (
-      λ goes. doubt ∙ ap (λ h. cond h (Some c.args.event) before.in_doubt) goes ∙ c.self.invariant.0 working,
+    let doubt : c.keep_in_doubt.new.in_doubt ≡ cond c.append.new.self.halted (One c.args.event) before.in_doubt = c.keep_in_doubt.ensures ∙ ap (λ h. cond h (One c.args.event) before.in_doubt) c.is_halted.ensures in (
+      λ goes. doubt ∙ ap (λ h. cond h (One c.args.event) before.in_doubt) goes ∙ c.self.invariant.0 working,
       λ honest.
           let holds = (c.self.invariant.1 honest).holds working in
           kept_alike g.D.Disk.files g.D.Disk.moment g.D.Disk.left_at (g.met.D.Disk.at_now honest) c.append.new.self before.machine c.release.new.self (events_in c.keep_in_doubt.new.in_doubt) (events_in before.latest) before.allowance before.allowance
           c.release.ensures.graph c.release.ensures.environment c.release.ensures.facts
           (kept_refused g.D.Disk.files g.D.Disk.moment g.D.Disk.left_at (g.met.D.Disk.at_now honest) (c.stores_go_on.ensures.held_leaves honest) c.stores_go_on.ensures.refused
-          before.vault c.append.new.self before.machine c.args.event before.in_doubt c.keep_in_doubt.new.in_doubt (events_in before.latest) before.allowance working doubt holds c.in-Err.ensures.halting.same
+          before.vault c.append.new.self before.machine (c.args.event ∷ []) before.in_doubt c.keep_in_doubt.new.in_doubt (events_in before.latest) before.allowance working
+          (one_kept c.append.new.self.halted c.args.event before.in_doubt c.keep_in_doubt.new.in_doubt doubt) holds c.in-Err.ensures.halting.same
           (c.append.ensures.any_moment honest before.machine.graph (environment_of before.machine) (facts_of before.machine) holds it.0)),
       behind_move before.machine c.release.new.self c.args.task Ready before.allowance refl c.release.ensures c.self.invariant.2,
     )

@@ -12,10 +12,10 @@ returns-in-Ok-clause-idle g c =
 pub returns-in-Ok-clause-runs : goal.returns-in-Ok-clause-runs
 returns-in-Ok-clause-runs g c =
     let it = c.in-Ok.ensures.runs c.requires.working in
-    record { ends = it.0 ∷ []; runs = it.3 }
+    record { commits = (it.0 ∷ []) ∷ []; runs = it.3 }
 
 pub returns-in-Err-finish-clause-runs : goal.returns-in-Err-finish-clause-runs
-returns-in-Err-finish-clause-runs g c = record { ends = []; runs = c.in-Err-finish.ensures.runs c.requires.working }
+returns-in-Err-finish-clause-runs g c = record { commits = []; runs = c.in-Err-finish.ensures.runs c.requires.working }
 
 pub returns-in-Err-finish-clause-err : goal.returns-in-Err-finish-clause-err
 returns-in-Err-finish-clause-err g c =
@@ -26,7 +26,7 @@ returns-in-Err-finish-clause-err g c =
 
 pub returns-in-Ok-park-clause-runs : goal.returns-in-Ok-park-clause-runs
 returns-in-Ok-park-clause-runs g c = record {
-  ends = [];
+  commits = [];
   runs =
       rests g.D.Disk.files g.D.Disk.moment g.D.Disk.left_at g.D.Disk.failures g.D.Disk.refusals (IsTrue g.D.Disk.is_honest) c.stores_go_on.ensures.rest_leaves c.stores_go_on.ensures.gates_rest c.args.self.now c.park.new.self c.requires.working c.is_kept.ensures.kept
       (looked c.args.self.now c.park.new.self c.args.task _ c.in-Ok-park.ensures.ok.1 c.requires.working (c.is_kept.ensures.settled c.requires.working));
@@ -36,7 +36,7 @@ pub returns-in-Err-park-clause-runs : goal.returns-in-Err-park-clause-runs
 returns-in-Err-park-clause-runs g c =
     let it = c.in-Err-park.ensures in
     record {
-      ends = [];
+      commits = [];
       runs =
           rests g.D.Disk.files g.D.Disk.moment g.D.Disk.left_at g.D.Disk.failures g.D.Disk.refusals (IsTrue g.D.Disk.is_honest) c.stores_go_on.ensures.rest_leaves c.stores_go_on.ensures.gates_rest c.args.self.now c.park.new.self c.requires.working c.is_kept.ensures.kept
           (handed_back c.args.self.now c.park.new.self c.args.task it.err it.refused.vault it.refused.in_doubt c.requires.working (c.is_kept.ensures.settled c.requires.working));
@@ -44,7 +44,7 @@ returns-in-Err-park-clause-runs g c =
 
 pub returns-in-Err-clause-runs : goal.returns-in-Err-clause-runs
 returns-in-Err-clause-runs g c = record {
-  ends = [];
+  commits = [];
   runs =
       rests g.D.Disk.files g.D.Disk.moment g.D.Disk.left_at g.D.Disk.failures g.D.Disk.refusals (IsTrue g.D.Disk.is_honest) c.stores_go_on.ensures.rest_leaves c.stores_go_on.ensures.gates_rest c.args.self.now c.release.new.self c.requires.working c.is_kept.ensures.kept
       (moved c.args.self.now c.release.new.self c.args.task _ c.release.ensures c.requires.working (c.is_kept.ensures.settled c.requires.working));

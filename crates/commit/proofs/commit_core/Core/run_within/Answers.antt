@@ -1,4 +1,5 @@
 use Rattle.std.proofs.Common.{◌≡◌, ◌∙◌, ap, length, max, subst, false, IsTrue, arith}
+use Rattle.terms.specs.Commits.{events_of}
 use Rattle.commit.specs.Core.{Core, facts, graph}
 use Rattle.commit.specs.Runs.{IsFull, MetFull, Runs, with_allowance}
 use Rattle.commit.specs.Steps.{running_count}
@@ -14,14 +15,14 @@ returns-in-Ok-clause-runs g c _ =
     let allowed : c.allow.new.self ≡ with_allowance old c.args.limit = c.in-Ok.ensures.ok.1 ∙ ap (λ n. with_allowance old n) exact in
     let it = c.run_allowed-went.ensures.runs in
     let runs =
-    subst (λ (first : Core g.row.D.Denot). Runs g.D.Disk.files g.D.Disk.moment g.D.Disk.left_at g.D.Disk.failures g.D.Disk.refusals (IsTrue g.D.Disk.is_honest) first c.run_allowed-went.new.self it.ends) allowed it.runs
+    subst (λ (first : Core g.row.D.Denot). Runs g.D.Disk.files g.D.Disk.moment g.D.Disk.left_at g.D.Disk.failures g.D.Disk.refusals (IsTrue g.D.Disk.is_honest) first c.run_allowed-went.new.self it.commits) allowed it.runs
     in
     let new = c.run_allowed-went.new.self in
     let begun_at = old.vault.journal.end in
     record {
-      ends = it.ends;
+      commits = it.commits;
       runs = runs;
       told =
-          told_for (IsFull new) (MetFull (graph old) (facts old) begun_at it.ends × (false ≡ false → IsFull new)) false false new c.args.limit (length it.ends) c.verdict.result
-          (λ working full. (met_full (graph old) (facts old) begun_at new it.ends runs.graph runs.facts (runs.end working) full, λ _. full)) (c.verdict.ensures c.args.limit (length it.ends) runs.spent);
+          told_for (IsFull new) (MetFull (graph old) (facts old) begun_at it.commits × (false ≡ false → IsFull new)) false false new c.args.limit (length (events_of it.commits)) c.verdict.result
+          (λ working full. (met_full (graph old) (facts old) begun_at new it.commits runs.graph runs.facts (runs.end working) full, λ _. full)) (c.verdict.ensures c.args.limit (length (events_of it.commits)) runs.spent);
     }
