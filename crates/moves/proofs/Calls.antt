@@ -23,14 +23,15 @@ use Rattle.commit.specs.declared.error.CoreError.{CoreError}
 use Rattle.commit.specs.Calls.{Commits, Halts, KeepsStore, Stays}
 use Rattle.commit.specs.Core.{Core, graph, facts, environment, is_halted}
 use Rattle.commit.specs.Kept.{Keeps}
-use Rattle.commit.specs.Runs.{one_by_one}
+use Rattle.commit.specs.Runs.{in_one}
 use Rattle.commit.specs.Turning.{TurnsAs}
+use Rattle.commit.proofs.Lists.{environment_joined, facts_joined}
 use Rattle.commit.proofs.Running.{legal_in_doubt}
 use Rattle.commit.proofs.Taken.{at_end}
 use Rattle.moves.specs.Order.{HaltedBy, History}
 use Rattle.moves.specs.There.{Has, Leaves, MayStand}
 use Rattle.moves.proofs.Kept.{stayed}
-use Rattle.moves.proofs.Known.{IsLegal, all, carried, environment_after, facts_after, given, legal_after, more_legal, prefix_legal, stands_now}
+use Rattle.moves.proofs.Known.{IsLegal, all, carried, given, legal_after, more_legal, prefix_legal, stands_now}
 
 -- the order with one commit more, and the same with the commit in doubt
 abbrev pub with_commit : History → Commit → History
@@ -84,7 +85,7 @@ module _
           graph = same.graph ∙ stood.has.graph;
           facts = λ fact. same.facts fact ∙ stood.has.facts fact;
           environment = λ fact. same.environment fact ∙ stood.has.environment fact;
-          doubt = stood.has.doubt ∙ ap one_by_one (sym same.in_doubt);
+          doubt = stood.has.doubt ∙ ap in_one (sym same.in_doubt);
           settled = λ goes. stood.has.settled (sym same.vault.halted ∙ goes);
         };
         leaves = subst (λ (d : D). Leaves files g h d) (sym same.vault.disk) stood.leaves;
@@ -94,7 +95,7 @@ module _
     )
 
     -- an error that did not halt the core
-    unchanged : {T : Type 0} (h : History) (old new : Core D) (error : CoreError) → Stood h old → Keeps files honest new → Stays old new → Halts {T = T} failures refusals old new (Err error) → is_halted new ≡ is_halted old
+    pub unchanged : {T : Type 0} (h : History) (old new : Core D) (error : CoreError) → Stood h old → Keeps files honest new → Stays old new → Halts {T = T} failures refusals old new (Err error) → is_halted new ≡ is_halted old
         → Stood h new × LeavesAt h old.vault.disk new.vault.disk
     unchanged h old new error stood keeps stays halts halted =
         let same = halts.same halted in
@@ -147,12 +148,12 @@ module _
             facts = λ fact.
                 takes.takes.facts fact ∙ ap (λ (X : Facts). with_facts X (event_facts event) fact) (all g h old stood.has)
                 ∙ ap (λ (list : List Fact). with_facts (facts_behind nothing h.made) list fact) (sym (append-nil (event_facts event)))
-                ∙ ap (λ (X : Facts). X fact) (sym (facts_after both nothing h.made (commit ∷ [])));
+                ∙ ap (λ (X : Facts). X fact) (sym (facts_joined both nothing h.made (commit ∷ [])));
             environment = λ fact.
                 takes.takes.environment fact ∙ ap (λ (E : Facts). with_facts E (environment_facts event) fact) (given g h old stood.has)
                 ∙ ap (λ (list : List Fact). with_facts (environment_behind nothing h.made) list fact) (sym (append-nil (environment_facts event)))
-                ∙ ap (λ (E : Facts). E fact) (sym (environment_after both nothing h.made (commit ∷ [])));
-            doubt = none ∙ ap one_by_one (sym (keeps.settled works));
+                ∙ ap (λ (E : Facts). E fact) (sym (environment_joined both nothing h.made (commit ∷ [])));
+            doubt = none ∙ ap in_one (sym (keeps.settled works));
             settled = λ _. none;
           } in (
             record {
@@ -175,7 +176,7 @@ module _
                 graph = stays.graph ∙ stood.has.graph;
                 facts = λ fact. stays.facts fact ∙ stood.has.facts fact;
                 environment = λ fact. stays.environment fact ∙ stood.has.environment fact;
-                doubt = ap one_by_one (sym (it.doubt goes stops));
+                doubt = ap in_one (sym (it.doubt goes stops));
                 settled = λ works. absurd (false≢true (sym works ∙ stops));
               };
               leaves = left_at_end (with_doubt h commit) old.vault.disk new.vault.disk (cut_short {T = T} (Err error) it goes);
@@ -232,7 +233,7 @@ module _
                 graph = ap (λ (m : Machine). m.graph) same ∙ stood.has.graph;
                 facts = λ fact. ap (λ (m : Machine). machine.facts m fact) same ∙ stood.has.facts fact;
                 environment = λ fact. ap (λ (m : Machine). machine.environment m fact) same ∙ stood.has.environment fact;
-                doubt = stood.has.doubt ∙ ap one_by_one (sym it.doubt);
+                doubt = stood.has.doubt ∙ ap in_one (sym it.doubt);
                 settled = λ _. stood.has.settled goes;
               };
               leaves = left_at_end h old.vault.disk new.vault.disk leaves;
@@ -258,7 +259,7 @@ module _
                         graph = stays.graph ∙ stood.has.graph;
                         facts = λ fact. stays.facts fact ∙ stood.has.facts fact;
                         environment = λ fact. stays.environment fact ∙ stood.has.environment fact;
-                        doubt = stood.has.doubt ∙ ap one_by_one (sym it.doubt);
+                        doubt = stood.has.doubt ∙ ap in_one (sym it.doubt);
                         settled = λ works. absurd (false≢true (sym works ∙ stops));
                       };
                       leaves = left_at_end h old.vault.disk new.vault.disk leaves;

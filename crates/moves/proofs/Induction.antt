@@ -1,16 +1,19 @@
 -- From a creation, one move after another.
-use Rattle.std.proofs.Common.{◌≡◌, ◌∙◌, ◌⊎◌, ◌↔◌, ap, sym, refl, subst, inl, inr, ℕ, Bool, true, false, List, [], ◌∷◌, ◌++◌, Result, Ok, Err, OnErr}
+use Rattle.std.proofs.Common.{◌≡◌, ◌∙◌, ◌⊎◌, ◌↔◌, ◌<◌, ap, sym, refl, subst, inl, inr, ℕ, Bool, true, false, List, [], ◌∷◌, ◌++◌, length, Result, Ok, Err, OnErr, arith}
 use Rattle.std.proofs.lemmas.Bool.{false≢true}
 use Rattle.std.proofs.lemmas.List.{append-nil}
 use Rattle.disk.specs.declared.side.Side.{Side}
 use Rattle.disk.specs.File.{File}
 use Rattle.disk.specs.Time.{Contents, MayLeaveNow}
+use Rattle.terms.specs.declared.name.Inst.{Inst}
 use Rattle.terms.specs.declared.event.Event.{Event}
 use Rattle.terms.specs.declared.event.Event.TheVariants.{EnvItem, EnvTag}
 use Rattle.terms.specs.Commits.{Commit, events_of}
 use Rattle.terms.specs.Sets.{AmongBoth}
 use Rattle.graph.specs.Graph.{Graph}
 use Rattle.instances.specs.declared.state.State.TheVariants.{Ready}
+use Rattle.machine.specs.declared.group.Ended.{Ended}
+use Rattle.machine.specs.Group.{cut as cut_ends}
 use Rattle.machine.specs.Machine.{RefusesEnd, RefusesItem, RefusesTag}
 use Rattle.machine.specs.StateLaws.{LegalAsSet, QuietWaits, ReachedIsMeaning, ReachedIsWithin, ReachedStoppedOrQuiet}
 use Rattle.vault.specs.Commits.{AppendLeaves, GatesRest, HeldLeaves, IsLeft}
@@ -18,24 +21,27 @@ use Rattle.vault.specs.Opened.{contents_of}
 use Rattle.vault.specs.Stands.{OneStore}
 use Rattle.commit.specs.declared.error.CoreError.{CoreError}
 use Rattle.commit.specs.declared.outcome.Committed.{Committed}
+use Rattle.commit.specs.Batch.{EndsAll}
 use Rattle.commit.specs.Calls.{GivesBack, IsUnchanged, Stays}
 use Rattle.commit.specs.Core.{Core, graph, facts, is_halted}
 use Rattle.commit.specs.Kept.{Keeps}
 use Rattle.commit.specs.Outcome.{end_of}
+use Rattle.commit.specs.Runs.{in_one}
 use Rattle.commit.specs.Went.{GoesOn}
 use Rattle.commit.proofs.Ended.{end_is_told}
-use Rattle.moves.specs.Call.{Call, Does, Tries, acknowledged, puts_item, puts_tag, claims, parks, releases, finishes, turns, allows}
+use Rattle.moves.specs.Call.{Call, Does, Tries, acknowledged, puts_item, puts_tag, claims, parks, releases, finishes, finishes_all, turns, allows}
 use Rattle.moves.specs.Move.{Leads, LeadsAll, Move, Place, at_core, at_disk, whole, cut, goes_on, going_cut, crashes, gives_back, crashes_again, opens, opening_cut}
 use Rattle.moves.specs.Order.{Extends, ExtendsAll, HaltedBy, History, TriesNone, acknowledged_by, begun as begun_order}
 use Rattle.moves.specs.There.{IsThere, Leaves}
 use Rattle.moves.specs.Every.{Along, ForEverySchedule, IsKnown, Means}
 use Rattle.moves.proofs.Calls.{Leaving, LeavesAt, Stood, comes, leaving, rest_leaves, rests, turned, with_commit, with_doubt}
-use Rattle.moves.proofs.Going.{after_legal, leaving as leaving_in_part, part_legal, stood_after, with_doubts, with_events}
+use Rattle.moves.proofs.Going.{after_legal, leaving as leaving_in_part, part_legal, stood_after, with_commits, with_doubts}
 use Rattle.moves.proofs.Kept.{allowed, claimed, moved, parked}
 use Rattle.moves.proofs.Known.{IsLegal}
 use Rattle.moves.proofs.Meant.{means, stands_within}
 use Rattle.moves.proofs.Openings.{crashed, created, cut_reading, only_read, opened_well, opens_or_errs}
 use Rattle.moves.proofs.Orders.{acknowledged_there}
+use Rattle.moves.proofs.Together.{came, leaving_together, tried}
 
 module _
     {D : Type 0} (files : D → Side → File) (moment : D → ℕ) (left_at : D → ℕ → Contents → Type 0) (failures refusals : D → ℕ) (honest : Type 0) (on : honest) (both : AmongBoth)
@@ -76,10 +82,10 @@ module _
       (it.1, it.2),
     )
 
-    refused : (call : Call) (h : History) (commit : Commit) (old new : Core D) → acknowledged call ≡ [] → Tries call commit → IsLegal g h
+    refused : (call : Call) (h : History) (commit : Commit) (old new : Core D) → acknowledged call ≡ [] → (HaltedBy old new → Tries call commit) → IsLegal g h
         → ((HaltedBy old new → ⊥) × StoodHere h new) ⊎ (HaltedBy old new × (h.doubt ≡ []) × StoodHere (with_doubt h commit) new × IsLegal g (with_doubt h commit)) → GoesTo (whole call) (at_core old) h (at_core new)
     refused call h commit old new none tries legal (inl stood) = stays_whole call h old new none (λ halted. absurd (stood.0 halted)) stood.1 legal
-    refused call h commit old new none tries legal (inr doubt) = (with_doubt h commit, inl (doubt.0, none, (commit, tries, doubt.1, refl)), (doubt.2, doubt.3))
+    refused call h commit old new none tries legal (inr doubt) = (with_doubt h commit, inl (doubt.0, none, (commit, tries doubt.0, doubt.1, refl)), (doubt.2, doubt.3))
 
     -- ---- calls that were cut off
 
@@ -108,18 +114,26 @@ module _
     back_of old new task (Err error) back = back.stays
 
     module _ (h : History) (old new : Core D) (stood : StoodHere h old) (keeps : Keeps files honest new) (legal : IsLegal g h) where
+      -- what was tried of several ends, if it was not nothing
+      some_tried : (tasks : List Inst) (ends : List Event) (result : Result Ended CoreError) → (does : EndsAll files moment left_at failures refusals honest old new tasks ends result) → 0 < length does.finishes.commit
+          → (0 < length does.finishes.commit) × ((ended : Ended) × (does.finishes.commit ≡ cut_ends ended ends))
+      some_tried tasks ends result does some = elim does.finishes.tried [
+        | inl none ↦ absurd (omega (arith, some, ap (λ (events : List Event). length events) none))
+        | inr of ↦ (some, (of.0, of.2))
+      ]
+
       by_call : (call : Call) → Does files moment left_at failures refusals honest call old new → GoesTo (whole call) (at_core old) h (at_core new)
       by_call (puts_item address value (Ok done)) does =
           committed (puts_item address value (Ok done)) h (EnvItem address value ∷ []) old new refl
           (comes files moment left_at failures refusals honest on both now reads held appends g h old new (EnvItem address value) (RefusesItem (graph old) (facts old) address) stood keeps legal (Ok done) does.commits tt does.halts)
       by_call (puts_item address value (Err error)) does =
-          refused (puts_item address value (Err error)) h (EnvItem address value ∷ []) old new refl refl legal
+          refused (puts_item address value (Err error)) h (EnvItem address value ∷ []) old new refl (λ _. refl) legal
           (comes files moment left_at failures refusals honest on both now reads held appends g h old new (EnvItem address value) (RefusesItem (graph old) (facts old) address) stood keeps legal {T = Unit {0}} (Err error) does.commits does.unchanged.stays does.halts)
       by_call (puts_tag name (Ok done)) does =
           committed (puts_tag name (Ok done)) h (EnvTag name ∷ []) old new refl
           (comes files moment left_at failures refusals honest on both now reads held appends g h old new (EnvTag name) (RefusesTag (graph old) (facts old) name) stood keeps legal (Ok done) does.commits tt does.halts)
       by_call (puts_tag name (Err error)) does =
-          refused (puts_tag name (Err error)) h (EnvTag name ∷ []) old new refl refl legal
+          refused (puts_tag name (Err error)) h (EnvTag name ∷ []) old new refl (λ _. refl) legal
           (comes files moment left_at failures refusals honest on both now reads held appends g h old new (EnvTag name) (RefusesTag (graph old) (facts old) name) stood keeps legal {T = Unit {0}} (Err error) does.commits does.unchanged.stays does.halts)
       by_call (finishes instance outcome (Ok told)) does =
           let end = does.finishes.end in
@@ -128,8 +142,13 @@ module _
           (comes files moment left_at failures refusals honest on both now reads held appends g h old new end (RefusesEnd (facts old)) stood keeps legal (Ok told) does.finishes.commits tt does.halts)
       by_call (finishes instance outcome (Err error)) does =
           let end = does.finishes.end in
-          refused (finishes instance outcome (Err error)) h (end ∷ []) old new refl (end, does.finishes.is_end, refl) legal
+          refused (finishes instance outcome (Err error)) h (end ∷ []) old new refl (λ _. (end, does.finishes.is_end, refl)) legal
           (comes files moment left_at failures refusals honest on both now reads held appends g h old new end (RefusesEnd (facts old)) stood keeps legal {T = Committed} (Err error) does.finishes.commits does.err.stays does.halts)
+      by_call (finishes_all tasks ends (Ok ended)) does =
+          committed (finishes_all tasks ends (Ok ended)) h (cut_ends ended ends) old new refl (came files moment left_at failures refusals honest on both now reads held appends g h old new tasks ends stood keeps legal ended does)
+      by_call (finishes_all tasks ends (Err error)) does =
+          refused (finishes_all tasks ends (Err error)) h does.finishes.commit old new refl (λ halted. some_tried tasks ends (Err error) does (does.finishes.doubt.1 halted.0 halted.1)) legal
+          (tried files moment left_at failures refusals honest on both now reads held appends g h old new tasks ends stood keeps legal error does)
       by_call (claims at result) does =
           stays_whole (claims at result) h old new refl (λ _ commit tries. tries) (rests files moment left_at failures refusals honest on both now reads held appends g h old new stood keeps (claimed old new at result does)).0 legal
       by_call (parks instance address result) does =
@@ -151,6 +170,10 @@ module _
       by_cut (finishes instance outcome result) disk does left =
           cut_commit (finishes instance outcome result) h (does.finishes.end ∷ []) old new disk (does.finishes.end, does.finishes.is_end, refl) legal left
           (leaving files moment left_at failures refusals honest on both now reads held appends g h old new does.finishes.end (RefusesEnd (facts old)) stood keeps legal result does.finishes.commits (back_of old new instance result does.err) does.halts)
+      by_cut (finishes_all tasks ends result) disk does left = elim (leaving_together files moment left_at failures refusals honest on both now reads held appends g h old new tasks ends stood keeps legal result does) [
+        | inl leaves ↦ cut_still (finishes_all tasks ends result) h old new disk leaves left legal
+        | inr some ↦ cut_commit (finishes_all tasks ends result) h does.finishes.commit old new disk (some_tried tasks ends result does some.0) legal left some.1
+      ]
       by_cut (claims at result) disk does left =
           cut_still (claims at result) h old new disk (rests files moment left_at failures refusals honest on both now reads held appends g h old new stood keeps (claimed old new at result does)).1 left legal
       by_cut (parks instance address result) disk does left =
@@ -164,40 +187,40 @@ module _
 
       -- ---- runs and sessions
 
-      by_going : (events : List Event) → GoesOn files moment left_at failures refusals honest old new events → GoesTo (goes_on events) (at_core old) h (at_core new)
-      by_going events goes = at (is_halted old) refl
+      by_going : (commits : List Commit) → GoesOn files moment left_at failures refusals honest old new commits → GoesTo (goes_on commits) (at_core old) h (at_core new)
+      by_going commits goes = at (is_halted old) refl
         where
-          at : (b : Bool) → is_halted old ≡ b → GoesTo (goes_on events) (at_core old) h (at_core new)
+          at : (b : Bool) → is_halted old ≡ b → GoesTo (goes_on commits) (at_core old) h (at_core new)
           at true halted =
               let same = goes.stays halted in
               (h, inl (halted, same.1, refl), ((rests files moment left_at failures refusals honest on both now reads held appends g h old new stood keeps same.0).0, legal))
           at false works =
               let went = goes.went works in (
-                with_events h events new.in_doubt,
+                with_commits h commits new.in_doubt,
                 inr (works, stood.has.settled works, refl),
                 (
-                  stood_after files moment left_at failures refusals honest on both now reads held appends g h old new events stood keeps legal went goes.settled,
-                  after_legal files moment left_at failures refusals honest on both now reads held appends g h old new events stood keeps legal went,
+                  stood_after files moment left_at failures refusals honest on both now reads held appends g h old new commits stood keeps legal went goes.settled,
+                  after_legal files moment left_at failures refusals honest on both now reads held appends g h old new commits stood keeps legal went,
                 ),
               )
 
-      by_going_cut : (events : List Event) (disk : D) → GoesOn files moment left_at failures refusals honest old new events → IsLeft files moment left_at old.vault.disk new.vault.disk disk → GoesTo (going_cut events new) (at_core old) h (at_disk disk)
-      by_going_cut events disk goes left = at (is_halted old) refl
+      by_going_cut : (commits : List Commit) (disk : D) → GoesOn files moment left_at failures refusals honest old new commits → IsLeft files moment left_at old.vault.disk new.vault.disk disk → GoesTo (going_cut commits new) (at_core old) h (at_disk disk)
+      by_going_cut commits disk goes left = at (is_halted old) refl
         where
-          at : (b : Bool) → is_halted old ≡ b → GoesTo (going_cut events new) (at_core old) h (at_disk disk)
+          at : (b : Bool) → is_halted old ≡ b → GoesTo (going_cut commits new) (at_core old) h (at_disk disk)
           at true halted =
               let same = goes.stays halted in
               let leaves = (rests files moment left_at failures refusals honest on both now reads held appends g h old new stood keeps same.0).1 in
               (h, inl (halted, refl), (crashed files moment left_at failures refusals honest on both now reads held appends g h old.vault.disk new.vault.disk disk leaves left, legal))
           at false works =
               let went = goes.went works in
-              let doubts = with_doubts h (events ++ new.in_doubt) in (
+              let doubts = with_doubts h (commits ++ in_one new.in_doubt) in (
                 doubts,
                 inr (works, stood.has.settled works, refl),
                 (
                   crashed files moment left_at failures refusals honest on both now reads held appends g doubts old.vault.disk new.vault.disk disk
-                      (leaving_in_part files moment left_at failures refusals honest on both now reads held appends g h old new events stood keeps legal went) left,
-                  part_legal files moment left_at failures refusals honest on both now reads held appends g h old new events stood keeps legal went,
+                      (leaving_in_part files moment left_at failures refusals honest on both now reads held appends g h old new commits stood keeps legal went) left,
+                  part_legal files moment left_at failures refusals honest on both now reads held appends g h old new commits stood keeps legal went,
                 ),
               )
 
@@ -206,8 +229,8 @@ module _
     step : (move : Move D) (from to : Place D) (h : History) → At h from → Leads files moment left_at failures refusals honest move from to → GoesTo move from h to
     step (whole call) (at_core old) (at_core new) h at leads = by_call h old new at.0 leads.1 at.1 call leads.0
     step (cut call new) (at_core old) (at_disk disk) h at leads = by_cut h old new at.0 leads.1 at.1 call disk leads.0 leads.2
-    step (goes_on events) (at_core old) (at_core new) h at leads = by_going h old new at.0 leads.1 at.1 events leads.0
-    step (going_cut events new) (at_core old) (at_disk disk) h at leads = by_going_cut h old new at.0 leads.1 at.1 events disk leads.0 leads.2
+    step (goes_on commits) (at_core old) (at_core new) h at leads = by_going h old new at.0 leads.1 at.1 commits leads.0
+    step (going_cut commits new) (at_core old) (at_disk disk) h at leads = by_going_cut h old new at.0 leads.1 at.1 commits disk leads.0 leads.2
     step crashes (at_core c) (at_disk disk) h at leads = (
       h,
       refl,

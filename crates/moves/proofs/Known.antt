@@ -1,11 +1,10 @@
 -- What a core has and what its files stand for, said by the commit order.
 use Rattle.std.proofs.Common.{◌≡◌, ◌∙◌, ap, sym, refl, subst, List, [], ◌∷◌, ◌++◌}
-use Rattle.std.proofs.lemmas.Grind.{flat_map-append}
 use Rattle.std.proofs.lemmas.List.{append-nil}
 use Rattle.disk.specs.Time.{Contents}
 use Rattle.terms.specs.declared.event.Event.{Event}
 use Rattle.terms.specs.Commits.{Commit, events_of, facts_behind, environment_behind}
-use Rattle.terms.specs.Facts.{Fact, event_facts, environment_facts, facts, environment}
+use Rattle.terms.specs.Facts.{event_facts}
 use Rattle.terms.specs.Sets.{AmongBoth, Facts, with_facts}
 use Rattle.graph.specs.Graph.{Graph}
 use Rattle.machine.specs.State.{AreLegalFrom}
@@ -13,24 +12,9 @@ use Rattle.vault.specs.Stands.{Stands}
 use Rattle.vault.specs.Store.{nothing}
 use Rattle.commit.specs.Core.{Core}
 use Rattle.commit.specs.Core as core
-use Rattle.commit.proofs.Lists.{events_joined, legal_joined, with_both}
+use Rattle.commit.proofs.Lists.{events_joined, legal_joined}
 use Rattle.moves.specs.Order.{History}
 use Rattle.moves.specs.There.{Has, MayStand}
-
--- ---- two lists of commits
-
-module _ (both : AmongBoth) where
-  pub facts_after : (X : Facts) (first second : List Commit) → facts_behind X (first ++ second) ≡ facts_behind (facts_behind X first) second
-  facts_after X first second =
-      ap (λ (events : List Event). with_facts X (facts events)) (events_joined first second)
-      ∙ ap (λ (list : List Fact). with_facts X list) (flat_map-append event_facts (events_of first) (events_of second))
-      ∙ with_both both X (facts (events_of first)) (facts (events_of second))
-
-  pub environment_after : (E : Facts) (first second : List Commit) → environment_behind E (first ++ second) ≡ environment_behind (environment_behind E first) second
-  environment_after E first second =
-      ap (λ (events : List Event). with_facts E (environment events)) (events_joined first second)
-      ∙ ap (λ (list : List Fact). with_facts E list) (flat_map-append environment_facts (events_of first) (events_of second))
-      ∙ with_both both E (environment (events_of first)) (environment (events_of second))
 
 -- ---- legal lists
 

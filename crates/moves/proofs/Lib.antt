@@ -5,4 +5,5 @@ mod Calls
 mod Openings
 mod Meant
 mod Going
+mod Together
 mod Induction

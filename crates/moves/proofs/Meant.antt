@@ -1,15 +1,13 @@
 -- What a store means after moves.
-use Rattle.std.proofs.Common.{false, ◌≡◌, ◌∙◌, ◌⊎◌, ◌↔◌, ap, sym, refl, subst, inl, inr, ℕ, true, List, [], ◌++◌, Option, None, Some}
+use Rattle.std.proofs.Common.{false, ◌≡◌, ◌∙◌, ◌⊎◌, ap, sym, refl, subst, inl, inr, ℕ, true, List, [], ◌++◌, Option, None, Some}
 use Rattle.std.proofs.lemmas.Bool.{false≢true}
 use Rattle.std.proofs.lemmas.List.{append_assoc}
 use Rattle.std.specs.Prelude.{is_some}
-use Rattle.std.specs.FinMap.{find}
 use Rattle.disk.specs.declared.side.Side.{Side}
 use Rattle.disk.specs.File.{File}
 use Rattle.disk.specs.Time.{Contents}
 use Rattle.terms.specs.declared.name.Addr.{Addr}
 use Rattle.terms.specs.declared.name.Inst.{Inst}
-use Rattle.terms.specs.Name.{inst_cmp}
 use Rattle.terms.specs.Commits.{Commit, events_of, facts_behind, environment_behind}
 use Rattle.terms.specs.Facts.{Fact, bad, done}
 use Rattle.terms.specs.Sets.{Facts, stated}
@@ -20,7 +18,7 @@ use Rattle.instances.specs.declared.state.State.TheVariants.{Ready, Running, Wai
 use Rattle.machine.specs.Legal.{IsBlocked, IsQuiet}
 use Rattle.machine.specs.Machine.{Machine, facts as facts_of, state_of}
 use Rattle.machine.specs.Promise.{IsKept as KeepsMachine}
-use Rattle.machine.specs.State.{Waits, AreLegalFrom, IsReached, IsUnfinished}
+use Rattle.machine.specs.State.{Waits, AreLegalFrom, IsReached}
 use Rattle.machine.specs.StateLaws.{LegalAsSet, QuietWaits, ReachedIsMeaning, ReachedIsWithin, ReachedStoppedOrQuiet}
 use Rattle.machine.specs.Status.{NoneIsActive}
 use Rattle.vault.specs.Stands.{OneStore}

@@ -18,7 +18,7 @@ use Rattle.commit.specs.Core.{Core, graph, facts, environment}
 use Rattle.commit.specs.Created.{IsCreated}
 use Rattle.commit.specs.Kept.{Keeps}
 use Rattle.commit.specs.Opened.{OpensAs}
-use Rattle.commit.specs.Runs.{one_by_one}
+use Rattle.commit.specs.Runs.{in_one}
 use Rattle.moves.specs.Order.{History, begun as begun_order}
 use Rattle.moves.specs.There.{Has, Leaves}
 use Rattle.moves.specs.Every.{OpensOrErrs}
@@ -55,7 +55,7 @@ module _
     pub created : GatesRest files moment left_at → (text : List ℕ) (core : Core D) → graph core ≡ g → IsCreated files honest text core → Keeps files honest core → StoodHere begun_order core
     created rest text core is is_created keeps =
         let opened = is_created.opened in
-        let has : Has g begun_order core = record { graph = is; facts = is_created.facts; environment = is_created.environment; doubt = ap one_by_one (sym opened.in_doubt); settled = λ _. refl } in
+        let has : Has g begun_order core = record { graph = is; facts = is_created.facts; environment = is_created.environment; doubt = ap in_one (sym opened.in_doubt); settled = λ _. refl } in
         let gates = rest core.vault (graph core) (environment core) (facts core) ((keeps.kept on).holds opened.working) (is_created.gates on) in
         record {
           has = has;
@@ -73,7 +73,7 @@ module _
         let made = h.made ++ stands.made in
         let same = one (contents_of (files disk)) g (graph core) (environment_behind nothing made) (environment core) (facts_behind nothing made) (facts core) stands.stands (opens.finds on) in
         let working = opens.opened.working in
-        let has : Has g (with_found h stands.made) core = record { graph = sym same.0; facts = λ fact. sym (same.2 fact); environment = λ fact. sym (same.1 fact); doubt = ap one_by_one (sym opens.opened.in_doubt); settled = λ _. refl } in
+        let has : Has g (with_found h stands.made) core = record { graph = sym same.0; facts = λ fact. sym (same.2 fact); environment = λ fact. sym (same.1 fact); doubt = ap in_one (sym opens.opened.in_doubt); settled = λ _. refl } in
         let whole : h.made ++ h.doubt ≡ made ++ stands.later = ap (λ (doubt : List Commit). h.made ++ doubt) stands.beginning ∙ sym (append_assoc h.made stands.made stands.later) in (
           stands.made,
           stands.later,

@@ -2,7 +2,6 @@
 use Rattle.std.proofs.Common.{◌≡◌, ◌∙◌, ap, sym, refl, inl, inr, List, [], ◌∷◌, ◌++◌, Ok, Err}
 use Rattle.std.proofs.lemmas.List.{append-nil, append_assoc}
 use Rattle.terms.specs.Commits.{Commit}
-use Rattle.commit.specs.Runs.{one_by_one}
 use Rattle.moves.specs.Call.{Call, acknowledged}
 use Rattle.moves.specs.Move.{Move, Place, at_core, at_disk, whole, cut, goes_on, going_cut, crashes, gives_back, crashes_again, opens, opening_cut}
 use Rattle.moves.specs.Order.{AcknowledgedStays, Doubts, Extends, ExtendsAll, Forgets, History, MadeStays, acknowledged_by, begun}
@@ -25,10 +24,10 @@ made_by (whole call) (at_core old) (at_core new) before after (inl doubtful) = d
 made_by (whole call) (at_core old) (at_core new) before after (inr it) = (acknowledged call, ap made it.1)
 made_by (cut call core) (at_core old) (at_disk disk) before after (inl same) = stays before after same
 made_by (cut call core) (at_core old) (at_disk disk) before after (inr doubtful) = doubts call before after doubtful.1
-made_by (goes_on events) (at_core old) (at_core new) before after (inl still) = stays before after still.2
-made_by (goes_on events) (at_core old) (at_core new) before after (inr it) = (one_by_one events, ap made it.2)
-made_by (going_cut events new) (at_core old) (at_disk disk) before after (inl still) = stays before after still.1
-made_by (going_cut events new) (at_core old) (at_disk disk) before after (inr it) = ([], ap made it.2 ∙ sym (append-nil before.made))
+made_by (goes_on commits) (at_core old) (at_core new) before after (inl still) = stays before after still.2
+made_by (goes_on commits) (at_core old) (at_core new) before after (inr it) = (commits, ap made it.2)
+made_by (going_cut commits new) (at_core old) (at_disk disk) before after (inl still) = stays before after still.1
+made_by (going_cut commits new) (at_core old) (at_disk disk) before after (inr it) = ([], ap made it.2 ∙ sym (append-nil before.made))
 made_by crashes (at_core core) (at_disk disk) before after same = stays before after same
 made_by gives_back (at_core core) (at_disk disk) before after same = stays before after same
 made_by crashes_again (at_disk old) (at_disk disk) before after same = stays before after same
@@ -71,14 +70,14 @@ by_move D (whole call) (at_core old) (at_core new) before after (inr it) = adds_
 by_move D (whole call) (at_core old) (at_disk new) before after it = absurd it
 by_move D (whole call) (at_disk old) (at_core new) before after it = absurd it
 by_move D (whole call) (at_disk old) (at_disk new) before after it = absurd it
-by_move D (goes_on events) (at_core old) (at_core new) before after (inl still) =
-    adds_just (one_by_one events) before after (ap made still.2 ∙ sym (append-nil before.made) ∙ ap (λ (list : List _). before.made ++ one_by_one list) (sym still.1))
-by_move D (goes_on events) (at_core old) (at_core new) before after (inr it) = adds_just (one_by_one events) before after (ap made it.2)
-by_move D (goes_on events) (at_core old) (at_disk new) before after it = absurd it
-by_move D (goes_on events) (at_disk old) (at_core new) before after it = absurd it
-by_move D (goes_on events) (at_disk old) (at_disk new) before after it = absurd it
+by_move D (goes_on commits) (at_core old) (at_core new) before after (inl still) =
+    adds_just commits before after (ap made still.2 ∙ sym (append-nil before.made) ∙ ap (λ (list : List Commit). before.made ++ list) (sym still.1))
+by_move D (goes_on commits) (at_core old) (at_core new) before after (inr it) = adds_just commits before after (ap made it.2)
+by_move D (goes_on commits) (at_core old) (at_disk new) before after it = absurd it
+by_move D (goes_on commits) (at_disk old) (at_core new) before after it = absurd it
+by_move D (goes_on commits) (at_disk old) (at_disk new) before after it = absurd it
 by_move D (cut call core) from to before after it = adds_none before after (made_by (cut call core) from to before after it)
-by_move D (going_cut events core) from to before after it = adds_none before after (made_by (going_cut events core) from to before after it)
+by_move D (going_cut commits core) from to before after it = adds_none before after (made_by (going_cut commits core) from to before after it)
 by_move D crashes from to before after it = adds_none before after (made_by crashes from to before after it)
 by_move D gives_back from to before after it = adds_none before after (made_by gives_back from to before after it)
 by_move D crashes_again from to before after it = adds_none before after (made_by crashes_again from to before after it)

@@ -1,5 +1,5 @@
 -- The calls of a core that change it, each with its arguments and what it returned; and the commits that they acknowledge.
-use Rattle.std.specs.Prelude.{◌≡◌, ℕ, ℤ, List, [], ◌∷◌, Option, Result, Ok, Err}
+use Rattle.std.specs.Prelude.{◌≡◌, ◌<◌, ℕ, ℤ, length, List, [], ◌∷◌, Option, Result, Ok, Err}
 use Rattle.disk.specs.declared.side.Side.{Side}
 use Rattle.disk.specs.File.{File}
 use Rattle.disk.specs.Time.{Contents}
@@ -10,10 +10,13 @@ use Rattle.terms.specs.declared.event.Event.{Event}
 use Rattle.terms.specs.declared.event.Event.TheVariants.{EnvItem, EnvTag}
 use Rattle.terms.specs.Commits.{Commit}
 use Rattle.instances.specs.declared.state.State.TheVariants.{Ready}
+use Rattle.machine.specs.declared.group.Ended.{Ended}
+use Rattle.machine.specs.Group.{cut}
 use Rattle.machine.specs.Machine.{RefusesItem, RefusesTag}
 use Rattle.commit.specs.declared.error.CoreError.{CoreError}
 use Rattle.commit.specs.declared.outcome.Outcome.{Outcome}
 use Rattle.commit.specs.declared.outcome.Committed.{Committed}
+use Rattle.commit.specs.Batch.{EndsAll}
 use Rattle.commit.specs.Calls.{CommitsAs}
 use Rattle.commit.specs.Core.{Core, graph, facts}
 use Rattle.commit.specs.Outcome.{IsEndOf, end_of}
@@ -21,7 +24,7 @@ use Rattle.commit.specs.Runs.{Ends}
 use Rattle.commit.specs.Steps.{Claims, Moves, Parks, SetsAllowance}
 use Rattle.commit.specs.Turning.{TurnsAs}
 
--- `put_item`, `put_tag`, `claim`, `park`, `release`, `finish`, `turn` and `allow`
+-- `put_item`, `put_tag`, `claim`, `park`, `release`, `finish`, `finish_all`, `turn` and `allow`
 pub data Call : Type 0 where
   puts_item : Addr → ℤ → Result (Unit {0}) CoreError → Call
   puts_tag : Tag → Result (Unit {0}) CoreError → Call
@@ -29,6 +32,7 @@ pub data Call : Type 0 where
   parks : Inst → Addr → Result (Unit {0}) CoreError → Call
   releases : Inst → Call
   finishes : Inst → Outcome → Result Committed CoreError → Call
+  finishes_all : List Inst → (ends : List Event) → Result Ended CoreError → Call
   turns : Result ℕ CoreError → Call
   allows : ℕ → Result (Unit {0}) CoreError → Call
 
@@ -43,12 +47,13 @@ module _ {D : Type 0} (files : D → Side → File) (moment : D → ℕ) (left_a
   Does (parks instance address result) old new = Parks old new instance address result
   Does (releases instance) old new = Moves old new instance Ready
   Does (finishes instance outcome result) old new = Ends files moment left_at failures refusals honest old new instance outcome result
+  Does (finishes_all tasks ends result) old new = EndsAll files moment left_at failures refusals honest old new tasks ends result
   Does (turns result) old new = TurnsAs files moment left_at failures refusals honest old new result
   Does (allows count result) old new = SetsAllowance old new count result
 
 -- ---- what they commit
 
--- The commit that a call acknowledged: its event, by itself, if it returned `Ok`. The other calls acknowledge none.
+-- The commit that a call acknowledged, if it returned `Ok`: its event, by itself; or of several ends as many as came, together. The other calls acknowledge none.
 abbrev pub acknowledged : Call → List Commit
 acknowledged (puts_item address value (Ok done)) = (EnvItem address value ∷ []) ∷ []
 acknowledged (puts_item address value (Err error)) = []
@@ -59,6 +64,8 @@ acknowledged (parks instance address result) = []
 acknowledged (releases instance) = []
 acknowledged (finishes instance outcome (Ok committed)) = (end_of committed instance outcome ∷ []) ∷ []
 acknowledged (finishes instance outcome (Err error)) = []
+acknowledged (finishes_all tasks ends (Ok ended)) = cut ended ends ∷ []
+acknowledged (finishes_all tasks ends (Err error)) = []
 acknowledged (turns result) = []
 acknowledged (allows count result) = []
 
@@ -70,5 +77,6 @@ Tries (claims at result) commit = ⊥
 Tries (parks instance address result) commit = ⊥
 Tries (releases instance) commit = ⊥
 Tries (finishes instance outcome result) commit = (end : Event) × IsEndOf outcome instance end × (commit ≡ end ∷ [])
+Tries (finishes_all tasks ends result) commit = (0 < length commit) × ((ended : Ended) × (commit ≡ cut ended ends))
 Tries (turns result) commit = ⊥
 Tries (allows count result) commit = ⊥

@@ -3,7 +3,7 @@ use Rattle.std.specs.Prelude.{◌≡◌, ℕ, List, [], ◌∷◌, Result, Ok, E
 use Rattle.disk.specs.declared.side.Side.{Side}
 use Rattle.disk.specs.File.{File}
 use Rattle.disk.specs.Time.{Contents}
-use Rattle.terms.specs.declared.event.Event.{Event}
+use Rattle.terms.specs.Commits.{Commit}
 use Rattle.vault.specs.declared.refused.Refused.{Refused}
 use Rattle.vault.specs.Commits.{IsLeft}
 use Rattle.commit.specs.Core.{Core}
@@ -22,10 +22,10 @@ pub data Move (D : Type 0) : Type 0 where
   whole : Call → Move D
   -- a crash cut the call off; had it not come, the call would have returned this core
   cut : Call → Core D → Move D
-  -- a run, a session, or any other calls one after another, by which these events came: the last of them returned
-  goes_on : List Event → Move D
-  -- a crash cut them off; had it not come, they would have led to this core by these events
-  going_cut : List Event → Core D → Move D
+  -- a run, a session, or any other calls one after another, by which these commits came: the last of them returned
+  goes_on : List Commit → Move D
+  -- a crash cut them off; had it not come, they would have led to this core by these commits
+  going_cut : List Commit → Core D → Move D
   -- a crash between two calls
   crashes : Move D
   -- `into_disk`
@@ -43,8 +43,8 @@ module _ {D : Type 0} (files : D → Side → File) (moment : D → ℕ) (left_a
   abbrev pub Leads : Move D → (from to : Place D) → Type 0
   Leads (whole call) (at_core old) (at_core new) = Does files moment left_at failures refusals honest call old new × Keeps files honest new
   Leads (cut call new) (at_core old) (at_disk disk) = Does files moment left_at failures refusals honest call old new × Keeps files honest new × IsLeft files moment left_at old.vault.disk new.vault.disk disk
-  Leads (goes_on events) (at_core old) (at_core new) = GoesOn files moment left_at failures refusals honest old new events × Keeps files honest new
-  Leads (going_cut events new) (at_core old) (at_disk disk) = GoesOn files moment left_at failures refusals honest old new events × Keeps files honest new × IsLeft files moment left_at old.vault.disk new.vault.disk disk
+  Leads (goes_on commits) (at_core old) (at_core new) = GoesOn files moment left_at failures refusals honest old new commits × Keeps files honest new
+  Leads (going_cut commits new) (at_core old) (at_disk disk) = GoesOn files moment left_at failures refusals honest old new commits × Keeps files honest new × IsLeft files moment left_at old.vault.disk new.vault.disk disk
   Leads crashes (at_core core) (at_disk disk) = IsLeft files moment left_at core.vault.disk core.vault.disk disk
   Leads gives_back (at_core core) (at_disk disk) = disk ≡ core.vault.disk
   Leads crashes_again (at_disk before) (at_disk disk) = IsLeft files moment left_at before before disk

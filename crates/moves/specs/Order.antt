@@ -1,9 +1,8 @@
 -- The commit order of a store: what is known of it after each move.
 use Rattle.std.specs.Prelude.{◌≡◌, ◌⊎◌, true, false, List, [], ◌∷◌, ◌++◌, Ok, Err}
-use Rattle.terms.specs.declared.event.Event.{Event}
 use Rattle.terms.specs.Commits.{Commit}
 use Rattle.commit.specs.Core.{Core, is_halted}
-use Rattle.commit.specs.Runs.{one_by_one}
+use Rattle.commit.specs.Runs.{in_one}
 use Rattle.moves.specs.Call.{Call, Tries, acknowledged}
 use Rattle.moves.specs.Move.{Move, Place, at_core, at_disk, whole, cut, goes_on, going_cut, crashes, gives_back, crashes_again, opens, opening_cut}
 
@@ -29,14 +28,14 @@ TriesNone call = (commit : Commit) → Tries call commit → ⊥
 abbrev pub Doubts : Call → History → History → Type 0
 Doubts call before after = (commit : Commit) × Tries call commit × (before.doubt ≡ []) × (after ≡ record { made = before.made; doubt = commit ∷ [] })
 
--- Events came one after another, each as a commit of its own: they are made, and what is in doubt in the core is in doubt. A core that was halted made none.
-abbrev pub Goes : {D : Type 0} → List Event → (old new : Core D) → History → History → Type 0
-Goes events old new before after =
-    ((is_halted old ≡ true) × (events ≡ []) × (after ≡ before)) ⊎ ((is_halted old ≡ false) × (before.doubt ≡ []) × (after ≡ record { made = before.made ++ one_by_one events; doubt = one_by_one new.in_doubt }))
+-- Commits came one after another: they are made, and what is in doubt in the core is in doubt, as one more. A core that was halted made none.
+abbrev pub Goes : {D : Type 0} → List Commit → (old new : Core D) → History → History → Type 0
+Goes commits old new before after =
+    ((is_halted old ≡ true) × (commits ≡ []) × (after ≡ before)) ⊎ ((is_halted old ≡ false) × (before.doubt ≡ []) × (after ≡ record { made = before.made ++ commits; doubt = in_one new.in_doubt }))
 
--- the same where a crash cut them off: each of the events may be there, the first ones before the later ones
-abbrev pub GoesInPart : {D : Type 0} → List Event → (old new : Core D) → History → History → Type 0
-GoesInPart events old new before after = ((is_halted old ≡ true) × (after ≡ before)) ⊎ ((is_halted old ≡ false) × (before.doubt ≡ []) × (after ≡ record { made = before.made; doubt = one_by_one (events ++ new.in_doubt) }))
+-- the same where a crash cut them off: each of the commits may be there, the first ones before the later ones
+abbrev pub GoesInPart : {D : Type 0} → List Commit → (old new : Core D) → History → History → Type 0
+GoesInPart commits old new before after = ((is_halted old ≡ true) × (after ≡ before)) ⊎ ((is_halted old ≡ false) × (before.doubt ≡ []) × (after ≡ record { made = before.made; doubt = commits ++ in_one new.in_doubt }))
 
 -- A call that returned `Ok` made its commit, after all others. One that returned an error and halted the core leaves the commit that it tried in doubt, and one that a crash cut off may. An
 -- opening finds a prefix of those in doubt, and the rest is lost. Nothing else changes the order.
@@ -44,8 +43,8 @@ abbrev pub Extends : {D : Type 0} → Move D → (from to : Place D) → History
 Extends (whole call) (at_core old) (at_core new) before after =
     (HaltedBy old new × (acknowledged call ≡ []) × Doubts call before after) ⊎ ((HaltedBy old new → TriesNone call) × (after ≡ record { made = before.made ++ acknowledged call; doubt = before.doubt }))
 Extends (cut call core) (at_core old) (at_disk disk) before after = (after ≡ before) ⊎ ((is_halted old ≡ false) × Doubts call before after)
-Extends (goes_on events) (at_core old) (at_core new) before after = Goes events old new before after
-Extends (going_cut events new) (at_core old) (at_disk disk) before after = GoesInPart events old new before after
+Extends (goes_on commits) (at_core old) (at_core new) before after = Goes commits old new before after
+Extends (going_cut commits new) (at_core old) (at_disk disk) before after = GoesInPart commits old new before after
 Extends crashes (at_core core) (at_disk disk) before after = after ≡ before
 Extends gives_back (at_core core) (at_disk disk) before after = after ≡ before
 Extends crashes_again (at_disk old) (at_disk disk) before after = after ≡ before
@@ -65,7 +64,7 @@ ExtendsAll {D} (move ∷ moves) from to before after = (place : Place D) × (nex
 -- the commits that a move acknowledged
 abbrev pub acknowledged_by : {D : Type 0} → Move D → List Commit
 acknowledged_by (whole call) = acknowledged call
-acknowledged_by (goes_on events) = one_by_one events
+acknowledged_by (goes_on commits) = commits
 acknowledged_by other = []
 
 -- What was made stays, in front of what comes later. So what a move acknowledged comes after all that was made before the move, and stays there.

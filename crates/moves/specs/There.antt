@@ -9,16 +9,16 @@ use Rattle.graph.specs.Graph.{Graph}
 use Rattle.vault.specs.Commits.{StandsForBeginning}
 use Rattle.vault.specs.Store.{HasGates, nothing}
 use Rattle.commit.specs.Core.{Core, graph, facts, environment, is_halted}
-use Rattle.commit.specs.Runs.{one_by_one}
+use Rattle.commit.specs.Runs.{in_one}
 use Rattle.moves.specs.Move.{Place, at_core, at_disk}
 use Rattle.moves.specs.Order.{History}
 
--- the core has the state after all that was made; what is in doubt is what it keeps as such, and that is nothing unless it is halted
+-- the core has the state after all that was made; what is in doubt is the commit that it keeps as such, and that is none unless it is halted
 pub record Has {D : Type 0} (g : Graph) (h : History) (c : Core D) : Type 0 where
   pub graph : graph c ≡ g
   pub facts : (fact : Fact) → facts c fact ≡ facts_behind nothing h.made fact
   pub environment : (fact : Fact) → environment c fact ≡ environment_behind nothing h.made fact
-  pub doubt : h.doubt ≡ one_by_one c.in_doubt
+  pub doubt : h.doubt ≡ in_one c.in_doubt
   pub settled : is_halted c ≡ false → h.doubt ≡ []
 
 -- the two files stand for the state after all that was made and a prefix of what is in doubt; no commit is there in part

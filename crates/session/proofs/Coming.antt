@@ -1,7 +1,6 @@
 -- How a core goes on by a call, and by several, one after another.
 use Rattle.std.proofs.Common.{◌≡◌, ◌∙◌, ◌≤◌, ◌++◌, ap, refl, sym, subst, inl, inr, ℕ, Bool, true, false, List, [], ◌∷◌, Result, Err, arith}
 use Rattle.std.proofs.lemmas.Bool.{false≢true}
-use Rattle.std.proofs.lemmas.Grind.{flat_map-append}
 use Rattle.std.proofs.lemmas.List.{append_assoc, append-nil}
 use Rattle.disk.specs.declared.side.Side.{Side}
 use Rattle.disk.specs.Erred.{later_erred, erred_later}
@@ -9,7 +8,7 @@ use Rattle.disk.specs.File.{File}
 use Rattle.disk.specs.Moments.{joined}
 use Rattle.disk.specs.Time.{Contents, LeavesOnly, HasErred}
 use Rattle.terms.specs.declared.event.Event.{Event}
-use Rattle.terms.specs.Commits.{Commit, facts_behind, environment_behind}
+use Rattle.terms.specs.Commits.{Commit, events_of, facts_behind, environment_behind}
 use Rattle.terms.specs.Facts.{Fact, event_facts, environment_facts}
 use Rattle.terms.specs.Facts as stated
 use Rattle.terms.specs.Sets.{Facts, AmongBoth, with_facts}
@@ -23,10 +22,10 @@ use Rattle.commit.specs.declared.error.CoreError.{CoreError}
 use Rattle.commit.specs.Calls.{record_length, CrashLeaves, Halts, IsInDoubt, IsUnchanged, Refuses, Takes, KeepsStore}
 use Rattle.commit.specs.Core.{Core, graph, facts, environment, is_halted}
 use Rattle.commit.specs.Kept.{IsKept}
-use Rattle.commit.specs.Runs.{AcknowledgesFrom, one_by_one, records_length, with_allowance}
+use Rattle.commit.specs.Runs.{AcknowledgesFrom, in_one, records_length, with_allowance}
 use Rattle.commit.proofs.Acknowledged.{carried, joined as both_acknowledged}
 use Rattle.commit.proofs.Joined.{ends_behind}
-use Rattle.commit.proofs.Lists.{records_joined, with_nothing, with_both, one_by_one_joined, facts_joined, environment_joined, legal_joined}
+use Rattle.commit.proofs.Lists.{environment_joined, events_joined, facts_joined, legal_joined, records_joined, with_nothing}
 use Rattle.commit.proofs.Running.{acknowledged_once, begins, legal_in_doubt, rests, with_record}
 use Rattle.commit.proofs.Same.{alike, alike_on}
 use Rattle.commit.proofs.Went.{of_run}
@@ -34,6 +33,7 @@ use Rattle.script.specs.declared.command.Command.{Command}
 use Rattle.session.specs.declared.reply.Reply.{Reply}
 use Rattle.session.specs.Answers.{Drive, Replies}
 use Rattle.commit.specs.Went.{GoesOn, Went}
+use Rattle.session.specs.Went.{GoesOnBy}
 
 -- ---- what a crash leaves
 
@@ -43,69 +43,69 @@ extended g E X some more contents it =
     record { made = it.made; later = it.later ++ more; beginning = ap (λ (list : List Commit). list ++ more) it.beginning ∙ append_assoc it.made it.later more; stands = it.stands }
 
 -- and so is what a prefix of further commits leaves after all of these
-behind : AmongBoth → (g h : Graph) (E F X Y : Facts) (came : List Event) (more : List Commit) (contents : Contents) → h ≡ g → F ≡ with_facts E (stated.environment came) → Y ≡ with_facts X (stated.facts came)
-    → StandsForBeginning h F Y [] more contents → StandsForBeginning g E X [] (one_by_one came ++ more) contents
-behind both g h E F X Y came more contents graph given all it =
+behind : AmongBoth → (g h : Graph) (E F X Y : Facts) (first more : List Commit) (contents : Contents) → h ≡ g → F ≡ environment_behind E first → Y ≡ facts_behind X first
+    → StandsForBeginning h F Y [] more contents → StandsForBeginning g E X [] (first ++ more) contents
+behind both g h E F X Y first more contents graph given all it =
     let of_graph = subst (λ (k : Graph). Stands contents k (environment_behind F it.made) (facts_behind Y it.made)) graph it.stands in
-    let of_given : Stands contents g (environment_behind E (one_by_one came ++ it.made)) (facts_behind Y it.made) =
-    subst (λ (S : Facts). Stands contents g S (facts_behind Y it.made)) (ap (λ (S : Facts). environment_behind S it.made) given ∙ sym (environment_joined both E came it.made)) of_graph
+    let of_given : Stands contents g (environment_behind E (first ++ it.made)) (facts_behind Y it.made) =
+    subst (λ (S : Facts). Stands contents g S (facts_behind Y it.made)) (ap (λ (S : Facts). environment_behind S it.made) given ∙ sym (environment_joined both E first it.made)) of_graph
     in
     record {
-      made = one_by_one came ++ it.made;
+      made = first ++ it.made;
       later = it.later;
-      beginning = ap (λ (list : List Commit). one_by_one came ++ list) it.beginning ∙ sym (append_assoc (one_by_one came) it.made it.later);
+      beginning = ap (λ (list : List Commit). first ++ list) it.beginning ∙ sym (append_assoc first it.made it.later);
       stands =
-          subst (λ (S : Facts). Stands contents g (environment_behind E (one_by_one came ++ it.made)) S)
-          (ap (λ (S : Facts). facts_behind S it.made) all ∙ sym (facts_joined both X came it.made)) of_given;
+          subst (λ (S : Facts). Stands contents g (environment_behind E (first ++ it.made)) S)
+          (ap (λ (S : Facts). facts_behind S it.made) all ∙ sym (facts_joined both X first it.made)) of_given;
     }
 
 module _ {D : Type 0} (files : D → Side → File) (moment : D → ℕ) (left_at : D → ℕ → Contents → Type 0) (failures refusals : D → ℕ) (honest : Type 0) where
   -- ---- one after another
 
-  module _ (both : AmongBoth) (gates_stay : honest → GatesStay files moment left_at) (old mid new : Core D) (first second : List Event) where
+  module _ (both : AmongBoth) (gates_stay : honest → GatesStay files moment left_at) (old mid new : Core D) (first second : List Commit) where
     went_on : is_halted mid ≡ false → mid.in_doubt ≡ [] → failures old.vault.disk ≤ failures mid.vault.disk
         → Went files moment left_at failures refusals honest old mid first → Went files moment left_at failures refusals honest mid new second → Went files moment left_at failures refusals honest old new (first ++ second)
     went_on working settled later one two =
-        let all_of_first = subst (λ (events : List Event). first ++ events ≡ first) (sym settled) (append-nil first) in
-        let sets : facts mid ≡ with_facts (facts old) (stated.facts first) = λ i fact. one.facts fact i in
-        let given : environment mid ≡ with_facts (environment old) (stated.environment first) = λ i fact. one.environment fact i in
-        let order = append_assoc first second new.in_doubt in
-        let pending : one_by_one (first ++ second ++ new.in_doubt) ≡ one_by_one first ++ one_by_one (second ++ new.in_doubt) = ap one_by_one order ∙ one_by_one_joined first (second ++ new.in_doubt) in
+        let all_of_first = subst (λ (events : List Event). events_of first ++ events ≡ events_of first) (sym settled) (append-nil (events_of first)) in
+        let all_commits = subst (λ (events : List Event). first ++ in_one events ≡ first) (sym settled) (append-nil first) in
+        let sets : facts mid ≡ facts_behind (facts old) first = λ i fact. one.facts fact i in
+        let given : environment mid ≡ environment_behind (environment old) first = λ i fact. one.environment fact i in
+        let order : events_of (first ++ second) ++ new.in_doubt ≡ events_of first ++ (events_of second ++ new.in_doubt) =
+        ap (λ (events : List Event). events ++ new.in_doubt) (events_joined first second) ∙ append_assoc (events_of first) (events_of second) new.in_doubt
+        in
+        let pending : (first ++ second) ++ in_one new.in_doubt ≡ first ++ (second ++ in_one new.in_doubt) = append_assoc first second (in_one new.in_doubt) in
         let calm : HasErred failures refusals old.vault.disk mid.vault.disk → ⊥ = λ erred. false≢true (sym working ∙ one.halts.1 erred) in
         record {
           legal =
               subst (λ (events : List Event). AreLegalFrom (graph old) (facts old) events) (sym order)
-              (legal_joined both (graph old) (facts old) first (second ++ new.in_doubt) (subst (λ (events : List Event). AreLegalFrom (graph old) (facts old) events) all_of_first one.legal)
-              (subst (λ (g : Graph). AreLegalFrom g (with_facts (facts old) (stated.facts first)) (second ++ new.in_doubt)) one.graph
-              (subst (λ (S : Facts). AreLegalFrom (graph mid) S (second ++ new.in_doubt)) sets two.legal)));
+              (legal_joined both (graph old) (facts old) (events_of first) (events_of second ++ new.in_doubt) (subst (λ (events : List Event). AreLegalFrom (graph old) (facts old) events) all_of_first one.legal)
+              (subst (λ (g : Graph). AreLegalFrom g (facts_behind (facts old) first) (events_of second ++ new.in_doubt)) one.graph
+              (subst (λ (S : Facts). AreLegalFrom (graph mid) S (events_of second ++ new.in_doubt)) sets two.legal)));
           graph = two.graph ∙ one.graph;
-          facts = λ fact.
-              two.facts fact ∙ ap (λ (S : Facts). with_facts S (stated.facts second) fact) sets
-              ∙ ap (λ (S : Facts). S fact) (sym (ap (λ (list : List Fact). with_facts (facts old) list) (flat_map-append event_facts first second) ∙ with_both both (facts old) (stated.facts first) (stated.facts second)));
+          facts = λ fact. two.facts fact ∙ ap (λ (S : Facts). facts_behind S second fact) sets ∙ ap (λ (S : Facts). S fact) (sym (facts_joined both (facts old) first second));
           environment = λ fact.
-              two.environment fact ∙ ap (λ (S : Facts). with_facts S (stated.environment second) fact) given
-              ∙ ap (λ (S : Facts). S fact) (sym (ap (λ (list : List Fact). with_facts (environment old) list) (flat_map-append environment_facts first second) ∙ with_both both (environment old) (stated.environment first) (stated.environment second)));
+              two.environment fact ∙ ap (λ (S : Facts). environment_behind S second fact) given ∙ ap (λ (S : Facts). S fact) (sym (environment_joined both (environment old) first second));
           generation = λ goes. two.generation goes ∙ one.generation working;
           end = λ goes. ends_behind new.vault.journal.end mid.vault.journal.end old.vault.journal.end (records_length first) (records_length second) (records_length (first ++ second)) (two.end goes) (one.end working) (records_joined first second);
           crashes = λ on.
               subst (λ (commits : List Commit). LeavesOnly moment left_at old.vault.disk new.vault.disk (StandsForBeginning (graph old) (environment old) (facts old) [] commits)) (sym pending)
               (joined moment left_at old.vault.disk mid.vault.disk new.vault.disk
-              (StandsForBeginning (graph old) (environment old) (facts old) [] (one_by_one (first ++ mid.in_doubt)))
-              (StandsForBeginning (graph mid) (environment mid) (facts mid) [] (one_by_one (second ++ new.in_doubt)))
-              (StandsForBeginning (graph old) (environment old) (facts old) [] (one_by_one first ++ one_by_one (second ++ new.in_doubt)))
+              (StandsForBeginning (graph old) (environment old) (facts old) [] (first ++ in_one mid.in_doubt))
+              (StandsForBeginning (graph mid) (environment mid) (facts mid) [] (second ++ in_one new.in_doubt))
+              (StandsForBeginning (graph old) (environment old) (facts old) [] (first ++ (second ++ in_one new.in_doubt)))
               (one.crashes on) (two.crashes on)
               (λ contents stands.
-              extended (graph old) (environment old) (facts old) (one_by_one first) (one_by_one (second ++ new.in_doubt)) contents
-              (subst (λ (events : List Event). StandsForBeginning (graph old) (environment old) (facts old) [] (one_by_one events) contents) all_of_first stands))
+              extended (graph old) (environment old) (facts old) first (second ++ in_one new.in_doubt) contents
+              (subst (λ (commits : List Commit). StandsForBeginning (graph old) (environment old) (facts old) [] commits contents) all_commits stands))
               (λ contents stands.
-              behind both (graph old) (graph mid) (environment old) (environment mid) (facts old) (facts mid) first (one_by_one (second ++ new.in_doubt)) contents one.graph given sets stands));
+              behind both (graph old) (graph mid) (environment old) (environment mid) (facts old) (facts mid) first (second ++ in_one new.in_doubt) contents one.graph given sets stands));
           acknowledged = λ on.
               let second_leaves = two.crashes on in
               both_acknowledged (graph old) (environment old) (facts old) (left_at mid.vault.disk) (left_at new.vault.disk) (moment mid.vault.disk) (moment new.vault.disk) second_leaves.later (λ t contents early was. (second_leaves.stays t contents early).0 was)
-              (moment old.vault.disk) [] first second new.in_doubt (one.crashes on).later
-              (subst (λ (doubt : List Event). AcknowledgesFrom (graph old) (environment old) (facts old) (left_at mid.vault.disk) (moment mid.vault.disk) (moment old.vault.disk) [] first doubt) settled (one.acknowledged on))
-              (subst (λ (made : List Event). AcknowledgesFrom (graph old) (environment old) (facts old) (left_at new.vault.disk) (moment new.vault.disk) (moment mid.vault.disk) made second new.in_doubt) (append-nil first)
-              (carried both (graph old) (graph mid) (environment old) (environment mid) (facts old) (facts mid) first one.graph given sets (left_at new.vault.disk) (moment new.vault.disk) (moment mid.vault.disk) [] second new.in_doubt (two.acknowledged on)));
+              (moment old.vault.disk) [] first second (in_one new.in_doubt) (one.crashes on).later
+              (subst (λ (doubt : List Event). AcknowledgesFrom (graph old) (environment old) (facts old) (left_at mid.vault.disk) (moment mid.vault.disk) (moment old.vault.disk) [] first (in_one doubt)) settled (one.acknowledged on))
+              (subst (λ (made : List Commit). AcknowledgesFrom (graph old) (environment old) (facts old) (left_at new.vault.disk) (moment new.vault.disk) (moment mid.vault.disk) made second (in_one new.in_doubt)) (append-nil first)
+              (carried both (graph old) (graph mid) (environment old) (environment mid) (facts old) (facts mid) first one.graph given sets (left_at new.vault.disk) (moment new.vault.disk) (moment mid.vault.disk) [] second (in_one new.in_doubt) (two.acknowledged on)));
           gates = λ on has.
               let here = one.gates on has in
               joined moment left_at old.vault.disk mid.vault.disk new.vault.disk HasGates HasGates HasGates here (two.gates on (gates_stay on old.vault.disk mid.vault.disk here)) (λ c so. so) (λ c so. so);
@@ -118,20 +118,21 @@ module _ {D : Type 0} (files : D → Side → File) (moment : D → ℕ) (left_a
     -- nothing comes after a halt
     went_still : is_halted mid ≡ true → second ≡ [] → KeepsStore mid new → Went files moment left_at failures refusals honest old mid first → Went files moment left_at failures refusals honest old new (first ++ second)
     went_still stops nothing same one =
-        let all : first ++ second ≡ first = ap (λ (events : List Event). first ++ events) nothing ∙ append-nil first in
-        let doubt : first ++ mid.in_doubt ≡ (first ++ second) ++ new.in_doubt = ap (λ (events : List Event). events ++ mid.in_doubt) (sym all) ∙ ap (λ (events : List Event). (first ++ second) ++ events) (sym same.in_doubt) in
+        let all : first ++ second ≡ first = ap (λ (commits : List Commit). first ++ commits) nothing ∙ append-nil first in
+        let doubt : events_of first ++ mid.in_doubt ≡ events_of (first ++ second) ++ new.in_doubt = λ i. events_of (sym all i) ++ sym same.in_doubt i in
+        let pending : first ++ in_one mid.in_doubt ≡ (first ++ second) ++ in_one new.in_doubt = λ i. sym all i ++ in_one (sym same.in_doubt i) in
         record {
           legal = subst (λ (events : List Event). AreLegalFrom (graph old) (facts old) events) doubt one.legal;
           graph = same.graph ∙ one.graph;
-          facts = λ fact. same.facts fact ∙ one.facts fact ∙ ap (λ (events : List Event). with_facts (facts old) (stated.facts events) fact) (sym all);
-          environment = λ fact. same.environment fact ∙ one.environment fact ∙ ap (λ (events : List Event). with_facts (environment old) (stated.environment events) fact) (sym all);
+          facts = λ fact. same.facts fact ∙ one.facts fact ∙ ap (λ (commits : List Commit). facts_behind (facts old) commits fact) (sym all);
+          environment = λ fact. same.environment fact ∙ one.environment fact ∙ ap (λ (commits : List Commit). environment_behind (environment old) commits fact) (sym all);
           generation = λ goes. absurd (false≢true (sym goes ∙ same.vault.halted ∙ stops));
           end = λ goes. absurd (false≢true (sym goes ∙ same.vault.halted ∙ stops));
           crashes = λ on.
-              subst (λ (d : D). LeavesOnly moment left_at old.vault.disk d (StandsForBeginning (graph old) (environment old) (facts old) [] (one_by_one ((first ++ second) ++ new.in_doubt)))) (sym same.vault.disk)
-              (subst (λ (events : List Event). LeavesOnly moment left_at old.vault.disk mid.vault.disk (StandsForBeginning (graph old) (environment old) (facts old) [] (one_by_one events))) doubt (one.crashes on));
+              subst (λ (d : D). LeavesOnly moment left_at old.vault.disk d (StandsForBeginning (graph old) (environment old) (facts old) [] ((first ++ second) ++ in_one new.in_doubt))) (sym same.vault.disk)
+              (subst (λ (commits : List Commit). LeavesOnly moment left_at old.vault.disk mid.vault.disk (StandsForBeginning (graph old) (environment old) (facts old) [] commits)) pending (one.crashes on));
           acknowledged = λ on.
-              subst (λ (at : D × List Event × List Event). AcknowledgesFrom (graph old) (environment old) (facts old) (left_at at.0) (moment at.0) (moment old.vault.disk) [] at.1 at.2)
+              subst (λ (at : D × List Commit × List Event). AcknowledgesFrom (graph old) (environment old) (facts old) (left_at at.0) (moment at.0) (moment old.vault.disk) [] at.1 (in_one at.2))
               (λ i. (sym same.vault.disk i, sym all i, sym same.in_doubt i)) (one.acknowledged on);
           gates = λ on has. subst (λ (d : D). LeavesOnly moment left_at old.vault.disk d HasGates) (sym same.vault.disk) (one.gates on has);
           halts = (
@@ -141,7 +142,7 @@ module _ {D : Type 0} (files : D → Side → File) (moment : D → ℕ) (left_a
         }
 
     -- a call after others
-    pub joined_on : GoesOn files moment left_at failures refusals honest old mid first → GoesOn files moment left_at failures refusals honest mid new second → GoesOn files moment left_at failures refusals honest old new (first ++ second)
+    joined_on : GoesOn files moment left_at failures refusals honest old mid first → GoesOn files moment left_at failures refusals honest mid new second → GoesOn files moment left_at failures refusals honest old new (first ++ second)
     joined_on one two = record { went = λ working. at working (is_halted mid) refl; stays = λ halted. still halted; settled = two.settled; later = omega (arith, one.later, two.later) }
       where
         at : is_halted old ≡ false → (b : Bool) → is_halted mid ≡ b → Went files moment left_at failures refusals honest old new (first ++ second)
@@ -160,8 +161,17 @@ module _ {D : Type 0} (files : D → Side → File) (moment : D → ℕ) (left_a
                 in_doubt = last.0.in_doubt ∙ before.0.in_doubt;
                 latest = last.0.latest ∙ before.0.latest;
               },
-              ap (λ (events : List Event). events ++ second) before.1 ∙ last.1,
+              ap (λ (commits : List Commit). commits ++ second) before.1 ∙ last.1,
             )
+
+  -- the same by what the commits have
+  pub joined_by : AmongBoth → (honest → GatesStay files moment left_at) → (old mid new : Core D) (first second : List Event) → GoesOnBy files moment left_at failures refusals honest old mid first
+      → GoesOnBy files moment left_at failures refusals honest mid new second → GoesOnBy files moment left_at failures refusals honest old new (first ++ second)
+  joined_by both gates_stay old mid new first second one two = record {
+    commits = one.commits ++ two.commits;
+    order = events_joined one.commits two.commits ∙ (λ i. one.order i ++ two.order i);
+    goes_on = joined_on both gates_stay old mid new one.commits two.commits one.goes_on two.goes_on;
+  }
 
   -- ---- nothing
 
@@ -183,7 +193,7 @@ module _ {D : Type 0} (files : D → Side → File) (moment : D → ℕ) (left_a
     module _ {T : Type 0} (append : honest → AppendLeaves files moment left_at) (held : honest → HeldLeaves files moment left_at) (old new : Core D) (event : Event) (why : Refusal → Type 0) (kept : honest → IsKept files old) (kept_after : honest → IsKept files new) (settled : is_halted old ≡ false → old.in_doubt ≡ []) where
       -- the put was committed
       pub committed : (result : Result T CoreError) → Takes old new event → new.in_doubt ≡ [] → (is_halted old ≡ false → honest → CrashLeaves files moment left_at old new (event ∷ [])) → Halts failures refusals old new result
-          → GoesOn files moment left_at failures refusals honest old new (event ∷ [])
+          → GoesOn files moment left_at failures refusals honest old new ((event ∷ []) ∷ [])
       committed result takes none moments halts =
           let one : event ∷ [] ++ new.in_doubt ≡ event ∷ [] = ap (λ (events : List Event). event ∷ events) none in
           record {
@@ -195,7 +205,7 @@ module _ {D : Type 0} (files : D → Side → File) (moment : D → ℕ) (left_a
               generation = λ _. takes.generation;
               end = λ _. with_record new.vault.journal.end old.vault.journal.end (record_length event) takes.moved;
               crashes = λ on.
-                  subst (λ (events : List Event). LeavesOnly moment left_at old.vault.disk new.vault.disk (StandsForBeginning (graph old) (environment old) (facts old) [] (one_by_one events))) (sym one)
+                  subst (λ (events : List Event). LeavesOnly moment left_at old.vault.disk new.vault.disk (StandsForBeginning (graph old) (environment old) (facts old) [] ((event ∷ []) ∷ in_one events))) (sym none)
                   (begins files moment left_at failures refusals honest append old new event on (moments working on));
               acknowledged = λ on. acknowledged_once files moment left_at failures refusals honest append held old new event takes (moments working) kept_after on;
               gates = λ on has. (moments working on).gates has;
@@ -240,10 +250,10 @@ module _ {D : Type 0} (files : D → Side → File) (moment : D → ℕ) (left_a
                 generation = λ goes. absurd (false≢true (sym goes ∙ stops));
                 end = λ goes. absurd (false≢true (sym goes ∙ stops));
                 crashes = λ on.
-                    subst (λ (events : List Event). LeavesOnly moment left_at old.vault.disk new.vault.disk (StandsForBeginning (graph old) (environment old) (facts old) [] (one_by_one events))) (sym in_doubt)
+                    subst (λ (events : List Event). LeavesOnly moment left_at old.vault.disk new.vault.disk (StandsForBeginning (graph old) (environment old) (facts old) [] (in_one events))) (sym in_doubt)
                     (begins files moment left_at failures refusals honest append old new event on (moments working on));
                 acknowledged = λ on t contents after before was.
-                    subst (λ (events : List Event). StandsForBeginning (graph old) (environment old) (facts old) [] (one_by_one events) contents) (sym in_doubt)
+                    subst (λ (events : List Event). StandsForBeginning (graph old) (environment old) (facts old) [] (in_one events) contents) (sym in_doubt)
                     ((begins files moment left_at failures refusals honest append old new event on (moments working on)).each t contents after before was);
                 gates = λ on has. (moments working on).gates has;
                 halts = (λ _. erred, λ _. stops);
@@ -252,23 +262,23 @@ module _ {D : Type 0} (files : D → Side → File) (moment : D → ℕ) (left_a
 -- ---- what is there afterwards
 
 module _ {D : Type 0} (files : D → Side → File) (moment : D → ℕ) (left_at : D → ℕ → Contents → Type 0) (failures refusals : D → ℕ) (honest : Type 0) (old new : Core D) (events : List Event)
-    (goes : GoesOn files moment left_at failures refusals honest old new events) where
+    (goes : GoesOnBy files moment left_at failures refusals honest old new events) where
   pub graph_behind : graph new ≡ graph old
   graph_behind = at (is_halted old) refl
     where
       at : (b : Bool) → is_halted old ≡ b → graph new ≡ graph old
-      at false working = (goes.went working).graph
-      at true halted = (goes.stays halted).0.graph
+      at false working = (goes.goes_on.went working).graph
+      at true halted = (goes.goes_on.stays halted).0.graph
 
   pub facts_behind_it : facts new ≡ with_facts (facts old) (stated.facts events)
-  facts_behind_it = at (is_halted old) refl
+  facts_behind_it = at (is_halted old) refl ∙ ap (λ (list : List Event). with_facts (facts old) (stated.facts list)) goes.order
     where
-      at : (b : Bool) → is_halted old ≡ b → facts new ≡ with_facts (facts old) (stated.facts events)
-      at false working = λ i fact. (goes.went working).facts fact i
+      at : (b : Bool) → is_halted old ≡ b → facts new ≡ facts_behind (facts old) goes.commits
+      at false working = λ i fact. (goes.goes_on.went working).facts fact i
       at true halted =
-          let same = goes.stays halted in
+          let same = goes.goes_on.stays halted in
           let still : facts new ≡ facts old = λ i fact. same.0.facts fact i in
-          still ∙ sym (ap (λ (list : List Event). with_facts (facts old) (stated.facts list)) same.1 ∙ with_nothing (facts old))
+          still ∙ sym (ap (λ (commits : List Commit). facts_behind (facts old) commits) same.1 ∙ with_nothing (facts old))
 
   -- a reply by what is there now is a reply by what was there, and these events
   pub answered_there : (drive : Drive) (command : Command) (came : List Event) (reply : Reply) → Replies (graph new) drive (facts new) command came reply

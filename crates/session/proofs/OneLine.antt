@@ -1,10 +1,11 @@
 -- What a line comes to: a put or a get by its call, and a run by its verdict.
-use Rattle.std.proofs.Common.{◌≡◌, ◌∙◌, ◌≤◌, ap, refl, sym, subst, ℕ, Bool, true, false, List, [], length, Some, None, Result, IfSome, arith}
+use Rattle.std.proofs.Common.{◌≡◌, ◌∙◌, ap, refl, sym, subst, ℕ, Bool, true, false, List, [], length, Some, None, Result, IfSome, arith}
 use Rattle.std.proofs.lemmas.Bool.{false≢true}
 use Rattle.disk.specs.declared.side.Side.{Side}
 use Rattle.disk.specs.File.{File}
 use Rattle.disk.specs.Time.{Contents}
 use Rattle.terms.specs.declared.event.Event.{Event}
+use Rattle.terms.specs.Commits.{Commit, events_of}
 use Rattle.terms.specs.Facts as stated
 use Rattle.terms.specs.Sets.{Facts, with_facts}
 use Rattle.graph.specs.Graph.{Graph}
@@ -23,7 +24,7 @@ use Rattle.session.specs.Answers.{Drive, RepliesTo, TellsHalt, TellsRun, drive_o
 use Rattle.session.specs.Lines.{AnswersAtOnce, AnswersVerdict, ComesTo, HasRunTo}
 use Rattle.session.specs.Session.{stop_of}
 use Rattle.commit.specs.Went.{GoesOn}
-use Rattle.session.specs.Went.{HasCause, HasCauseOfRun}
+use Rattle.session.specs.Went.{GoesOnBy, HasCause, HasCauseOfRun}
 use Rattle.commit.proofs.Went.{of_run}
 use Rattle.session.proofs.Coming.{nothing_came}
 use Rattle.session.proofs.Ran.{cause_of_run, front_legal}
@@ -31,8 +32,8 @@ use Rattle.session.proofs.Ran.{cause_of_run, front_legal}
 module _ {D : Type 0} (files : D → Side → File) (moment : D → ℕ) (left_at : D → ℕ → Contents → Type 0) (failures refusals : D → ℕ) (honest : Type 0) where
   -- ---- puts and gets
 
-  pub at_once : (old new : Core D) (command : Command) (reply : Reply) (came : List Event) → GoesOn files moment left_at failures refusals honest old new came → ((drive : Drive) → RepliesTo (graph old) drive (facts old) command came reply)
-      → ((halted : Bool) → is_halted old ≡ halted → TellsHalt halted command reply) → HasCause failures old new command came reply → (stop_of reply ≡ None → is_halted new ≡ is_halted old) → AnswersAtOnce files moment left_at failures refusals honest old new command (Some reply)
+  pub at_once : (old new : Core D) (command : Command) (reply : Reply) (came : List Event) → (goes : GoesOnBy files moment left_at failures refusals honest old new came) → ((drive : Drive) → RepliesTo (graph old) drive (facts old) command came reply)
+      → ((halted : Bool) → is_halted old ≡ halted → TellsHalt halted command reply) → HasCause failures old new command goes.commits reply → (stop_of reply ≡ None → is_halted new ≡ is_halted old) → AnswersAtOnce files moment left_at failures refusals honest old new command (Some reply)
   at_once old new command reply came goes replies halts cause stays =
       λ drive was. record { came = came; goes_on = goes; replies = (replies drive, halts drive.was_halted (sym was)); cause = cause; stays = stays }
 
@@ -40,10 +41,10 @@ module _ {D : Type 0} (files : D → Side → File) (moment : D → ℕ) (left_a
 
   module _ (rest_leaves : honest → RestLeaves files moment left_at) (gates_rest : honest → GatesRest files moment left_at) (new : Core D) (kept : honest → IsKept files new) (settled : is_halted new ≡ false → new.in_doubt ≡ [])
       (verdict : Result Verdict RunError) (reply : Reply) (exact : IfSome (run_reply verdict) (λ expected. reply ≡ expected))
-      (tells : (g : Graph) (X : Facts) (from : ℕ) (came : List Event) (may_be_asked may_spawn was_halted : Bool) (limit count : ℕ) → TellsVerdict (MetFull g X from came) may_be_asked may_spawn new limit count verdict
+      (tells : (g : Graph) (X : Facts) (from : ℕ) (commits : List Commit) (may_be_asked may_spawn was_halted : Bool) (limit count : ℕ) → TellsVerdict (MetFull g X from commits) may_be_asked may_spawn new limit count verdict
       → TellsRun (graph new) (drive_of limit may_be_asked may_spawn was_halted) (facts new) count reply)
-      (cause : (g : Graph) (X : Facts) (from : ℕ) (came : List Event) (may_be_asked may_spawn : Bool) (limit count : ℕ) → TellsVerdict (MetFull g X from came) may_be_asked may_spawn new limit count verdict → HasCauseOfRun g X from new came reply)
-      (stays : (g : Graph) (X : Facts) (from : ℕ) (came : List Event) (may_be_asked may_spawn : Bool) (limit count : ℕ) → TellsVerdict (MetFull g X from came) may_be_asked may_spawn new limit count verdict → stop_of reply ≡ None → is_halted new ≡ false) where
+      (cause : (g : Graph) (X : Facts) (from : ℕ) (commits : List Commit) (may_be_asked may_spawn : Bool) (limit count : ℕ) → TellsVerdict (MetFull g X from commits) may_be_asked may_spawn new limit count verdict → HasCauseOfRun g X from new commits reply)
+      (stays : (g : Graph) (X : Facts) (from : ℕ) (commits : List Commit) (may_be_asked may_spawn : Bool) (limit count : ℕ) → TellsVerdict (MetFull g X from commits) may_be_asked may_spawn new limit count verdict → stop_of reply ≡ None → is_halted new ≡ false) where
     -- the core was halted, and is as it was
     halted_run : (old : Core D) (most : ℕ) (may_be_asked may_spawn : Bool) → is_halted old ≡ true → HasRunTo files moment left_at failures refusals honest most may_be_asked may_spawn old new verdict → ComesTo files moment left_at failures refusals honest (drive_of most may_be_asked may_spawn (is_halted old)) old new Run reply
     halted_run old most may_be_asked may_spawn halted ran =
@@ -52,7 +53,7 @@ module _ {D : Type 0} (files : D → Side → File) (moment : D → ℕ) (left_a
         let told = subst (λ (core : Core D). TellsRun (graph core) (drive_of most may_be_asked may_spawn (is_halted old)) (facts core) 0 reply) same.0 (tells (graph old) (facts old) old.vault.journal.end [] may_be_asked may_spawn (is_halted old) most 0 is) in
         record {
           came = [];
-          goes_on = subst (λ (core : Core D). GoesOn files moment left_at failures refusals honest core new []) same.0 (nothing_came files moment left_at failures refusals honest rest_leaves gates_rest new kept settled);
+          goes_on = record { commits = []; order = refl; goes_on = subst (λ (core : Core D). GoesOn files moment left_at failures refusals honest core new []) same.0 (nothing_came files moment left_at failures refusals honest rest_leaves gates_rest new kept settled) };
           replies = (
             record {
               are_ends = tt;
@@ -69,25 +70,30 @@ module _ {D : Type 0} (files : D → Side → File) (moment : D → ℕ) (left_a
     working_run : (old : Core D) (most : ℕ) (may_be_asked may_spawn : Bool) → is_halted old ≡ false → HasRunTo files moment left_at failures refusals honest most may_be_asked may_spawn old new verdict → ComesTo files moment left_at failures refusals honest (drive_of most may_be_asked may_spawn (is_halted old)) old new Run reply
     working_run old most may_be_asked may_spawn working ran =
         let it = ran.runs working in
-        let is = told_for (MetFull (graph old) (facts old) old.vault.journal.end it.ends × (may_spawn ≡ false → IsFull new)) (MetFull (graph old) (facts old) old.vault.journal.end it.ends)
-        may_be_asked may_spawn new most (length it.ends) verdict (λ _ both. both.0) it.told in
-        let all : facts new ≡ with_facts (facts old) (stated.facts it.ends) = λ i fact. it.runs.facts fact i in
+        let is = told_for (MetFull (graph old) (facts old) old.vault.journal.end it.commits × (may_spawn ≡ false → IsFull new)) (MetFull (graph old) (facts old) old.vault.journal.end it.commits)
+        may_be_asked may_spawn new most (length (events_of it.commits)) verdict (λ _ both. both.0) it.told in
+        let came = events_of it.commits in
+        let all : facts new ≡ with_facts (facts old) (stated.facts came) = λ i fact. it.runs.facts fact i in
         record {
-          came = it.ends;
-          goes_on = record { went = λ _. of_run files moment left_at failures refusals honest old new most it.ends it.runs; stays = λ halted. absurd (false≢true (sym working ∙ halted)); settled = settled; later = it.runs.later };
+          came = came;
+          goes_on = record {
+            commits = it.commits;
+            order = refl;
+            goes_on = record { went = λ _. of_run files moment left_at failures refusals honest old new most it.commits it.runs; stays = λ halted. absurd (false≢true (sym working ∙ halted)); settled = settled; later = it.runs.later };
+          };
           replies = (
             record {
-              are_ends = first_ends it.ends new.in_doubt it.runs.are_ends;
-              legal = front_legal (graph old) (facts old) it.ends new.in_doubt it.runs.legal;
+              are_ends = first_ends came new.in_doubt it.runs.are_ends;
+              legal = front_legal (graph old) (facts old) came new.in_doubt it.runs.legal;
               within = omega (arith, it.runs.spent);
-              told = subst (λ (h : Graph). TellsRun h (drive_of most may_be_asked may_spawn (is_halted old)) (with_facts (facts old) (stated.facts it.ends)) (length it.ends) reply) it.runs.graph
-                  (subst (λ (X : Facts). TellsRun (graph new) (drive_of most may_be_asked may_spawn (is_halted old)) X (length it.ends) reply) all
-                  (tells (graph old) (facts old) old.vault.journal.end it.ends may_be_asked may_spawn (is_halted old) most (length it.ends) is));
+              told = subst (λ (h : Graph). TellsRun h (drive_of most may_be_asked may_spawn (is_halted old)) (with_facts (facts old) (stated.facts came)) (length came) reply) it.runs.graph
+                  (subst (λ (X : Facts). TellsRun (graph new) (drive_of most may_be_asked may_spawn (is_halted old)) X (length came) reply) all
+                  (tells (graph old) (facts old) old.vault.journal.end it.commits may_be_asked may_spawn (is_halted old) most (length came) is));
             },
             λ halted. absurd (false≢true (sym working ∙ halted)),
           );
-          cause = cause_of_run failures old new it.ends reply (cause (graph old) (facts old) old.vault.journal.end it.ends may_be_asked may_spawn most (length it.ends) is);
-          stays = λ none. stays (graph old) (facts old) old.vault.journal.end it.ends may_be_asked may_spawn most (length it.ends) is none ∙ sym working;
+          cause = cause_of_run failures old new it.commits reply (cause (graph old) (facts old) old.vault.journal.end it.commits may_be_asked may_spawn most (length came) is);
+          stays = λ none. stays (graph old) (facts old) old.vault.journal.end it.commits may_be_asked may_spawn most (length came) is none ∙ sym working;
         }
 
     pub by_verdict : AnswersVerdict files moment left_at failures refusals honest new verdict reply

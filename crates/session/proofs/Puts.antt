@@ -6,6 +6,7 @@ use Rattle.disk.specs.File.{File}
 use Rattle.disk.specs.Time.{Contents, HasErred}
 use Rattle.terms.specs.declared.name.Inst.{Inst}
 use Rattle.terms.specs.declared.event.Event.{Event}
+use Rattle.terms.specs.Commits.{Commit}
 use Rattle.vault.specs.Commits.{AppendLeaves, GatesRest, HeldLeaves, RestLeaves}
 use Rattle.vault.specs.declared.error.VaultError.TheVariants as store
 use Rattle.machine.specs.declared.refusal.Refusal.{Refusal}
@@ -25,8 +26,7 @@ use Rattle.session.specs.declared.ending.Stop.TheVariants as stop
 use Rattle.session.specs.declared.reply.Reply.TheVariants as replied
 use Rattle.session.specs.Answers.{RepliesPut, put_reply, reply_of}
 use Rattle.session.specs.Session.{stop_of}
-use Rattle.commit.specs.Went.{GoesOn}
-use Rattle.session.specs.Went.{HasCause, HasNoRoom, Puts}
+use Rattle.session.specs.Went.{GoesOnBy, HasCause, HasNoRoom, Puts}
 use Rattle.session.proofs.Coming.{committed, refused}
 
 -- ---- refusals
@@ -48,11 +48,25 @@ module _ {D T : Type 0} (files : D → Side → File) (moment : D → ℕ) (left
     (old new : Core D) (event : Event) (why : Refusal → Type 0) (kept : honest → IsKept files old) (kept_after : honest → IsKept files new) (settled : is_halted old ≡ false → old.in_doubt ≡ []) where
   pub replied_put : (result : Result T CoreError) → OnOk result (Takes old new event) → OnErr result (IsUnchanged old new) → IfErr result (Refuses old why event) → IsInDoubt old new event result
       → (honest → is_halted old ≡ false → CrashLeaves files moment left_at old new (event ∷ [])) → Halts failures refusals old new result
-      → (came : List Event) × GoesOn files moment left_at failures refusals honest old new came × RepliesPut (graph old) (facts old) why event came (put_reply result)
-  replied_put (Ok done) takes same refuses doubt moments halts =
-      (event ∷ [], committed files moment left_at failures refusals honest leaves gates_rest {T = T} append held old new event why kept kept_after settled (Ok done) takes halts.settled (λ working on. moments on working) halts, (refl, takes.legal))
-  replied_put (Err error) takes same refuses doubt moments halts =
-      ([], refused files moment left_at failures refusals honest leaves gates_rest {T = T} append held old new event why kept kept_after settled error same refuses doubt (λ working on. moments on working) halts, refused_reply old why event error refuses)
+      → (came : List Event) × GoesOnBy files moment left_at failures refusals honest old new came × RepliesPut (graph old) (facts old) why event came (put_reply result)
+  replied_put (Ok done) takes same refuses doubt moments halts = (
+    event ∷ [],
+    record {
+      commits = (event ∷ []) ∷ [];
+      order = refl;
+      goes_on = committed files moment left_at failures refusals honest leaves gates_rest {T = T} append held old new event why kept kept_after settled (Ok done) takes halts.settled (λ working on. moments on working) halts;
+    },
+    (refl, takes.legal),
+  )
+  replied_put (Err error) takes same refuses doubt moments halts = (
+    [],
+    record {
+      commits = [];
+      order = refl;
+      goes_on = refused files moment left_at failures refusals honest leaves gates_rest {T = T} append held old new event why kept kept_after settled error same refuses doubt (λ working on. moments on working) halts;
+    },
+    refused_reply old why event error refuses,
+  )
 
 -- no instance runs after an event that ends none, if none ran before
 pub put_idle : {D T : Type 0} (old new : Core D) (event : Event) → ((instance : Inst) → Ends event instance → ⊥) → NoneRuns old → (result : Result T CoreError) → OnOk result (Takes old new event) → OnErr result (IsUnchanged old new) → NoneRuns new
@@ -119,10 +133,10 @@ put_too_long : {D T : Type 0} (old : Core D) (why : Refusal → Type 0) (event :
 put_too_long old why event (Ok done) refuses is = absurd (cc)
 put_too_long old why event (Err error) refuses is = too_long old why event error refuses is
 
--- the cause of a reply to a put, whatever events came
-pub put_cause : {D T : Type 0} (failures refusals : D → ℕ) (old new : Core D) (why : Refusal → Type 0) (event : Event) (command : Command) (came : List Event) → Puts command → (IsTooLong old event → HasNoRoom old command came) → (result : Result T CoreError)
-    → OnOk result (Takes old new event) → IfErr result (Refuses old why event) → Halts failures refusals old new result → HasCause failures old new command came (put_reply result)
-put_cause failures refusals old new why event command came puts room result takes refuses halts = record {
+-- the cause of a reply to a put, whatever commits came
+pub put_cause : {D T : Type 0} (failures refusals : D → ℕ) (old new : Core D) (why : Refusal → Type 0) (event : Event) (command : Command) (commits : List Commit) → Puts command → (IsTooLong old event → HasNoRoom old command commits) → (result : Result T CoreError)
+    → OnOk result (Takes old new event) → IfErr result (Refuses old why event) → Halts failures refusals old new result → HasCause failures old new command commits (put_reply result)
+put_cause failures refusals old new why event command commits puts room result takes refuses halts = record {
   halted = λ is. halts.halts.1 (inl ((put_halt failures refusals old new why event result takes refuses halts).0 is));
   halts = λ run. absurd (no_run command puts run);
   device = (λ is. (puts, halts.disk.device.0 (put_device result is)), λ both. ap put_reply (halts.disk.device.1 both.1));

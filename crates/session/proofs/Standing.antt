@@ -1,5 +1,5 @@
 -- How a session stands before its first line, after each line, and when no line is left.
-use Rattle.std.proofs.Common.{◌≡◌, ◌≢◌, ◌∙◌, ◌⊎◌, ap, refl, sym, subst, inl, inr, ℕ, Bool, true, false, List, [], ◌∷◌, ◌++◌, Option, Some, None, Result, Ok, append_assoc, append-nil}
+use Rattle.std.proofs.Common.{◌≡◌, ◌≢◌, ◌∙◌, ap, refl, sym, subst, inl, inr, ℕ, Bool, true, false, List, [], ◌∷◌, ◌++◌, Option, Some, None, Ok, append_assoc, append-nil}
 use Rattle.std.proofs.lemmas.Bool.{false≢true}
 use Rattle.std.specs.Borrow.{GName}
 use Rattle.disk.specs.declared.side.Side.{Side}
@@ -21,7 +21,7 @@ use Rattle.session.specs.Answers.{Drive}
 use Rattle.session.specs.Fails.{AnswersLines}
 use Rattle.session.specs.Lines.{Answered, ComesTo, Linked, SoFar, Stands, TellsReply, went_of}
 use Rattle.session.specs.Progress.{StandsAt}
-use Rattle.session.specs.Session.{AreReplies, ending_of, no_ending, stop_of, with_reply}
+use Rattle.session.specs.Session.{AreReplies, ending_of, no_ending, stop_of}
 use Rattle.session.specs.Streams.{TellsSink}
 use Rattle.session.specs.Went.{GoesOnByLine}
 use Rattle.session.proofs.Coming.{nothing_came}
@@ -47,7 +47,7 @@ module _ {D : Type 0} (files : D → Side → File) (moment : D → ℕ) (left_a
       events = [];
       split = refl;
       same = was;
-      goes_on = nothing_came files moment left_at failures refusals honest rest_leaves gates_rest core kept settled;
+      goes_on = record { commits = []; order = refl; goes_on = nothing_came files moment left_at failures refusals honest rest_leaves gates_rest core kept settled };
       linked = linked_nowhere files moment left_at failures refusals honest core;
       answered = went_nowhere (graph core) drive (facts core);
       written = appends_nothing (contents first);

@@ -8,7 +8,7 @@ use Rattle.std.specs.List.Sorted.{IsPermutation, IsSortedBy}
 use Rattle.std.specs.Ordering.{is_lt}
 use Rattle.terms.specs.declared.name.Addr.{Addr}
 use Rattle.terms.specs.declared.name.Inst.{Inst}
-use Rattle.terms.specs.declared.event.Event.{Event}
+use Rattle.terms.specs.Commits.{Commit}
 use Rattle.terms.specs.Facts.{done}
 use Rattle.terms.specs.Name.{inst_cmp}
 use Rattle.terms.specs.Sets.{Facts}
@@ -126,23 +126,23 @@ told_blocked c kept full asked spawn halted limit count blocked reply is tells_i
 -- ---- causes
 
 -- a reply to a run that is neither `Halted`, `Device` nor `Full` needs no other cause than how far the core is, if the core is not halted
-pub other_cause : {D : Type 0} (g : Graph) (X : Facts) (from : ℕ) (new : Core D) (came : List Event) (reply : Reply) → reply ≢ replied.Halted → reply ≢ replied.Device → reply ≢ replied.Full → core.is_halted new ≡ false → IsLeft new reply → HasCauseOfRun g X from new came reply
-other_cause g X from new came reply not_halted not_device not_full working left =
+pub other_cause : {D : Type 0} (g : Graph) (X : Facts) (from : ℕ) (new : Core D) (commits : List Commit) (reply : Reply) → reply ≢ replied.Halted → reply ≢ replied.Device → reply ≢ replied.Full → core.is_halted new ≡ false → IsLeft new reply → HasCauseOfRun g X from new commits reply
+other_cause g X from new commits reply not_halted not_device not_full working left =
     record { halted = (λ is. absurd (not_halted is), λ halted. absurd (false≢true (sym working ∙ halted))); device = not_device; full = λ is. absurd (not_full is); left = left }
 
 -- and so neither reply to `Blocked` does
-pub blocked_cause : {D : Type 0} (g : Graph) (X : Facts) (from : ℕ) (c : Core D) (came : List Event) (reply : Reply) → (blocked : ℕ) → blocked ≢ 0 → IsAt c (status.Quiet blocked) → TellsBlocked (graph c) (core.facts c) reply → HasCauseOfRun g X from c came reply
-blocked_cause g X from c came (replied.Blocked waiting) blocked some at told = other_cause g X from c came (replied.Blocked waiting) (λ same. cc) (λ same. cc) (λ same. cc) at.0 tt
-blocked_cause g X from c came replied.NoMemory blocked some at told = other_cause g X from c came replied.NoMemory (λ same. cc) (λ same. cc) (λ same. cc) at.0 (inr (blocked, some, at))
-blocked_cause g X from c came replied.Done blocked some at told = absurd told
-blocked_cause g X from c came (replied.Value address value) blocked some at told = absurd told
-blocked_cause g X from c came (replied.Absent address) blocked some at told = absurd told
-blocked_cause g X from c came replied.Complete blocked some at told = absurd told
-blocked_cause g X from c came (replied.Stopped instance kind) blocked some at told = absurd told
-blocked_cause g X from c came replied.Limit blocked some at told = absurd told
-blocked_cause g X from c came replied.Asked blocked some at told = absurd told
-blocked_cause g X from c came (replied.Refused refusal) blocked some at told = absurd told
-blocked_cause g X from c came replied.Full blocked some at told = absurd told
-blocked_cause g X from c came replied.Halted blocked some at told = absurd told
-blocked_cause g X from c came replied.Device blocked some at told = absurd told
-blocked_cause g X from c came replied.NoThread blocked some at told = absurd told
+pub blocked_cause : {D : Type 0} (g : Graph) (X : Facts) (from : ℕ) (c : Core D) (commits : List Commit) (reply : Reply) → (blocked : ℕ) → blocked ≢ 0 → IsAt c (status.Quiet blocked) → TellsBlocked (graph c) (core.facts c) reply → HasCauseOfRun g X from c commits reply
+blocked_cause g X from c commits (replied.Blocked waiting) blocked some at told = other_cause g X from c commits (replied.Blocked waiting) (λ same. cc) (λ same. cc) (λ same. cc) at.0 tt
+blocked_cause g X from c commits replied.NoMemory blocked some at told = other_cause g X from c commits replied.NoMemory (λ same. cc) (λ same. cc) (λ same. cc) at.0 (inr (blocked, some, at))
+blocked_cause g X from c commits replied.Done blocked some at told = absurd told
+blocked_cause g X from c commits (replied.Value address value) blocked some at told = absurd told
+blocked_cause g X from c commits (replied.Absent address) blocked some at told = absurd told
+blocked_cause g X from c commits replied.Complete blocked some at told = absurd told
+blocked_cause g X from c commits (replied.Stopped instance kind) blocked some at told = absurd told
+blocked_cause g X from c commits replied.Limit blocked some at told = absurd told
+blocked_cause g X from c commits replied.Asked blocked some at told = absurd told
+blocked_cause g X from c commits (replied.Refused refusal) blocked some at told = absurd told
+blocked_cause g X from c commits replied.Full blocked some at told = absurd told
+blocked_cause g X from c commits replied.Halted blocked some at told = absurd told
+blocked_cause g X from c commits replied.Device blocked some at told = absurd told
+blocked_cause g X from c commits replied.NoThread blocked some at told = absurd told

@@ -13,9 +13,8 @@ use Rattle.session.specs.declared.reply.Reply.{Reply}
 use Rattle.session.specs.Answers.{Drive, Replies}
 use Rattle.session.specs.Lines.{Answered, Linked}
 use Rattle.session.specs.Session.{AreReplies, all_of, ending_of, stop_of, with_reply}
-use Rattle.commit.specs.Went.{GoesOn}
-use Rattle.session.specs.Went.{GoesOnByAll, GoesOnByLine, HasCause}
-use Rattle.session.proofs.Coming.{answered_there, graph_behind, joined_on}
+use Rattle.session.specs.Went.{GoesOnBy, GoesOnByAll, GoesOnByLine, HasCause}
+use Rattle.session.proofs.Coming.{answered_there, graph_behind, joined_by}
 use Rattle.session.proofs.Went.{begun_with, ended, one_line_more, stopped, went_on}
 
 module _ {D : Type 0} (files : D → Side → File) (moment : D → ℕ) (left_at : D → ℕ → Contents → Type 0) (failures refusals : D → ℕ) (honest : Type 0) where
@@ -24,7 +23,7 @@ module _ {D : Type 0} (files : D → Side → File) (moment : D → ℕ) (left_a
 
   -- it went on by one more line
   linked_on : (old mid new : Core D) (begun : List Command) (replies : List Reply) (events : List (List Event)) → Linked files moment left_at failures refusals honest old mid begun replies events → (command : Command) (reply : Reply) (came : List Event)
-      → GoesOn files moment left_at failures refusals honest mid new came → HasCause failures mid new command came reply → Linked files moment left_at failures refusals honest old new (begun ++ command ∷ []) (replies ++ reply ∷ []) (events ++ came ∷ [])
+      → (goes : GoesOnBy files moment left_at failures refusals honest mid new came) → HasCause failures mid new command goes.commits reply → Linked files moment left_at failures refusals honest old new (begun ++ command ∷ []) (replies ++ reply ∷ []) (events ++ came ∷ [])
   linked_on old mid new begun replies events linked command reply came goes cause = record {
     follows = λ last more rest later it.
         subst (λ (commands : List Command). GoesOnByLine files moment left_at failures refusals honest old last commands ((replies ++ reply ∷ []) ++ rest) ((events ++ came ∷ []) ++ later)) (sym (append_assoc begun (command ∷ []) more))
@@ -44,7 +43,7 @@ module _ {D : Type 0} (files : D → Side → File) (moment : D → ℕ) (left_a
     -- After this command: the session goes on if the reply does not end it, and else no further command is answered.
     pub record Turned (old new : Core D) (begun : List Command) (command : Command) (ending : Ending) (replies : List Reply) (reply : Reply) : Type 0 where
       pub events : List (List Event)
-      pub goes : GoesOn files moment left_at failures refusals honest old new (all_of events)
+      pub goes : GoesOnBy files moment left_at failures refusals honest old new (all_of events)
       pub linked : Linked files moment left_at failures refusals honest old new (begun ++ command ∷ []) (replies ++ reply ∷ []) events
       pub same_graph : graph new ≡ graph old
       pub on : stop_of reply ≡ None → Answered (graph old) drive (facts old) (begun ++ command ∷ []) (with_reply ending command reply) (replies ++ reply ∷ []) events
@@ -53,11 +52,11 @@ module _ {D : Type 0} (files : D → Side → File) (moment : D → ℕ) (left_a
       pub answered : AreReplies (graph old) drive (facts old) (begun ++ command ∷ []) (replies ++ reply ∷ []) events
 
     pub turned : AmongBoth → (honest → GatesStay files moment left_at) → (old mid new : Core D) (begun : List Command) (command : Command) (ending : Ending) (replies : List Reply) (reply : Reply) (events : List (List Event))
-        → GoesOn files moment left_at failures refusals honest old mid (all_of events) → Linked files moment left_at failures refusals honest old mid begun replies events → Answered (graph old) drive (facts old) begun ending replies events
-        → (came : List Event) × GoesOn files moment left_at failures refusals honest mid new came × Replies (graph mid) drive (facts mid) command came reply × HasCause failures mid new command came reply
+        → GoesOnBy files moment left_at failures refusals honest old mid (all_of events) → Linked files moment left_at failures refusals honest old mid begun replies events → Answered (graph old) drive (facts old) begun ending replies events
+        → (came : List Event) × (goes : GoesOnBy files moment left_at failures refusals honest mid new came) × Replies (graph mid) drive (facts mid) command came reply × HasCause failures mid new command goes.commits reply
         → Turned old new begun command ending replies reply
     turned both gates_stay old mid new begun command ending replies reply events before linked went (came, after, replied, cause) =
-        let goes = subst (GoesOn files moment left_at failures refusals honest old new) (sym (one_line_more events came)) (joined_on files moment left_at failures refusals honest both gates_stay old mid new (all_of events) came before after) in
+        let goes = subst (GoesOnBy files moment left_at failures refusals honest old new) (sym (one_line_more events came)) (joined_by files moment left_at failures refusals honest both gates_stay old mid new (all_of events) came before after) in
         let is = answered_there files moment left_at failures refusals honest old mid (all_of events) before drive command came reply replied in
         record {
           events = events ++ came ∷ [];
@@ -71,6 +70,6 @@ module _ {D : Type 0} (files : D → Side → File) (moment : D → ℕ) (left_a
         }
 
   -- what came of these lines, whatever commands are left
-  pub by_all : (old new : Core D) (commands : List Command) (replies : List Reply) (events : List (List Event)) → GoesOn files moment left_at failures refusals honest old new (all_of events)
+  pub by_all : (old new : Core D) (commands : List Command) (replies : List Reply) (events : List (List Event)) → GoesOnBy files moment left_at failures refusals honest old new (all_of events)
       → GoesOnByLine files moment left_at failures refusals honest old new commands replies events → GoesOnByAll files moment left_at failures refusals honest old new commands replies events
   by_all old new commands replies events goes line = record { together = goes; by_line = line }

@@ -1,5 +1,5 @@
 -- The lines of a script: what those that were answered came to, and how a session goes on from there.
-use Rattle.std.specs.Prelude.{◌≡◌, ◌≢◌, ◌⊎◌, ℕ, Bool, true, false, List, [], ◌∷◌, ◌++◌, Option, Some, None, Result, Ok, Err}
+use Rattle.std.specs.Prelude.{◌≡◌, ◌≢◌, ◌⊎◌, ℕ, Bool, true, false, List, ◌++◌, Option, Some, None, Result, Ok, Err}
 use Rattle.std.specs.Borrow.{GName}
 use Rattle.std.specs.Io.KnownBytes.{Appends}
 use Rattle.disk.specs.declared.side.Side.{Side}
@@ -26,8 +26,7 @@ use Rattle.session.specs.Fails.{AnswersCommands, AnswersLines}
 use Rattle.session.specs.Replies.{reply_text}
 use Rattle.session.specs.Session.{AreReplies, all_of, ending_from, no_ending, replies_text, stop_of, with_reply}
 use Rattle.session.specs.Streams.{TellsSink}
-use Rattle.commit.specs.Went.{GoesOn}
-use Rattle.session.specs.Went.{GoesOnByLine, HasCause}
+use Rattle.session.specs.Went.{GoesOnBy, GoesOnByLine, HasCause}
 
 -- From these facts on the commands `begun` were answered with these replies, and these events came; the session went on, with this ending so far.
 pub record Answered (g : Graph) (drive : Drive) (X : Facts) (begun : List Command) (ending : Ending) (replies : List Reply) (events : List (List Event)) : Type 0 where
@@ -51,9 +50,9 @@ module _ {D : Type 0} (files : D → Side → File) (moment : D → ℕ) (left_a
   -- session, the core is not halted by it.
   pub record ComesTo (drive : Drive) (old new : Core D) (command : Command) (reply : Reply) : Type 0 where
     pub came : List Event
-    pub goes_on : GoesOn files moment left_at failures refusals honest old new came
+    pub goes_on : GoesOnBy files moment left_at failures refusals honest old new came
     pub replies : Replies (graph old) drive (facts old) command came reply
-    pub cause : HasCause failures old new command came reply
+    pub cause : HasCause failures old new command goes_on.commits reply
     pub stays : stop_of reply ≡ None → is_halted new ≡ is_halted old
 
   -- any command but a run comes to its reply, and a run is left to do
@@ -79,7 +78,7 @@ module _ {D : Type 0} (files : D → Side → File) (moment : D → ℕ) (left_a
     pub events : List (List Event)
     pub split : commands ≡ begun ++ left
     pub same : drive.was_halted ≡ is_halted new
-    pub goes_on : GoesOn files moment left_at failures refusals honest old new (all_of events)
+    pub goes_on : GoesOnBy files moment left_at failures refusals honest old new (all_of events)
     pub linked : Linked old new begun replies events
     pub answered : Answered (graph old) drive (facts old) begun ending replies events
     pub written : Appends before behind (replies_text (graph old) replies)

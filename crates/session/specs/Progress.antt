@@ -6,7 +6,7 @@ use Rattle.disk.specs.File.{File}
 use Rattle.disk.specs.Time.{Contents}
 use Rattle.commit.specs.declared.verdict.RunError.{RunError}
 use Rattle.commit.specs.declared.verdict.Verdict.{Verdict}
-use Rattle.commit.specs.Core.{Core, is_halted}
+use Rattle.commit.specs.Core.{Core}
 use Rattle.script.specs.declared.command.Command.{Command}
 use Rattle.script.specs.declared.command.Command.TheVariants.{Run}
 use Rattle.session.specs.declared.progress.Progress.{Progress}

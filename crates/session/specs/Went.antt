@@ -5,6 +5,7 @@ use Rattle.disk.specs.File.{File}
 use Rattle.disk.specs.Time.{Contents}
 use Rattle.terms.specs.declared.event.Event.{Event}
 use Rattle.terms.specs.declared.event.Event.TheVariants.{EnvItem, EnvTag}
+use Rattle.terms.specs.Commits.{Commit, events_of}
 use Rattle.terms.specs.Sets.{Facts}
 use Rattle.graph.specs.Graph.{Graph}
 use Rattle.commit.specs.declared.status.Status.TheVariants as status
@@ -21,12 +22,12 @@ use Rattle.session.specs.Session.{all_of}
 
 -- ---- causes
 
--- the record of the put does not fit; for a run, which committed these ends, the record of an end that might have come after a prefix of them
-abbrev pub HasNoRoom : {D : Type 0} → Core D → Command → List Event → Type 0
-HasNoRoom old (Put address v) came = IsTooLong old (EnvItem address v)
-HasNoRoom old (Tag name) came = IsTooLong old (EnvTag name)
-HasNoRoom old Run came = MetFull (core.graph old) (core.facts old) old.vault.journal.end came
-HasNoRoom old (Get address) came = ⊥
+-- the record of the put does not fit; for a run, which made these commits, the record of ends that might have come after a prefix of them
+abbrev pub HasNoRoom : {D : Type 0} → Core D → Command → List Commit → Type 0
+HasNoRoom old (Put address v) commits = IsTooLong old (EnvItem address v)
+HasNoRoom old (Tag name) commits = IsTooLong old (EnvTag name)
+HasNoRoom old Run commits = MetFull (core.graph old) (core.facts old) old.vault.journal.end commits
+HasNoRoom old (Get address) commits = ⊥
 
 -- the command puts something
 abbrev pub Puts : Command → Type 0
@@ -45,34 +46,40 @@ IsLeft c replied.NoThread = IsAt c status.Working
 IsLeft c replied.NoMemory = IsAt c status.Working ⊎ ((blocked : ℕ) × (blocked ≢ 0) × IsAt c (status.Quiet blocked))
 IsLeft c other = ⊤
 
--- The cause of a reply to a command by which these events came: `Halted` if the core is halted, and for a run exactly then; `Device` exactly if the device
+-- The cause of a reply to a command by which these commits came: `Halted` if the core is halted, and for a run exactly then; `Device` exactly if the device
 -- failed in a put; `Full` if a record had no room. After a run the core is as far as its reply says.
-pub record HasCause {D : Type 0} (failures : D → ℕ) (old new : Core D) (command : Command) (came : List Event) (reply : Reply) : Type 0 where
+pub record HasCause {D : Type 0} (failures : D → ℕ) (old new : Core D) (command : Command) (commits : List Commit) (reply : Reply) : Type 0 where
   pub halted : reply ≡ replied.Halted → is_halted new ≡ true
   pub halts : command ≡ Run → is_halted new ≡ true → reply ≡ replied.Halted
   pub device : (reply ≡ replied.Device) ↔ (Puts command × (failures old.vault.disk < failures new.vault.disk))
-  pub full : reply ≡ replied.Full → HasNoRoom old command came
+  pub full : reply ≡ replied.Full → HasNoRoom old command commits
   pub left : command ≡ Run → IsLeft new reply
 
 -- The same of a run on a store that had this graph and these facts, and whose journal ended there. The device is no cause: if it fails in a run, the reply
 -- is `Halted`.
-pub record HasCauseOfRun {D : Type 0} (g : Graph) (X : Facts) (from : ℕ) (new : Core D) (came : List Event) (reply : Reply) : Type 0 where
+pub record HasCauseOfRun {D : Type 0} (g : Graph) (X : Facts) (from : ℕ) (new : Core D) (commits : List Commit) (reply : Reply) : Type 0 where
   pub halted : (reply ≡ replied.Halted) ↔ (is_halted new ≡ true)
   pub device : reply ≢ replied.Device
-  pub full : reply ≡ replied.Full → MetFull g X from came
+  pub full : reply ≡ replied.Full → MetFull g X from commits
   pub left : IsLeft new reply
 
 -- ---- lines
 
 module _ {D : Type 0} (files : D → Side → File) (moment : D → ℕ) (left_at : D → ℕ → Contents → Type 0) (failures refusals : D → ℕ) (honest : Type 0) where
+  -- the core goes on by commits that have these events, in their order
+  pub record GoesOnBy (old new : Core D) (events : List Event) : Type 0 where
+    pub commits : List Commit
+    pub order : events_of commits ≡ events
+    pub goes_on : GoesOn files moment left_at failures refusals honest old new commits
+
   -- Line by line: from one line to the next the core goes on by the events of that line, and the reply has its cause. So the events of a line are
   -- there when the next one begins, and no crash undoes them from then on.
   abbrev pub GoesOnByLine : Core D → Core D → List Command → List Reply → (events : List (List Event)) → Type 0
   GoesOnByLine old new commands replies [] = new ≡ old
-  GoesOnByLine old new (command ∷ more) (reply ∷ rest) (came ∷ later) = (mid : Core D) × GoesOn files moment left_at failures refusals honest old mid came × HasCause failures old mid command came reply × GoesOnByLine mid new more rest later
+  GoesOnByLine old new (command ∷ more) (reply ∷ rest) (came ∷ later) = (mid : Core D) × (goes : GoesOnBy old mid came) × HasCause failures old mid command goes.commits reply × GoesOnByLine mid new more rest later
   GoesOnByLine old new commands replies events = ⊥
 
   -- how the core goes on by these lines: by all their events together, and line by line
   pub record GoesOnByAll (old new : Core D) (commands : List Command) (replies : List Reply) (events : List (List Event)) : Type 0 where
-    pub together : GoesOn files moment left_at failures refusals honest old new (all_of events)
+    pub together : GoesOnBy old new (all_of events)
     pub by_line : GoesOnByLine old new commands replies events

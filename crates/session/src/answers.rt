@@ -3,6 +3,7 @@ ghost use Rattle.std.specs.Prelude.{◌≡◌, ◌≢◌, ◌↔◌, Bool, List,
 ghost use Rattle.session.specs.declared.reply.Reply.TheVariants.{Halted};
 ghost use Rattle.terms.specs.declared.event.Event.TheVariants.{EnvItem, EnvTag};
 ghost use Rattle.terms.specs.declared.event.Event.{Event as Came};
+ghost use Rattle.terms.specs.Commits.{Commit};
 ghost use Rattle.terms.specs.Sets.{Facts};
 ghost use Rattle.graph.specs.Graph.{Graph as OfStore};
 ghost use Rattle.machine.specs.Machine.{RefusesItem, RefusesTag, waiting_count};
@@ -14,7 +15,7 @@ ghost use Rattle.session.specs.Answers.{RepliesGet, RepliesPut, TellsBlocked, Te
 ghost use Rattle.session.specs.Lines.{AnswersAtOnce, AnswersVerdict};
 ghost use Rattle.session.specs.Session.{stop_of};
 ghost use Rattle.commit.specs.Went.{GoesOn};
-ghost use Rattle.session.specs.Went.{HasCause, HasCauseOfRun};
+ghost use Rattle.session.specs.Went.{GoesOnBy, HasCause, HasCauseOfRun};
 
 use crate::reply::Reply;
 use crate::waiting::sort_by_name;
@@ -43,9 +44,9 @@ pub(crate) fn answer<D: Disk>(core: &mut Core<D>, command: Command) -> Option<Re
 fn put_item<D: Disk>(core: &mut Core<D>, address: Addr, value: i64) -> Reply
     requires idle { NoneRuns core.old }
     ensures idle { NoneRuns core.new }
-    ensures replies { (came : List Came) × GoesOn D.files D.moment D.left_at D.failures D.refusals (IsTrue D.is_honest) core.old core.new came
+    ensures replies { (came : List Came) × (goes : GoesOnBy D.files D.moment D.left_at D.failures D.refusals (IsTrue D.is_honest) core.old core.new came)
         × RepliesPut (graph core.old) (facts core.old) (RefusesItem (graph core.old) (facts core.old) address) (EnvItem address value) came result
-        × HasCause D.failures core.old core.new (Put address value) came result }
+        × HasCause D.failures core.old core.new (Put address value) goes.commits result }
     ensures halt { (result ≡ Halted) ↔ (is_halted core.old ≡ true) }
     ensures stays { stop_of result ≡ None → is_halted core.new ≡ is_halted core.old }
 {
@@ -60,9 +61,9 @@ fn put_item<D: Disk>(core: &mut Core<D>, address: Addr, value: i64) -> Reply
 fn put_tag<D: Disk>(core: &mut Core<D>, tag: Tag) -> Reply
     requires idle { NoneRuns core.old }
     ensures idle { NoneRuns core.new }
-    ensures replies { (came : List Came) × GoesOn D.files D.moment D.left_at D.failures D.refusals (IsTrue D.is_honest) core.old core.new came
+    ensures replies { (came : List Came) × (goes : GoesOnBy D.files D.moment D.left_at D.failures D.refusals (IsTrue D.is_honest) core.old core.new came)
         × RepliesPut (graph core.old) (facts core.old) (RefusesTag (graph core.old) (facts core.old) tag) (EnvTag tag) came result
-        × HasCause D.failures core.old core.new (Label tag) came result }
+        × HasCause D.failures core.old core.new (Label tag) goes.commits result }
     ensures halt { (result ≡ Halted) ↔ (is_halted core.old ≡ true) }
     ensures stays { stop_of result ≡ None → is_halted core.new ≡ is_halted core.old }
 {
@@ -139,11 +140,11 @@ pub(crate) fn ran<D: Disk>(
 // The reply to a run with this verdict.
 fn told<D: Disk>(alloc: Global, core: &Core<D>, verdict: Result<Verdict, RunError>) -> Reply
     ensures exact { IfSome (run_reply verdict) (λ expected. result ≡ expected) }
-    ensures tells { (g : OfStore) (X : Facts) (from : ℕ) (came : List Came) (may_be_asked may_spawn was_halted : Bool) (limit count : ℕ) → TellsVerdict (MetFull g X from came) may_be_asked may_spawn core.now limit count verdict
+    ensures tells { (g : OfStore) (X : Facts) (from : ℕ) (commits : List Commit) (may_be_asked may_spawn was_halted : Bool) (limit count : ℕ) → TellsVerdict (MetFull g X from commits) may_be_asked may_spawn core.now limit count verdict
         → TellsRun (graph core.now) (drive_of limit may_be_asked may_spawn was_halted) (facts core.now) count result }
-    ensures cause { (g : OfStore) (X : Facts) (from : ℕ) (came : List Came) (may_be_asked may_spawn : Bool) (limit count : ℕ) → TellsVerdict (MetFull g X from came) may_be_asked may_spawn core.now limit count verdict
-        → HasCauseOfRun g X from core.now came result }
-    ensures stays { (g : OfStore) (X : Facts) (from : ℕ) (came : List Came) (may_be_asked may_spawn : Bool) (limit count : ℕ) → TellsVerdict (MetFull g X from came) may_be_asked may_spawn core.now limit count verdict → stop_of result ≡ None → is_halted core.now ≡ false }
+    ensures cause { (g : OfStore) (X : Facts) (from : ℕ) (commits : List Commit) (may_be_asked may_spawn : Bool) (limit count : ℕ) → TellsVerdict (MetFull g X from commits) may_be_asked may_spawn core.now limit count verdict
+        → HasCauseOfRun g X from core.now commits result }
+    ensures stays { (g : OfStore) (X : Facts) (from : ℕ) (commits : List Commit) (may_be_asked may_spawn : Bool) (limit count : ℕ) → TellsVerdict (MetFull g X from commits) may_be_asked may_spawn core.now limit count verdict → stop_of result ≡ None → is_halted core.now ≡ false }
 {
     core.is_kept();
     match verdict {

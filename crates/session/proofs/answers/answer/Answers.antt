@@ -27,5 +27,5 @@ pub returns-in-Get-clause-answers : goal.returns-in-Get-clause-answers
 returns-in-Get-clause-answers g c =
     let it = c.get.ensures in
     subst (λ (command : Command). AnswersAtOnce g.D.Disk.files g.D.Disk.moment g.D.Disk.left_at g.D.Disk.failures g.D.Disk.refusals (IsTrue g.D.Disk.is_honest) c.args.core.now c.args.core.now command (Some c.get.result)) (sym c.in-Get.is)
-    (at_once g.D.Disk.files g.D.Disk.moment g.D.Disk.left_at g.D.Disk.failures g.D.Disk.refusals (IsTrue g.D.Disk.is_honest) c.args.core.now c.args.core.now (Get c.in-Get.address) c.get.result [] it.goes_on (λ drive. it.replies)
+    (at_once g.D.Disk.files g.D.Disk.moment g.D.Disk.left_at g.D.Disk.failures g.D.Disk.refusals (IsTrue g.D.Disk.is_honest) c.args.core.now c.args.core.now (Get c.in-Get.address) c.get.result [] (record { commits = []; order = refl; goes_on = it.goes_on }) (λ drive. it.replies)
     (λ halted is. subst (λ (b : Bool). (c.get.result ≡ Halted) ↔ (b ≡ true)) is it.halt) it.cause (λ _. refl))

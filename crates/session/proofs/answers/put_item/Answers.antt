@@ -10,8 +10,7 @@ use Rattle.session.specs.declared.reply.Reply.{Reply}
 use Rattle.session.specs.declared.reply.Reply.TheVariants.{Halted}
 use Rattle.session.specs.Answers.{RepliesPut, put_reply}
 use Rattle.session.specs.Session.{stop_of}
-use Rattle.commit.specs.Went.{GoesOn}
-use Rattle.session.specs.Went.{HasCause}
+use Rattle.session.specs.Went.{GoesOnBy, HasCause}
 use Rattle.session.proofs.Puts.{put_cause, put_halt, put_idle, put_stays, replied_put}
 use Rattle.session.proofs.answers.put_item.Goals as goal
 
@@ -24,7 +23,7 @@ returns-clause-replies g c =
     let new = c.put_item-put.new.self in
     let it = c.put_item-put.ensures in
     let why = RefusesItem (graph old) (facts old) c.args.address in
-    let at = λ (event : Event) (reply : Reply). (came : List Event) × GoesOn g.D.Disk.files g.D.Disk.moment g.D.Disk.left_at g.D.Disk.failures g.D.Disk.refusals (IsTrue g.D.Disk.is_honest) old new came × RepliesPut (graph old) (facts old) why event came reply in
+    let at = λ (event : Event) (reply : Reply). (came : List Event) × GoesOnBy g.D.Disk.files g.D.Disk.moment g.D.Disk.left_at g.D.Disk.failures g.D.Disk.refusals (IsTrue g.D.Disk.is_honest) old new came × RepliesPut (graph old) (facts old) why event came reply in
     let replied =
     subst (λ (event : Event). at event (put_reply c.put_item-put.result)) (λ i. EnvItem c.args.address (to_z-of_z w64 c.args.value c.ranges.value i))
     (replied_put g.D.Disk.files g.D.Disk.moment g.D.Disk.left_at g.D.Disk.failures g.D.Disk.refusals (IsTrue g.D.Disk.is_honest) c.stores_go_on.ensures.rest_leaves c.stores_go_on.ensures.gates_rest (λ _. c.stores_go_on.ensures.append_leaves) c.stores_go_on.ensures.held_leaves
@@ -32,12 +31,12 @@ returns-clause-replies g c =
     c.put_item-put.result it.commits.takes it.unchanged it.commits.refused it.commits.doubt it.commits.moments it.halts)
     in
     let cause =
-    put_cause g.D.Disk.failures g.D.Disk.refusals old new why _ (Put c.args.address c.args.value) replied.0 tt
+    put_cause g.D.Disk.failures g.D.Disk.refusals old new why _ (Put c.args.address c.args.value) replied.1.commits tt
     (λ is. subst (λ (value : ℤ). IsTooLong old (EnvItem c.args.address value)) (to_z-of_z w64 c.args.value c.ranges.value) is)
     c.put_item-put.result it.commits.takes it.commits.refused it.halts
     in
-    subst (λ (reply : Reply). (came : List Event) × GoesOn g.D.Disk.files g.D.Disk.moment g.D.Disk.left_at g.D.Disk.failures g.D.Disk.refusals (IsTrue g.D.Disk.is_honest) old new came
-    × RepliesPut (graph old) (facts old) why (EnvItem c.args.address c.args.value) came reply × HasCause g.D.Disk.failures old new (Put c.args.address c.args.value) came reply) (sym c.put_reply.ensures)
+    subst (λ (reply : Reply). (came : List Event) × (goes : GoesOnBy g.D.Disk.files g.D.Disk.moment g.D.Disk.left_at g.D.Disk.failures g.D.Disk.refusals (IsTrue g.D.Disk.is_honest) old new came)
+    × RepliesPut (graph old) (facts old) why (EnvItem c.args.address c.args.value) came reply × HasCause g.D.Disk.failures old new (Put c.args.address c.args.value) goes.commits reply) (sym c.put_reply.ensures)
     (replied.0, replied.1, replied.2, cause)
 
 pub returns-clause-halt : goal.returns-clause-halt

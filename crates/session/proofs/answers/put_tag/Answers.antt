@@ -8,8 +8,7 @@ use Rattle.session.specs.declared.reply.Reply.{Reply}
 use Rattle.session.specs.declared.reply.Reply.TheVariants.{Halted}
 use Rattle.session.specs.Answers.{RepliesPut}
 use Rattle.session.specs.Session.{stop_of}
-use Rattle.commit.specs.Went.{GoesOn}
-use Rattle.session.specs.Went.{HasCause}
+use Rattle.session.specs.Went.{GoesOnBy, HasCause}
 use Rattle.session.proofs.Puts.{put_cause, put_halt, put_idle, put_stays, replied_put}
 use Rattle.session.proofs.answers.put_tag.Goals as goal
 
@@ -28,11 +27,11 @@ returns-clause-replies g c =
     c.put_tag-put.result it.commits.takes it.unchanged it.commits.refused it.commits.doubt it.commits.moments it.halts
     in
     let cause =
-    put_cause g.D.Disk.failures g.D.Disk.refusals old new why (EnvTag c.args.tag) (Tag c.args.tag) replied.0 tt (λ is. is)
+    put_cause g.D.Disk.failures g.D.Disk.refusals old new why (EnvTag c.args.tag) (Tag c.args.tag) replied.1.commits tt (λ is. is)
     c.put_tag-put.result it.commits.takes it.commits.refused it.halts
     in
-    subst (λ (reply : Reply). (came : List Event) × GoesOn g.D.Disk.files g.D.Disk.moment g.D.Disk.left_at g.D.Disk.failures g.D.Disk.refusals (IsTrue g.D.Disk.is_honest) old new came
-    × RepliesPut (graph old) (facts old) why (EnvTag c.args.tag) came reply × HasCause g.D.Disk.failures old new (Tag c.args.tag) came reply) (sym c.put_reply.ensures)
+    subst (λ (reply : Reply). (came : List Event) × (goes : GoesOnBy g.D.Disk.files g.D.Disk.moment g.D.Disk.left_at g.D.Disk.failures g.D.Disk.refusals (IsTrue g.D.Disk.is_honest) old new came)
+    × RepliesPut (graph old) (facts old) why (EnvTag c.args.tag) came reply × HasCause g.D.Disk.failures old new (Tag c.args.tag) goes.commits reply) (sym c.put_reply.ensures)
     (replied.0, replied.1, replied.2, cause)
 
 pub returns-clause-halt : goal.returns-clause-halt

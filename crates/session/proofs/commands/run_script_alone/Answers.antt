@@ -1,4 +1,4 @@
-use Rattle.std.proofs.Common.{IsTrue, arith, ap, length, refl, subst, sym, false}
+use Rattle.std.proofs.Common.{IsTrue, refl, subst, sym, false}
 use Rattle.std.specs.Prelude.{Result}
 use Rattle.commit.specs.Core.{is_halted}
 use Rattle.session.specs.declared.ending.Ending.{Ending}

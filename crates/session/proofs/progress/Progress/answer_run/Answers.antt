@@ -1,5 +1,4 @@
 use Rattle.std.proofs.Common.{◌∙◌, ◌∷◌, Bool, List, IsTrue, refl, subst, sym}
-use Rattle.commit.specs.Core.{is_halted}
 use Rattle.script.specs.declared.command.Command.{Command}
 use Rattle.script.specs.declared.command.Command.TheVariants.{Run}
 use Rattle.session.specs.Answers.{drive_of}
