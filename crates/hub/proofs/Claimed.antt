@@ -1,7 +1,7 @@
 -- A claim.
 use Rattle.std.proofs.Common.{◌≡◌, ◌∙◌, ℕ, Bool, true, false, true≢false, refl, sym, ap, subst, Result, Ok, Err, Option, Some, None, List, IfOk, IfSome, is_some}
 use Rattle.terms.specs.declared.name.Inst.{Inst}
-use Rattle.terms.specs.declared.event.Event.{Event}
+use Rattle.terms.specs.Commits.{Commit}
 use Rattle.terms.specs.Facts.{done}
 use Rattle.terms.specs.Sets.{Facts}
 use Rattle.graph.specs.Graph.{Graph}
@@ -14,7 +14,7 @@ use Rattle.commit.specs.Core.{Core, state_of}
 use Rattle.commit.specs.Core as core
 use Rattle.commit.proofs.Ran.{instance_is_of}
 use Rattle.commit.specs.Steps.{MayClaim, Moves, Claims}
-use Rattle.passes.specs.Known.{Known, Made, Desk, events}
+use Rattle.passes.specs.Known.{Known, Made, Desk, commits}
 use Rattle.passes.specs.Opening.{Opening}
 use Rattle.hub.specs.Opening.{facts_behind, IsBehind}
 use Rattle.hub.specs.Kept.{IsKept}
@@ -23,7 +23,7 @@ use Rattle.hub.specs.Replies.{MayRun}
 use Rattle.hub.proofs.Keeping.{RanStays, kept_moved}
 use Rattle.hub.proofs.Telling.{known_state}
 
-pub kept_claimed : {D : Type 0} (Ran : List Event → Core D → Type 0) → RanStays Ran → (opening : Opening) (count at : ℕ) (d : Desk) (old new : Core D) (result : Result (Option Inst) CoreError) → IsKept Ran opening count d old
+pub kept_claimed : {D : Type 0} (Ran : List Commit → Core D → Type 0) → RanStays Ran → (opening : Opening) (count at : ℕ) (d : Desk) (old new : Core D) (result : Result (Option Inst) CoreError) → IsKept Ran opening count d old
     → Claims old new at result → IsKept Ran opening count d new
 kept_claimed Ran ran_stays opening count at d old new (Ok None) kept claims = subst (IsKept Ran opening count d) (sym (claims.none.1 refl)) kept
 kept_claimed Ran ran_stays opening count at d old new (Ok (Some task)) kept claims = kept_moved Ran ran_stays opening count d old new task state.Running kept claims.claimed.2
@@ -38,7 +38,7 @@ not_done : {D : Type 0} (c : Core D) (task : Inst) → KeepsMachine c.machine �
 not_done c task kept ready false is = is
 not_done c task kept ready true is = absurd (true≢false (sym (ap is_done ((kept.done task).1 is)) ∙ ap is_done ready))
 
-pub may_run : {D : Type 0} (opening : Opening) (history : List Made) (before now : Known) (at : ℕ) (old new : Core D) (result : Result (Option Inst) CoreError) → KeepsMachine old.machine → IsBehind opening (events history) old
+pub may_run : {D : Type 0} (opening : Opening) (history : List Made) (before now : Known) (at : ℕ) (old new : Core D) (result : Result (Option Inst) CoreError) → KeepsMachine old.machine → IsBehind opening (commits history) old
     → Shows history before now → Claims old new at result → IfOk result (λ claimed. IfSome claimed (MayRun opening now))
 may_run opening history before now at old new (Ok None) kept behind shows claims = tt
 may_run opening history before now at old new (Ok (Some task)) kept behind shows claims =

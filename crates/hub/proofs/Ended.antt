@@ -1,6 +1,5 @@
 -- What a finish may return for an outcome.
-use Rattle.std.proofs.Common.{◌≡◌, ◌∙◌, ⊎_elim, Bool, true, false, true≢false, sym, ap}
-use Rattle.terms.specs.declared.fault.FaultKind.{FaultKind}
+use Rattle.std.proofs.Common.{◌≡◌, ◌∙◌, ⊎_elim, true≢false, sym, ap}
 use Rattle.terms.specs.declared.fault.FaultKind.TheVariants.{DoublePut}
 use Rattle.terms.specs.declared.name.Inst.{Inst}
 use Rattle.terms.specs.declared.event.Event.{Event}

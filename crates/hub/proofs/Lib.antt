@@ -5,6 +5,7 @@ pub mod Ended
 pub mod Claimed
 pub mod Finished
 pub mod Opened
-pub mod Ran
+pub mod Bodies
 pub mod Since
 pub mod TwoPuts
+pub mod Batches

@@ -3,11 +3,11 @@ use Rattle.std.proofs.Common.{◌≡◌, ◌∙◌, ◌<◌, ◌++◌, ℕ, true
 use Rattle.std.specs.List.{AllByRecursion}
 use Rattle.disk.specs.declared.side.Side.{Side}
 use Rattle.disk.specs.File.{File}
-use Rattle.terms.specs.declared.event.Event.{Event}
+use Rattle.terms.specs.Commits.{Commit}
 use Rattle.machine.specs.Machine.{IsPut}
 use Rattle.commit.specs.Core.{Core}
 use Rattle.commit.specs.Runs.{IsEnd}
-use Rattle.passes.specs.Known.{Known, Made, Desk, events}
+use Rattle.passes.specs.Known.{Known, Made, Desk, commits}
 use Rattle.passes.specs.Rule.{IsInHistory, HasNoneFrom}
 use Rattle.passes.specs.Steps.{IsCompared}
 use Rattle.passes.specs.Opening.{Opening}
@@ -18,7 +18,7 @@ use Rattle.hub.specs.Whole.{IsWhole}
 use Rattle.hub.proofs.States.{with_nothing}
 use Rattle.passes.proofs.Gathered.{just_theirs, all_of_both}
 
-pub kept_opened : {D : Type 0} (files : D → Side → File) (moment failures refusals : D → ℕ) (Ran : List Event → Core D → Type 0) (opening : Opening) (count passes : ℕ) (d : Desk) (c : Core D) → opening ≡ opening_of files moment failures refusals c
+pub kept_opened : {D : Type 0} (files : D → Side → File) (moment failures refusals : D → ℕ) (Ran : List Commit → Core D → Type 0) (opening : Opening) (count passes : ℕ) (d : Desk) (c : Core D) → opening ≡ opening_of files moment failures refusals c
     → passes ≡ count → d ≡ record { book = record { history = []; passes = passes }; guest = None } → Ran [] c → IsKept Ran opening count d c
 kept_opened files moment failures refusals Ran opening count passes d c opened counted is ran = subst (λ (at : Desk). IsKept Ran opening count at c) (sym is) (record {
   alone = refl;
@@ -37,7 +37,7 @@ kept_opened files moment failures refusals Ran opening count passes d c opened c
 })
 
 -- each pass was compared with the history, and each number has its pass
-pub whole : {D : Type 0} (Ran : List Event → Core D → Type 0) (opening : Opening) (count : ℕ) (first looked gathered : Desk) (c : Core D) (history : List Made) (envs workers : List Known) → IsKept Ran opening count first c → first.book.history ≡ history → looked ≡ first → IsCompared looked
+pub whole : {D : Type 0} (Ran : List Commit → Core D → Type 0) (opening : Opening) (count : ℕ) (first looked gathered : Desk) (c : Core D) (history : List Made) (envs workers : List Known) → IsKept Ran opening count first c → first.book.history ≡ history → looked ≡ first → IsCompared looked
     → gathered ≡ looked → AllByRecursion (IsInHistory looked.book.history) envs → AllByRecursion (IsInHistory gathered.book.history) workers → AllMade IsPut envs → AllMade IsEnd workers
     → ((number : ℕ) → number < count → has_number number (envs ++ workers) ≡ true) → IsWhole Ran opening envs workers c history
 whole Ran opening count first looked gathered c history envs workers kept history_is looked_is compared gathered_is one two puts ends here =
@@ -46,8 +46,8 @@ whole Ran opening count first looked gathered c history envs workers kept histor
     let each : AllByRecursion (IsInHistory history) (envs ++ workers) = all_of_both (IsInHistory history) envs workers
     (subst (λ (list : List Made). AllByRecursion (IsInHistory list) envs) at_looked one)
     (subst (λ (list : List Made). AllByRecursion (IsInHistory list) workers) at_gathered two) in record {
-      legal = subst (λ (list : List Made). AreLegalBehind opening (events list)) history_is kept.legal;
-      behind = subst (λ (list : List Made). IsBehind opening (events list) c) history_is kept.behind;
+      legal = subst (λ (list : List Made). AreLegalBehind opening (commits list)) history_is kept.legal;
+      behind = subst (λ (list : List Made). IsBehind opening (commits list) c) history_is kept.behind;
       each = each;
       made = just_theirs history looked.book.passes (envs ++ workers) each
           (λ number below. here number (subst (λ (n : ℕ). number < n) (ap (λ (d : Desk). d.book.passes) looked_is ∙ kept.passes) below))
@@ -55,5 +55,5 @@ whole Ran opening count first looked gathered c history envs workers kept histor
       puts = puts;
       ends = ends;
       turned = kept.turned;
-      ran = subst (λ (list : List Made). Ran (events list) c) history_is kept.ran;
+      ran = subst (λ (list : List Made). Ran (commits list) c) history_is kept.ran;
     }

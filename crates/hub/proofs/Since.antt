@@ -7,6 +7,7 @@ use Rattle.disk.specs.declared.side.Side.{Side}
 use Rattle.disk.specs.File.{File}
 use Rattle.disk.specs.Time.{Contents, LeavesSince}
 use Rattle.terms.specs.declared.event.Event.{Event}
+use Rattle.terms.specs.Commits.{Commit, events_of}
 use Rattle.terms.specs.Sets.{AmongBoth}
 use Rattle.machine.specs.State.{AreLegalFrom}
 use Rattle.vault.specs.Commits.{GatesStay, GatesRest, RestLeaves, StandsForBeginning}
@@ -15,7 +16,7 @@ use Rattle.commit.specs.declared.error.CoreError.{CoreError}
 use Rattle.commit.specs.Core.{Core, is_halted}
 use Rattle.commit.specs.Calls.{Halts, Stays}
 use Rattle.commit.specs.Kept.{IsKept as KeepsFiles}
-use Rattle.commit.specs.Runs.{AcknowledgesFrom, Begun, IsEnd, Runs, RunsSince, one_by_one}
+use Rattle.commit.specs.Runs.{AcknowledgesFrom, Begun, IsEnd, Runs, RunsSince, in_one}
 use Rattle.commit.proofs.Joined.{since_joined}
 use Rattle.commit.proofs.Running.{rests}
 use Rattle.passes.specs.Opening.{Opening}
@@ -39,80 +40,80 @@ module _ {D : Type 0} (files : D → Side → File) (moment : D → ℕ) (left_a
 
   -- nothing happens on the disk
   pub ran_stays : RanStays (HasRun moment left_at failures refusals honest opening left envs)
-  ran_stays events old new stays same doubt ran = record {
+  ran_stays made old new stays same doubt ran = record {
     run = λ none working.
         let begun : Begun = begun_with opening in
         let it = ran.run none working in
         record {
-          are_ends = subst (λ (list : List Event). AllByRecursion IsEnd (events ++ list)) (sym doubt) it.are_ends;
-          legal = subst (λ (list : List Event). AreLegalFrom begun.graph begun.facts (events ++ list)) (sym doubt) it.legal;
+          are_ends = subst (λ (list : List Event). AllByRecursion IsEnd (events_of made ++ list)) (sym doubt) it.are_ends;
+          legal = subst (λ (list : List Event). AreLegalFrom begun.graph begun.facts (events_of made ++ list)) (sym doubt) it.legal;
           graph = stays.graph ∙ it.graph;
           facts = λ fact. stays.facts fact ∙ it.facts fact;
           environment = λ fact. stays.environment fact ∙ it.environment fact;
-          spent = ap (λ n. n + length events) stays.allowance ∙ it.spent;
+          spent = ap (λ n. n + length (events_of made)) stays.allowance ∙ it.spent;
           latest = stays.latest ∙ it.latest;
           generation = λ goes. same.generation ∙ it.generation (sym same.halted ∙ goes);
           end = λ goes. same.end ∙ it.end (sym same.halted ∙ goes);
           crashes = λ on.
-              subst (λ (at : D × List Event). LeavesSince moment left_at begun.moment left at.0 (StandsForBeginning begun.graph begun.environment begun.facts [] (one_by_one (events ++ at.1))))
+              subst (λ (at : D × List Event). LeavesSince moment left_at begun.moment left at.0 (StandsForBeginning begun.graph begun.environment begun.facts [] (made ++ in_one at.1)))
               (λ i. (sym same.disk i, sym doubt i)) (it.crashes on);
           acknowledged = λ on.
-              subst (λ (at : D × List Event). AcknowledgesFrom begun.graph begun.environment begun.facts (left_at at.0) (moment at.0) begun.moment [] events at.1)
+              subst (λ (at : D × List Event). AcknowledgesFrom begun.graph begun.environment begun.facts (left_at at.0) (moment at.0) begun.moment [] made (in_one at.1))
               (λ i. (sym same.disk i, sym doubt i)) (it.acknowledged on);
           gates = λ on has. subst (λ (d : D). LeavesSince moment left_at begun.moment left d HasGates) (sym same.disk) (it.gates on has);
           halts = subst (λ (at : Bool × D). (at.0 ≡ true) ↔ ((begun.failures < failures at.1) ⊎ (refusals at.1 ≢ begun.refusals))) (λ i. (sym same.halted i, sym same.disk i)) it.halts;
           later = subst (λ (d : D). begun.failures ≤ failures d) (sym same.disk) it.later;
-          one_in_doubt = λ is.
-              subst (λ (list : List Event). (end : Event) × (list ≡ end ∷ []) × (length events < begun.allowance)) (sym doubt) (it.one_in_doubt (sym same.halted ∙ is));
+          some_in_doubt = λ is.
+              subst (λ (list : List Event). (0 < length list) × (length (events_of made) + length list ≤ begun.allowance)) (sym doubt) (it.some_in_doubt (sym same.halted ∙ is));
         };
     rests = λ opened. let before = ran.rests opened in (before.0, rests_same old new same.disk same.halted before.1);
   }
 
   -- a core that commits was not halted when the hub was opened
-  no_rest : (events : List Event) (old : Core D) → is_halted old ≡ false → HasRun moment left_at failures refusals honest opening left envs events old → opening.halted ≡ true → ⊥
-  no_rest events old goes ran opened = false≢true (sym goes ∙ (ran.rests opened).1.halted)
+  no_rest : (made : List Commit) (old : Core D) → is_halted old ≡ false → HasRun moment left_at failures refusals honest opening left envs made old → opening.halted ≡ true → ⊥
+  no_rest made old goes ran opened = false≢true (sym goes ∙ (ran.rests opened).1.halted)
 
-  -- an event of the environment comes
-  pub ran_put : (number : ℕ) (events later : List Event) (old new : Core D) → number < envs → is_halted old ≡ false → HasRun moment left_at failures refusals honest opening left envs events old
+  -- a commit of the environment comes
+  pub ran_put : (number : ℕ) (made later : List Commit) (old new : Core D) → number < envs → is_halted old ≡ false → HasRun moment left_at failures refusals honest opening left envs made old
       → HasRun moment left_at failures refusals honest opening left envs later new
-  ran_put number events later old new below goes ran = record {
+  ran_put number made later old new below goes ran = record {
     run = λ none _. absurd (omega (arith, below, none));
-    rests = λ opened. absurd (no_rest events old goes ran opened);
+    rests = λ opened. absurd (no_rest made old goes ran opened);
   }
 
   -- one is refused
-  pub ran_refused_put : {T : Type 0} (number : ℕ) (events : List Event) (old new : Core D) (error : CoreError) → number < envs → Halts {T = T} failures refusals old new (Err error)
-      → HasRun moment left_at failures refusals honest opening left envs events old → HasRun moment left_at failures refusals honest opening left envs events new
-  ran_refused_put {T} number events old new error below halts ran = record {
+  pub ran_refused_put : {T : Type 0} (number : ℕ) (made : List Commit) (old new : Core D) (error : CoreError) → number < envs → Halts {T = T} failures refusals old new (Err error)
+      → HasRun moment left_at failures refusals honest opening left envs made old → HasRun moment left_at failures refusals honest opening left envs made new
+  ran_refused_put {T} number made old new error below halts ran = record {
     run = λ none _. absurd (omega (arith, below, none));
     rests = λ opened. let before = ran.rests opened in (before.0, rests_refused {T = T} old new error halts before.1);
   }
 
   module _ (both : AmongBoth) (gates_stay : honest → GatesStay files moment left_at) where
-    -- an end comes
-    pub ran_more : (events : List Event) (old new : Core D) (end : Event) → is_halted old ≡ false → old.in_doubt ≡ [] → HasRun moment left_at failures refusals honest opening left envs events old
-        → Runs files moment left_at failures refusals honest old new (end ∷ []) → HasRun moment left_at failures refusals honest opening left envs (events ++ end ∷ []) new
-    ran_more events old new end goes settled ran runs = record {
-      run = λ none working. since_joined files moment left_at failures refusals honest both gates_stay (begun_with opening) left old new events (end ∷ []) goes settled (ran.run none working) runs;
-      rests = λ opened. absurd (no_rest events old goes ran opened);
+    -- a commit of ends comes
+    pub ran_more : (made : List Commit) (old new : Core D) (commit : Commit) → is_halted old ≡ false → old.in_doubt ≡ [] → HasRun moment left_at failures refusals honest opening left envs made old
+        → Runs files moment left_at failures refusals honest old new (commit ∷ []) → HasRun moment left_at failures refusals honest opening left envs (made ++ commit ∷ []) new
+    ran_more made old new commit goes settled ran runs = record {
+      run = λ none working. since_joined files moment left_at failures refusals honest both gates_stay (begun_with opening) left old new made (commit ∷ []) goes settled (ran.run none working) runs;
+      rests = λ opened. absurd (no_rest made old goes ran opened);
     }
 
-    -- an end is refused
-    pub ran_refused : {T : Type 0} (events : List Event) (old new : Core D) (error : CoreError) → (is_halted old ≡ false → old.in_doubt ≡ []) → HasRun moment left_at failures refusals honest opening left envs events old
-        → Stays old new → Halts {T = T} failures refusals old new (Err error) → (is_halted old ≡ false → Runs files moment left_at failures refusals honest old new []) → HasRun moment left_at failures refusals honest opening left envs events new
-    ran_refused {T} events old new error settled ran stays halts runs = by_case (is_halted old) refl
+    -- one is refused
+    pub ran_refused : {T : Type 0} (made : List Commit) (old new : Core D) (error : CoreError) → (is_halted old ≡ false → old.in_doubt ≡ []) → HasRun moment left_at failures refusals honest opening left envs made old
+        → Stays old new → Halts {T = T} failures refusals old new (Err error) → (is_halted old ≡ false → Runs files moment left_at failures refusals honest old new []) → HasRun moment left_at failures refusals honest opening left envs made new
+    ran_refused {T} made old new error settled ran stays halts runs = by_case (is_halted old) refl
       where
-        by_case : (was : Bool) → is_halted old ≡ was → HasRun moment left_at failures refusals honest opening left envs events new
+        by_case : (was : Bool) → is_halted old ≡ was → HasRun moment left_at failures refusals honest opening left envs made new
         by_case false goes = record {
           run = λ none working.
-              subst (λ (list : List Event). RunsSince moment left_at failures refusals honest (begun_with opening) left new list) (append-nil events)
-              (since_joined files moment left_at failures refusals honest both gates_stay (begun_with opening) left old new events [] goes (settled goes) (ran.run none working) (runs goes));
-          rests = λ opened. absurd (no_rest events old goes ran opened);
+              subst (λ (list : List Commit). RunsSince moment left_at failures refusals honest (begun_with opening) left new list) (append-nil made)
+              (since_joined files moment left_at failures refusals honest both gates_stay (begun_with opening) left old new made [] goes (settled goes) (ran.run none working) (runs goes));
+          rests = λ opened. absurd (no_rest made old goes ran opened);
         }
         by_case true halted =
             let is : is_halted new ≡ is_halted old = halts.halts.1 (inl halted) ∙ sym halted in
             let same = halts.same is in
-            ran_stays events old new stays same.0 same.1 ran
+            ran_stays made old new stays same.0 same.1 ran
 
 -- what a crash might have left, by its other name
 as_named : {D : Type 0} (moment : D → ℕ) (left_at : D → ℕ → Contents → Type 0) (left : ℕ → Contents → Type 0) (d : D) (P : Contents → Type 0) → ((t : ℕ) (contents : Contents) → left t contents ↔ left_at d t contents)
@@ -148,7 +149,7 @@ ran_nothing {D = D} files moment left_at failures refusals honest opening left e
         gates = λ on has. as_named moment left_at left c.vault.disk _ alike (here.gates on has);
         halts = here.halts;
         later = here.later;
-        one_in_doubt = here.one_in_doubt;
+        some_in_doubt = here.some_in_doubt;
       });
   rests = λ halted. (
     refl,

@@ -1,7 +1,8 @@
 -- What a locked call says to its pass.
-use Rattle.std.proofs.Common.{◌≡◌, ◌∙◌, ℕ, List, [], ◌∷◌, ◌++◌, length, refl, sym, ap, subst, arith, length-append, ⊎_elim, true, false, Result, Err}
+use Rattle.std.proofs.Common.{◌≡◌, ◌∙◌, ℕ, List, [], ◌∷◌, ◌++◌, refl, sym, ap, subst, arith, ⊎_elim, true, false, Result, Err}
 use mathlib.Core.List.{IsPrefix}
 use Rattle.terms.specs.declared.event.Event.{Event}
+use Rattle.terms.specs.Commits.{Commit}
 use Rattle.terms.specs.Facts.{Fact, FactsGoOn}
 use Rattle.terms.specs.Sets.{Facts, AmongBoth}
 use Rattle.passes.specs.Rule.{IsInHistory}
@@ -23,50 +24,50 @@ use Rattle.commit.specs.declared.error.CoreError.TheVariants.{Refused, Store}
 use Rattle.commit.specs.Core.{Core}
 use Rattle.commit.specs.Core as core
 use Rattle.commit.specs.Calls.{Refuses, TellsFull}
-use Rattle.passes.specs.Known.{Known, Made, events, up_to_date, with_event}
+use Rattle.passes.specs.Known.{Known, Made, commits, count_of, up_to_date, with_commit}
 use Rattle.passes.specs.Opening.{Opening}
 use Rattle.hub.specs.Opening.{end_behind, facts_behind, AreLegalBehind, IsBehind}
 use Rattle.passes.specs.Visits.{Shows, Writes}
 use Rattle.hub.specs.Replies.{Sees, Adds, AddsNothing, HasNoRoom, RefusesAt, RefusesEvent, RefusesWait}
-use Rattle.passes.proofs.Lists.{events_append, events_length, prefix_more}
+use Rattle.passes.proofs.Lists.{commits_append, count_joined, prefix_more}
 use Rattle.hub.proofs.States.{stays}
 
 -- a call that adds nothing
-pub sees_same : (opening : Opening) (history : List Made) (old new : Known) → AreLegalBehind opening (events history) → Shows history old new → Sees opening old new
+pub sees_same : (opening : Opening) (history : List Made) (old new : Known) → AreLegalBehind opening (commits history) → Shows history old new → Sees opening old new
 sees_same opening history old new legal shows = subst (Sees opening old) (sym shows.pass) (record {
   starts = shows.before.seen;
   legal = legal;
-  told = omega (arith, shows.before.told, events_length history);
+  told = shows.before.told;
   same = (refl, refl, refl, refl);
 })
 
 pub adds_nothing : (history : List Made) (old new : Known) → Shows history old new → AddsNothing old new
 adds_nothing history old new shows = ap (λ (known : Known). known.mine) shows.pass
 
-pub tells_nothing : (opening : Opening) (history : List Made) (old new : Known) → AreLegalBehind opening (events history) → Shows history old new → Sees opening old new × AddsNothing old new
+pub tells_nothing : (opening : Opening) (history : List Made) (old new : Known) → AreLegalBehind opening (commits history) → Shows history old new → Sees opening old new × AddsNothing old new
 tells_nothing opening history old new legal shows = (sees_same opening history old new legal shows, adds_nothing history old new shows)
 
--- a call that adds an event
-pub sees_more : (opening : Opening) (event : Event) (before after : List Made) (old new : Known) → AreLegalBehind opening (events after) → Writes event before after old new → Sees opening old new
-sees_more opening event before after old new legal writes =
-    let more : events after ≡ events before ++ event ∷ [] = ap events writes.history ∙ events_append before (record { pass = old.number; event = event } ∷ []) in
+-- a call that adds a commit
+pub sees_more : (opening : Opening) (commit : Commit) (before after : List Made) (old new : Known) → AreLegalBehind opening (commits after) → Writes commit before after old new → Sees opening old new
+sees_more opening commit before after old new legal writes =
+    let more : commits after ≡ commits before ++ commit ∷ [] = ap commits writes.history ∙ commits_append before (record { pass = old.number; commit = commit } ∷ []) in
     subst (Sees opening old) (sym writes.pass) (record {
-      starts = subst (IsPrefix old.seen) (sym more) (prefix_more old.seen (events before) (event ∷ []) writes.before.seen);
+      starts = subst (IsPrefix old.seen) (sym more) (prefix_more old.seen (commits before) (commit ∷ []) writes.before.seen);
       legal = legal;
-      told = omega (arith, writes.before.told, events_length before, ap length more, length-append (events before) (event ∷ []));
+      told = omega (arith, writes.before.told, ap (λ (list : List Commit). count_of list) more, count_joined (commits before) (commit ∷ []));
       same = (refl, refl, refl, refl);
     })
 
-pub adds_one : (event : Event) (before after : List Made) (old new : Known) → Writes event before after old new → Adds event old new
-adds_one event before after old new writes = subst (Adds event old) (sym writes.pass) (record {
-  before = events before;
+pub adds_one : (commit : Commit) (before after : List Made) (old new : Known) → Writes commit before after old new → Adds commit old new
+adds_one commit before after old new writes = subst (Adds commit old) (sym writes.pass) (record {
+  before = commits before;
   starts = writes.before.seen;
-  ends = ap events writes.history ∙ events_append before (record { pass = old.number; event = event } ∷ []);
+  ends = ap commits writes.history ∙ commits_append before (record { pass = old.number; commit = commit } ∷ []);
   mine = refl;
 })
 
 -- the state that the pass knows is the core's
-pub known_state : {D : Type 0} (opening : Opening) (history : List Made) (old new : Known) (c : Core D) → IsBehind opening (events history) c → Shows history old new → core.facts c ≡ facts_behind opening new.seen
+pub known_state : {D : Type 0} (opening : Opening) (history : List Made) (old new : Known) (c : Core D) → IsBehind opening (commits history) c → Shows history old new → core.facts c ≡ facts_behind opening new.seen
 known_state opening history old new c behind shows = behind.facts ∙ ap (λ (known : Known). facts_behind opening known.seen) (sym shows.pass)
 
 -- the causes of a refusal are there
@@ -92,18 +93,18 @@ refuses_at {D} {T} c g X end why event error same_graph same_facts same_end refu
     here (Store vault.Exists) is told = is
 
 -- where the pass knows that the journal ends
-known_end : {D : Type 0} (opening : Opening) (history : List Made) (old new : Known) (c : Core D) → (core.is_halted c ≡ false → c.vault.journal.end ≡ end_behind opening (events history)) → Shows history old new
+pub known_end : {D : Type 0} (opening : Opening) (history : List Made) (old new : Known) (c : Core D) → (core.is_halted c ≡ false → c.vault.journal.end ≡ end_behind opening (commits history)) → Shows history old new
     → core.is_halted c ≡ false → c.vault.journal.end ≡ end_behind opening new.seen
 known_end opening history old new c ends shows working = ends working ∙ ap (λ (known : Known). end_behind opening known.seen) (sym shows.pass)
 
 pub refuses_there : {D T : Type 0} (opening : Opening) (history : List Made) (old new : Known) (c : Core D) (why : Graph → Facts → Refusal → Type 0) (event : Event) (error : CoreError)
-    → IsBehind opening (events history) c → (core.is_halted c ≡ false → c.vault.journal.end ≡ end_behind opening (events history)) → Shows history old new
+    → IsBehind opening (commits history) c → (core.is_halted c ≡ false → c.vault.journal.end ≡ end_behind opening (commits history)) → Shows history old new
     → Refuses c (why (core.graph c) (core.facts c)) event error → TellsFull {T = T} c event (Err error) → RefusesEvent opening new why event error
 refuses_there {D} {T} opening history old new c why event error behind ends shows refuses full =
     refuses_at {D = D} {T = T} c opening.graph (facts_behind opening new.seen) (end_behind opening new.seen) why event error behind.graph (known_state opening history old new c behind shows) (known_end opening history old new c ends shows) refuses full
 
 -- why an instance may not wait
-pub refuses_wait : {D T : Type 0} (opening : Opening) (history : List Made) (before now : Known) (old new : Core D) (address : Addr) (error : CoreError) → IsBehind opening (events history) old → Shows history before now
+pub refuses_wait : {D T : Type 0} (opening : Opening) (history : List Made) (before now : Known) (old new : Core D) (address : Addr) (error : CoreError) → IsBehind opening (commits history) old → Shows history before now
     → RefusesPark {T = T} old new address (Err error) → RefusesWait opening now address error
 refuses_wait opening history before now old new address error behind shows refuses =
     ⊎_elim
@@ -114,21 +115,21 @@ refuses_wait opening history before now old new address error behind shows refus
 
 -- ---- a pass that sees the history first
 
--- the event that is made then is made with the pass as it was
-pub writes_from : (event : Event) (before after : List Made) (old seen new : Known) → Shows before old seen → Writes event before after seen new → Writes event before after old new
-writes_from event before after old seen new shows writes = record {
+-- the commit that is made then is made with the pass as it was
+pub writes_from : (commit : Commit) (before after : List Made) (old seen new : Known) → Shows before old seen → Writes commit before after seen new → Writes commit before after old new
+writes_from commit before after old seen new shows writes = record {
   before = shows.before;
-  history = writes.history ∙ ap (λ (known : Known). before ++ record { pass = known.number; event = event } ∷ []) shows.pass;
-  pass = writes.pass ∙ ap (λ (known : Known). up_to_date after (with_event event known)) shows.pass;
+  history = writes.history ∙ ap (λ (known : Known). before ++ record { pass = known.number; commit = commit } ∷ []) shows.pass;
+  pass = writes.pass ∙ ap (λ (known : Known). up_to_date after (with_commit commit known)) shows.pass;
 }
 
 -- what the pass has seen is there for the core
-pub seen_stays : AmongBoth → FactsGoOn → {D : Type 0} (opening : Opening) (history : List Made) (known : Known) (c : Core D) → IsBehind opening (events history) c → IsInHistory history known
+pub seen_stays : AmongBoth → FactsGoOn → {D : Type 0} (opening : Opening) (history : List Made) (known : Known) (c : Core D) → IsBehind opening (commits history) c → IsInHistory history known
     → (fact : Fact) → facts_behind opening known.seen fact ≡ true → core.facts c fact ≡ true
-seen_stays both go_on opening history known c behind before fact there = ap (λ (X : Facts). X fact) behind.facts ∙ stays both go_on opening known.seen (events history) before.seen fact there
+seen_stays both go_on opening history known c behind before fact there = ap (λ (X : Facts). X fact) behind.facts ∙ stays both go_on opening known.seen (commits history) before.seen fact there
 
 -- what a result read is there for the core, and its body is that of the core's graph
-pub parked_there : AmongBoth → FactsGoOn → ReadsStay → {D : Type 0} (opening : Opening) (history : List Made) (known : Known) (c : Core D) (task : Inst) (parked : Parked) → IsBehind opening (events history) c → IsInHistory history known
+pub parked_there : AmongBoth → FactsGoOn → ReadsStay → {D : Type 0} (opening : Opening) (history : List Made) (known : Known) (c : Core D) (task : Inst) (parked : Parked) → IsBehind opening (commits history) c → IsInHistory history known
     → IsParkedIn opening.graph (facts_behind opening known.seen) task parked → IsParkedOf c task parked
 parked_there both go_on stay opening history known c task parked behind before is = record {
   instance_is = is.instance_is;
@@ -136,7 +137,7 @@ parked_there both go_on stay opening history known c task parked behind before i
   reads = stay (facts_behind opening known.seen) (core.facts c) parked.reads (seen_stays both go_on opening history known c behind before) is.reads;
 }
 
-pub outcome_there : AmongBoth → FactsGoOn → ReadsStay → {D : Type 0} (opening : Opening) (history : List Made) (known : Known) (c : Core D) (task : Inst) (outcome : Outcome) → IsBehind opening (events history) c → IsInHistory history known
+pub outcome_there : AmongBoth → FactsGoOn → ReadsStay → {D : Type 0} (opening : Opening) (history : List Made) (known : Known) (c : Core D) (task : Inst) (outcome : Outcome) → IsBehind opening (commits history) c → IsInHistory history known
     → IsOutcomeIn opening.graph (facts_behind opening known.seen) task outcome → IsOutcomeOf c task outcome
 outcome_there both go_on stay opening history known c task (Gave given) behind before is = (
   is.0,

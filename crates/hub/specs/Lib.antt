@@ -6,3 +6,4 @@ pub mod Whole
 pub mod Tasks
 pub mod Both
 pub mod Running
+pub mod Batches

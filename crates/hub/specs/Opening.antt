@@ -1,11 +1,11 @@
--- What a core has when a hub is opened on it, and the state after events from there.
-use Rattle.std.specs.Prelude.{◌≡◌, ◌+◌, ℕ, Bool, true, false, List, [], ◌∷◌}
+-- What a core has when a hub is opened on it, and the state after commits from there.
+use Rattle.std.specs.Prelude.{◌≡◌, ◌+◌, ℕ, true, List, [], ◌∷◌}
 use Rattle.disk.specs.declared.side.Side.{Side}
 use Rattle.disk.specs.File.{File}
 use Rattle.terms.specs.declared.event.Event.{Event}
-use Rattle.terms.specs.Facts.{Fact}
-use Rattle.terms.specs.Facts as stated
-use Rattle.terms.specs.Sets.{Facts, with_facts}
+use Rattle.terms.specs.Commits.{Commit, events_of}
+use Rattle.terms.specs.Commits as of_commits
+use Rattle.terms.specs.Sets.{Facts}
 use Rattle.machine.specs.State.{AreLegalFrom}
 use Rattle.commit.specs.Core.{Core}
 use Rattle.commit.specs.Core as core
@@ -48,16 +48,16 @@ begun_with opening = record {
   contents = opening.contents;
 }
 
--- the facts after these events, and those of them that the environment put
-abbrev pub facts_behind : Opening → List Event → Facts
-facts_behind opening events = with_facts opening.facts (stated.facts events)
+-- the facts after these commits, and those of them that the environment put
+abbrev pub facts_behind : Opening → List Commit → Facts
+facts_behind opening commits = of_commits.facts_behind opening.facts commits
 
-abbrev pub environment_behind : Opening → List Event → Facts
-environment_behind opening events = with_facts opening.environment (stated.environment events)
+abbrev pub environment_behind : Opening → List Commit → Facts
+environment_behind opening commits = of_commits.environment_behind opening.environment commits
 
--- where the journal ends after these events, unless the core is halted
-abbrev pub end_behind : Opening → List Event → ℕ
-end_behind opening events = opening.end + records_length events
+-- where the journal ends after these commits, unless the core is halted
+abbrev pub end_behind : Opening → List Commit → ℕ
+end_behind opening commits = opening.end + records_length commits
 
 -- how many of the events are ends of steps
 abbrev pub steps_in : List Event → ℕ
@@ -68,13 +68,13 @@ steps_in (event ∷ events) = step_count event + steps_in events
 abbrev pub WasTurned : Opening → Type 0
 WasTurned opening = (opening.halted ≡ true) × (opening.in_doubt ≡ [])
 
--- each of the events is legal after those before it
-abbrev pub AreLegalBehind : Opening → List Event → Type 0
-AreLegalBehind opening events = AreLegalFrom opening.graph opening.facts events
+-- each of their events is legal after those before it
+abbrev pub AreLegalBehind : Opening → List Commit → Type 0
+AreLegalBehind opening commits = AreLegalFrom opening.graph opening.facts (events_of commits)
 
--- the core has the state after these events, and may commit one step less for each end of a step among them
-pub record IsBehind {D : Type 0} (opening : Opening) (events : List Event) (c : Core D) : Type 0 where
+-- the core has the state after these commits, and may commit one step less for each end of a step among their events
+pub record IsBehind {D : Type 0} (opening : Opening) (commits : List Commit) (c : Core D) : Type 0 where
   pub graph : core.graph c ≡ opening.graph
-  pub facts : core.facts c ≡ facts_behind opening events
-  pub environment : core.environment c ≡ environment_behind opening events
-  pub allowance : c.allowance + steps_in events ≡ opening.allowance
+  pub facts : core.facts c ≡ facts_behind opening commits
+  pub environment : core.environment c ≡ environment_behind opening commits
+  pub allowance : c.allowance + steps_in (events_of commits) ≡ opening.allowance

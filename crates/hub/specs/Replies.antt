@@ -1,7 +1,8 @@
 -- What a locked call says of its pass. The pass knows the state after what it has seen: the call's result is that of this state.
-use Rattle.std.specs.Prelude.{◌≡◌, ◌⊎◌, ◌≤◌, ◌+◌, ⊤, ℕ, List, [], ◌∷◌, ◌++◌, length}
+use Rattle.std.specs.Prelude.{◌≡◌, ◌⊎◌, ◌≤◌, ◌+◌, ⊤, ℕ, List, [], ◌∷◌, ◌++◌}
 use mathlib.Core.List.{IsPrefix}
 use Rattle.terms.specs.declared.event.Event.{Event}
+use Rattle.terms.specs.Commits.{Commit}
 use Rattle.terms.specs.declared.name.Addr.{Addr}
 use Rattle.terms.specs.declared.name.Inst.{Inst}
 use Rattle.graph.specs.Fits.{HasNoFault, IsAbsent, MayEnd}
@@ -14,25 +15,25 @@ use Rattle.commit.specs.declared.error.CoreError.{CoreError}
 use Rattle.commit.specs.declared.error.CoreError.TheVariants.{Refused, Store}
 use Rattle.commit.specs.Calls.{record_length}
 use Rattle.journal.specs.declared.journal.TheConstants.{LIMIT}
-use Rattle.passes.specs.Known.{Known}
+use Rattle.passes.specs.Known.{Known, count_of}
 use Rattle.passes.specs.Opening.{Opening}
 use Rattle.hub.specs.Opening.{end_behind, facts_behind, AreLegalBehind}
 
 -- ---- what is seen
 
--- After each locked call the pass has seen a legal history, which begins with all that it saw before, and is no shorter than `commits` said.
+-- After each locked call the pass has seen a legal history, which begins with all that it saw before, and has no fewer events than `commits` said.
 pub record Sees (opening : Opening) (old new : Known) : Type 0 where
   pub starts : IsPrefix old.seen new.seen
   pub legal : AreLegalBehind opening new.seen
-  pub told : old.told ≤ length new.seen
+  pub told : old.told ≤ count_of new.seen
   pub same : (new.number ≡ old.number) × (new.told ≡ old.told) × (new.asked ≡ old.asked) × (new.heard ≡ old.heard)
 
--- the event was added after all that was seen before, and is the pass's own
-pub record Adds (event : Event) (old new : Known) : Type 0 where
-  pub before : List Event
+-- the commit was added after all that was seen before, and is the pass's own
+pub record Adds (commit : Commit) (old new : Known) : Type 0 where
+  pub before : List Commit
   pub starts : IsPrefix old.seen before
-  pub ends : new.seen ≡ before ++ event ∷ []
-  pub mine : new.mine ≡ old.mine ++ event ∷ []
+  pub ends : new.seen ≡ before ++ commit ∷ []
+  pub mine : new.mine ≡ old.mine ++ commit ∷ []
 
 -- nothing was made with it
 abbrev pub AddsNothing : Known → Known → Type 0

@@ -14,9 +14,10 @@ use Rattle.machine.specs.Results.{AreItems, IsBodyOf}
 use Rattle.vault.specs.declared.error.VaultError.TheVariants.{NoMemory}
 use Rattle.commit.specs.declared.error.CoreError.{CoreError}
 use Rattle.commit.specs.declared.error.CoreError.TheVariants.{Store}
-use Rattle.commit.specs.Came.{IsOutcomeIn, IsParkedIn}
-use Rattle.commit.specs.declared.bodies.Came.{Came}
-use Rattle.commit.specs.declared.bodies.Came.TheVariants.{Ended, Waits}
+use Rattle.commit.specs.Came.{IsOutcomeIn}
+use Rattle.steplang.specs.Running.{Running, ValueOf}
+use Rattle.hub.specs.declared.running.Ran.{Ran}
+use Rattle.hub.specs.declared.running.Ran.TheVariants.{Ended, Waits}
 use Rattle.passes.specs.Known.{Known}
 use Rattle.hub.specs.Replies.{RefusesQuestion}
 
@@ -29,10 +30,20 @@ pub record IsAhead (old new : Known) : Type 0 where
   pub asked : new.asked ≡ old.asked
   pub heard : new.heard ≡ old.heard
 
--- an end, or an item that is not of this set; the items that it read are of it
-abbrev pub CameIn : Graph → Facts → Inst → Came → Type 0
-CameIn g X instance (Ended outcome) = IsOutcomeIn g X instance outcome
-CameIn g X instance (Waits parked) = IsParkedIn g X instance parked × IsAbsent X parked.address
+-- The run is of this instance and of the body of its step; what it read are items of this set; and along these reads the body asks for the item that the
+-- run awaits.
+pub record WaitsIn (g : Graph) (X : Facts) (instance : Inst) (run : Running) : Type 0 where
+  pub instance_is : run.instance ≡ instance
+  pub body : IsBodyOf g instance run.checked.now.body
+  pub reads : AreItems X run.reads
+  pub address : Addr
+  pub awaits : run.awaits ≡ ValueOf address
+  pub asks : Along run.checked.now.body instance.key run.reads (Asks address)
+
+-- an end, or a run that awaits an item that is not of this set; the items that it read are of it
+abbrev pub RanIn : Graph → Facts → Inst → Ran → Type 0
+RanIn g X instance (Ended outcome) = IsOutcomeIn g X instance outcome
+RanIn g X instance (Waits run) = (it : WaitsIn g X instance run) × IsAbsent X it.address
 
 -- the body of the instance, along items of this set that it read, asks for the item at this address
 pub record AsksFor (g : Graph) (X : Facts) (instance : Inst) (address : Addr) : Type 0 where

@@ -6,7 +6,7 @@ use Rattle.instances.specs.declared.state.State.TheVariants.{Running}
 use Rattle.machine.specs.Machine.{RefusesEnd}
 use Rattle.commit.specs.declared.error.CoreError.{CoreError}
 use Rattle.commit.specs.declared.outcome.Outcome.{Outcome}
-use Rattle.commit.specs.Core.{Core, state_of}
+use Rattle.commit.specs.Core.{state_of}
 use Rattle.commit.specs.Outcome.{IsEndOf}
 use Rattle.hub.specs.declared.error.TaskError.{TaskError}
 use Rattle.hub.specs.declared.error.TaskError.TheVariants.{Foreign, Refused}

@@ -4,7 +4,7 @@ use Rattle.std.specs.List.{AllByRecursion}
 use Rattle.disk.specs.declared.side.Side.{Side}
 use Rattle.disk.specs.File.{File}
 use Rattle.disk.specs.Time.{Contents}
-use Rattle.terms.specs.declared.event.Event.{Event}
+use Rattle.terms.specs.Commits.{Commit}
 use Rattle.machine.specs.Machine.{IsPut}
 use Rattle.commit.specs.Core.{Core}
 use Rattle.commit.specs.Kept.{IsHaltedByTurn}
@@ -12,25 +12,25 @@ use Rattle.commit.specs.Runs.{IsEnd}
 use Rattle.atomic_table.specs.Seated.{TableId}
 use Rattle.hub.specs.declared.close.CloseError.{CloseError}
 use Rattle.hub.specs.declared.close.CloseError.TheVariants.{PassMissing, TaskOut}
-use Rattle.passes.specs.Known.{Known, Made, events, made_by}
+use Rattle.passes.specs.Known.{Known, Made, commits, made_by}
 use Rattle.passes.specs.Opening.{Opening}
 use Rattle.passes.specs.Roll.{AllMade, Blank, has_number, mine_of}
 use Rattle.passes.specs.Rule.{IsInHistory}
 use Rattle.hub.specs.Opening.{opening_of, WasTurned, AreLegalBehind, IsBehind}
 
 -- The whole history of a hub that is closed with these passes. It is legal, and the core has the state after it. It begins with what each pass has
--- seen, and has just the passes' events, those of each pass in their order. Those of the environment's passes are its puts, and those of the workers'
--- passes are ends of instances. If a turnover halted the core, that was before the hub was opened. `Ran` is what is known of how the events were
--- committed.
-pub record IsWhole {D : Type 0} (Ran : List Event → Core D → Type 0) (opening : Opening) (envs workers : List Known) (c : Core D) (history : List Made) : Type 0 where
-  pub legal : AreLegalBehind opening (events history)
-  pub behind : IsBehind opening (events history) c
+-- seen, and has just the passes' commits, those of each pass in their order. Those of the environment's passes are its puts, and those of the workers'
+-- passes are ends of instances. If a turnover halted the core, that was before the hub was opened. `Ran` is what is known of how the commits
+-- came.
+pub record IsWhole {D : Type 0} (Ran : List Commit → Core D → Type 0) (opening : Opening) (envs workers : List Known) (c : Core D) (history : List Made) : Type 0 where
+  pub legal : AreLegalBehind opening (commits history)
+  pub behind : IsBehind opening (commits history) c
   pub each : AllByRecursion (IsInHistory history) (envs ++ workers)
   pub made : (number : ℕ) → made_by number history ≡ mine_of number (envs ++ workers)
   pub puts : AllMade IsPut envs
   pub ends : AllMade IsEnd workers
   pub turned : IsHaltedByTurn c → WasTurned opening
-  pub ran : Ran (events history) c
+  pub ran : Ran (commits history) c
 
 -- The names of a hub fit this blank and this core: they have the blank's words and counts of passes, what the core has when the hub is opened, and
 -- for each moment what a crash may leave, as the disk says then.

@@ -1,6 +1,7 @@
 //! A hub may be shared by threads. Each function here is a law of that, with nothing to run.
 ghost use denote.Param.Send.{IsSend, IsSync};
 ghost use Rattle.commit.specs.contracts.commit_core.Core as of_core;
+ghost use Rattle.commit.specs.contracts.events.Events as of_events;
 ghost use Rattle.hub.specs.contracts.hub.Hub as of_hub;
 ghost use Rattle.terms.specs.contracts.event.Event as of_event;
 ghost use Rattle.vault.specs.contracts.vault.Vault as of_vault;
@@ -26,6 +27,13 @@ fn events_go()
     goes::<Event>();
 }
 
+// The events of a commit are `Send`.
+fn commits_go()
+    ensures { IsSend of_events.the_row }
+{
+    events_go();
+}
+
 /// A `Core` is `Send` if its disk is.
 pub fn cores_go<D: Disk + Send>()
     ensures { IsSend (of_core.the_row D.row D.Disk) }
@@ -33,7 +41,7 @@ pub fn cores_go<D: Disk + Send>()
     graphs_cross();
     goes::<Machine>();
     vaults_go::<D>();
-    events_go();
+    commits_go();
 }
 
 /// A `Hub` is `Sync` if its disk is `Send`.

@@ -1,11 +1,12 @@
-ghost use Rattle.std.specs.Prelude.{◌≡◌, true, None, Ok, OnErr, OnOk, IfErr, IfOk, IfSome};
+ghost use Rattle.std.specs.Prelude.{◌≡◌, [], ◌∷◌, true, None, Ok, OnErr, OnOk, IfErr, IfOk, IfSome};
 
-use crate::{EnvPass, Kept, TaskError, WorkPass};
+use crate::{BatchError, EnvPass, Kept, TaskError, WorkPass};
 use cells::Watch;
-use commit::{Committed, CoreError, Outcome};
+use commit::{Batch, Committed, CoreError, Outcome};
 use disk::Disk;
 use graph::Graph;
 use instances::Task;
+use machine::Ended;
 use passes::{Board, Kind, Naming, Pass};
 use std::alloc::Global;
 use std::sync::{Arc, Mutex, Wait};
@@ -49,6 +50,8 @@ impl<J: Naming, D: Disk> Hub<J, D> {
     ghost use Rattle.hub.specs.Ends.{MayAnswer};
     ghost use Rattle.hub.specs.Replies.{Adds, AddsNothing, MayRun, RefusesEvent, RefusesQuestion, RefusesWait, RefusesWatch, SaysHalted, Sees};
     ghost use Rattle.hub.specs.Tasks.{OnTask, RefusesEndOf};
+    ghost use Rattle.commit.specs.Batch.{HaveOutcomes, ends_said};
+    ghost use Rattle.hub.specs.Batches.{AddsTogether, OnBatch, RefusesTogether};
 
     // Takes the hub apart.
     pub(crate) fn into_parts(self) -> (Board<J>, Kept<J, D>, Arc<Graph>, usize)
@@ -74,7 +77,7 @@ impl<J: Naming, D: Disk> Hub<J, D> {
         value: i64,
     ) -> Result<(), CoreError>
         ensures seen { Sees J.opening pass.old pass.new }
-        ensures ok { OnOk result (Adds (EnvItem addr value) pass.old pass.new) }
+        ensures ok { OnOk result (Adds (EnvItem addr value ∷ []) pass.old pass.new) }
         ensures err { OnErr result (AddsNothing pass.old pass.new) }
         ensures refused { IfErr result (RefusesEvent J.opening pass.new (λ g X. RefusesItem g X addr) (EnvItem addr value)) }
     {
@@ -85,7 +88,7 @@ impl<J: Naming, D: Disk> Hub<J, D> {
     /// has then seen.
     pub fn put_tag<R: Wait>(&self, rt: &R, pass: &mut EnvPass<J>, tag: Tag) -> Result<(), CoreError>
         ensures seen { Sees J.opening pass.old pass.new }
-        ensures ok { OnOk result (Adds (EnvTag tag) pass.old pass.new) }
+        ensures ok { OnOk result (Adds (EnvTag tag ∷ []) pass.old pass.new) }
         ensures err { OnErr result (AddsNothing pass.old pass.new) }
         ensures refused { IfErr result (RefusesEvent J.opening pass.new (λ g X. RefusesTag g X tag) (EnvTag tag)) }
     {
@@ -201,11 +204,31 @@ impl<J: Naming, D: Disk> Hub<J, D> {
     ) -> Result<Committed, TaskError>
         requires { IsOutcomeIn J.opening.graph (facts_behind J.opening pass.old.seen) task outcome }
         ensures seen { Sees J.opening pass.old pass.new }
-        ensures ok { IfOk result (λ committed. MayAnswer outcome.entry committed × Adds (end_of committed task outcome.entry) pass.old pass.new) }
+        ensures ok { IfOk result (λ committed. MayAnswer outcome.entry committed × Adds (end_of committed task outcome.entry ∷ []) pass.old pass.new) }
         ensures err { OnErr result (AddsNothing pass.old pass.new) }
         ensures refused { OnTask result (λ back. back ≡ task) (λ answer. IfErr answer (RefusesEndOf J.opening pass.new task outcome.entry)) }
     {
         self.kept.lock(rt).finish(&self.board, pass, task, outcome)
+    }
+
+    /// Commits what the bodies of several instances came to, as one: all of it, or all of it up to the first fault. The
+    /// instances behind a fault are ready again, and so are all of them at an error of the core.
+    ///
+    /// Each outcome must be of its task's instance and of the body of its step in this graph, and each item that it read
+    /// must be in the state that the pass knew.
+    pub fn finish_all<'a, R: Wait>(
+        &self,
+        rt: &R,
+        pass: &mut WorkPass<J>,
+        batch: Batch<'a>,
+    ) -> Result<Ended, BatchError<'a>>
+        requires { HaveOutcomes J.opening.graph (facts_behind J.opening pass.old.seen) batch.tasks batch.outcomes }
+        ensures seen { Sees J.opening pass.old pass.new }
+        ensures ok { IfOk result (AddsTogether J.opening (ends_said batch.entry) pass.old pass.new) }
+        ensures err { OnErr result (AddsNothing pass.old pass.new) }
+        ensures refused { OnBatch result (λ back. back ≡ batch.entry) (λ answer. IfErr answer (RefusesTogether J.opening pass.new (ends_said batch.entry))) }
+    {
+        self.kept.lock(rt).finish_all(&self.board, pass, batch)
     }
 
     /// Whether an instance runs, or may be claimed. No clause says which it returns.
@@ -222,8 +245,8 @@ impl<J: Naming, D: Disk> Hub<J, D> {
         &self.graph
     }
 
-    /// The number of events in the history, as far as it is told: no less than before, and no less than the pass has seen. It
-    /// waits for nobody, and takes no memory.
+    /// The number of events in the history, as far as it is told: no less than before, and no less than the number of events
+    /// that the pass has seen. It waits for nobody, and takes no memory.
     pub fn commits<K: Kind>(&self, pass: &mut Pass<J, K>) -> u64
         ensures pass { pass.new ≡ told_of result pass.old }
         ensures count { IsCountFor result pass.old }

@@ -20,7 +20,7 @@ use vault::{VaultError, stores_go_on};
 ///
 /// Between two calls the core has the state after the history. On an honest disk, and unless a turnover had halted the
 /// core before the hub was opened, a crash leaves that state, or, once the core is halted, perhaps the state with the
-/// event in doubt; if the core was halted before, a crash leaves what one might have left then (`is_kept`).
+/// commit in doubt; if the core was halted before, a crash leaves what one might have left then (`is_kept`).
 pub struct Kept<J: Naming, D: Disk> {
     pub(crate) core: Core<D>,
     pub(crate) desk: Desk<J>,
@@ -54,7 +54,7 @@ impl<J: Naming, D: Disk> Model for Kept<J, D> {
 }
 
 impl<J: Naming, D: Disk> Kept<J, D> {
-    ghost use Rattle.std.specs.Prelude.{◌≡◌, ◌↔◌, true, false, [], None, Some, Ok, Err, OnErr, OnOk, IfErr, IsErrOf, IfOk, IfSome, IsTrue};
+    ghost use Rattle.std.specs.Prelude.{◌≡◌, ◌↔◌, true, false, [], ◌∷◌, None, Some, Ok, Err, OnErr, OnOk, IfErr, IsErrOf, IfOk, IfSome, IsTrue};
     ghost use Rattle.commit.specs.declared.error.CoreError.TheVariants.{Store};
     ghost use Rattle.vault.specs.declared.error.VaultError.TheVariants.{Halted};
     ghost use Rattle.terms.specs.declared.event.Event.TheVariants.{EnvItem, EnvTag};
@@ -62,7 +62,7 @@ impl<J: Naming, D: Disk> Kept<J, D> {
     ghost use Rattle.graph.specs.Fits.{AddressIsOf};
     ghost use Rattle.graph.specs.Graph.{EnvironmentMayGet};
     ghost use Rattle.commit.specs.Core.{facts, graph, is_halted};
-    ghost use Rattle.passes.specs.Known.{events};
+    ghost use Rattle.passes.specs.Known.{commits};
     ghost use Rattle.passes.specs.Visits.{Shows, Writes};
     ghost use Rattle.disk.specs.Time.{Contents, MayLeaveNow};
     ghost use Rattle.hub.specs.Opening.{AreLegalBehind, IsBehind, WasTurned, facts_behind};
@@ -94,8 +94,8 @@ impl<J: Naming, D: Disk> Kept<J, D> {
 
     /// A law, with nothing to run: what it keeps from call to call.
     pub fn is_kept(&self)
-        ensures behind { IsBehind J.opening (events self.now.history) self.now.core }
-        ensures legal { AreLegalBehind J.opening (events self.now.history) }
+        ensures behind { IsBehind J.opening (commits self.now.history) self.now.core }
+        ensures legal { AreLegalBehind J.opening (commits self.now.history) }
         ensures crash { IsTrue D.is_honest → (WasTurned J.opening → ⊥) → CrashLeavesHistory D.files J.opening self.now }
         ensures rests { IsTrue D.is_honest → J.opening.halted ≡ true → (contents : Contents) → MayLeaveNow (D.files self.now.core.vault.disk) contents → J.left J.opening.moment contents }
         ensures settled { is_halted self.now.core ≡ false → self.now.core.in_doubt ≡ [] }
@@ -112,9 +112,9 @@ impl<J: Naming, D: Disk> Kept<J, D> {
         value: i64,
     ) -> Result<(), CoreError>
         ensures core { CommitsAs D.files D.moment D.left_at D.failures D.refusals (IsTrue D.is_honest) self.old.core self.new.core (RefusesItem (graph self.old.core) (facts self.old.core) addr) (EnvItem addr value) result }
-        ensures history { OnOk result (Writes (EnvItem addr value) self.old.history self.new.history pass.old pass.new) }
+        ensures history { OnOk result (Writes (EnvItem addr value ∷ []) self.old.history self.new.history pass.old pass.new) }
         ensures seen { Sees J.opening pass.old pass.new }
-        ensures ok { OnOk result (Adds (EnvItem addr value) pass.old pass.new) }
+        ensures ok { OnOk result (Adds (EnvItem addr value ∷ []) pass.old pass.new) }
         ensures err { OnErr result ((self.new.history ≡ self.old.history) × Shows self.old.history pass.old pass.new × AddsNothing pass.old pass.new) }
         ensures refused { IfErr result (RefusesEvent J.opening pass.new (λ g X. RefusesItem g X addr) (EnvItem addr value)) }
     {
@@ -145,9 +145,9 @@ impl<J: Naming, D: Disk> Kept<J, D> {
         tag: Tag,
     ) -> Result<(), CoreError>
         ensures core { CommitsAs D.files D.moment D.left_at D.failures D.refusals (IsTrue D.is_honest) self.old.core self.new.core (RefusesTag (graph self.old.core) (facts self.old.core) tag) (EnvTag tag) result }
-        ensures history { OnOk result (Writes (EnvTag tag) self.old.history self.new.history pass.old pass.new) }
+        ensures history { OnOk result (Writes (EnvTag tag ∷ []) self.old.history self.new.history pass.old pass.new) }
         ensures seen { Sees J.opening pass.old pass.new }
-        ensures ok { OnOk result (Adds (EnvTag tag) pass.old pass.new) }
+        ensures ok { OnOk result (Adds (EnvTag tag ∷ []) pass.old pass.new) }
         ensures err { OnErr result ((self.new.history ≡ self.old.history) × Shows self.old.history pass.old pass.new × AddsNothing pass.old pass.new) }
         ensures refused { IfErr result (RefusesEvent J.opening pass.new (λ g X. RefusesTag g X tag) (EnvTag tag)) }
     {
@@ -311,9 +311,9 @@ impl<J: Naming, D: Disk> Kept<J, D> {
     ) -> Result<Committed, TaskError>
         requires { IsOutcomeIn J.opening.graph (facts_behind J.opening pass.old.seen) task outcome }
         ensures core { OnTask result (IsForeign self.old self.new task) (λ answer. IsMade self.old task (Ends D.files D.moment D.left_at D.failures D.refusals (IsTrue D.is_honest) self.old.core self.new.core task outcome.entry answer)) }
-        ensures history { IfOk result (λ committed. Writes (end_of committed task outcome.entry) self.old.history self.new.history pass.old pass.new) }
+        ensures history { IfOk result (λ committed. Writes (end_of committed task outcome.entry ∷ []) self.old.history self.new.history pass.old pass.new) }
         ensures seen { Sees J.opening pass.old pass.new }
-        ensures ok { IfOk result (λ committed. MayAnswer outcome.entry committed × Adds (end_of committed task outcome.entry) pass.old pass.new) }
+        ensures ok { IfOk result (λ committed. MayAnswer outcome.entry committed × Adds (end_of committed task outcome.entry ∷ []) pass.old pass.new) }
         ensures err { OnErr result ((self.new.history ≡ self.old.history) × Shows self.old.history pass.old pass.new × AddsNothing pass.old pass.new) }
         ensures refused { OnTask result (λ back. back ≡ task) (λ answer. IfErr answer (RefusesEndOf J.opening pass.new task outcome.entry)) }
     {

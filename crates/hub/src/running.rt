@@ -1,13 +1,13 @@
 //! A body that is run over what a hub has, outside the lock.
-ghost use Rattle.std.specs.Prelude.{◌≡◌, [], IfErr, IfOk};
+ghost use Rattle.std.specs.Prelude.{IfErr, IfOk};
 ghost use Rattle.graph.specs.Fits.{InstanceIsOf};
-ghost use Rattle.machine.specs.Results.{IsBodyOf};
-ghost use Rattle.steplang.specs.Running.{Nothing};
+ghost use Rattle.machine.specs.Results.{AreItems, IsBodyOf};
+ghost use Rattle.steplang.specs.Running.{IsDue, reads_with};
 ghost use Rattle.hub.specs.Opening.{facts_behind};
-ghost use Rattle.hub.specs.Running.{CameIn, IsAhead, StopsRun};
+ghost use Rattle.hub.specs.Running.{IsAhead, RanIn, StopsRun, WaitsIn};
 
 use crate::{Hub, WorkPass};
-use commit::{Came, CoreError, Outcome};
+use commit::{CoreError, Outcome};
 use disk::Disk;
 use instances::Task;
 use machine::results_are_meant;
@@ -18,6 +18,15 @@ use steplang::{Run, Turn};
 use steptree::ends_within_limits;
 use terms::{facts_are_told_apart, facts_go_on};
 use vault::VaultError;
+
+/// What running the body of an instance came to.
+#[derive(Drop)]
+pub enum Ran<'a> {
+    /// The body's end.
+    Ended(Outcome<'a>),
+    /// The body asks for an item that was not there. It can go on once the item is (`Hub::resume`), or be parked.
+    Waits(Run<'a>),
+}
 
 impl<J: Naming, D: Disk> Hub<J, D> {
     /// Runs the body of the instance of a task, to its end or to an item that is not there.
@@ -30,47 +39,73 @@ impl<J: Naming, D: Disk> Hub<J, D> {
         alloc: Global,
         pass: &mut WorkPass<J>,
         task: &Task,
-    ) -> Result<Came<'a>, CoreError>
+    ) -> Result<Ran<'a>, CoreError>
         requires { InstanceIsOf J.opening.graph task.now }
         ensures pass { IsAhead pass.old pass.new }
-        ensures came { IfOk result (CameIn J.opening.graph (facts_behind J.opening pass.new.seen) task.now) }
+        ensures came { IfOk result (RanIn J.opening.graph (facts_behind J.opening pass.new.seen) task.now) }
         ensures refused { IfErr result (StopsRun J.opening.graph (facts_behind J.opening pass.new.seen) task.now) }
     {
         let instance = task.inst();
         let checked = self.graph().body(instance.collection).unwrap();
         match Run::start(alloc, checked, instance) {
-            Ok(run) => self.go_on(rt, pass, run),
+            Ok(run) => self.go_on(rt, pass, run, None),
             Err(_) => Err(CoreError::Store(VaultError::NoMemory)),
         }
     }
 
-    // Gives a run the items that it asks for, to its end or to an item that is not there.
+    /// Lets a body that waits go on, if its item is there by now: to its end or to the next item that is not there. Otherwise
+    /// it still waits.
+    ///
+    /// The run must be of a body of this graph, and each item that it read must be in the state that the pass knew. The
+    /// errors are those of `run`.
+    pub fn resume<'a, R: Wait>(
+        &'a self,
+        rt: &R,
+        pass: &mut WorkPass<J>,
+        run: Run<'a>,
+    ) -> Result<Ran<'a>, CoreError>
+        requires { WaitsIn J.opening.graph (facts_behind J.opening pass.old.seen) run.instance run }
+        ensures pass { IsAhead pass.old pass.new }
+        ensures came { IfOk result (RanIn J.opening.graph (facts_behind J.opening pass.new.seen) run.entry.instance) }
+        ensures refused { IfErr result (StopsRun J.opening.graph (facts_behind J.opening pass.new.seen) run.entry.instance) }
+    {
+        facts_are_told_apart();
+        facts_go_on();
+        results_are_meant();
+        let address = run.pending().unwrap();
+        match self.read(rt, pass, address)? {
+            Some(value) => self.go_on(rt, pass, run, Some(value)),
+            None => Ok(Ran::Waits(run)),
+        }
+    }
+
+    // Goes on with this answer, and gives a run the items that it asks for, to its end or to an item that is not there.
     fn go_on<'a, R: Wait>(
         &'a self,
         rt: &R,
         pass: &mut WorkPass<J>,
         mut run: Run<'a>,
-    ) -> Result<Came<'a>, CoreError>
+        mut answer: Option<i64>,
+    ) -> Result<Ran<'a>, CoreError>
         requires body { IsBodyOf J.opening.graph run.instance run.checked.now.body }
-        requires begun { run.awaits ≡ Nothing }
-        requires nothing_read { run.reads ≡ [] }
+        requires due { IsDue run.awaits answer }
+        requires read { AreItems (facts_behind J.opening pass.old.seen) (reads_with run.reads run.awaits answer) }
         ensures pass { IsAhead pass.old pass.new }
-        ensures came { IfOk result (CameIn J.opening.graph (facts_behind J.opening pass.new.seen) run.entry.instance) }
+        ensures came { IfOk result (RanIn J.opening.graph (facts_behind J.opening pass.new.seen) run.entry.instance) }
         ensures refused { IfErr result (StopsRun J.opening.graph (facts_behind J.opening pass.new.seen) run.entry.instance) }
     {
         ends_within_limits();
         facts_are_told_apart();
         facts_go_on();
         results_are_meant();
-        let mut answer = None;
         loop {
             match run.advance(answer) {
                 Ok(Turn::Need(address)) => match self.read(rt, pass, address)? {
                     Some(value) => answer = Some(value),
-                    None => return Ok(Came::Waits(run.park())),
+                    None => return Ok(Ran::Waits(run)),
                 },
-                Ok(Turn::Gave(given)) => return Ok(Came::Ended(Outcome::Gave(given))),
-                Ok(Turn::Fault(bad)) => return Ok(Came::Ended(Outcome::Fault(bad))),
+                Ok(Turn::Gave(given)) => return Ok(Ran::Ended(Outcome::Gave(given))),
+                Ok(Turn::Fault(bad)) => return Ok(Ran::Ended(Outcome::Fault(bad))),
                 Err(_) => return Err(CoreError::Store(VaultError::NoMemory)),
             }
         }

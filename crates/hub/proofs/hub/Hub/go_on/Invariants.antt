@@ -1,7 +1,7 @@
 use Rattle.std.proofs.Common.{◌+◌, ◌-◌, length}
 use Rattle.steptree.specs.declared.body.TheConstants.{BUDGET}
 use Rattle.steplang.specs.Running.{reads_with}
-use Rattle.hub.proofs.Ran.{GoesOn}
+use Rattle.hub.proofs.Bodies.{GoesOn}
 use Rattle.hub.proofs.hub.Hub.go_on.Given as goal
 
 abbrev pub invariant-loop-address : goal.invariant-loop-address

@@ -1,5 +1,5 @@
 use Rattle.std.proofs.Common.{subst}
-use Rattle.passes.specs.Known.{events}
+use Rattle.passes.specs.Known.{commits}
 use Rattle.hub.specs.Opening.{IsBehind}
 use Rattle.hub.specs.Kept.{Kept, CrashLeavesHistory}
 use Rattle.hub.proofs.Keeping.{crash_leaves, crash_rests}
@@ -7,7 +7,7 @@ use Rattle.disk.specs.Time.{Contents, MayLeaveNow}
 use Rattle.hub.proofs.kept.Kept.is_kept.Goals as goal
 
 pub returns-clause-behind : goal.returns-clause-behind
-returns-clause-behind g c = subst (λ (kept : Kept g.row.D.Denot). IsBehind g.J.Naming.opening (events kept.history) kept.core) c.self.view_is c.self.invariant.behind
+returns-clause-behind g c = subst (λ (kept : Kept g.row.D.Denot). IsBehind g.J.Naming.opening (commits kept.history) kept.core) c.self.view_is c.self.invariant.behind
 
 pub returns-clause-crash : goal.returns-clause-crash
 returns-clause-crash g c honest fresh =

@@ -1,14 +1,15 @@
-use Rattle.std.proofs.Common.{subst, sym, ap, to_z, of_z, w64, Ok, Err}
+use Rattle.std.proofs.Common.{[], ◌∷◌, subst, sym, ap, to_z, of_z, w64, Ok, Err}
 use Rattle.std.proofs.lemmas.Int.{to_z-of_z}
 use Rattle.std.specs.Prelude.{IsTrue}
 use Rattle.terms.specs.declared.event.Event.{Event}
 use Rattle.terms.specs.declared.event.Event.TheVariants.{EnvItem}
 use Rattle.machine.specs.Machine.{RefusesItem}
 use Rattle.commit.specs.Core.{Core, graph, facts}
-use Rattle.passes.specs.Known.{Desk, events}
+use Rattle.passes.specs.Known.{Desk, commits}
 use Rattle.hub.specs.Kept.{Kept, HasRun, IsKept}
 use Rattle.hub.specs.Replies.{Adds, RefusesEvent}
-use Rattle.hub.proofs.Keeping.{kept_more, kept_same, commits_as}
+use Rattle.hub.proofs.Keeping.{kept_more, kept_refused, commits_as}
+use Rattle.hub.proofs.States.{comes_one}
 use Rattle.hub.proofs.Since.{ran_put, ran_refused_put}
 use Rattle.hub.proofs.Telling.{sees_same, sees_more, adds_one, refuses_there}
 use Rattle.hub.proofs.kept.Kept.put_item.Goals as goal
@@ -16,14 +17,14 @@ use Rattle.hub.proofs.kept.Kept.put_item.Goals as goal
 pub invariant_of-self : goal.invariant_of-self
 invariant_of-self g c =
     subst (λ (d : Desk). IsKept (HasRun g.D.Disk.moment g.D.Disk.left_at g.D.Disk.failures g.D.Disk.refusals (IsTrue g.D.Disk.is_honest) g.J.Naming.opening g.J.Naming.left g.J.Naming.envs) g.J.Naming.opening g.J.Naming.passes d c.put_item.new.self) (sym c.record_item.ensures.desk)
-    (kept_more c.facts_are_told_apart.ensures.among c.facts_go_on.ensures.all c.facts_go_on.ensures.environment _ _ _ c.args.pass.now.number _ _ _ _ c.self.invariant c.in-Ok.ensures.commits.takes
-    (ran_put g.D.Disk.files g.D.Disk.moment g.D.Disk.left_at g.D.Disk.failures g.D.Disk.refusals (IsTrue g.D.Disk.is_honest) g.J.Naming.opening g.J.Naming.left g.J.Naming.envs c.args.pass.now.number (events c.self.inside.desk.book.history) _ c.self.inside.core c.put_item.new.self c.number.ensures.of_kind c.in-Ok.ensures.commits.takes.working.0 c.self.invariant.ran))
+    (kept_more c.facts_are_told_apart.ensures.among c.facts_go_on.ensures.all c.facts_go_on.ensures.environment _ _ _ c.args.pass.now.number _ _ _ _ c.self.invariant (comes_one _ _ _ c.in-Ok.ensures.commits.takes)
+    (ran_put g.D.Disk.files g.D.Disk.moment g.D.Disk.left_at g.D.Disk.failures g.D.Disk.refusals (IsTrue g.D.Disk.is_honest) g.J.Naming.opening g.J.Naming.left g.J.Naming.envs c.args.pass.now.number (commits c.self.inside.desk.book.history) _ c.self.inside.core c.put_item.new.self c.number.ensures.of_kind c.in-Ok.ensures.commits.takes.working.0 c.self.invariant.ran))
 
 pub invariant_of-self-in-Err : goal.invariant_of-self-in-Err
 invariant_of-self-in-Err g c =
     subst (λ (d : Desk). IsKept (HasRun g.D.Disk.moment g.D.Disk.left_at g.D.Disk.failures g.D.Disk.refusals (IsTrue g.D.Disk.is_honest) g.J.Naming.opening g.J.Naming.left g.J.Naming.envs) g.J.Naming.opening g.J.Naming.passes d c.put_item.new.self) (sym c.show.ensures.desk)
-    (kept_same g.D.Disk.failures g.D.Disk.refusals _ _ _ _ _ _ _ c.in-Err.error c.self.invariant c.in-Err.ensures.unchanged.stays c.in-Err.ensures.halts c.in-Err.ensures.commits.doubt
-    (ran_refused_put g.D.Disk.files g.D.Disk.moment g.D.Disk.left_at g.D.Disk.failures g.D.Disk.refusals (IsTrue g.D.Disk.is_honest) g.J.Naming.opening g.J.Naming.left g.J.Naming.envs c.args.pass.now.number (events c.self.inside.desk.book.history) c.self.inside.core c.put_item.new.self c.in-Err.error c.number.ensures.of_kind c.in-Err.ensures.halts c.self.invariant.ran))
+    (kept_refused g.D.Disk.failures g.D.Disk.refusals _ _ _ _ _ _ _ c.in-Err.error c.self.invariant c.in-Err.ensures.unchanged.stays c.in-Err.ensures.halts c.in-Err.ensures.commits.doubt
+    (ran_refused_put g.D.Disk.files g.D.Disk.moment g.D.Disk.left_at g.D.Disk.failures g.D.Disk.refusals (IsTrue g.D.Disk.is_honest) g.J.Naming.opening g.J.Naming.left g.J.Naming.envs c.args.pass.now.number (commits c.self.inside.desk.book.history) c.self.inside.core c.put_item.new.self c.in-Err.error c.number.ensures.of_kind c.in-Err.ensures.halts c.self.invariant.ran))
 
 pub returns-in-Ok-clause-core : goal.returns-in-Ok-clause-core
 returns-in-Ok-clause-core g c =
@@ -46,7 +47,7 @@ pub returns-in-Err-clause-seen : goal.returns-in-Err-clause-seen
 returns-in-Err-clause-seen g c = sees_same _ c.self.inside.desk.book.history _ _ c.self.invariant.legal c.show.ensures.pass
 
 pub returns-in-Ok-clause-ok : goal.returns-in-Ok-clause-ok
-returns-in-Ok-clause-ok g c = subst (λ (event : Event). Adds event c.args.pass.now c.record_item.new.pass) (ap (EnvItem c.args.addr) (to_z-of_z w64 c.args.value c.ranges.value)) (adds_one _ _ _ _ _ c.record_item.ensures.writes)
+returns-in-Ok-clause-ok g c = subst (λ (event : Event). Adds (event ∷ []) c.args.pass.now c.record_item.new.pass) (ap (EnvItem c.args.addr) (to_z-of_z w64 c.args.value c.ranges.value)) (adds_one _ _ _ _ _ c.record_item.ensures.writes)
 
 pub returns-in-Err-clause-refused : goal.returns-in-Err-clause-refused
 returns-in-Err-clause-refused g c =
