@@ -1,19 +1,26 @@
 -- What workers make of a core, and what a worker knows of a refusal that it met.
-use Rattle.std.specs.Prelude.{◌≡◌, ◌⊎◌, ℕ, Bool, true, List, [], ◌∷◌, Option, None, Some, Result, Ok, Err}
+use Rattle.std.specs.Prelude.{◌≡◌, ◌⊎◌, ℕ, Bool, true, List, [], ◌∷◌, Option, None, Some, IfSome, ◌<◌, length, Result, Ok, Err}
 use Rattle.disk.specs.declared.side.Side.{Side}
 use Rattle.disk.specs.File.{File}
 use Rattle.disk.specs.Time.{Contents}
-use Rattle.terms.specs.declared.event.Event.{Event}
+use Rattle.terms.specs.Commits.{Commit}
 use Rattle.vault.specs.declared.error.VaultError.TheVariants as vault
 use Rattle.commit.specs.declared.error.CoreError.{CoreError}
 use Rattle.commit.specs.declared.error.CoreError.TheVariants.{Store}
+use Rattle.commit.specs.Batch.{Batch, HaveOutcomes}
 use Rattle.commit.specs.Core.{Core, graph, facts}
 use Rattle.commit.specs.Runs.{MetFull, Runs}
+use Rattle.hub.specs.declared.error.BatchError.{BatchError}
+use Rattle.hub.specs.declared.error.BatchError.TheVariants as batch_error
 use Rattle.hub.specs.declared.error.TaskError.{TaskError}
 use Rattle.hub.specs.declared.error.TaskError.TheVariants.{Foreign, Refused}
+use Rattle.hub.specs.Opening.{facts_behind}
 use Rattle.passes.specs.Known.{Known}
 use Rattle.passes.specs.Opening.{Opening}
 use Rattle.pool.specs.declared.worker.Met.{Met}
+use Rattle.pool.specs.declared.worker.TheConstants.{GROUP}
+use Rattle.pool.specs.declared.worker.Turned.{Turned}
+use Rattle.pool.specs.declared.worker.Turned.TheVariants as turned
 use Rattle.pool.specs.declared.worker.Met.TheVariants as met
 
 -- what a worker meets by an error
@@ -28,21 +35,49 @@ met_after (Ok value) = None
 met_after (Err (Refused error)) = Some (met_by error)
 met_after (Err (Foreign back)) = None
 
--- among the events that a pass has seen there is a prefix after which an end was refused, since its record did not fit
+-- the same by the answer of a call that spent a batch
+abbrev pub met_after_all : {T : Type 0} → Result T BatchError → Option Met
+met_after_all (Ok value) = None
+met_after_all (Err (batch_error.Refused error)) = Some (met_by error)
+met_after_all (Err (batch_error.Foreign back)) = None
+
+-- among the commits that a pass has seen there is a prefix after which ends were refused, since their record did not fit
 abbrev pub SawFull : Opening → Known → Type 0
 SawFull opening known = MetFull opening.graph opening.facts opening.end known.seen
 
--- a worker that met `Full` saw such an end
+-- a worker that met `Full` saw such a prefix
 abbrev pub Justifies : Opening → Option Met → Known → Type 0
 Justifies opening result known = result ≡ Some met.Full → SawFull opening known
 
--- one of the passes saw such an end
+-- ---- turns
+
+-- The results that a worker keeps, if it keeps any: fewer than a group; each outcome is of its instance, over items of the state that its pass knows.
+pub record AreKeptIn (opening : Opening) (known : Known) (batch : Batch) : Type 0 where
+  pub few : length batch.tasks < GROUP
+  pub outcomes : HaveOutcomes opening.graph (facts_behind opening known.seen) batch.tasks batch.outcomes
+
+abbrev pub AreKept : Opening → Known → Option Batch → Type 0
+AreKept opening known kept = IfSome kept (AreKeptIn opening known)
+
+-- after a turn the worker goes on with what it keeps, or it ends, with `Full` only if its pass saw such a prefix
+abbrev pub IsTurned : Opening → Known → Turned → Type 0
+IsTurned opening known (turned.GoesOn kept) = AreKept opening known kept
+IsTurned opening known (turned.Ends met) = Justifies opening met known
+
+-- it goes on and keeps nothing, unless it met something
+abbrev pub turned_by : Option Met → Turned
+turned_by None = turned.GoesOn None
+turned_by (Some met) = turned.Ends (Some met)
+
+-- ---- the team
+
+-- one of the passes saw such a prefix
 abbrev pub OneSawFull : Opening → List Known → Type 0
 OneSawFull opening [] = ⊥
 OneSawFull opening (known ∷ passes) = SawFull opening known ⊎ OneSawFull opening passes
 
--- The ends that workers committed are one run; and where one of them met `Full`, an end was so refused in it.
+-- The commits of workers are one run; and where one of them met `Full`, ends were so refused in it.
 pub record WorksOn {D : Type 0} (files : D → Side → File) (moment : D → ℕ) (left_at : D → ℕ → Contents → Type 0) (failures refusals : D → ℕ) (honest : Type 0) (old new : Core D) (full : Bool) : Type 0 where
-  pub ends : List Event
-  pub runs : Runs files moment left_at failures refusals honest old new ends
-  pub met : full ≡ true → MetFull (graph old) (facts old) old.vault.journal.end ends
+  pub commits : List Commit
+  pub runs : Runs files moment left_at failures refusals honest old new commits
+  pub met : full ≡ true → MetFull (graph old) (facts old) old.vault.journal.end commits

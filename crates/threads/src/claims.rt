@@ -3,9 +3,8 @@ use crate::handles::Handles;
 use crate::stores::{fib, number};
 use crate::task::{release, spent};
 use anyhow::{Error, bail};
-use commit::Came;
 use disk::Disk;
-use hub::{EnvPass, Hub, WorkPass};
+use hub::{EnvPass, Hub, Ran, WorkPass};
 use passes::Naming;
 use std::io::Print;
 
@@ -56,8 +55,8 @@ fn busy_until_it_waits<J: Naming, D: Disk, R: Handles>(
     };
     let busy = hub.busy(rt, worker);
     match hub.run(rt, rt.alloc(), worker, &task) {
-        Ok(Came::Waits(parked)) => spent(rt, hub.park(rt, worker, task, parked))?,
-        Ok(Came::Ended(_)) => {
+        Ok(Ran::Waits(run)) => spent(rt, hub.park(rt, worker, task, run.park()))?,
+        Ok(Ran::Ended(_)) => {
             release(rt, hub, worker, task)?;
             bail!("it ended")
         }

@@ -8,9 +8,9 @@ use crate::handles::Handles;
 use crate::stores::{created, fib, number};
 use crate::task::{keep, release};
 use anyhow::{Error, bail};
-use commit::{Came, Core, Outcome};
+use commit::{Core, Outcome};
 use disk::{Disk, MemDisk};
-use hub::{Hub, TaskError, WorkPass};
+use hub::{Hub, Ran, TaskError, WorkPass};
 use instances::Task;
 use passes::{Blank, Naming};
 use std::io::Print;
@@ -84,8 +84,8 @@ fn outcome_here<'a, J: Naming, D: Disk + Drop, R: Handles>(
     let came = here.run(rt, rt.alloc(), runner, &task);
     release(rt, here, releaser, task)?;
     match came? {
-        Came::Ended(outcome) => Ok((instance, outcome)),
-        Came::Waits(_) => bail!("it waits"),
+        Ran::Ended(outcome) => Ok((instance, outcome)),
+        Ran::Waits(_) => bail!("it waits"),
     }
 }
 

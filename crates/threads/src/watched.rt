@@ -7,9 +7,9 @@ use crate::stores::{bytes, created, fib, number};
 use crate::task::keep;
 use anyhow::{Error, bail};
 use cells::Watch;
-use commit::{Came, Core, CoreError};
+use commit::{Core, CoreError};
 use disk::{Disk, MemDisk};
-use hub::{EnvPass, Hub, TaskError, WorkPass, hubs_cross};
+use hub::{EnvPass, Hub, Ran, TaskError, WorkPass, hubs_cross};
 use instances::Task;
 use passes::{Blank, Naming};
 use std::io::Print;
@@ -169,8 +169,8 @@ fn run<J: Naming, D: Disk, R: Handles>(
     requires { InstanceIsOf J.opening.graph task }
 {
     match hub.run(rt, rt.alloc(), pass, &task) {
-        Ok(Came::Ended(outcome)) => settled(rt, hub.finish(rt, pass, task, outcome)),
-        Ok(Came::Waits(parked)) => settled(rt, hub.park(rt, pass, task, parked)),
+        Ok(Ran::Ended(outcome)) => settled(rt, hub.finish(rt, pass, task, outcome)),
+        Ok(Ran::Waits(run)) => settled(rt, hub.park(rt, pass, task, run.park())),
         Err(error) => {
             settled(rt, hub.release(rt, pass, task))?;
             Err(error)

@@ -1,4 +1,4 @@
-use Rattle.std.proofs.Common.{rules, ◌≡◌, ◌+◌, ◌≤◌, ◌⊎◌, ⊎_elim, List, Some, true, sym, subst, vec_capacity, vec_len}
+use Rattle.std.proofs.Common.{rules, ◌≡◌, ◌+◌, ◌≤◌, ⊎_elim, List, Some, true, sym, subst, vec_capacity, vec_len}
 use Rattle.passes.specs.Known.{Known}
 use Rattle.pool.specs.declared.worker.Met.TheVariants.{Asked as MetAsked, Full as MetFull}
 use Rattle.pool.specs.Worked.{OneSawFull}

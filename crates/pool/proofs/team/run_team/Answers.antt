@@ -1,6 +1,6 @@
 use Rattle.std.proofs.Common.{◌≡◌, ◌∙◌, ◌+◌, ◌≤◌, ap, sym, subst, false, length, vec_capacity, vec_len, IsTrue, arith}
 use Rattle.commit.specs.Core.{Core}
-use Rattle.passes.specs.Known.{events}
+use Rattle.passes.specs.Known.{commits}
 use Rattle.passes.specs.Opening.{Opening}
 use Rattle.pool.specs.Worked.{WorksOn}
 use Rattle.pool.proofs.Teams.{as_many, met_by_team, nothing_done, one_out, runs_of_team}
@@ -18,8 +18,8 @@ returns-clause-works g c =
     let none : g.J.Naming.envs ≡ 0 = c.requires.named.envs_are ∙ c.requires.passes.0 in
     let working : g.J.Naming.opening.halted ≡ false = ap (λ (o : Opening). o.halted) c.requires.named.opening_is ∙ c.requires.working in
     record {
-      ends = events whole.0;
-      runs = runs_of_team g.D.Disk.files g.D.Disk.moment g.D.Disk.left_at g.D.Disk.failures g.D.Disk.refusals (IsTrue g.D.Disk.is_honest) g.J.Naming.opening g.J.Naming.left c.args.core c.close_when_idle-core.result (events whole.0)
+      commits = commits whole.0;
+      runs = runs_of_team g.D.Disk.files g.D.Disk.moment g.D.Disk.left_at g.D.Disk.failures g.D.Disk.refusals (IsTrue g.D.Disk.is_honest) g.J.Naming.opening g.J.Naming.left c.args.core c.close_when_idle-core.result (commits whole.0)
           c.requires.named.opening_is c.requires.named.left_is (whole.1.ran.run none working);
       met = λ full. met_by_team g.D.Disk.files g.D.Disk.moment g.D.Disk.left_at g.D.Disk.failures g.D.Disk.refusals (IsTrue g.D.Disk.is_honest) g.J.Naming.opening c.args.core whole.0 _ _ c.requires.named.opening_is whole.1.each (c.in_threads-back.ensures.full full);
     }
