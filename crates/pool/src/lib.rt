@@ -11,6 +11,7 @@ mod crew;
 mod driver;
 mod driving;
 mod probe;
+mod settling;
 mod team;
 mod worker;
 

@@ -1,23 +1,18 @@
 //! What one worker does.
-ghost use Rattle.std.specs.Prelude.{◌≡◌, IsErrOf, None, Some, true};
-ghost use mathlib.Core.List.{IsPrefix};
+ghost use Rattle.std.specs.Prelude.{◌≡◌, None, Some, true};
 ghost use Rattle.graph.specs.Fits.{InstanceIsOf};
-ghost use Rattle.vault.specs.declared.error.VaultError.TheVariants.{Full};
-ghost use Rattle.commit.specs.declared.error.CoreError.TheVariants.{Store};
-ghost use Rattle.commit.specs.Batch.{HaveOutcomes};
 ghost use Rattle.commit.specs.Came.{IsOutcomeIn};
 ghost use Rattle.hub.specs.Opening.{facts_behind};
 ghost use Rattle.hub.specs.Running.{WaitsIn};
-ghost use Rattle.hub.specs.Tasks.{OnTask};
-ghost use Rattle.hub.specs.declared.error.BatchError.TheVariants.{Refused as AllRefused};
 ghost use Rattle.pool.specs.declared.worker.Met.TheVariants.{Asked as MetAsked, Full as MetFull};
 ghost use Rattle.pool.specs.declared.worker.Turned.TheVariants.{Ends};
-ghost use Rattle.pool.specs.Worked.{AreKept, IsTurned, Justifies, met_after, met_after_all, met_by, turned_by};
+ghost use Rattle.pool.specs.Worked.{AreKept, IsTurned, Justifies, turned_by};
 
+use crate::settling::{commit, commit_kept, finish, park, settled, stopped_by};
 use crate::{Answer, Probe};
-use commit::{Batch, CoreError, Outcome};
+use commit::{Batch, Outcome};
 use disk::Disk;
-use hub::{BatchError, Hub, Ran, TaskError, WorkPass};
+use hub::{Hub, Ran, WorkPass};
 use instances::Task;
 use machine::results_are_meant;
 use passes::Naming;
@@ -28,7 +23,6 @@ use std::sync::Wait;
 use std::thread::{Promise, yield_now};
 use steplang::Run;
 use terms::{facts_are_told_apart, facts_go_on};
-use vault::VaultError;
 
 /// Why a worker asked all workers to end.
 #[derive(Clone, Copy, Debug, PartialEq, Eq)]
@@ -235,22 +229,6 @@ fn wait<'a, J: Naming, D: Disk, R: Wait>(
     }
 }
 
-// Lets the instance wait for the item that its body asks for.
-fn park<'a, J: Naming, D: Disk, R: Wait>(
-    rt: &R,
-    hub: &'a Hub<J, D>,
-    pass: &mut WorkPass<J>,
-    task: Task,
-    run: Run<'a>,
-) -> Option<Met>
-    requires { WaitsIn J.opening.graph (facts_behind J.opening pass.old.seen) task run }
-    ensures asked { result ≡ Some MetAsked → ⊥ }
-    ensures full { Justifies J.opening result pass.new }
-{
-    let parked = run.park();
-    settled(rt, hub.park(rt, pass, task, parked))
-}
-
 // Keeps the outcome of an instance with the others, and commits them if they are a group. If there is no memory to keep it, it is
 // committed by itself.
 fn keep<'a, J: Naming, D: Disk, R: Wait>(
@@ -322,55 +300,6 @@ fn goes_on_unless<'a>(met: Option<Met>) -> Turned<'a>
     }
 }
 
-// Commits what is kept, if anything is.
-fn commit_kept<'a, J: Naming, D: Disk, R: Wait>(
-    rt: &R,
-    hub: &'a Hub<J, D>,
-    pass: &mut WorkPass<J>,
-    kept: Option<Batch<'a>>,
-) -> Option<Met>
-    requires { AreKept J.opening pass.old kept }
-    ensures asked { result ≡ Some MetAsked → ⊥ }
-    ensures full { Justifies J.opening result pass.new }
-{
-    match kept {
-        Some(batch) => commit(rt, hub, pass, batch),
-        None => None,
-    }
-}
-
-// Commits the outcomes of a batch together.
-fn commit<'a, J: Naming, D: Disk, R: Wait>(
-    rt: &R,
-    hub: &'a Hub<J, D>,
-    pass: &mut WorkPass<J>,
-    batch: Batch<'a>,
-) -> Option<Met>
-    requires { HaveOutcomes J.opening.graph (facts_behind J.opening pass.old.seen) batch.tasks batch.outcomes }
-    ensures ahead { IsPrefix pass.old.seen pass.new.seen }
-    ensures asked { result ≡ Some MetAsked → ⊥ }
-    ensures full { Justifies J.opening result pass.new }
-{
-    // What is known of every batch: it has an instance.
-    batch.len();
-    settled_all(rt, hub.finish_all(rt, pass, batch))
-}
-
-// Commits the outcome of an instance by itself.
-fn finish<'a, J: Naming, D: Disk, R: Wait>(
-    rt: &R,
-    hub: &'a Hub<J, D>,
-    pass: &mut WorkPass<J>,
-    task: Task,
-    outcome: Outcome<'a>,
-) -> Option<Met>
-    requires { IsOutcomeIn J.opening.graph (facts_behind J.opening pass.old.seen) task outcome }
-    ensures asked { result ≡ Some MetAsked → ⊥ }
-    ensures full { Justifies J.opening result pass.new }
-{
-    settled(rt, hub.finish(rt, pass, task, outcome))
-}
-
 // Waits a little for a commit, since mostly a commit makes an instance ready.
 fn look_for_commits<J: Naming, D: Disk>(hub: &Hub<J, D>, pass: &mut WorkPass<J>) {
     let before = hub.commits(pass);
@@ -383,78 +312,5 @@ fn look_for_commits<J: Naming, D: Disk>(hub: &Hub<J, D>, pass: &mut WorkPass<J>)
         if hub.commits(pass) != before {
             return;
         }
-    }
-}
-
-// What ends the worker, given the answer of a call that spent its task; or nothing.
-fn settled<T: Drop, R: Wait>(rt: &R, answer: Result<T, TaskError>) -> Option<Met>
-    ensures met { result ≡ met_after answer }
-    ensures asked { result ≡ Some MetAsked → ⊥ }
-    ensures full { result ≡ Some MetFull → OnTask answer (λ _. ⊥) (λ answer. IsErrOf answer (Store Full)) }
-{
-    match answer {
-        Ok(done) => {
-            drop(done);
-            None
-        }
-        Err(TaskError::Refused(error)) => Some(met_of(error)),
-        Err(TaskError::Foreign(task)) => stranded(rt, task),
-    }
-}
-
-// What ends the worker, given the answer of a call that spent a batch; or nothing.
-fn settled_all<T: Drop, R: Wait>(rt: &R, answer: Result<T, BatchError<'_>>) -> Option<Met>
-    ensures met { result ≡ met_after_all answer.entry }
-    ensures asked { result ≡ Some MetAsked → ⊥ }
-    ensures full { result ≡ Some MetFull → IsErrOf answer.entry (AllRefused (Store Full)) }
-{
-    match answer {
-        Ok(done) => {
-            drop(done);
-            None
-        }
-        Err(BatchError::Refused(error)) => Some(met_of(error)),
-        Err(BatchError::Foreign(batch)) => stranded_batch(rt, batch),
-    }
-}
-
-// No task of this hub is foreign to it, though no clause says so: this is never called. It does not return, since a
-// task cannot be dropped.
-fn stranded<R: Wait>(rt: &R, task: Task) -> Option<Met>
-    ensures { result ≡ None }
-{
-    for _ in rt.forever() {}
-    let _ = task.inst();
-    unreachable!()
-}
-
-// The same for a batch.
-fn stranded_batch<R: Wait>(rt: &R, batch: Batch<'_>) -> Option<Met>
-    ensures { result ≡ None }
-{
-    for _ in rt.forever() {}
-    batch.len();
-    unreachable!()
-}
-
-// What a worker meets by an error of a run, which reads and commits nothing.
-fn stopped_by(error: CoreError) -> Met
-    ensures { (result ≡ MetFull → ⊥) × (result ≡ MetAsked → ⊥) }
-{
-    match error {
-        CoreError::Store(VaultError::NoMemory) => Met::NoMemory,
-        _ => Met::Other,
-    }
-}
-
-fn met_of(error: CoreError) -> Met
-    ensures met { result ≡ met_by error }
-    ensures asked { result ≡ MetAsked → ⊥ }
-    ensures full { result ≡ MetFull → error ≡ Store Full }
-{
-    match error {
-        CoreError::Store(VaultError::Full) => Met::Full,
-        CoreError::Store(VaultError::NoMemory) => Met::NoMemory,
-        _ => Met::Other,
     }
 }

@@ -4,7 +4,7 @@ use Rattle.commit.specs.Batch.{ends_said}
 use Rattle.hub.specs.Batches.{OnBatch, RefusesTogether}
 use Rattle.hub.specs.declared.error.BatchError.{BatchError}
 use Rattle.pool.proofs.Kept.{saw_batch}
-use Rattle.pool.proofs.worker.commit.Goals as goal
+use Rattle.pool.proofs.settling.commit.Goals as goal
 
 pub returns-clause-full : goal.returns-clause-full
 returns-clause-full g c is =
