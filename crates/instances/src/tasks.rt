@@ -1,5 +1,5 @@
 use crate::Task;
-use std::alloc::Global;
+use std::alloc::{AllocError, Global};
 use std::collections::VecDeque;
 use std::marker::Model;
 use terms::Inst;
@@ -21,16 +21,23 @@ impl Model for Tasks {
 impl Tasks {
     ghost use Rattle.std.specs.Prelude.{◌≡◌, ◌==◌, ◌++◌, ◌∷◌, [], IfErr, IfOk, MatchOption, OnOk, length, slice_get};
 
+    /// No task yet, and room for `count` tasks at once.
+    pub fn with_room(alloc: Global, count: usize) -> Result<Tasks, AllocError>
+        ensures { IfOk result (λ tasks. tasks ≡ []) }
+    {
+        let insts = VecDeque::with_capacity(alloc, count)?;
+        Ok(Tasks { insts })
+    }
+
     /// One task, and room for `count` tasks at once. If there is no memory, the task comes back.
     pub fn new(alloc: Global, task: Task, count: usize) -> Result<Tasks, Task>
         ensures ok { IfOk result (λ tasks. tasks ≡ task ∷ []) }
         ensures back { IfErr result (λ back. back ≡ task) }
     {
-        let insts = match VecDeque::with_capacity(alloc, count) {
-            Ok(insts) => insts,
+        let mut tasks = match Tasks::with_room(alloc, count) {
+            Ok(tasks) => tasks,
             Err(_) => return Err(task),
         };
-        let mut tasks = Tasks { insts };
         match tasks.add(task) {
             Ok(()) => Ok(tasks),
             Err(task) => {

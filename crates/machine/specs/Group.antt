@@ -95,7 +95,7 @@ StopsAt None rest = rest ≡ []
 StopsAt (Some kind) rest = StopsNext kind rest
 
 -- The answer to a look at a group of ends: the first `done` of them are ends of instances that are done, and then comes a fault, or no more. What comes
--- is legal, each behind those before it. So the answer is as far as the group can come, and no other answer is.
+-- is legal, each after those before it.
 pub record EndsTogether (g : Graph) (X : Facts) (events : List Event) (ended : Ended) : Type 0 where
   pub within : ended.done ≤ length events
   pub done : AllByRecursion IsDone (take ended.done events)

@@ -156,6 +156,11 @@ impl<'a> Run<'a> {
         }
     }
 
+    /// How many statements and turns of loops it has made so far. No clause says it: it is for whoever shares out the work.
+    pub fn statements(&self) -> u32 {
+        self.machine.counted
+    }
+
     /// Turns a run that asks for an item into a `Parked` instance.
     pub fn park(self) -> Parked<'a>
         requires { IsSome (pending_of self.awaits) }
