@@ -9,3 +9,4 @@ pub mod Bodies
 pub mod Since
 pub mod TwoPuts
 pub mod Batches
+pub mod Claims

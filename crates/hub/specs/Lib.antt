@@ -7,3 +7,4 @@ pub mod Tasks
 pub mod Both
 pub mod Running
 pub mod Batches
+pub mod Claims

@@ -42,7 +42,7 @@ pub record WaitsIn (g : Graph) (X : Facts) (instance : Inst) (run : Running) : T
 
 -- an end, or a run that awaits an item that is not of this set; the items that it read are of it
 abbrev pub RanIn : Graph → Facts → Inst → Ran → Type 0
-RanIn g X instance (Ended outcome) = IsOutcomeIn g X instance outcome
+RanIn g X instance (Ended outcome statements) = IsOutcomeIn g X instance outcome
 RanIn g X instance (Waits run) = (it : WaitsIn g X instance run) × IsAbsent X it.address
 
 -- the body of the instance, along items of this set that it read, asks for the item at this address

@@ -5,13 +5,19 @@ use cells::Watch;
 use commit::{Batch, Committed, CoreError, Outcome};
 use disk::Disk;
 use graph::Graph;
-use instances::Task;
+use instances::{Task, Tasks};
 use machine::Ended;
 use passes::{Board, Kind, Naming, Pass};
 use std::alloc::Global;
-use std::sync::{Arc, Mutex, Wait};
+use std::sync::{Arc, Mutex, MutexGuard, Wait};
+use std::thread::yield_now;
 use steplang::Parked;
 use terms::{Addr, Tag};
+
+// How often a thread looks whether the lock is free before it sleeps until it is woken. A look yields to other threads, some third of a
+// microsecond. Looking is cheaper for all than sleeping, as long as the lock is held for a few commits in memory: a thread that is woken takes tens of
+// microseconds to come, and the lock may rest until it has.
+const LOOKS: u32 = 128;
 
 /// A store that threads share. Each thread calls it with a pass of its own. After each locked call the pass has seen a
 /// history that begins with what it had seen before.
@@ -52,6 +58,7 @@ impl<J: Naming, D: Disk> Hub<J, D> {
     ghost use Rattle.hub.specs.Tasks.{OnTask, RefusesEndOf};
     ghost use Rattle.commit.specs.Batch.{HaveOutcomes, ends_said};
     ghost use Rattle.hub.specs.Batches.{AddsTogether, OnBatch, RefusesTogether};
+    ghost use Rattle.hub.specs.Claims.{AddsClaimed, RefusesClaims};
 
     // Takes the hub apart.
     pub(crate) fn into_parts(self) -> (Board<J>, Kept<J, D>, Arc<Graph>, usize)
@@ -65,6 +72,17 @@ impl<J: Naming, D: Disk> Hub<J, D> {
             count,
         } = self;
         (board, kept.into_inner(), graph, count)
+    }
+
+    // Takes the lock.
+    fn locked<R: Wait>(&self, rt: &R) -> MutexGuard<'_, Kept<J, D>> {
+        for _ in 0..LOOKS {
+            if let Some(kept) = self.kept.try_lock() {
+                return kept;
+            }
+            yield_now();
+        }
+        self.kept.lock(rt)
     }
 
     /// Puts an item of the environment. The refusals are those of the core's `put_item`, in the state after what the pass
@@ -81,7 +99,7 @@ impl<J: Naming, D: Disk> Hub<J, D> {
         ensures err { OnErr result (AddsNothing pass.old pass.new) }
         ensures refused { IfErr result (RefusesEvent J.opening pass.new (λ g X. RefusesItem g X addr) (EnvItem addr value)) }
     {
-        self.kept.lock(rt).put_item(&self.board, pass, addr, value)
+        self.locked(rt).put_item(&self.board, pass, addr, value)
     }
 
     /// Puts a tag of the environment. The refusals are those of the core's `put_tag`, in the state after what the pass
@@ -92,7 +110,7 @@ impl<J: Naming, D: Disk> Hub<J, D> {
         ensures err { OnErr result (AddsNothing pass.old pass.new) }
         ensures refused { IfErr result (RefusesEvent J.opening pass.new (λ g X. RefusesTag g X tag) (EnvTag tag)) }
     {
-        self.kept.lock(rt).put_tag(&self.board, pass, tag)
+        self.locked(rt).put_tag(&self.board, pass, tag)
     }
 
     /// The value at an address, as the environment gets it, in the state after what the pass has then seen.
@@ -107,7 +125,7 @@ impl<J: Naming, D: Disk> Hub<J, D> {
         ensures value { IfOk result (IsValueAt (facts_behind J.opening pass.new.seen) addr) }
         ensures refused { IfErr result (RefusesQuestion (RefusesGet J.opening.graph addr)) }
     {
-        self.kept.lock(rt).get(&self.board, pass, addr)
+        self.locked(rt).get(&self.board, pass, addr)
     }
 
     /// A watch on the item at an address, for whoever may get it. The refusals are those of `get`; where it may be watched,
@@ -128,7 +146,7 @@ impl<J: Naming, D: Disk> Hub<J, D> {
         ensures refused { IfErr result (RefusesWatch (EnvironmentMayGet J.opening.graph addr) (RefusesGet J.opening.graph addr)) }
     {
         let made = Watch::pair(alloc);
-        self.kept.lock(rt).watch(&self.board, pass, addr, made)
+        self.locked(rt).watch(&self.board, pass, addr, made)
     }
 
     /// The value at an address, as a step reads it, in the state after what the pass has then seen.
@@ -143,7 +161,7 @@ impl<J: Naming, D: Disk> Hub<J, D> {
         ensures value { IfOk result (IsValueAt (facts_behind J.opening pass.new.seen) addr) }
         ensures refused { IfErr result (RefusesQuestion (RefusesRead J.opening.graph addr)) }
     {
-        self.kept.lock(rt).read(&self.board, pass, addr)
+        self.locked(rt).read(&self.board, pass, addr)
     }
 
     /// Lets one of the ready instances run, by its number among them, as the core's `claim` does.
@@ -157,7 +175,25 @@ impl<J: Naming, D: Disk> Hub<J, D> {
         ensures claimed { IfOk result (λ claimed. IfSome claimed (MayRun J.opening pass.new)) }
         ensures refused { IfErr result SaysHalted }
     {
-        self.kept.lock(rt).claim(&self.board, pass, at)
+        self.locked(rt).claim(&self.board, pass, at)
+    }
+
+    /// Lets up to `most` of the ready instances run, one after another as `claim` does, and adds their tasks to these. It takes fewer where few are
+    /// ready, so that there are some for each pass. `Ok` says whether an instance runs then; no clause says which it returns. If there is no memory
+    /// for a task, its instance is ready again; the tasks before it were added.
+    pub fn claim_some<R: Wait>(
+        &self,
+        rt: &R,
+        pass: &mut WorkPass<J>,
+        tasks: &mut Tasks,
+        most: usize,
+    ) -> Result<bool, CoreError>
+        ensures seen { Sees J.opening pass.old pass.new × AddsNothing pass.old pass.new }
+        ensures claimed { AddsClaimed J.opening pass.new most tasks.old tasks.new }
+        ensures refused { IfErr result RefusesClaims }
+    {
+        self.locked(rt)
+            .claim_some(&self.board, pass, tasks, most, self.count)
     }
 
     /// Lets an instance wait for the item that its body asks for, unless the item is there by now.
@@ -175,7 +211,7 @@ impl<J: Naming, D: Disk> Hub<J, D> {
         ensures seen { Sees J.opening pass.old pass.new × AddsNothing pass.old pass.new }
         ensures refused { OnTask result (λ back. back ≡ task) (λ answer. IfErr answer (RefusesWait J.opening pass.new parked.entry.address)) }
     {
-        self.kept.lock(rt).park(&self.board, pass, task, parked)
+        self.locked(rt).park(&self.board, pass, task, parked)
     }
 
     /// Gives the instance of a task back: it is ready.
@@ -188,7 +224,7 @@ impl<J: Naming, D: Disk> Hub<J, D> {
         ensures seen { Sees J.opening pass.old pass.new × AddsNothing pass.old pass.new }
         ensures foreign { OnTask result (λ back. back ≡ task) (λ answer. answer ≡ Ok tt) }
     {
-        self.kept.lock(rt).release(&self.board, pass, task)
+        self.locked(rt).release(&self.board, pass, task)
     }
 
     /// Commits what the body of an instance came to: the instance is done, with its puts, or at fault.
@@ -208,7 +244,7 @@ impl<J: Naming, D: Disk> Hub<J, D> {
         ensures err { OnErr result (AddsNothing pass.old pass.new) }
         ensures refused { OnTask result (λ back. back ≡ task) (λ answer. IfErr answer (RefusesEndOf J.opening pass.new task outcome.entry)) }
     {
-        self.kept.lock(rt).finish(&self.board, pass, task, outcome)
+        self.locked(rt).finish(&self.board, pass, task, outcome)
     }
 
     /// Commits what the bodies of several instances came to, as one: all of it, or all of it up to the first fault. The
@@ -228,14 +264,34 @@ impl<J: Naming, D: Disk> Hub<J, D> {
         ensures err { OnErr result (AddsNothing pass.old pass.new) }
         ensures refused { OnBatch result (λ back. back ≡ batch.entry) (λ answer. IfErr answer (RefusesTogether J.opening pass.new (ends_said batch.entry))) }
     {
-        self.kept.lock(rt).finish_all(&self.board, pass, batch)
+        self.locked(rt).finish_all(&self.board, pass, batch)
+    }
+
+    /// `finish_all`, and then, if it is not refused, `claim_some`, with one visit of the lock.
+    pub fn exchange<'a, R: Wait>(
+        &self,
+        rt: &R,
+        pass: &mut WorkPass<J>,
+        batch: Batch<'a>,
+        tasks: &mut Tasks,
+        most: usize,
+    ) -> Result<Ended, BatchError<'a>>
+        requires { HaveOutcomes J.opening.graph (facts_behind J.opening pass.old.seen) batch.tasks batch.outcomes }
+        ensures seen { Sees J.opening pass.old pass.new }
+        ensures ok { IfOk result (AddsTogether J.opening (ends_said batch.entry) pass.old pass.new) }
+        ensures err { OnErr result (AddsNothing pass.old pass.new) }
+        ensures refused { OnBatch result (λ back. back ≡ batch.entry) (λ answer. IfErr answer (RefusesTogether J.opening pass.new (ends_said batch.entry))) }
+        ensures claimed { AddsClaimed J.opening pass.new most tasks.old tasks.new }
+    {
+        self.locked(rt)
+            .exchange(&self.board, pass, batch, tasks, most, self.count)
     }
 
     /// Whether an instance runs, or may be claimed. No clause says which it returns.
     pub fn busy<R: Wait>(&self, rt: &R, pass: &mut WorkPass<J>) -> bool
         ensures { Sees J.opening pass.old pass.new × AddsNothing pass.old pass.new }
     {
-        self.kept.lock(rt).busy(&self.board, pass)
+        self.locked(rt).busy(&self.board, pass)
     }
 
     /// The graph; bodies of it are run outside the lock.

@@ -15,6 +15,7 @@ mod error;
 mod hub;
 mod kept;
 mod kept_batch;
+mod kept_claims;
 mod open;
 mod pass;
 mod running;

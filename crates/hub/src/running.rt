@@ -22,8 +22,8 @@ use vault::VaultError;
 /// What running the body of an instance came to.
 #[derive(Drop)]
 pub enum Ran<'a> {
-    /// The body's end.
-    Ended(Outcome<'a>),
+    /// The body's end, and how many statements and turns of loops the body made.
+    Ended(Outcome<'a>, u32),
     /// The body asks for an item that was not there. It can go on once the item is (`Hub::resume`), or be parked.
     Waits(Run<'a>),
 }
@@ -104,8 +104,12 @@ impl<J: Naming, D: Disk> Hub<J, D> {
                     Some(value) => answer = Some(value),
                     None => return Ok(Ran::Waits(run)),
                 },
-                Ok(Turn::Gave(given)) => return Ok(Ran::Ended(Outcome::Gave(given))),
-                Ok(Turn::Fault(bad)) => return Ok(Ran::Ended(Outcome::Fault(bad))),
+                Ok(Turn::Gave(given)) => {
+                    return Ok(Ran::Ended(Outcome::Gave(given), run.statements()));
+                }
+                Ok(Turn::Fault(bad)) => {
+                    return Ok(Ran::Ended(Outcome::Fault(bad), run.statements()));
+                }
                 Err(_) => return Err(CoreError::Store(VaultError::NoMemory)),
             }
         }

@@ -8,6 +8,7 @@ use Rattle.terms.specs.declared.event.Event.TheVariants as event
 use Rattle.terms.specs.declared.fault.FaultKind.{FaultKind}
 use Rattle.terms.specs.Facts.{FactsGoOn}
 use Rattle.terms.specs.Sets.{AmongBoth}
+use Rattle.graph.specs.Fits.{InstanceIsOf}
 use Rattle.machine.specs.Group.{cut, stop_at, stopped_as}
 use Rattle.machine.specs.Results.{ReadsStay}
 use Rattle.commit.specs.declared.outcome.Outcome.{Outcome}
@@ -17,12 +18,15 @@ use Rattle.commit.specs.Came.{IsOutcomeIn}
 use Rattle.commit.specs.Runs.{IsEnd}
 use Rattle.passes.specs.Known.{Known}
 use Rattle.passes.specs.Opening.{Opening}
+use Rattle.passes.proofs.Gathered.{all_of_both}
 use Rattle.passes.proofs.Lists.{prefix_further, prefix_self}
 use Rattle.hub.specs.Batches.{HaveNoRoom}
+use Rattle.hub.specs.Claims.{AddsClaimed}
 use Rattle.hub.specs.Opening.{end_behind, facts_behind}
+use Rattle.hub.specs.Replies.{MayRun}
 use Rattle.hub.proofs.Batches.{outcomes_more, outcomes_stay, some_come}
 use Rattle.pool.specs.declared.worker.Met.{Met}
-use Rattle.pool.specs.Worked.{AreKept, IsTurned, Justifies, SawFull, turned_by}
+use Rattle.pool.specs.Worked.{AreClaimed, AreKept, IsTurned, Justifies, SawFull, turned_by}
 
 -- ---- what is kept
 
@@ -33,6 +37,23 @@ kept_stay both go_on stay opening old new (Some batch) begins are = record {
   few = are.few;
   outcomes = outcomes_stay both go_on stay opening old.seen new.seen begins batch.tasks batch.outcomes are.outcomes;
 }
+
+-- ---- what is claimed
+
+of_graph : (opening : Opening) (known : Known) (list : List Inst) → AllByRecursion (MayRun opening known) list → AllByRecursion (InstanceIsOf opening.graph) list
+of_graph opening known [] all = tt
+of_graph opening known (task ∷ tasks) all = (all.0.may_end.of_graph, of_graph opening known tasks all.1)
+
+-- more are claimed
+pub claimed_more : (opening : Opening) (known : Known) (most : ℕ) (old new : List Inst) → AddsClaimed opening known most old new → AreClaimed opening old → AreClaimed opening new
+claimed_more opening known most old new adds are =
+    subst (AreClaimed opening) (sym adds.added) (all_of_both (InstanceIsOf opening.graph) old adds.more are (of_graph opening known adds.more adds.may_run))
+
+-- the first one is taken
+pub first_claimed : (opening : Opening) (task : Inst) (old new : List Inst) → old ≡ task ∷ new → AreClaimed opening old → InstanceIsOf opening.graph task × AreClaimed opening new
+first_claimed opening task old new is are = subst (AreClaimed opening) is are
+
+-- ---- what is kept, further
 
 -- the outcomes of a batch with one more
 pub added : (opening : Opening) (known : Known) (old new : Batch) (task : Inst) (outcome : Outcome) → new.tasks ≡ old.tasks ++ task ∷ [] → new.outcomes ≡ old.outcomes ++ outcome ∷ []

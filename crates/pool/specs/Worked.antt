@@ -1,9 +1,12 @@
 -- What workers make of a core, and what a worker knows of a refusal that it met.
 use Rattle.std.specs.Prelude.{◌≡◌, ◌⊎◌, ℕ, Bool, true, List, [], ◌∷◌, Option, None, Some, IfSome, ◌<◌, length, Result, Ok, Err}
+use Rattle.std.specs.List.{AllByRecursion}
 use Rattle.disk.specs.declared.side.Side.{Side}
 use Rattle.disk.specs.File.{File}
 use Rattle.disk.specs.Time.{Contents}
 use Rattle.terms.specs.Commits.{Commit}
+use Rattle.terms.specs.declared.name.Inst.{Inst}
+use Rattle.graph.specs.Fits.{InstanceIsOf}
 use Rattle.vault.specs.declared.error.VaultError.TheVariants as vault
 use Rattle.commit.specs.declared.error.CoreError.{CoreError}
 use Rattle.commit.specs.declared.error.CoreError.TheVariants.{Store}
@@ -58,6 +61,10 @@ pub record AreKeptIn (opening : Opening) (known : Known) (batch : Batch) : Type 
 
 abbrev pub AreKept : Opening → Known → Option Batch → Type 0
 AreKept opening known kept = IfSome kept (AreKeptIn opening known)
+
+-- the instances that a worker has claimed and not begun are of the graph
+abbrev pub AreClaimed : Opening → List Inst → Type 0
+AreClaimed opening claimed = AllByRecursion (InstanceIsOf opening.graph) claimed
 
 -- after a turn the worker goes on with what it keeps, or it ends, with `Full` only if its pass saw such a prefix
 abbrev pub IsTurned : Opening → Known → Turned → Type 0

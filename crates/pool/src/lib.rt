@@ -10,7 +10,9 @@
 mod crew;
 mod driver;
 mod driving;
+mod hand;
 mod probe;
+mod running;
 mod settling;
 mod team;
 mod worker;

@@ -10,9 +10,10 @@ ghost use Rattle.hub.specs.Running.{WaitsIn};
 ghost use Rattle.hub.specs.Tasks.{OnTask};
 ghost use Rattle.hub.specs.declared.error.BatchError.TheVariants.{Refused as AllRefused};
 ghost use Rattle.pool.specs.declared.worker.Met.TheVariants.{Asked as MetAsked, Full as MetFull};
-ghost use Rattle.pool.specs.Worked.{AreKept, Justifies, met_after, met_after_all, met_by};
+ghost use Rattle.pool.specs.Worked.{AreClaimed, AreKept, Justifies, met_after, met_after_all, met_by};
 
-use crate::worker::Met;
+use crate::hand::Hand;
+use crate::worker::{GROUP, Met};
 use commit::{Batch, CoreError, Outcome};
 use disk::Disk;
 use hub::{BatchError, Hub, TaskError, WorkPass};
@@ -31,8 +32,9 @@ pub(crate) fn park<'a, J: Naming, D: Disk, R: Wait>(
     run: Run<'a>,
 ) -> Option<Met>
     requires { WaitsIn J.opening.graph (facts_behind J.opening pass.old.seen) task run }
+    ensures ahead { IsPrefix pass.old.seen pass.new.seen }
     ensures asked { result ≡ Some MetAsked → ⊥ }
-    ensures full { Justifies J.opening result pass.new }
+    ensures full { result ≡ Some MetFull → ⊥ }
 {
     let parked = run.park();
     settled(rt, hub.park(rt, pass, task, parked))
@@ -70,6 +72,25 @@ pub(crate) fn commit<'a, J: Naming, D: Disk, R: Wait>(
     // What is known of every batch: it has an instance.
     batch.len();
     settled_all(rt, hub.finish_all(rt, pass, batch))
+}
+
+/// Commits the outcomes of a batch together, and claims the next group of instances with the same visit of the lock.
+pub(crate) fn exchange<'a, J: Naming, D: Disk, R: Wait>(
+    rt: &R,
+    hub: &'a Hub<J, D>,
+    pass: &mut WorkPass<J>,
+    hand: &mut Hand,
+    batch: Batch<'a>,
+) -> Option<Met>
+    requires batch { HaveOutcomes J.opening.graph (facts_behind J.opening pass.old.seen) batch.tasks batch.outcomes }
+    requires claimed { AreClaimed J.opening hand.old.claimed }
+    ensures claimed { AreClaimed J.opening hand.new.claimed }
+    ensures asked { result ≡ Some MetAsked → ⊥ }
+    ensures full { Justifies J.opening result pass.new }
+{
+    // What is known of every batch: it has an instance.
+    batch.len();
+    settled_all(rt, hub.exchange(rt, pass, batch, &mut hand.claimed, GROUP))
 }
 
 /// Commits the outcome of an instance by itself.

@@ -1,19 +1,16 @@
 //! What one worker does.
 ghost use Rattle.std.specs.Prelude.{◌≡◌, None, Some, true};
-ghost use Rattle.graph.specs.Fits.{InstanceIsOf};
-ghost use Rattle.commit.specs.Came.{IsOutcomeIn};
-ghost use Rattle.hub.specs.Opening.{facts_behind};
-ghost use Rattle.hub.specs.Running.{WaitsIn};
 ghost use Rattle.pool.specs.declared.worker.Met.TheVariants.{Asked as MetAsked, Full as MetFull};
 ghost use Rattle.pool.specs.declared.worker.Turned.TheVariants.{Ends};
-ghost use Rattle.pool.specs.Worked.{AreKept, IsTurned, Justifies, turned_by};
+ghost use Rattle.pool.specs.Worked.{AreClaimed, AreKept, IsTurned, Justifies, turned_by};
 
-use crate::settling::{commit, commit_kept, finish, park, settled, stopped_by};
-use crate::{Answer, Probe};
-use commit::{Batch, Outcome};
+use crate::hand::Hand;
+use crate::running::run_task;
+use crate::settling::{commit, commit_kept, stopped_by};
+use crate::Probe;
+use commit::Batch;
 use disk::Disk;
-use hub::{Hub, Ran, WorkPass};
-use instances::Task;
+use hub::{Hub, WorkPass};
 use machine::results_are_meant;
 use passes::Naming;
 use std::alloc::Global;
@@ -21,7 +18,6 @@ use std::hint::spin_loop;
 use std::marker::PhantomData;
 use std::sync::Wait;
 use std::thread::{Promise, yield_now};
-use steplang::Run;
 use terms::{facts_are_told_apart, facts_go_on};
 
 /// Why a worker asked all workers to end.
@@ -61,11 +57,13 @@ pub(crate) enum Turned<'a> {
     Ends(Option<Met>),
 }
 
-/// How many results a worker commits together. It keeps fewer.
+/// How many results a worker commits together, and how many instances it claims at once, at most. It keeps fewer results.
 pub(crate) const GROUP: usize = 8;
 
-// How often a worker that found nothing to do looks for a new commit, before it looks for something to do again.
+// How often a worker that found nothing to do looks for a new commit, before it looks for something to do again. Each time that it finds nothing in a row
+// doubles this, up to `DOUBLINGS` times.
 const LOOKS: u32 = 64;
+const DOUBLINGS: u32 = 5;
 
 // How many of these looks come at once. Before each of the others the worker yields to other threads.
 const SPINS: u32 = 8;
@@ -88,8 +86,7 @@ pub(crate) fn work<J: Naming, D: Disk, P: Probe, R: Wait>(
     Ended { pass, met }
 }
 
-// Runs them, and returns why the worker asks all to end, if it does. The worker keeps results, and commits what it keeps when it
-// has a group, when no instance is to be claimed, when a body waits, and before it ends.
+// Runs them, and returns why the worker asks all to end, if it does.
 fn run_all<J: Naming, D: Disk, P: Probe, R: Wait>(
     rt: &R,
     alloc: Global,
@@ -100,9 +97,33 @@ fn run_all<J: Naming, D: Disk, P: Probe, R: Wait>(
     ensures asked { result ≡ Some MetAsked → P.may_stop ≡ true }
     ensures full { Justifies J.opening result pass.new }
 {
+    let mut hand = match Hand::empty(alloc) {
+        Ok(hand) => hand,
+        Err(_) => return Some(Met::NoMemory),
+    };
+    let met = take_turns(rt, alloc, hub, pass, probe, &mut hand);
+    hand.give_back(rt, hub, pass);
+    hand.end();
+    met
+}
+
+// Takes one turn after another. The worker keeps results, and commits what it keeps when it has a group, when no instance is to be claimed, after a body
+// that took long, and before it ends.
+fn take_turns<J: Naming, D: Disk, P: Probe, R: Wait>(
+    rt: &R,
+    alloc: Global,
+    hub: &Hub<J, D>,
+    pass: &mut WorkPass<J>,
+    probe: &P,
+    hand: &mut Hand,
+) -> Option<Met>
+    requires { AreClaimed J.opening hand.old.claimed }
+    ensures asked { result ≡ Some MetAsked → P.may_stop ≡ true }
+    ensures full { Justifies J.opening result pass.new }
+{
     let mut kept = None;
     for _ in rt.forever() {
-        match turn(rt, alloc, hub, pass, probe, kept) {
+        match turn(rt, alloc, hub, pass, probe, hand, kept) {
             Turned::GoesOn(results) => kept = results,
             Turned::Ends(met) => return met,
         }
@@ -110,16 +131,19 @@ fn run_all<J: Naming, D: Disk, P: Probe, R: Wait>(
     unreachable!()
 }
 
-// One turn of a worker: it claims an instance and runs it, or commits what it keeps, or waits a little.
+// One turn of a worker: it runs an instance that it has claimed; or it claims some; or it commits what it keeps, or waits a little.
 fn turn<'a, J: Naming, D: Disk, P: Probe, R: Wait>(
     rt: &R,
     alloc: Global,
     hub: &'a Hub<J, D>,
     pass: &mut WorkPass<J>,
     probe: &P,
+    hand: &mut Hand,
     kept: Option<Batch<'a>>,
 ) -> Turned<'a>
-    requires { AreKept J.opening pass.old kept }
+    requires claimed { AreClaimed J.opening hand.old.claimed }
+    requires kept { AreKept J.opening pass.old kept }
+    ensures claimed { AreClaimed J.opening hand.new.claimed }
     ensures turned { IsTurned J.opening pass.new result }
     ensures asked { result ≡ Ends (Some MetAsked) → P.may_stop ≡ true }
 {
@@ -129,10 +153,39 @@ fn turn<'a, J: Naming, D: Disk, P: Probe, R: Wait>(
     if hub.stop_asked(pass) {
         return Turned::Ends(commit_kept(rt, hub, pass, kept));
     }
-    match hub.claim(rt, pass, 0) {
-        Ok(Some(task)) => run_task(rt, alloc, hub, pass, probe, task, kept),
-        Ok(None) => idle(rt, hub, pass, kept),
-        Err(_) => ends(rt, hub, pass, Met::Other, kept),
+    match hand.claimed.take_first() {
+        Some(task) => run_task(rt, alloc, hub, pass, probe, hand, task, kept),
+        None => claim(rt, hub, pass, hand, kept),
+    }
+}
+
+// Claims instances. If there is none to be claimed, what is kept is committed; or the worker waits a little for others; or it ends.
+fn claim<'a, J: Naming, D: Disk, R: Wait>(
+    rt: &R,
+    hub: &'a Hub<J, D>,
+    pass: &mut WorkPass<J>,
+    hand: &mut Hand,
+    kept: Option<Batch<'a>>,
+) -> Turned<'a>
+    requires claimed { AreClaimed J.opening hand.old.claimed }
+    requires kept { AreKept J.opening pass.old kept }
+    ensures claimed { AreClaimed J.opening hand.new.claimed }
+    ensures turned { IsTurned J.opening pass.new result }
+    ensures asked { result ≡ Ends (Some MetAsked) → ⊥ }
+{
+    facts_are_told_apart();
+    facts_go_on();
+    results_are_meant();
+    match hand.claim(rt, hub, pass) {
+        Ok(busy) => {
+            if hand.claimed.is_empty() {
+                idle(rt, hub, pass, hand, kept, busy)
+            } else {
+                hand.vain = 0;
+                Turned::GoesOn(kept)
+            }
+        }
+        Err(error) => ends(rt, hub, pass, stopped_by(error), kept),
     }
 }
 
@@ -141,138 +194,30 @@ fn idle<'a, J: Naming, D: Disk, R: Wait>(
     rt: &R,
     hub: &'a Hub<J, D>,
     pass: &mut WorkPass<J>,
+    hand: &mut Hand,
     kept: Option<Batch<'a>>,
+    busy: bool,
 ) -> Turned<'a>
     requires { AreKept J.opening pass.old kept }
+    ensures claimed { hand.new.claimed ≡ hand.old.claimed }
     ensures turned { IsTurned J.opening pass.new result }
     ensures asked { result ≡ Ends (Some MetAsked) → ⊥ }
 {
     match kept {
         Some(batch) => goes_on_unless(commit(rt, hub, pass, batch)),
         None => {
-            if !hub.busy(rt, pass) {
+            if !busy {
                 return Turned::Ends(None);
             }
-            look_for_commits(hub, pass);
+            look_for_commits(hub, pass, LOOKS << hand.vain.min(DOUBLINGS));
+            hand.vain = hand.vain.saturating_add(1);
             Turned::GoesOn(None)
         }
     }
 }
 
-// Runs one instance.
-fn run_task<'a, J: Naming, D: Disk, P: Probe, R: Wait>(
-    rt: &R,
-    alloc: Global,
-    hub: &'a Hub<J, D>,
-    pass: &mut WorkPass<J>,
-    probe: &P,
-    task: Task,
-    kept: Option<Batch<'a>>,
-) -> Turned<'a>
-    requires instance { InstanceIsOf J.opening.graph task }
-    requires kept { AreKept J.opening pass.old kept }
-    ensures turned { IsTurned J.opening pass.new result }
-    ensures asked { result ≡ Ends (Some MetAsked) → P.may_stop ≡ true }
-{
-    facts_are_told_apart();
-    facts_go_on();
-    results_are_meant();
-    if probe.enter(task.inst()) == Answer::Stop {
-        // Before the task is given back, so that no worker runs it meanwhile.
-        hub.ask_stop(pass);
-        let _ = settled(rt, hub.release(rt, pass, task));
-        return ends(rt, hub, pass, Met::Asked, kept);
-    }
-    match hub.run(rt, alloc, pass, &task) {
-        Ok(Ran::Ended(outcome)) => keep(rt, alloc, hub, pass, task, outcome, kept),
-        Ok(Ran::Waits(run)) => wait(rt, alloc, hub, pass, task, run, kept),
-        Err(error) => {
-            let _ = settled(rt, hub.release(rt, pass, task));
-            ends(rt, hub, pass, stopped_by(error), kept)
-        }
-    }
-}
-
-// The body of the instance waits for an item, which may be among the results that the worker keeps: these are committed, and the
-// same run goes on. If the item is not there then, the instance waits.
-fn wait<'a, J: Naming, D: Disk, R: Wait>(
-    rt: &R,
-    alloc: Global,
-    hub: &'a Hub<J, D>,
-    pass: &mut WorkPass<J>,
-    task: Task,
-    run: Run<'a>,
-    kept: Option<Batch<'a>>,
-) -> Turned<'a>
-    requires run { WaitsIn J.opening.graph (facts_behind J.opening pass.old.seen) task run }
-    requires kept { AreKept J.opening pass.old kept }
-    ensures turned { IsTurned J.opening pass.new result }
-    ensures asked { result ≡ Ends (Some MetAsked) → ⊥ }
-{
-    facts_are_told_apart();
-    facts_go_on();
-    results_are_meant();
-    let Some(batch) = kept else {
-        return goes_on_unless(park(rt, hub, pass, task, run));
-    };
-    if let Some(met) = commit(rt, hub, pass, batch) {
-        let _ = settled(rt, hub.release(rt, pass, task));
-        return Turned::Ends(Some(met));
-    }
-    match hub.resume(rt, pass, run) {
-        Ok(Ran::Ended(outcome)) => keep(rt, alloc, hub, pass, task, outcome, None),
-        Ok(Ran::Waits(run)) => goes_on_unless(park(rt, hub, pass, task, run)),
-        Err(error) => {
-            let _ = settled(rt, hub.release(rt, pass, task));
-            Turned::Ends(Some(stopped_by(error)))
-        }
-    }
-}
-
-// Keeps the outcome of an instance with the others, and commits them if they are a group. If there is no memory to keep it, it is
-// committed by itself.
-fn keep<'a, J: Naming, D: Disk, R: Wait>(
-    rt: &R,
-    alloc: Global,
-    hub: &'a Hub<J, D>,
-    pass: &mut WorkPass<J>,
-    task: Task,
-    outcome: Outcome<'a>,
-    kept: Option<Batch<'a>>,
-) -> Turned<'a>
-    requires outcome { IsOutcomeIn J.opening.graph (facts_behind J.opening pass.old.seen) task outcome }
-    requires kept { AreKept J.opening pass.old kept }
-    ensures turned { IsTurned J.opening pass.new result }
-    ensures asked { result ≡ Ends (Some MetAsked) → ⊥ }
-{
-    facts_are_told_apart();
-    facts_go_on();
-    results_are_meant();
-    let Some(mut batch) = kept else {
-        return match Batch::new(alloc, task, outcome) {
-            Ok(batch) => Turned::GoesOn(Some(batch)),
-            Err((task, outcome)) => goes_on_unless(finish(rt, hub, pass, task, outcome)),
-        };
-    };
-    match batch.add(task, outcome) {
-        Ok(()) => {
-            if batch.len() < GROUP {
-                return Turned::GoesOn(Some(batch));
-            }
-            goes_on_unless(commit(rt, hub, pass, batch))
-        }
-        Err((task, outcome)) => {
-            if let Some(met) = commit(rt, hub, pass, batch) {
-                let _ = settled(rt, hub.release(rt, pass, task));
-                return Turned::Ends(Some(met));
-            }
-            goes_on_unless(finish(rt, hub, pass, task, outcome))
-        }
-    }
-}
-
-// The worker ends, since it met this, after what it keeps is committed.
-fn ends<'a, J: Naming, D: Disk, R: Wait>(
+/// The worker ends, since it met this, after what it keeps is committed.
+pub(crate) fn ends<'a, J: Naming, D: Disk, R: Wait>(
     rt: &R,
     hub: &'a Hub<J, D>,
     pass: &mut WorkPass<J>,
@@ -290,8 +235,8 @@ fn ends<'a, J: Naming, D: Disk, R: Wait>(
     }
 }
 
-// The worker goes on, unless it met something.
-fn goes_on_unless<'a>(met: Option<Met>) -> Turned<'a>
+/// The worker goes on and keeps nothing, unless it met something.
+pub(crate) fn goes_on_unless<'a>(met: Option<Met>) -> Turned<'a>
     ensures { result ≡ turned_by met }
 {
     match met {
@@ -301,9 +246,9 @@ fn goes_on_unless<'a>(met: Option<Met>) -> Turned<'a>
 }
 
 // Waits a little for a commit, since mostly a commit makes an instance ready.
-fn look_for_commits<J: Naming, D: Disk>(hub: &Hub<J, D>, pass: &mut WorkPass<J>) {
+fn look_for_commits<J: Naming, D: Disk>(hub: &Hub<J, D>, pass: &mut WorkPass<J>, looks: u32) {
     let before = hub.commits(pass);
-    for look in 0..LOOKS {
+    for look in 0..looks {
         if look < SPINS {
             spin_loop();
         } else {

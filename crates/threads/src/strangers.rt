@@ -84,7 +84,7 @@ fn outcome_here<'a, J: Naming, D: Disk + Drop, R: Handles>(
     let came = here.run(rt, rt.alloc(), runner, &task);
     release(rt, here, releaser, task)?;
     match came? {
-        Ran::Ended(outcome) => Ok((instance, outcome)),
+        Ran::Ended(outcome, _) => Ok((instance, outcome)),
         Ran::Waits(_) => bail!("it waits"),
     }
 }

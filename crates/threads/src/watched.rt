@@ -169,7 +169,7 @@ fn run<J: Naming, D: Disk, R: Handles>(
     requires { InstanceIsOf J.opening.graph task }
 {
     match hub.run(rt, rt.alloc(), pass, &task) {
-        Ok(Ran::Ended(outcome)) => settled(rt, hub.finish(rt, pass, task, outcome)),
+        Ok(Ran::Ended(outcome, _)) => settled(rt, hub.finish(rt, pass, task, outcome)),
         Ok(Ran::Waits(run)) => settled(rt, hub.park(rt, pass, task, run.park())),
         Err(error) => {
             settled(rt, hub.release(rt, pass, task))?;

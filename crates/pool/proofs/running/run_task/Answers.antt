@@ -3,7 +3,7 @@ use mathlib.Core.List.{IsPrefix}
 use Rattle.passes.specs.Known.{Known}
 use Rattle.passes.proofs.Lists.{prefix_further}
 use Rattle.pool.proofs.Kept.{kept_stay}
-use Rattle.pool.proofs.worker.run_task.Goals as goal
+use Rattle.pool.proofs.running.run_task.Goals as goal
 
 pub ends-requires-clause-kept : goal.ends-requires-clause-kept
 ends-requires-clause-kept g c =

@@ -6,7 +6,7 @@ use Rattle.hub.proofs.Bodies.{waits_stay}
 use Rattle.pool.specs.declared.worker.Turned.{Turned}
 use Rattle.pool.specs.Worked.{IsTurned}
 use Rattle.pool.proofs.Kept.{justified_further, turned}
-use Rattle.pool.proofs.worker.wait.Goals as goal
+use Rattle.pool.proofs.running.wait_for_own.Goals as goal
 
 pub returns-in-Some-commit-clause-turned : goal.returns-in-Some-commit-clause-turned
 returns-in-Some-commit-clause-turned g c = justified_further g.J.Naming.opening c.commit.new.pass c.release.new.pass _ c.release.ensures.seen.0.starts c.in-Some-commit.ensures.full

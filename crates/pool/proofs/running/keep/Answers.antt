@@ -2,7 +2,7 @@ use Rattle.std.proofs.Common.{arith, subst}
 use Rattle.hub.proofs.Batches.{outcome_stays}
 use Rattle.pool.specs.Worked.{AreKept}
 use Rattle.pool.proofs.Kept.{added, justified_further}
-use Rattle.pool.proofs.worker.keep.Goals as goal
+use Rattle.pool.proofs.running.keep.Goals as goal
 
 pub commit-requires : goal.commit-requires
 commit-requires g c =

@@ -1,0 +1,106 @@
+//! Several claims, under the lock.
+ghost use Rattle.std.specs.Prelude.{◌≡◌, ◌≤◌, IfErr, IfOk, IsTrue, OnErr};
+ghost use Rattle.commit.specs.Batch.{HaveOutcomes, ends_said};
+ghost use Rattle.passes.specs.Visits.{Shows};
+ghost use Rattle.hub.specs.Batches.{AddsTogether, OnBatch, RefusesTogether};
+ghost use Rattle.hub.specs.Claims.{AddsClaimed, AddsOne, RefusesClaims};
+ghost use Rattle.hub.specs.Opening.{facts_behind};
+ghost use Rattle.hub.specs.Replies.{AddsNothing, Sees};
+
+use crate::{BatchError, Kept, WorkPass};
+use commit::{Batch, CoreError};
+use disk::Disk;
+use instances::Tasks;
+use machine::Ended;
+use passes::{Board, Naming};
+use vault::VaultError;
+
+impl<J: Naming, D: Disk> Kept<J, D> {
+    // Claims the first of the ready instances, and adds its task to these. Says whether there was one. If there is no memory for the task, the instance
+    // is ready again.
+    fn claim_one(
+        &mut self,
+        board: &Board<J>,
+        pass: &mut WorkPass<J>,
+        tasks: &mut Tasks,
+    ) -> Result<bool, CoreError>
+        ensures history { (self.new.history ≡ self.old.history) × Shows self.old.history pass.old pass.new }
+        ensures seen { Sees J.opening pass.old pass.new × AddsNothing pass.old pass.new }
+        ensures claimed { IfOk result (λ some. AddsOne J.opening pass.new some tasks.old tasks.new) }
+        ensures err { OnErr result (tasks.new ≡ tasks.old) }
+        ensures refused { IfErr result RefusesClaims }
+    {
+        match self.claim(board, pass, 0) {
+            Ok(Some(task)) => match tasks.add(task) {
+                Ok(()) => Ok(true),
+                Err(task) => {
+                    self.core.release(task);
+                    Err(CoreError::Store(VaultError::NoMemory))
+                }
+            },
+            Ok(None) => Ok(false),
+            Err(error) => Err(error),
+        }
+    }
+
+    /// Lets up to `most` of the ready instances run, and adds their tasks to these: no more than leaves as many for each of `passes` passes, but
+    /// one at least. `Ok` says whether an instance runs then; no clause says which it returns.
+    pub fn claim_some(
+        &mut self,
+        board: &Board<J>,
+        pass: &mut WorkPass<J>,
+        tasks: &mut Tasks,
+        most: usize,
+        passes: usize,
+    ) -> Result<bool, CoreError>
+        ensures history { (self.new.history ≡ self.old.history) × Shows self.old.history pass.old pass.new }
+        ensures seen { Sees J.opening pass.old pass.new × AddsNothing pass.old pass.new }
+        ensures claimed { AddsClaimed J.opening pass.new most tasks.old tasks.new }
+        ensures refused { IfErr result RefusesClaims }
+    {
+        board.show(&mut self.desk, pass);
+        let mut left = share_of(most, self.core.ready(), passes);
+        while left > 0 {
+            match self.claim_one(board, pass, tasks) {
+                Ok(true) => left -= 1,
+                Ok(false) => return Ok(self.core.running() != 0),
+                Err(error) => return Err(error),
+            }
+        }
+        Ok(self.core.running() != 0)
+    }
+
+    /// `finish_all`, and then, if it is not refused, `claim_some`.
+    pub fn exchange<'a>(
+        &mut self,
+        board: &Board<J>,
+        pass: &mut WorkPass<J>,
+        batch: Batch<'a>,
+        tasks: &mut Tasks,
+        most: usize,
+        passes: usize,
+    ) -> Result<Ended, BatchError<'a>>
+        requires { HaveOutcomes J.opening.graph (facts_behind J.opening pass.old.seen) batch.tasks batch.outcomes }
+        ensures seen { Sees J.opening pass.old pass.new }
+        ensures ok { IfOk result (AddsTogether J.opening (ends_said batch.entry) pass.old pass.new) }
+        ensures err { OnErr result (AddsNothing pass.old pass.new) }
+        ensures refused { OnBatch result (λ back. back ≡ batch.entry) (λ answer. IfErr answer (RefusesTogether J.opening pass.new (ends_said batch.entry))) }
+        ensures claimed { AddsClaimed J.opening pass.new most tasks.old tasks.new }
+    {
+        match self.finish_all(board, pass, batch) {
+            Ok(ended) => {
+                // What is refused here is asked for again by the worker's next claim.
+                let _ = self.claim_some(board, pass, tasks, most, passes);
+                Ok(ended)
+            }
+            Err(error) => Err(error),
+        }
+    }
+}
+
+// How many instances a worker takes at once, of so many ready ones, where there are so many passes: at most `most`, and one at least if `most` is.
+fn share_of(most: usize, ready: usize, passes: usize) -> usize
+    ensures { result ≤ most }
+{
+    most.min((ready / passes.max(1)).max(1))
+}
