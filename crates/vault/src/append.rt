@@ -61,11 +61,11 @@ impl<D: Disk> Vault<D> {
     }
 
     /// Appends a commit of 1 to 64 events that fit, one after another, what the store holds. After `Ok` it is acknowledged: every crash leaves
-    /// all of it.
+    /// all of it. Behind its record it may lay ground, from `FIRST_GROUND` on.
     ///
     /// The vault halts exactly if a call of the disk returned an error; then the whole commit may be there or nothing of it.
-    /// Every other error leaves the vault and its disk as they were: `Full`, `Halted`, and `NoMemory` if memory for the commit or
-    /// its record is refused.
+    /// Every other error leaves the vault and its disk as they were: `Full`, `Halted`, and `NoMemory` if memory for the commit, or
+    /// for its record with the ground, is refused.
     pub fn append_all(&mut self, commit: &[Event]) -> Result<(), VaultError>
         requires some { 1 ≤ length commit.now }
         requires few { length commit.now ≤ MOST_EVENTS }
