@@ -117,57 +117,59 @@ module _ (start : ℕ) (content : List ℕ) (payloads : List (List ℕ)) (end : 
   front_kept gate behind c is = front_of front (records payloads) start end long ends gate behind c is
 
   module _ (payload : List ℕ) (short : IsShort payload) where
-    -- what is behind the gate once the record is written there
-    abbrev pub staged : List ℕ
-    staged = (body_of payload ++ 0 ∷ []) ++ drop (length (body_of payload ++ 0 ∷ [])) stands.rest
-
-    stands_after : (c : List ℕ) → c ≡ with_gate 1 staged → StandsFor (drop start c) (payloads ++ payload ∷ [])
-    stands_after c is = record {
-      short = short-push payloads payload stands.short short;
-      gate = 0;
-      closed = omega arith;
-      rest = drop (length (body_of payload ++ 0 ∷ [])) stands.rest;
-      spelled =
-          rest_of front (records payloads) start end long ends 1 staged c is
-          ∙ ap (λ (l : List ℕ). records payloads ++ 1 ∷ l) (append_assoc (body_of payload) (0 ∷ []) (drop (length (body_of payload ++ 0 ∷ [])) stands.rest))
-          ∙ sym (append_assoc (records payloads) (record_of payload) (0 ∷ drop (length (body_of payload ++ 0 ∷ [])) stands.rest))
-          ∙ ap (λ (l : List ℕ). l ++ 0 ∷ drop (length (body_of payload ++ 0 ∷ [])) stands.rest) (sym (records-push payloads payload));
-    }
-
-    abbrev pub after_stage : List ℕ
-    after_stage = overwritten content (end + 1) (body_of payload ++ 0 ∷ [])
-
-    pub after_stage_is : after_stage ≡ with_gate stands.gate staged
-    after_stage_is = ap (λ (l : List ℕ). overwritten l (end + 1) (body_of payload ++ 0 ∷ [])) whole ∙ behind_gate front (records payloads) start end long ends stands.gate stands.rest (body_of payload ++ 0 ∷ [])
-
-    pub end_within_stage : end < length after_stage
-    end_within_stage = omega (arith, ap length after_stage_is, length-parts front (records payloads) start end long ends stands.gate staged)
-
     -- a crash while the record is written behind the gate
     pub crash_behind : (count : ℕ) (c : List ℕ) → WriteLeaves content (end + 1) count c → BeforeOrAfter start content payloads payload c
     crash_behind count c left =
         let is : c ≡ with_gate stands.gate (drop (end + 1) c) = gate_kept front (records payloads) start end long ends stands.gate stands.rest c (left.front ∙ ap (take (end + 1)) whole) in
         record { front = front_kept stands.gate (drop (end + 1) c) c is; stands = inl (stands_before stands.gate (drop (end + 1) c) c stands.closed is) }
 
-    -- a crash while the gate is opened
-    pub crash_at_gate : (c : List ℕ) → WriteLeaves after_stage end 1 c → BeforeOrAfter start content payloads payload c
-    crash_at_gate c left =
-        let gate = get_or c end 0 in
-        let is : c ≡ with_gate gate staged = gate_open front (records payloads) start end long ends stands.gate staged c (subst (λ (l : List ℕ). WriteLeaves l end 1 c) after_stage_is left) in
-        record { front = front_kept gate staged c is; stands = by gate is }
-      where
-        by : (gate : ℕ) → c ≡ with_gate gate staged → StandsFor (drop start c) payloads ⊎ StandsFor (drop start c) (payloads ++ payload ∷ [])
-        by gate is = elim (cases_eq gate 1) [
-          | inl open_gate ↦ inr (stands_after c (is ∙ ap (λ (g : ℕ). with_gate g staged) open_gate))
-          | inr shut ↦ inl (stands_before gate staged c shut is)
-        ]
-
-    -- and the file when it is open
-    pub appended : StandsFor (drop start (overwritten after_stage end (1 ∷ []))) (payloads ++ payload ∷ [])
-    appended = stands_after _ (ap (λ (l : List ℕ). overwritten l end (1 ∷ [])) after_stage_is ∙ opened_gate front (records payloads) start end long ends stands.gate staged)
-
     pub end_after : end + 5 + length payload ≡ start + length (records (payloads ++ payload ∷ []))
     end_after = omega (arith, ap length (records-push payloads payload), length-append (records payloads) (record_of payload), length-append (little_bytes 4 (length payload)) payload)
+
+    -- `ahead` is what is written behind the new closed gate: it never counts
+    module _ (ahead : List ℕ) where
+      -- what is behind the gate once the record is written there
+      abbrev pub staged : List ℕ
+      staged = (body_of payload ++ 0 ∷ ahead) ++ drop (length (body_of payload ++ 0 ∷ ahead)) stands.rest
+
+      stands_after : (c : List ℕ) → c ≡ with_gate 1 staged → StandsFor (drop start c) (payloads ++ payload ∷ [])
+      stands_after c is = record {
+        short = short-push payloads payload stands.short short;
+        gate = 0;
+        closed = omega arith;
+        rest = ahead ++ drop (length (body_of payload ++ 0 ∷ ahead)) stands.rest;
+        spelled =
+            rest_of front (records payloads) start end long ends 1 staged c is
+            ∙ ap (λ (l : List ℕ). records payloads ++ 1 ∷ l) (append_assoc (body_of payload) (0 ∷ ahead) (drop (length (body_of payload ++ 0 ∷ ahead)) stands.rest))
+            ∙ sym (append_assoc (records payloads) (record_of payload) (0 ∷ (ahead ++ drop (length (body_of payload ++ 0 ∷ ahead)) stands.rest)))
+            ∙ ap (λ (l : List ℕ). l ++ 0 ∷ (ahead ++ drop (length (body_of payload ++ 0 ∷ ahead)) stands.rest)) (sym (records-push payloads payload));
+      }
+
+      abbrev pub after_stage : List ℕ
+      after_stage = overwritten content (end + 1) (body_of payload ++ 0 ∷ ahead)
+
+      pub after_stage_is : after_stage ≡ with_gate stands.gate staged
+      after_stage_is = ap (λ (l : List ℕ). overwritten l (end + 1) (body_of payload ++ 0 ∷ ahead)) whole ∙ behind_gate front (records payloads) start end long ends stands.gate stands.rest (body_of payload ++ 0 ∷ ahead)
+
+      pub end_within_stage : end < length after_stage
+      end_within_stage = omega (arith, ap length after_stage_is, length-parts front (records payloads) start end long ends stands.gate staged)
+
+      -- a crash while the gate is opened
+      pub crash_at_gate : (c : List ℕ) → WriteLeaves after_stage end 1 c → BeforeOrAfter start content payloads payload c
+      crash_at_gate c left =
+          let gate = get_or c end 0 in
+          let is : c ≡ with_gate gate staged = gate_open front (records payloads) start end long ends stands.gate staged c (subst (λ (l : List ℕ). WriteLeaves l end 1 c) after_stage_is left) in
+          record { front = front_kept gate staged c is; stands = by gate is }
+        where
+          by : (gate : ℕ) → c ≡ with_gate gate staged → StandsFor (drop start c) payloads ⊎ StandsFor (drop start c) (payloads ++ payload ∷ [])
+          by gate is = elim (cases_eq gate 1) [
+            | inl open_gate ↦ inr (stands_after c (is ∙ ap (λ (g : ℕ). with_gate g staged) open_gate))
+            | inr shut ↦ inl (stands_before gate staged c shut is)
+          ]
+
+      -- and the file when it is open
+      pub appended : StandsFor (drop start (overwritten after_stage end (1 ∷ []))) (payloads ++ payload ∷ [])
+      appended = stands_after _ (ap (λ (l : List ℕ). overwritten l end (1 ∷ [])) after_stage_is ∙ opened_gate front (records payloads) start end long ends stands.gate staged)
 
 -- a crash before the first call of the disk
 pub crash_now : (start : ℕ) (content : List ℕ) (payloads : List (List ℕ)) (payload : List ℕ) → StandsFor (drop start content) payloads → (c : List ℕ) → c ≡ content → BeforeOrAfter start content payloads payload c
@@ -176,14 +178,14 @@ crash_now start content payloads payload stands c is = record { front = ap (take
 -- ---- the two steps of an append, at every moment
 
 module _ {D : Type 0} (moment : D → ℕ) (left_at : D → ℕ → Contents → Type 0) (old mid new : D) (side : Side) (before between : Side → File) (stays : OtherStays side before between) where
-  pub moments_of_both : (start : ℕ) (content : List ℕ) (payloads : List (List ℕ)) (payload : List ℕ) (end count : ℕ) (stands : StandsFor (drop start content) payloads) (ends : end ≡ start + length (records payloads)) (short : IsShort payload)
+  pub moments_of_both : (start : ℕ) (content : List ℕ) (payloads : List (List ℕ)) (payload ahead : List ℕ) (end count : ℕ) (stands : StandsFor (drop start content) payloads) (ends : end ≡ start + length (records payloads)) (short : IsShort payload)
       → LeavesOnly moment left_at old mid (λ contents. WriteLeaves content (end + 1) count (contents side) × OtherMayBe side before contents)
-      → LeavesOnly moment left_at mid new (λ contents. WriteLeaves (overwritten content (end + 1) (body_of payload ++ 0 ∷ [])) end 1 (contents side) × OtherMayBe side between contents)
+      → LeavesOnly moment left_at mid new (λ contents. WriteLeaves (overwritten content (end + 1) (body_of payload ++ 0 ∷ ahead)) end 1 (contents side) × OtherMayBe side between contents)
       → LeavesOnly moment left_at old new (λ contents. BeforeOrAfter start content payloads payload (contents side) × OtherMayBe side before contents)
-  moments_of_both start content payloads payload end count stands ends short first second =
+  moments_of_both start content payloads payload ahead end count stands ends short first second =
       joined moment left_at old mid new _ _ _ first second
       (λ contents leaves. (crash_behind start content payloads end stands ends payload short count (contents side) leaves.0, leaves.1))
-      (λ contents leaves. (crash_at_gate start content payloads end stands ends payload short (contents side) leaves.0, other_before side before between stays contents leaves.1))
+      (λ contents leaves. (crash_at_gate start content payloads end stands ends payload short ahead (contents side) leaves.0, other_before side before between stays contents leaves.1))
 
   -- the other file
   pub other_moments : (P Q : Contents → Type 0) → LeavesOnly moment left_at old mid (λ contents. P contents × OtherMayBe side before contents)

@@ -1,4 +1,4 @@
-ghost use Rattle.std.specs.Prelude.{◌≡◌, ◌≢◌, ◌≤◌, ◌<◌, ◌+◌, ◌^◌, ◌↔◌, ◌⊎◌, [], ◌∷◌, ◌++◌, List, ℕ, length, take, drop, IsTrue, IfOk, OnOk, OnErr, IsErrOf, Err};
+ghost use Rattle.std.specs.Prelude.{◌≡◌, ◌≢◌, ◌≤◌, ◌<◌, ◌+◌, ◌^◌, ◌↔◌, ◌⊎◌, [], ◌∷◌, ◌++◌, List, ℕ, length, take, drop, replicate, IsTrue, IfOk, OnOk, OnErr, IsErrOf, Err};
 ghost use Rattle.disk.specs.File.{WriteLeaves, at_rest, overwritten};
 ghost use Rattle.disk.specs.Time.{Contents, MayLeaveNow, OtherStays, OtherMayBe, LeavesOnly, KeepsAll, AtOnce, HasCauses};
 ghost use Rattle.byteorder.specs.Endian.{little_bytes};
@@ -108,19 +108,29 @@ impl Journal {
         ensures damaged { (place : ℕ) → IsErrOf result (Damaged place) → ⊥ }
         ensures causes { HasCauses D.failures D.refusals Device NoMemory disk.old disk.new result }
     {
-        self.try_append(disk, payload)?;
+        self.try_append(disk, payload, 0)?;
         Ok(())
     }
 
-    /// `append`, with an error that says whether it came before any call of the disk.
+    /// `append`, with an error that says whether it came before any call of the disk; and with ground, which is this number of
+    /// zeros behind the closed gate that follows the record.
+    ///
+    /// Ground is written by the same write as the record. It means nothing to a reader, and the limit does not count it: the next
+    /// records go over it, so their syncs need not make the file longer. `NoMemory` is returned if there is no memory for the
+    /// record and its ground together.
     ///
     /// After `Before` the next append may follow; after `Within` scan the file again first.
-    pub fn try_append<D: Disk>(&mut self, disk: &mut D, payload: &[u8]) -> Result<(), AppendError>
+    pub fn try_append<D: Disk>(
+        &mut self,
+        disk: &mut D,
+        payload: &[u8],
+        zeros: usize,
+    ) -> Result<(), AppendError>
         requires { IsTrue D.is_honest → self.old.end < length (D.files disk.old self.old.side).content }
 
         ensures added { IsTrue D.is_honest → (start : ℕ) (payloads : List (List ℕ)) → IsAt self.old start (D.files disk.old self.old.side).content payloads
             → OnOk result (IsAt self.new start (D.files disk.new self.old.side).content (payloads ++ payload.now ∷ [])) }
-        ensures file { IsTrue D.is_honest → OnOk result (D.files disk.new self.old.side ≡ at_rest (overwritten (D.files disk.old self.old.side).content self.old.end (record_of payload.now ++ 0 ∷ []))) }
+        ensures file { IsTrue D.is_honest → OnOk result (D.files disk.new self.old.side ≡ at_rest (overwritten (D.files disk.old self.old.side).content self.old.end (record_of payload.now ++ 0 ∷ replicate zeros 0))) }
         ensures other { IsTrue D.is_honest → OtherStays self.old.side (D.files disk.old) (D.files disk.new) }
         ensures side { self.new.side ≡ self.old.side }
         ensures end { OnErr result (self.new.end ≡ self.old.end) }
@@ -140,7 +150,7 @@ impl Journal {
         if !fits(self.end, payload.len()) {
             return Err(AppendError::Before(JournalError::Full));
         }
-        spell(&mut self.buffer, payload)?;
+        spell(&mut self.buffer, payload, zeros)?;
         write_synced(disk, self.side, self.end + 1, &self.buffer)?;
         write_synced(disk, self.side, self.end, &[1])?;
         self.end += (HEAD + payload.len()) as u64;
@@ -156,17 +166,19 @@ fn fits(end: u64, count: usize) -> bool
     (count as u64) < room && count as u64 + (HEAD as u64) < room
 }
 
-// Puts what follows the gate of a record into the buffer: the length, the payload, and the closed gate of the next record.
-fn spell(buffer: &mut Vec<u8>, payload: &[u8]) -> Result<(), AllocError>
+// Puts what follows the gate of a record into the buffer: the length, the payload, the closed gate of the next record, and
+// this number of zeros.
+fn spell(buffer: &mut Vec<u8>, payload: &[u8], zeros: usize) -> Result<(), AllocError>
     requires { length payload.now < 2 ^ 32 }
-    ensures { OnOk result (buffer.new.items ≡ little_bytes 4 (length payload.now) ++ payload.now ++ 0 ∷ []) }
+    ensures { OnOk result (buffer.new.items ≡ little_bytes 4 (length payload.now) ++ payload.now ++ 0 ∷ replicate zeros 0) }
 {
+    let most = (payload.len() + HEAD).saturating_add(zeros);
     buffer.clear();
-    buffer.reserve(payload.len() + HEAD)?;
+    buffer.reserve(most)?;
     let mut count = [0; 4];
     LittleEndian::write_u32(&mut count, payload.len() as u32);
     buffer.extend_from_slice(&count)?;
     buffer.extend_from_slice(payload)?;
     buffer.push(0)?;
-    Ok(())
+    buffer.resize(most, 0)
 }

@@ -70,7 +70,7 @@ fn append(
     requires { journal.end < length (files_of disk.old journal.side).content }
 {
     disk.fail_call(failing);
-    let answer = journal.try_append(disk, payload);
+    let answer = journal.try_append(disk, payload, 0);
     tell_append(answer, journal.end, out)
 }
 

@@ -1,5 +1,5 @@
 -- When a vault is ready for the next call.
-use Rattle.std.proofs.Common.{◌≡◌, ◌+◌, ◌≤◌, ◌<◌, ℕ, List, [], ◌∷◌, ◌++◌, length, take, drop, inl, inr, sym, ap, subst, ◌∙◌, arith, length-append}
+use Rattle.std.proofs.Common.{◌≡◌, ◌+◌, ◌≤◌, ◌<◌, ℕ, List, ◌∷◌, ◌++◌, length, take, drop, inl, inr, sym, ap, subst, ◌∙◌, arith, length-append}
 use Rattle.std.proofs.lemmas.List.{length-take-le}
 use Rattle.disk.specs.declared.side.Side.{Side}
 use Rattle.disk.specs.Side.{which}
@@ -26,14 +26,14 @@ all_rest side old new content rests written others each = elim (which side each)
 ]
 
 -- the byte after bytes that were written lies within the file
-within_written : (content bytes : List ℕ) (end : ℕ) → end ≤ length content → end + length bytes < length (overwritten content end (bytes ++ 0 ∷ []))
-within_written content bytes end within =
-    let written = bytes ++ 0 ∷ [] in
+within_written : (content bytes ahead : List ℕ) (end : ℕ) → end ≤ length content → end + length bytes < length (overwritten content end (bytes ++ 0 ∷ ahead))
+within_written content bytes ahead end within =
+    let written = bytes ++ 0 ∷ ahead in
     let rest = drop (end + length written) content in
     let front : length (take end content) ≡ end = length-take-le end content within in
     let whole : length (overwritten content end written) ≡ length (take end content) + length written + length rest =
     length-append (take end content ++ written) rest ∙ ap (λ (n : ℕ). n + length rest) (length-append (take end content) written) in
-    omega (arith, front, whole, length-append bytes (0 ∷ []))
+    omega (arith, front, whole, length-append bytes (0 ∷ ahead))
 
 module _ {D : Type 0} (files : D → Side → File) where
   -- one that holds something
@@ -41,16 +41,16 @@ module _ {D : Type 0} (files : D → Side → File) where
   held_is_ready journal vault g E X holds = record { rests = held_rests files vault g E X holds; within = end_within journal files vault g E X holds }
 
   -- one to whose journal a record was added
-  pub appended_is_ready : (old new : Vault D) (payload : List ℕ) → IsReady files old → new.journal.side ≡ old.journal.side → new.journal.end ≡ old.journal.end + length (record_of payload)
-      → files new.disk old.journal.side ≡ at_rest (overwritten (files old.disk old.journal.side).content old.journal.end (record_of payload ++ 0 ∷ []))
+  pub appended_is_ready : (old new : Vault D) (payload ahead : List ℕ) → IsReady files old → new.journal.side ≡ old.journal.side → new.journal.end ≡ old.journal.end + length (record_of payload)
+      → files new.disk old.journal.side ≡ at_rest (overwritten (files old.disk old.journal.side).content old.journal.end (record_of payload ++ 0 ∷ ahead))
       → OtherStays old.journal.side (files old.disk) (files new.disk) → IsReady files new
-  appended_is_ready old new payload ready side moved written others = record {
+  appended_is_ready old new payload ahead ready side moved written others = record {
     rests = all_rest old.journal.side (files old.disk) (files new.disk) _ ready.rests written others;
     within =
         let content = (files old.disk old.journal.side).content in
-        let there = within_written content (record_of payload) old.journal.end (omega (arith, ready.within)) in
+        let there = within_written content (record_of payload) ahead old.journal.end (omega (arith, ready.within)) in
         subst (λ (s : Side). new.journal.end < length (files new.disk s).content) (sym side)
-        (subst (λ (f : File). new.journal.end < length f.content) (sym written) (subst (λ (n : ℕ). n < length (overwritten content old.journal.end (record_of payload ++ 0 ∷ []))) (sym moved) there));
+        (subst (λ (f : File). new.journal.end < length f.content) (sym written) (subst (λ (n : ℕ). n < length (overwritten content old.journal.end (record_of payload ++ 0 ∷ ahead))) (sym moved) there));
   }
 
   -- one whose live side was written anew, with a journal that ends at its last byte

@@ -1,5 +1,5 @@
 -- What the calls of a vault promise: why they return an error and why a vault halts, what a refusal leaves, and what is written.
-use Rattle.std.specs.Prelude.{◌≡◌, ◌≢◌, ◌⊎◌, ◌↔◌, ◌+◌, ◌++◌, ◌∷◌, [], ℕ, Bool, List, length, true, false, Result, IfOk, OnOk, OnErr, IfErr, IsErrOf}
+use Rattle.std.specs.Prelude.{◌≡◌, ◌≢◌, ◌⊎◌, ◌↔◌, ◌≤◌, ◌+◌, ◌++◌, ◌∷◌, [], ℕ, Bool, List, length, replicate, true, false, Result, IfOk, OnOk, OnErr, IfErr, IsErrOf}
 use Rattle.disk.specs.declared.side.Side.{Side}
 use Rattle.disk.specs.declared.side.Side.TheVariants.{A, B}
 use Rattle.disk.specs.File.{File, at_rest, overwritten}
@@ -8,6 +8,8 @@ use Rattle.codec.specs.declared.image.Image.{Image}
 use Rattle.graph.specs.Graph.{Graph}
 use Rattle.graph.specs.Canonical.{canonical}
 use Rattle.graph.specs.Reads.{Reads}
+use Rattle.journal.specs.declared.journal.TheConstants.{LIMIT}
+use Rattle.vault.specs.declared.append.TheConstants.{FIRST_GROUND}
 use Rattle.vault.specs.declared.vault.Vault.{Vault}
 use Rattle.vault.specs.declared.error.VaultError.{VaultError}
 use Rattle.vault.specs.declared.error.VaultError.TheVariants.{Device, NoMemory, Full, Halted, Exists}
@@ -46,10 +48,15 @@ pub record Appended {D T : Type 0} (old new : Vault D) (bytes : List ℕ) (resul
   pub generation : new.generation ≡ old.generation
   pub text : new.text ≡ old.text
 
--- What an append writes, on an honest disk: its record and a closed gate, over the gate that ended the journal of the live side. The other
--- file stays as it was, whatever is returned; and if the vault is not halted, it is ready for the next call.
+-- the zeros laid behind the closed gate at `end` are none; or that gate does not lie below `FIRST_GROUND`, and they end within the limit
+abbrev pub LaysGround : ℕ → ℕ → Type 0
+LaysGround end zeros = (zeros ≡ 0) ⊎ ((FIRST_GROUND ≤ end) × (end + 1 + zeros ≤ LIMIT))
+
+-- What an append writes, on an honest disk: its record, a closed gate and the zeros behind it, over the gate that ended the journal of the
+-- live side. The other file stays as it was, whatever is returned; and if the vault is not halted, it is ready for the next call.
 pub record WritesRecord {D T : Type 0} (files : D → Side → File) (old new : Vault D) (bytes : List ℕ) (result : Result T VaultError) : Type 0 where
-  pub written : OnOk result (files new.disk old.journal.side ≡ at_rest (overwritten (files old.disk old.journal.side).content old.journal.end (bytes ++ 0 ∷ [])))
+  pub written : OnOk result ((zeros : ℕ) × LaysGround new.journal.end zeros
+      × (files new.disk old.journal.side ≡ at_rest (overwritten (files old.disk old.journal.side).content old.journal.end (bytes ++ 0 ∷ replicate zeros 0))))
   pub other : OtherStays old.journal.side (files old.disk) (files new.disk)
   pub ready : new.halted ≡ false → IsReady files new
 

@@ -12,7 +12,6 @@ use Rattle.codec.specs.Spelling.{image_bytes}
 use Rattle.journal.specs.declared.journal.TheConstants.{LIMIT}
 use Rattle.graph.specs.Graph.{Graph}
 use Rattle.graph.specs.Canonical.{canonical}
-use Rattle.graph.specs.Reads.{Reads}
 use Rattle.sides.specs.Side.{behind_gate, end_of}
 use Rattle.vault.specs.declared.vault.Vault.{Vault}
 use Rattle.vault.specs.declared.refused.Refused.{Refused}

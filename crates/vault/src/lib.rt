@@ -18,6 +18,7 @@ mod refused;
 mod turn;
 mod vault;
 
+pub use append::FIRST_GROUND;
 pub use creation::create;
 pub use error::VaultError;
 pub use history::{half_a_commit, stores_go_on};

@@ -71,6 +71,7 @@ pub fn open<D: Disk>(alloc: Global, disk: D) -> Result<Recovered<D>, Refused<D>>
                 generation,
                 text,
                 halted: false,
+                laid: 0,
                 buffer: Vec::new(alloc),
             };
             Ok(Recovered {

@@ -67,6 +67,7 @@ impl<D: Disk> Vault<D> {
                 self.journal.side = side;
                 self.journal.end = self.buffer.len() as u64;
                 self.generation = generation;
+                self.laid = 0;
                 // A side may be long: its memory is given back.
                 self.buffer.clear();
                 self.buffer.shrink_to_fit();

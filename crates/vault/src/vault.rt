@@ -17,6 +17,8 @@ pub struct Vault<D: Disk> {
     pub(crate) text: Vec<u8>,
     // Whether a call of the disk returned an error before.
     pub(crate) halted: bool,
+    // Up to where zeros are known to lie behind the journal; 0 if it is not known. No clause rests on it.
+    pub(crate) laid: u64,
     // Holds a commit while it is appended, and a side while it is written.
     pub(crate) buffer: Vec<u8>,
 }
@@ -30,6 +32,7 @@ impl<D: Disk + Drop> Drop for Vault<D> {
             generation: _,
             text: _,
             halted: _,
+            laid: _,
             buffer: _,
         } = self;
     }
@@ -61,6 +64,7 @@ impl<D: Disk> Vault<D> {
             generation: _,
             text: _,
             halted: _,
+            laid: _,
             buffer: _,
         } = self;
         disk

@@ -1,4 +1,4 @@
-use Rattle.std.proofs.Common.{◌≡◌, ◌<◌, ◌+◌, ◌++◌, ◌∷◌, ◌^◌, [], ℕ, List, length, drop, sym, ap, subst, ◌∙◌, arith}
+use Rattle.std.proofs.Common.{◌≡◌, ◌<◌, ◌+◌, ◌++◌, ◌∷◌, ◌^◌, [], ℕ, List, length, drop, replicate, sym, ap, subst, ◌∙◌, arith}
 use Rattle.disk.specs.File.{File, MayLeave, at_rest, overwritten}
 use Rattle.disk.specs.Settled.{settled_only}
 use Rattle.disk.specs.Moments.{begun, weakened}
@@ -32,21 +32,21 @@ pub returns-in_err-write_synced-2-clause-any_moment : goal.returns-in_err-write_
 returns-in_err-write_synced-2-clause-any_moment g c honest start payloads content is at =
     let side = c.args.self.now.side in
     let short : length c.args.payload.now < 2 ^ 32 = omega arith in
-    let spelled : c.deref.result.now ≡ body_of c.args.payload.now ++ 0 ∷ [] = c.deref.ensures.value ∙ c.in_ok-spell.ensures in
-    let staged : g.D.Disk.files c.write_synced.new.disk side ≡ at_rest (overwritten content (c.args.self.now.end + 1) (body_of c.args.payload.now ++ 0 ∷ [])) =
+    let spelled : c.deref.result.now ≡ body_of c.args.payload.now ++ 0 ∷ replicate c.args.zeros 0 = c.deref.ensures.value ∙ c.in_ok-spell.ensures in
+    let staged : g.D.Disk.files c.write_synced.new.disk side ≡ at_rest (overwritten content (c.args.self.now.end + 1) (body_of c.args.payload.now ++ 0 ∷ replicate c.args.zeros 0)) =
     c.in_ok-write_synced.ensures.ok honest ∙ ap (λ (f : File). at_rest (overwritten f.content (c.args.self.now.end + 1) c.deref.result.now)) is ∙ ap (λ (l : List ℕ). at_rest (overwritten content (c.args.self.now.end + 1) l)) spelled in
     moments_of_both g.D.Disk.moment g.D.Disk.left_at c.args.disk.now c.write_synced.new.disk c.write_synced-2.new.disk side (g.D.Disk.files c.args.disk.now) (g.D.Disk.files c.write_synced.new.disk) (c.write_synced.ensures.other honest)
-    start content payloads c.args.payload.now c.args.self.now.end _ at.stands at.end short (c.write_synced.ensures.any_moment honest content is) (c.write_synced-2.ensures.any_moment honest _ staged)
+    start content payloads c.args.payload.now (replicate c.args.zeros 0) c.args.self.now.end _ at.stands at.end short (c.write_synced.ensures.any_moment honest content is) (c.write_synced-2.ensures.any_moment honest _ staged)
 
 pub returns-clause-any_moment : goal.returns-clause-any_moment
 returns-clause-any_moment g c honest start payloads content is at =
     let side = c.args.self.now.side in
     let short : length c.args.payload.now < 2 ^ 32 = omega arith in
-    let spelled : c.deref.result.now ≡ body_of c.args.payload.now ++ 0 ∷ [] = c.deref.ensures.value ∙ c.in_ok-spell.ensures in
-    let staged : g.D.Disk.files c.write_synced.new.disk side ≡ at_rest (overwritten content (c.args.self.now.end + 1) (body_of c.args.payload.now ++ 0 ∷ [])) =
+    let spelled : c.deref.result.now ≡ body_of c.args.payload.now ++ 0 ∷ replicate c.args.zeros 0 = c.deref.ensures.value ∙ c.in_ok-spell.ensures in
+    let staged : g.D.Disk.files c.write_synced.new.disk side ≡ at_rest (overwritten content (c.args.self.now.end + 1) (body_of c.args.payload.now ++ 0 ∷ replicate c.args.zeros 0)) =
     c.in_ok-write_synced.ensures.ok honest ∙ ap (λ (f : File). at_rest (overwritten f.content (c.args.self.now.end + 1) c.deref.result.now)) is ∙ ap (λ (l : List ℕ). at_rest (overwritten content (c.args.self.now.end + 1) l)) spelled in
     moments_of_both g.D.Disk.moment g.D.Disk.left_at c.args.disk.now c.write_synced.new.disk c.write_synced-2.new.disk side (g.D.Disk.files c.args.disk.now) (g.D.Disk.files c.write_synced.new.disk) (c.write_synced.ensures.other honest)
-    start content payloads c.args.payload.now c.args.self.now.end _ at.stands at.end short (c.write_synced.ensures.any_moment honest content is) (c.write_synced-2.ensures.any_moment honest _ staged)
+    start content payloads c.args.payload.now (replicate c.args.zeros 0) c.args.self.now.end _ at.stands at.end short (c.write_synced.ensures.any_moment honest content is) (c.write_synced-2.ensures.any_moment honest _ staged)
 
 -- and then the file stands for one more payload
 pub returns-clause-added : goal.returns-clause-added
@@ -54,13 +54,13 @@ returns-clause-added g c honest start payloads at =
     let side = c.args.self.now.side in
     let content = (g.D.Disk.files c.args.disk.now side).content in
     let short : length c.args.payload.now < 2 ^ 32 = omega arith in
-    let spelled : c.deref.result.now ≡ body_of c.args.payload.now ++ 0 ∷ [] = c.deref.ensures.value ∙ c.in_ok-spell.ensures in
-    let staged : (g.D.Disk.files c.write_synced.new.disk side).content ≡ overwritten content (c.args.self.now.end + 1) (body_of c.args.payload.now ++ 0 ∷ []) =
+    let spelled : c.deref.result.now ≡ body_of c.args.payload.now ++ 0 ∷ replicate c.args.zeros 0 = c.deref.ensures.value ∙ c.in_ok-spell.ensures in
+    let staged : (g.D.Disk.files c.write_synced.new.disk side).content ≡ overwritten content (c.args.self.now.end + 1) (body_of c.args.payload.now ++ 0 ∷ replicate c.args.zeros 0) =
     ap (λ (f : File). f.content) (c.in_ok-write_synced.ensures.ok honest) ∙ ap (λ (l : List ℕ). overwritten content (c.args.self.now.end + 1) l) spelled in
-    let opened : (g.D.Disk.files c.write_synced-2.new.disk side).content ≡ overwritten (overwritten content (c.args.self.now.end + 1) (body_of c.args.payload.now ++ 0 ∷ [])) c.args.self.now.end (1 ∷ []) =
+    let opened : (g.D.Disk.files c.write_synced-2.new.disk side).content ≡ overwritten (overwritten content (c.args.self.now.end + 1) (body_of c.args.payload.now ++ 0 ∷ replicate c.args.zeros 0)) c.args.self.now.end (1 ∷ []) =
     ap (λ (f : File). f.content) (c.in_ok-write_synced-2.ensures.ok honest) ∙ ap (λ (l : List ℕ). overwritten l c.args.self.now.end (1 ∷ [])) staged in
     record {
-      stands = subst (λ (l : List ℕ). StandsFor (drop start l) (payloads ++ c.args.payload.now ∷ [])) (sym opened) (appended start content payloads c.args.self.now.end at.stands at.end c.args.payload.now short);
+      stands = subst (λ (l : List ℕ). StandsFor (drop start l) (payloads ++ c.args.payload.now ∷ [])) (sym opened) (appended start content payloads c.args.self.now.end at.stands at.end c.args.payload.now short (replicate c.args.zeros 0));
       end = omega (arith, end_after start content payloads c.args.self.now.end at.stands at.end c.args.payload.now short);
     }
 

@@ -1,9 +1,10 @@
-use Rattle.std.proofs.Common.{refl, ap, ◌∙◌, subst, ◌++◌, ◌∷◌, [], ◌+◌, length, List, ℕ}
+use Rattle.std.proofs.Common.{◌≡◌, refl, sym, ap, ◌∙◌, subst, ◌++◌, ◌∷◌, [], ◌+◌, length, replicate, List, ℕ}
 use Rattle.disk.specs.File.{at_rest, overwritten}
 use Rattle.disk.specs.Moments.{begun}
 use Rattle.codec.specs.Commits.{commit_bytes}
 use Rattle.journal.specs.Records.{record_of}
 use Rattle.journal.specs.Journal.{IsAt}
+use Rattle.vault.specs.Calls.{LaysGround}
 use Rattle.vault.proofs.Appended.{alone, start, payloads, is_at, is_at_file, stands_now, moments, holds_more}
 use Rattle.vault.proofs.FirstBytes.{gates_before, gates_appended}
 use Rattle.vault.proofs.Ready.{appended_is_ready}
@@ -26,31 +27,31 @@ pub returns-in-Err-Before-clause-any_moment : goal.returns-in-Err-Before-clause-
 returns-in-Err-Before-clause-any_moment g c honest gr E X holds fits =
     let journal = c.sides_go_on.ensures.journal in
     let vault = c.args.self.now in
-    let spelled = alone c.deref.result.now _ _ (commit_bytes c.args.commit.now) c.deref.ensures.value c.in_ok-encode_payload.ensures.spelled c.clear.ensures.items in
-    moments journal g.D.Disk.files vault gr E X holds c.sides_go_on.ensures.alike c.sides_go_on.ensures.grows c.args.commit.now c.in_ok-encode_payload.ensures.in_range c.fitting.ensures.as_listed fits g.D.Disk.moment g.D.Disk.left_at c.try_append.new.disk c.deref.result.now spelled
+    let spelled = alone c.deref-2.result.now _ _ (commit_bytes c.args.commit.now) c.deref-2.ensures.value c.in_ok-encode_payload.ensures.spelled c.clear.ensures.items in
+    moments journal g.D.Disk.files vault gr E X holds c.sides_go_on.ensures.alike c.sides_go_on.ensures.grows c.args.commit.now c.in_ok-encode_payload.ensures.in_range c.fitting.ensures.as_listed fits g.D.Disk.moment g.D.Disk.left_at c.try_append.new.disk c.deref-2.result.now spelled
     (c.try_append.ensures.any_moment honest (start journal g.D.Disk.files vault gr E X holds) (payloads journal g.D.Disk.files vault gr E X holds) (holds.contents vault.journal.side) (holds.rests vault.journal.side) (is_at journal g.D.Disk.files vault gr E X holds))
 
 pub returns-in-Err-Within-clause-any_moment : goal.returns-in-Err-Within-clause-any_moment
 returns-in-Err-Within-clause-any_moment g c honest gr E X holds fits =
     let journal = c.sides_go_on.ensures.journal in
     let vault = c.args.self.now in
-    let spelled = alone c.deref.result.now _ _ (commit_bytes c.args.commit.now) c.deref.ensures.value c.in_ok-encode_payload.ensures.spelled c.clear.ensures.items in
-    moments journal g.D.Disk.files vault gr E X holds c.sides_go_on.ensures.alike c.sides_go_on.ensures.grows c.args.commit.now c.in_ok-encode_payload.ensures.in_range c.fitting.ensures.as_listed fits g.D.Disk.moment g.D.Disk.left_at c.try_append.new.disk c.deref.result.now spelled
+    let spelled = alone c.deref-2.result.now _ _ (commit_bytes c.args.commit.now) c.deref-2.ensures.value c.in_ok-encode_payload.ensures.spelled c.clear.ensures.items in
+    moments journal g.D.Disk.files vault gr E X holds c.sides_go_on.ensures.alike c.sides_go_on.ensures.grows c.args.commit.now c.in_ok-encode_payload.ensures.in_range c.fitting.ensures.as_listed fits g.D.Disk.moment g.D.Disk.left_at c.try_append.new.disk c.deref-2.result.now spelled
     (c.try_append.ensures.any_moment honest (start journal g.D.Disk.files vault gr E X holds) (payloads journal g.D.Disk.files vault gr E X holds) (holds.contents vault.journal.side) (holds.rests vault.journal.side) (is_at journal g.D.Disk.files vault gr E X holds))
 
 pub returns-in-Ok-clause-any_moment : goal.returns-in-Ok-clause-any_moment
 returns-in-Ok-clause-any_moment g c honest gr E X holds fits =
     let journal = c.sides_go_on.ensures.journal in
     let vault = c.args.self.now in
-    let spelled = alone c.deref.result.now _ _ (commit_bytes c.args.commit.now) c.deref.ensures.value c.in_ok-encode_payload.ensures.spelled c.clear.ensures.items in
-    moments journal g.D.Disk.files vault gr E X holds c.sides_go_on.ensures.alike c.sides_go_on.ensures.grows c.args.commit.now c.in_ok-encode_payload.ensures.in_range c.fitting.ensures.as_listed fits g.D.Disk.moment g.D.Disk.left_at c.try_append.new.disk c.deref.result.now spelled
+    let spelled = alone c.deref-2.result.now _ _ (commit_bytes c.args.commit.now) c.deref-2.ensures.value c.in_ok-encode_payload.ensures.spelled c.clear.ensures.items in
+    moments journal g.D.Disk.files vault gr E X holds c.sides_go_on.ensures.alike c.sides_go_on.ensures.grows c.args.commit.now c.in_ok-encode_payload.ensures.in_range c.fitting.ensures.as_listed fits g.D.Disk.moment g.D.Disk.left_at c.try_append.new.disk c.deref-2.result.now spelled
     (c.try_append.ensures.any_moment honest (start journal g.D.Disk.files vault gr E X holds) (payloads journal g.D.Disk.files vault gr E X holds) (holds.contents vault.journal.side) (holds.rests vault.journal.side) (is_at journal g.D.Disk.files vault gr E X holds))
 
 pub returns-in-Ok-clause-added : goal.returns-in-Ok-clause-added
 returns-in-Ok-clause-added g c honest gr E X holds fits =
     let journal = c.sides_go_on.ensures.journal in
     let vault = c.args.self.now in
-    let spelled = alone c.deref.result.now _ _ (commit_bytes c.args.commit.now) c.deref.ensures.value c.in_ok-encode_payload.ensures.spelled c.clear.ensures.items in
+    let spelled = alone c.deref-2.result.now _ _ (commit_bytes c.args.commit.now) c.deref-2.ensures.value c.in_ok-encode_payload.ensures.spelled c.clear.ensures.items in
     let from = start journal g.D.Disk.files vault gr E X holds in
     let before = payloads journal g.D.Disk.files vault gr E X holds in
     let at = c.in-Ok.ensures.added honest from before (is_at_file journal g.D.Disk.files vault gr E X holds) in
@@ -71,32 +72,38 @@ pub returns-in-Ok-clause-gates : goal.returns-in-Ok-clause-gates
 returns-in-Ok-clause-gates g c honest gr E X holds gates =
     let journal = c.sides_go_on.ensures.journal in
     let vault = c.args.self.now in
-    gates_appended g.D.Disk.files g.D.Disk.moment g.D.Disk.left_at vault gr E X holds gates journal c.try_append.new.disk c.deref.result.now
+    gates_appended g.D.Disk.files g.D.Disk.moment g.D.Disk.left_at vault gr E X holds gates journal c.try_append.new.disk c.deref-2.result.now
     (c.try_append.ensures.any_moment honest (start journal g.D.Disk.files vault gr E X holds) (payloads journal g.D.Disk.files vault gr E X holds) (holds.contents vault.journal.side) (holds.rests vault.journal.side) (is_at journal g.D.Disk.files vault gr E X holds))
 
 pub returns-in-Err-Before-clause-gates : goal.returns-in-Err-Before-clause-gates
 returns-in-Err-Before-clause-gates g c honest gr E X holds gates =
     let journal = c.sides_go_on.ensures.journal in
     let vault = c.args.self.now in
-    gates_appended g.D.Disk.files g.D.Disk.moment g.D.Disk.left_at vault gr E X holds gates journal c.try_append.new.disk c.deref.result.now
+    gates_appended g.D.Disk.files g.D.Disk.moment g.D.Disk.left_at vault gr E X holds gates journal c.try_append.new.disk c.deref-2.result.now
     (c.try_append.ensures.any_moment honest (start journal g.D.Disk.files vault gr E X holds) (payloads journal g.D.Disk.files vault gr E X holds) (holds.contents vault.journal.side) (holds.rests vault.journal.side) (is_at journal g.D.Disk.files vault gr E X holds))
 
 pub returns-in-Err-Within-clause-gates : goal.returns-in-Err-Within-clause-gates
 returns-in-Err-Within-clause-gates g c honest gr E X holds gates =
     let journal = c.sides_go_on.ensures.journal in
     let vault = c.args.self.now in
-    gates_appended g.D.Disk.files g.D.Disk.moment g.D.Disk.left_at vault gr E X holds gates journal c.try_append.new.disk c.deref.result.now
+    gates_appended g.D.Disk.files g.D.Disk.moment g.D.Disk.left_at vault gr E X holds gates journal c.try_append.new.disk c.deref-2.result.now
     (c.try_append.ensures.any_moment honest (start journal g.D.Disk.files vault gr E X holds) (payloads journal g.D.Disk.files vault gr E X holds) (holds.contents vault.journal.side) (holds.rests vault.journal.side) (is_at journal g.D.Disk.files vault gr E X holds))
 
 pub returns-in-Ok-clause-written : goal.returns-in-Ok-clause-written
 returns-in-Ok-clause-written g c honest =
     let vault = c.args.self.now in
-    let spelled = alone c.deref.result.now _ _ (commit_bytes c.args.commit.now) c.deref.ensures.value c.in_ok-encode_payload.ensures.spelled c.clear.ensures.items in
+    let zeros = c.zeros_behind-zeros.result in
+    let spelled = alone c.deref-2.result.now _ _ (commit_bytes c.args.commit.now) c.deref-2.ensures.value c.in_ok-encode_payload.ensures.spelled c.clear.ensures.items in
+    let counted : c.record_length.result ≡ length (record_of c.deref-2.result.now) = c.record_length.ensures ∙ ap (λ (p : List ℕ). length (record_of p)) (c.deref.ensures.value ∙ sym c.deref-2.ensures.value) in
+    let gate : vault.journal.end + c.record_length.result ≡ c.try_append.new.self.end = ap (λ (n : ℕ). vault.journal.end + n) counted ∙ sym c.in-Ok.ensures.moved in
     let other = c.try_append.ensures.other honest in
     record {
-      written =
-          c.in-Ok.ensures.file honest
-          ∙ ap (λ (p : List ℕ). at_rest (overwritten (g.D.Disk.files vault.disk vault.journal.side).content vault.journal.end (record_of p ++ 0 ∷ []))) spelled;
+      written = (
+        zeros,
+        subst (λ (end : ℕ). LaysGround end zeros) gate c.zeros_behind-zeros.ensures.lays,
+        c.in-Ok.ensures.file honest
+            ∙ ap (λ (p : List ℕ). at_rest (overwritten (g.D.Disk.files vault.disk vault.journal.side).content vault.journal.end (record_of p ++ 0 ∷ replicate zeros 0))) spelled,
+      );
       other = other;
-      ready = λ working. appended_is_ready g.D.Disk.files vault _ c.deref.result.now (c.requires.store honest c.if-self.false) c.try_append.ensures.side c.in-Ok.ensures.moved (c.in-Ok.ensures.file honest) other;
+      ready = λ working. appended_is_ready g.D.Disk.files vault _ c.deref-2.result.now (replicate zeros 0) (c.requires.store honest c.if-self.false) c.try_append.ensures.side c.in-Ok.ensures.moved (c.in-Ok.ensures.file honest) other;
     }
