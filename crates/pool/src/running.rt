@@ -210,6 +210,9 @@ fn go_on_with<'a, J: Naming, D: Disk, R: Wait>(
     ensures turned { IsTurned J.opening pass.new result }
     ensures asked { result ≡ Ends (Some MetAsked) → ⊥ }
 {
+    facts_are_told_apart();
+    facts_go_on();
+    results_are_meant();
     if hand.slow {
         hand.give_back(rt, hub, pass);
         return goes_on_unless(commit(rt, hub, pass, batch));

@@ -4,10 +4,10 @@ ghost use Rattle.pool.specs.declared.worker.Met.TheVariants.{Asked as MetAsked, 
 ghost use Rattle.pool.specs.declared.worker.Turned.TheVariants.{Ends};
 ghost use Rattle.pool.specs.Worked.{AreClaimed, AreKept, IsTurned, Justifies, turned_by};
 
+use crate::Probe;
 use crate::hand::Hand;
 use crate::running::run_task;
 use crate::settling::{commit, commit_kept, stopped_by};
-use crate::Probe;
 use commit::Batch;
 use disk::Disk;
 use hub::{Hub, WorkPass};
@@ -63,6 +63,7 @@ pub(crate) const GROUP: usize = 8;
 // How often a worker that found nothing to do looks for a new commit, before it looks for something to do again. Each time that it finds nothing in a row
 // doubles this, up to `DOUBLINGS` times.
 const LOOKS: u32 = 64;
+
 const DOUBLINGS: u32 = 5;
 
 // How many of these looks come at once. Before each of the others the worker yields to other threads.
