@@ -1,15 +1,19 @@
 #!/bin/sh
 # Kills `cnc run` on so many workers at random moments, COUNT times, and runs on each time: a third of the times while the items and tags are put, then while the
 # steps run. Each line that was answered `ok` must be found by the next run, and the last report must be the right one. Eight chains of N steps each add the
-# numbers from 1 to N.
+# numbers from 1 to N. It says how the steps were committed too: a worker keeps up to eight, and commits them as one record.
 #
-# usage: killed.sh CNC COUNT N WORKERS
+# usage: killed.sh CNC [COUNT [N [WORKERS [FOLDER]]]]
+#     COUNT    how often it is killed (300); 30 take some 10 seconds
+#     N        the steps of a chain (4000)
+#     WORKERS  the workers (8)
+#     FOLDER   a folder of the file system that is used; a new one in it holds the store, and is removed (the directory for temporary files)
 set -eu
-cnc=$1
-count=$2
-number=$3
-workers=$4
-room=$(mktemp -d)
+cnc=${1:?the program}
+count=${2:-300}
+number=${3:-4000}
+workers=${4:-8}
+room=$(mktemp -d "${5:-${TMPDIR:-/tmp}}/killed.XXXXXX")
 trap 'rm -rf "$room"' EXIT
 mkdir "$room/store"
 
@@ -40,6 +44,26 @@ GRAPH
 } >"$room/script"
 echo run >"$room/run"
 lines=$((8 * number + 8))
+
+# Walks the records of the first file, which no turnover has left: each has an open gate, its length and a payload, whose first byte is its kind, 3 for the end of
+# one step and 5 for a group, with the number of its events behind it. Prints how many steps are in how many records, and the most in one.
+records() {
+    od -An -v -tu1 -w1 "$room/store/A" | awk '
+        function word(at) { return byte[at] + 256 * (byte[at + 1] + 256 * (byte[at + 2] + 256 * byte[at + 3])) }
+        { byte[NR - 1] = $1 + 0 }
+        END {
+            at = 10
+            at += 4 + word(at)
+            at += 4 + word(at)
+            while (byte[at] == 1) {
+                steps = byte[at + 5] == 3 ? 1 : byte[at + 5] == 5 ? byte[at + 6] + 256 * byte[at + 7] : 0
+                if (steps > 0) { done += steps; count++ }
+                if (steps > most) most = steps
+                at += 5 + word(at + 1)
+            }
+            printf "%d steps in %d records, at most %d in one\n", done, count, most
+        }'
+}
 
 "$cnc" create "$room/graph" "$room/store" >"$room/created"
 
@@ -84,4 +108,12 @@ tail -n 1 "$room/out" | grep -qx "$lines items, $((8 * number)) tags, $((8 * num
 for chain in 1 2 3 4 5 6 7 8; do
     grep -qx "\[sum: $chain, $number\] = $((number * (number + 1) / 2))" "$room/out"
 done
-echo "$count runs on $workers workers, $killed of them killed, $answered lines answered: all found; $before steps done before the last run, and its report is right"
+together=$(records)
+case $together in
+"$((8 * number)) steps in "*) ;;
+*)
+    echo "the records have $together" >&2
+    exit 1
+    ;;
+esac
+echo "$count runs on $workers workers, $killed of them killed, $answered lines answered: all found; $before steps done before the last run, and its report is right; $together"

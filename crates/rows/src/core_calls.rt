@@ -2,8 +2,10 @@
 
 use crate::bodies::tell_address;
 use crate::named::{address_of, tag_of, tell_named};
+use crate::together;
 use commit::{Core, CoreError, CreateError, RunError, Status, Verdict};
 use disk::MemDisk;
+use machine::Ended;
 use std::alloc::{AllocError, Global};
 use terms::{Addr, FaultKind, Inst};
 use vault::VaultError;
@@ -23,6 +25,8 @@ pub(crate) fn take(
         "status" => tell_status(core, told),
         "report" => report(alloc, core, rest, told),
         "counts" => tell_counts(core, told),
+        "ready" => tell_ready(core, told),
+        "together" => finish_together(alloc, core, rest, told),
         "items" => tell_items(core, rest, told),
         "turn" => turn(alloc, core, told),
         _ => told.push_str("no such call"),
@@ -82,6 +86,33 @@ fn turn(alloc: Global, core: &mut Core<MemDisk>, told: &mut String) -> Result<()
         Ok(generation) => write!(told, "generation {generation}"),
         Err(error) => write!(told, "refused: {error}"),
     }
+}
+
+// Lets some of the ready instances run, and commits their ends together.
+fn finish_together(
+    alloc: Global,
+    core: &mut Core<MemDisk>,
+    most: &str,
+    told: &mut String,
+) -> Result<(), AllocError> {
+    let most = most.parse::<usize>().unwrap_or(0);
+    match together::finish_together(alloc, core, most)? {
+        Some(Ok(ended)) => tell_ended(ended, told),
+        Some(Err(error)) => write!(told, "refused: {error}"),
+        None => told.push_str("none ended"),
+    }
+}
+
+fn tell_ended(ended: Ended, told: &mut String) -> Result<(), AllocError> {
+    write!(told, "{} done", ended.done)?;
+    match ended.stopped {
+        Some(kind) => write!(told, ", then fault {}", kind.number()),
+        None => Ok(()),
+    }
+}
+
+fn tell_ready(core: &Core<MemDisk>, told: &mut String) -> Result<(), AllocError> {
+    write!(told, "{} ready, {} run", core.ready(), core.running())
 }
 
 /// Writes how a run ended, or that there was none.

@@ -1,9 +1,9 @@
 //! Stories of a store on a memory disk with its steps: `core NUMBERS`, and below it a line for each call (`stories`).
 //!
 //! `create NAME`, `open`; `tag <n: 2>`, `put [fib: 0] = 0`, `get [fib: 1]`; `run CHOOSER LIMIT`, with a chooser of
-//! `choosers`; `status`, `report ADDRESS; ADDRESS..`, `items NAME`, `counts`, `turn`. `fail NUMBER`: the call of the
-//! disk with this number, counted from now, fails. All other words are calls on the two files, which first close the
-//! store (`disks`).
+//! `choosers`; `together NUMBER` (`together`); `status`, `report ADDRESS; ADDRESS..`, `items NAME`, `counts`, `ready`,
+//! `turn`. `fail NUMBER`: the call of the disk with this number, counted from now, fails. All other words are calls on
+//! the two files, which first close the store (`disks`).
 use crate::choosers::Chooser;
 use crate::stories::World;
 use crate::{core_calls as calls, disks};
@@ -75,7 +75,9 @@ impl World for Store {
             "create" => create(alloc, names, self, rest, told),
             "open" => open(alloc, self, told),
             "fail" => fail(alloc, self, if rest == "$" { number } else { rest }, told),
-            "crash" | "length" | "has" | "write" => on_disk(alloc, names, self, word, rest, told),
+            "crash" | "leave" | "length" | "has" | "write" => on_disk(
+                alloc, names, self, word, rest, told,
+            ),
             "run" if self.is_open() => run(alloc, self, rest, told),
             _ => on_core(alloc, self, word, rest, told),
         }

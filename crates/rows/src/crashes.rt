@@ -18,7 +18,7 @@ use std::mem;
 const CHANGES: [u8; 3] = [0, 1, 7];
 
 // How many bytes at each end of a file are tried. Each record of the stories is shorter.
-const NEAR: usize = 64;
+const NEAR: usize = 128;
 
 // A story, before the crash and after it.
 #[derive(Clone, Copy)]

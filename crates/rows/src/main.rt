@@ -24,6 +24,7 @@ mod running;
 mod states;
 mod stories;
 mod telling;
+mod together;
 mod vault_stories;
 mod vaults;
 

@@ -1,0 +1,314 @@
+#!/bin/bash
+# What a step takes in `cnc run`, and what a program that keeps the same rows in SQLite takes, and the bare writes and syncs of a group of eight steps: all in one run,
+# in alternating rounds, on the file system of one folder. It prints the median of the rounds, in microseconds a step, a line each.
+#
+# usage: peers.sh CNC [FOLDER [STEPS [SIDE [LINKS [ROUNDS]]]]]
+#     CNC     the program, as `rt run` built it
+#     FOLDER  a folder of the file system that is measured; a new one in it is used, and removed (.)
+#     STEPS   the instances of `wide`, and the steps of SQLite and of the bare writes (20000)
+#     SIDE    the side of `wavefront`, which has as many cells as its square (140)
+#     LINKS   the instances of `chain` (2000)
+#     ROUNDS  how often each is measured (5)
+#
+# It needs cc, awk and SQLite with its header: apt-get install gcc sqlite3 libsqlite3-dev
+#
+# Measured of `cnc run`: from the start of the process to its reply `complete`, in a new store, made before. So the start of the process is in it, the opening of the
+# store, and the tags, which steps put, up to 4000 each. Not in it: `cnc create`, and the report after the reply. The steps are
+#     wide       STEPS instances that read nothing and put one item each
+#     wavefront  a square of cells, each of which reads the two before it and puts their greater one
+#     chain      LINKS instances, each of which reads what the one before it put
+#
+# Measured of SQLite: a program in C, below, on its own thread, with statements that were prepared before, in a new database with journal_mode=WAL and
+# synchronous=FULL, from the first BEGIN to the last COMMIT, with SQLite's own checkpoints. Eight steps are one transaction. A step inserts its item; or it inserts its
+# item and the mark that it is done. Not in it: the start of the process, the tables, the graph, the tags, the choice of what runs next, the body of the step, and
+# the checkpoint when the database is closed. So it does less than `cnc run` does; it says what its writes and syncs take, not what a program with steps takes.
+#
+# Measured of the bare writes: 330 bytes at the end of a file, fdatasync, one byte in front of them, fdatasync, for each eight steps; and nothing else.
+set -eu
+cnc=${1:?the program}
+folder=${2:-.}
+steps=${3:-20000}
+side=${4:-140}
+links=${5:-2000}
+rounds=${6:-5}
+block=4000
+room=$(mktemp -d "$folder/peers.XXXXXX")
+trap 'rm -rf "$room"' EXIT
+export LC_ALL=C
+
+# ---- the programs
+
+cat >"$room/peer.c" <<'C'
+#define _GNU_SOURCE
+#include <fcntl.h>
+#include <sqlite3.h>
+#include <stdio.h>
+#include <stdlib.h>
+#include <string.h>
+#include <time.h>
+#include <unistd.h>
+
+enum { TOGETHER = 8, RECORD = 330 };
+
+static double now(void) {
+    struct timespec t;
+    clock_gettime(CLOCK_MONOTONIC, &t);
+    return t.tv_sec * 1e6 + t.tv_nsec / 1e3;
+}
+
+static void need(int holds, const char *what) {
+    if (!holds) {
+        fprintf(stderr, "peer: %s\n", what);
+        exit(1);
+    }
+}
+
+static sqlite3_stmt *prepared(sqlite3 *db, const char *text) {
+    sqlite3_stmt *statement = NULL;
+    need(sqlite3_prepare_v2(db, text, -1, &statement, NULL) == SQLITE_OK, text);
+    return statement;
+}
+
+static void run(sqlite3_stmt *statement) {
+    need(sqlite3_step(statement) == SQLITE_DONE, sqlite3_sql(statement));
+    sqlite3_reset(statement);
+}
+
+static void ask(sqlite3 *db, const char *text, const char *answer) {
+    sqlite3_stmt *statement = prepared(db, text);
+    int went = sqlite3_step(statement);
+    if (answer != NULL) {
+        need(went == SQLITE_ROW && strcmp((const char *)sqlite3_column_text(statement, 0), answer) == 0, text);
+    }
+    sqlite3_finalize(statement);
+}
+
+static double database(const char *path, long steps, int marks) {
+    sqlite3 *db;
+    need(sqlite3_open(path, &db) == SQLITE_OK, "no database");
+    ask(db, "PRAGMA journal_mode=WAL", "wal");
+    ask(db, "PRAGMA synchronous=FULL", NULL);
+    ask(db, "PRAGMA synchronous", "2");
+    ask(db, "CREATE TABLE item (collection INTEGER, k INTEGER, value INTEGER, PRIMARY KEY (collection, k)) WITHOUT ROWID", NULL);
+    ask(db, "CREATE TABLE done (step INTEGER, k INTEGER, PRIMARY KEY (step, k)) WITHOUT ROWID", NULL);
+    sqlite3_stmt *begin = prepared(db, "BEGIN"), *commit = prepared(db, "COMMIT");
+    sqlite3_stmt *item = prepared(db, "INSERT INTO item VALUES (0, ?1, ?1)");
+    sqlite3_stmt *done = prepared(db, "INSERT INTO done VALUES (0, ?1)");
+    double start = now();
+    for (long step = 0; step < steps; step++) {
+        if (step % TOGETHER == 0) run(begin);
+        sqlite3_bind_int64(item, 1, step);
+        run(item);
+        if (marks) {
+            sqlite3_bind_int64(done, 1, step);
+            run(done);
+        }
+        if (step % TOGETHER == TOGETHER - 1 || step == steps - 1) run(commit);
+    }
+    double took = now() - start;
+    char count[32];
+    snprintf(count, sizeof count, "%ld", steps);
+    ask(db, "SELECT CAST(count(*) AS TEXT) FROM item", count);
+    sqlite3_finalize(begin);
+    sqlite3_finalize(commit);
+    sqlite3_finalize(item);
+    sqlite3_finalize(done);
+    need(sqlite3_close(db) == SQLITE_OK, "not closed");
+    return took;
+}
+
+static double bare(const char *path, long steps) {
+    int file = open(path, O_RDWR | O_CREAT | O_TRUNC, 0666);
+    char bytes[RECORD] = {0}, gate = 1;
+    need(file >= 0 && write(file, bytes, 1) == 1 && fdatasync(file) == 0, "no file");
+    off_t end = 0;
+    double start = now();
+    for (long step = 0; step < steps; step += TOGETHER) {
+        need(pwrite(file, bytes, RECORD, end + 1) == RECORD && fdatasync(file) == 0, "a record");
+        need(pwrite(file, &gate, 1, end) == 1 && fdatasync(file) == 0, "a gate");
+        end += RECORD;
+    }
+    double took = now() - start;
+    close(file);
+    return took;
+}
+
+int main(int count, char **words) {
+    need(count == 4, "usage: peer one|two|bare PATH STEPS");
+    long steps = atol(words[3]);
+    double took = strcmp(words[1], "bare") == 0 ? bare(words[2], steps) : database(words[2], steps, strcmp(words[1], "two") == 0);
+    printf("%.3f\n", took / steps);
+    return 0;
+}
+C
+cc -O2 -o "$room/peer" "$room/peer.c" -lsqlite3
+
+# ---- the graphs and their scripts
+
+cat >"$room/wide.graph" <<GRAPH
+[out: k];
+<from: b>;
+<t: k>;
+<from> :: (feed);
+<t> :: (one);
+(feed) -> <t>;
+(one) -> [out];
+env -> <from>;
+[out] -> env;
+step feed(b) {
+  var k, last;
+  read { }
+  write {
+    last = b + $block;
+    if (last > $steps) { last = $steps; }
+    for k in b .. last { put <t: k>; }
+  }
+}
+step one(k) { read { } write { put [out: k] = k; } }
+GRAPH
+cat >"$room/chain.graph" <<GRAPH
+[out: k];
+<from: b>;
+<t: k>;
+<from> :: (feed);
+<t> :: (next);
+(feed) -> <t>;
+[out] -> (next);
+(next) -> [out];
+env -> <from>;
+env -> [out];
+[out] -> env;
+step feed(b) {
+  var k, last;
+  read { }
+  write {
+    last = b + $block;
+    if (last > $links) { last = $links; }
+    for k in b .. last { put <t: k + 1>; }
+  }
+}
+step next(k) {
+  var before;
+  read { get before = [out: k - 1]; }
+  write { put [out: k] = before + 1; }
+}
+GRAPH
+cat >"$room/wavefront.graph" <<GRAPH
+[c: i, j];
+<t: i, j>;
+<row: i>;
+<edge: e>;
+<t> :: (cell);
+<row> :: (feed);
+<edge> :: (edges);
+[c] -> (cell);
+(cell) -> [c];
+(edges) -> [c];
+(feed) -> <t>;
+env -> <row>;
+env -> <edge>;
+[c] -> env;
+step edges(e) {
+  var k;
+  read { }
+  write {
+    for k in 1 .. $((side + 1)) { put [c: 0, k] = k; put [c: k, 0] = k; }
+  }
+}
+step feed(i) {
+  var j;
+  read { }
+  write { for j in 1 .. $((side + 1)) { put <t: i, j>; } }
+}
+step cell(i, j) {
+  var up, left;
+  read { get up = [c: i - 1, j]; get left = [c: i, j - 1]; }
+  write { if (up < left) { put [c: i, j] = left; } else { put [c: i, j] = up; } }
+}
+GRAPH
+
+# The last line of a report in which nothing is left to do: so many items, and so many tags with their steps.
+ended() {
+    echo "$1 items, $2 tags, $2 of $2 steps done"
+}
+
+seq 0 "$block" $((steps - 1)) | sed 's/.*/tag <from: &>/' >"$room/wide.script"
+ended "$steps" $((steps + (steps + block - 1) / block)) >"$room/wide.end"
+{
+    echo 'put [out: 0] = 0'
+    seq 0 "$block" $((links - 1)) | sed 's/.*/tag <from: &>/'
+} >"$room/chain.script"
+ended $((links + 1)) $((links + (links + block - 1) / block)) >"$room/chain.end"
+{
+    echo 'tag <edge: 0>'
+    seq 1 "$side" | sed 's/.*/tag <row: &>/'
+} >"$room/wavefront.script"
+ended $((side * side + 2 * side)) $((side * side + side + 1)) >"$room/wavefront.end"
+for work in wide chain wavefront; do
+    echo run >>"$room/$work.script"
+done
+
+# ---- the rounds
+
+# The microseconds from the start of `cnc run` to its reply `complete`, for each of so many steps.
+of_cnc() {
+    local work=$1 count=$2 workers=$3 line took=
+    mkdir "$room/store"
+    "$cnc" create "$room/$work.graph" "$room/store" >/dev/null
+    local begun=$EPOCHREALTIME
+    exec 3< <(exec "$cnc" run "$room/store" "$room/$work.script" --workers "$workers")
+    while read -r line <&3; do
+        if [ "$line" = complete ]; then
+            took=$((${EPOCHREALTIME/./} - ${begun/./}))
+            break
+        fi
+    done
+    if [ -z "$took" ] || [ "$(tail -n 1 <&3)" != "$(cat "$room/$work.end")" ]; then
+        echo "peers: no right answer from $work" >&2
+        exit 1
+    fi
+    exec 3<&-
+    rm -r "$room/store"
+    awk -v took="$took" -v count="$count" 'BEGIN { printf "%.3f\n", took / count }'
+}
+
+# The microseconds of each step by the program in C.
+of_peer() {
+    "$room/peer" "$1" "$room/database" "$steps"
+    rm -f "$room/database" "$room/database-wal" "$room/database-shm"
+}
+
+# Measures one thing, and keeps what came under its name.
+measure() {
+    local name=$1
+    shift
+    "$@" >>"$room/$name.times"
+}
+
+for ((round = 0; round < rounds; round++)); do
+    for workers in 1 4; do
+        measure "cnc run, wide, $workers workers" of_cnc wide "$steps" "$workers"
+        measure "cnc run, wavefront, $workers workers" of_cnc wavefront $((side * side)) "$workers"
+        measure "cnc run, chain, $workers workers" of_cnc chain "$links" "$workers"
+    done
+    measure "SQLite, one insert a step" of_peer one
+    measure "SQLite, two inserts a step" of_peer two
+    measure "bare writes and syncs" of_peer bare
+done
+
+# ---- the medians
+
+middle() {
+    sort -n "$1" | awk '{ v[NR] = $1 } END { printf "%.1f (%.1f to %.1f)", v[int((NR + 1) / 2)], v[1], v[NR] }'
+}
+
+echo "microseconds a step: the median of $rounds rounds, the least and the most"
+for workers in 1 4; do
+    for work in wide wavefront chain; do
+        name="cnc run, $work, $workers workers"
+        echo "$name: $(middle "$room/$name.times")"
+    done
+done
+for name in "SQLite, one insert a step" "SQLite, two inserts a step" "bare writes and syncs"; do
+    echo "$name: $(middle "$room/$name.times")"
+done
