@@ -14,9 +14,8 @@ use std::thread::yield_now;
 use steplang::Parked;
 use terms::{Addr, Tag};
 
-// How often a thread looks whether the lock is free before it sleeps until it is woken. A look yields to other threads, some third of a
-// microsecond. Looking is cheaper for all than sleeping, as long as the lock is held for a few commits in memory: a thread that is woken takes tens of
-// microseconds to come, and the lock may rest until it has.
+// How often a thread looks whether the lock is free before it sleeps. It yields to other threads after each look. A thread that sleeps has to be woken, which
+// takes tens of microseconds, and the lock may be reserved for it meanwhile.
 const LOOKS: u32 = 128;
 
 /// A store that threads share. Each thread calls it with a pass of its own. After each locked call the pass has seen a
@@ -178,9 +177,9 @@ impl<J: Naming, D: Disk> Hub<J, D> {
         self.locked(rt).claim(&self.board, pass, at)
     }
 
-    /// Lets up to `most` of the ready instances run, one after another as `claim` does, and adds their tasks to these. It takes fewer where few are
-    /// ready, so that there are some for each pass. `Ok` says whether an instance runs then; no clause says which it returns. If there is no memory
-    /// for a task, its instance is ready again; the tasks before it were added.
+    /// Claims up to `most` of the ready instances one after another, and adds their tasks to these. It claims no more than the number of ready ones
+    /// divided by the number of passes, so that others find some too, but at least one if there is one. `Ok` says whether an instance runs then; no
+    /// clause says which it returns. If there is no memory for a task, its instance is ready again; the tasks before it were added.
     pub fn claim_some<R: Wait>(
         &self,
         rt: &R,
@@ -282,6 +281,7 @@ impl<J: Naming, D: Disk> Hub<J, D> {
         ensures err { OnErr result (AddsNothing pass.old pass.new) }
         ensures refused { OnBatch result (λ back. back ≡ batch.entry) (λ answer. IfErr answer (RefusesTogether J.opening pass.new (ends_said batch.entry))) }
         ensures claimed { AddsClaimed J.opening pass.new most tasks.old tasks.new }
+        ensures unclaimed { OnErr result (tasks.new ≡ tasks.old) }
     {
         self.locked(rt)
             .exchange(&self.board, pass, batch, tasks, most, self.count)

@@ -1,9 +1,10 @@
 //! Several claims, under the lock.
-ghost use Rattle.std.specs.Prelude.{◌≡◌, ◌≤◌, IfErr, IfOk, IsTrue, OnErr};
+ghost use Rattle.std.specs.Prelude.{◌≡◌, ◌≢◌, ◌↔◌, ◌≤◌, ◌<◌, true, IfErr, IfOk, OnErr};
 ghost use Rattle.commit.specs.Batch.{HaveOutcomes, ends_said};
+ghost use Rattle.commit.specs.Steps.{running_count};
 ghost use Rattle.passes.specs.Visits.{Shows};
 ghost use Rattle.hub.specs.Batches.{AddsTogether, OnBatch, RefusesTogether};
-ghost use Rattle.hub.specs.Claims.{AddsClaimed, AddsOne, RefusesClaims};
+ghost use Rattle.hub.specs.Claims.{AddsClaimed, ClaimsOne, ClaimsSome};
 ghost use Rattle.hub.specs.Opening.{facts_behind};
 ghost use Rattle.hub.specs.Replies.{AddsNothing, Sees};
 
@@ -26,9 +27,7 @@ impl<J: Naming, D: Disk> Kept<J, D> {
     ) -> Result<bool, CoreError>
         ensures history { (self.new.history ≡ self.old.history) × Shows self.old.history pass.old pass.new }
         ensures seen { Sees J.opening pass.old pass.new × AddsNothing pass.old pass.new }
-        ensures claimed { IfOk result (λ some. AddsOne J.opening pass.new some tasks.old tasks.new) }
-        ensures err { OnErr result (tasks.new ≡ tasks.old) }
-        ensures refused { IfErr result RefusesClaims }
+        ensures core { ClaimsOne J.opening pass.new self.old.core self.new.core tasks.old tasks.new result }
     {
         match self.claim(board, pass, 0) {
             Ok(Some(task)) => match tasks.add(task) {
@@ -43,8 +42,8 @@ impl<J: Naming, D: Disk> Kept<J, D> {
         }
     }
 
-    /// Lets up to `most` of the ready instances run, and adds their tasks to these: no more than leaves as many for each of `passes` passes, but
-    /// one at least. `Ok` says whether an instance runs then; no clause says which it returns.
+    /// Claims up to `most` of the ready instances one after another, as `claim` does the first of them, and adds their tasks to these. It claims no more than the number
+    /// of ready ones divided by `passes`, but at least one, if there is one. `Ok` says whether an instance runs then.
     pub fn claim_some(
         &mut self,
         board: &Board<J>,
@@ -55,23 +54,29 @@ impl<J: Naming, D: Disk> Kept<J, D> {
     ) -> Result<bool, CoreError>
         ensures history { (self.new.history ≡ self.old.history) × Shows self.old.history pass.old pass.new }
         ensures seen { Sees J.opening pass.old pass.new × AddsNothing pass.old pass.new }
-        ensures claimed { AddsClaimed J.opening pass.new most tasks.old tasks.new }
-        ensures refused { IfErr result RefusesClaims }
+        ensures core { (adds : AddsClaimed J.opening pass.new most tasks.old tasks.new) × ClaimsSome self.old.core self.new.core most adds.more result }
     {
         board.show(&mut self.desk, pass);
         let mut left = share_of(most, self.core.ready(), passes);
         while left > 0 {
             match self.claim_one(board, pass, tasks) {
                 Ok(true) => left -= 1,
-                Ok(false) => return Ok(self.core.running() != 0),
+                Ok(false) => return Ok(self.runs_any()),
                 Err(error) => return Err(error),
             }
         }
-        Ok(self.core.running() != 0)
+        Ok(self.runs_any())
+    }
+
+    // Whether an instance runs.
+    fn runs_any(&self) -> bool
+        ensures { (result ≡ true) ↔ (running_count self.now.core ≢ 0) }
+    {
+        self.core.running() != 0
     }
 
     /// `finish_all`, and then, if it is not refused, `claim_some`.
-    pub fn exchange<'a>(
+    pub(crate) fn exchange<'a>(
         &mut self,
         board: &Board<J>,
         pass: &mut WorkPass<J>,
@@ -86,6 +91,7 @@ impl<J: Naming, D: Disk> Kept<J, D> {
         ensures err { OnErr result (AddsNothing pass.old pass.new) }
         ensures refused { OnBatch result (λ back. back ≡ batch.entry) (λ answer. IfErr answer (RefusesTogether J.opening pass.new (ends_said batch.entry))) }
         ensures claimed { AddsClaimed J.opening pass.new most tasks.old tasks.new }
+        ensures unclaimed { OnErr result (tasks.new ≡ tasks.old) }
     {
         match self.finish_all(board, pass, batch) {
             Ok(ended) => {
@@ -98,9 +104,10 @@ impl<J: Naming, D: Disk> Kept<J, D> {
     }
 }
 
-// How many instances a worker takes at once, of so many ready ones, where there are so many passes: at most `most`, and one at least if `most` is.
+// How many instances are claimed at once: the number of ready ones divided by the number of passes, but no more than `most`, and at least one if any is asked for.
 fn share_of(most: usize, ready: usize, passes: usize) -> usize
-    ensures { result ≤ most }
+    ensures few { result ≤ most }
+    ensures some { 0 < most → 0 < result }
 {
     most.min((ready / passes.max(1)).max(1))
 }

@@ -1,6 +1,7 @@
-//! What a worker has claimed, and how it gives that back.
-ghost use Rattle.std.specs.Prelude.{◌≡◌, [], IfOk, IfErr, OnErr};
+//! What a worker has claimed, and what it remembers of the bodies that it ran.
+ghost use Rattle.std.specs.Prelude.{◌≡◌, [], IfOk, IfErr, IfSome};
 ghost use mathlib.Core.List.{IsPrefix};
+ghost use Rattle.graph.specs.Fits.{InstanceIsOf};
 ghost use Rattle.hub.specs.Claims.{RefusesClaims};
 ghost use Rattle.pool.specs.Worked.{AreClaimed};
 
@@ -9,17 +10,25 @@ use crate::worker::GROUP;
 use commit::CoreError;
 use disk::Disk;
 use hub::{Hub, WorkPass};
-use instances::Tasks;
+use instances::{Task, Tasks};
 use passes::Naming;
 use std::alloc::{AllocError, Global};
 use std::sync::Wait;
 
-/// What a worker has claimed, and what it remembers of its last turns.
+// A body takes long if it makes so many statements and turns of loops: some 60 microseconds, about as long as one of a commit's two syncs on a disk.
+const LONG: u32 = 10_000;
+
+// What a body takes beside its statements, counted in statements.
+const VISIT: u32 = 100;
+
+/// What a worker has claimed, and what it remembers of the bodies that it ran.
 pub(crate) struct Hand {
     /// The instances that it has claimed and not begun to run, in order.
     pub(crate) claimed: Tasks,
-    /// Whether the last body took long. Then the worker takes one instance at a time, and commits its end at once, so that others wait for neither.
-    pub(crate) slow: bool,
+    // Whether the last body took long, to its end or up to an item that was not there.
+    slow: bool,
+    // The statements of the bodies that ran since the first of the results that are kept, with `VISIT` more for each body.
+    spent: u32,
     /// How often in a row it has found nothing to do.
     pub(crate) vain: u32,
 }
@@ -33,27 +42,75 @@ impl Hand {
         Ok(Hand {
             claimed,
             slow: true,
+            spent: 0,
             vain: 0,
         })
     }
 
-    /// Claims a group of instances, or one if bodies take long. Says whether an instance runs then.
-    pub(crate) fn claim<J: Naming, D: Disk, R: Wait>(
+    /// Notes a body that has made so many statements, and whether results are kept beside it.
+    pub(crate) fn note(&mut self, statements: u32, keeps: bool)
+        ensures { self.new.claimed ≡ self.old.claimed }
+    {
+        self.slow = statements >= LONG;
+        let before = if keeps { self.spent } else { 0 };
+        self.spent = before.saturating_add(statements).saturating_add(VISIT);
+    }
+
+    /// Whether the last body took long.
+    pub(crate) fn is_slow(&self) -> bool {
+        self.slow
+    }
+
+    /// Whether results that are kept are to be committed now, since others may have waited for them for long.
+    pub(crate) fn is_due(&self) -> bool {
+        self.spent >= LONG
+    }
+
+    /// The next instance to run, if there is one: it was claimed before, or is now, with others of its group. Says whether an instance runs then. After
+    /// a body that took long, what was claimed before it is given back, so that others can run it, and one instance is claimed alone.
+    pub(crate) fn next<J: Naming, D: Disk, R: Wait>(
         &mut self,
         rt: &R,
         hub: &Hub<J, D>,
         pass: &mut WorkPass<J>,
-    ) -> Result<bool, CoreError>
+    ) -> Result<(Option<Task>, bool), CoreError>
         requires { AreClaimed J.opening self.old.claimed }
         ensures claimed { AreClaimed J.opening self.new.claimed }
+        ensures task { IfOk result (λ next. IfSome next.0 (InstanceIsOf J.opening.graph)) }
         ensures ahead { IsPrefix pass.old.seen pass.new.seen }
         ensures refused { IfErr result RefusesClaims }
     {
-        let most = if self.slow { 1 } else { GROUP };
-        hub.claim_some(rt, pass, &mut self.claimed, most)
+        if self.slow {
+            self.give_back(rt, hub, pass);
+            return self.claim(rt, hub, pass, 1);
+        }
+        match self.claimed.take_first() {
+            Some(task) => Ok((Some(task), true)),
+            None => self.claim(rt, hub, pass, GROUP),
+        }
     }
 
-    /// Gives all instances back that were claimed and not begun.
+    // Claims up to so many instances, and takes the first of them.
+    fn claim<J: Naming, D: Disk, R: Wait>(
+        &mut self,
+        rt: &R,
+        hub: &Hub<J, D>,
+        pass: &mut WorkPass<J>,
+        most: usize,
+    ) -> Result<(Option<Task>, bool), CoreError>
+        requires { AreClaimed J.opening self.old.claimed }
+        ensures claimed { AreClaimed J.opening self.new.claimed }
+        ensures task { IfOk result (λ next. IfSome next.0 (InstanceIsOf J.opening.graph)) }
+        ensures ahead { IsPrefix pass.old.seen pass.new.seen }
+        ensures refused { IfErr result RefusesClaims }
+    {
+        match hub.claim_some(rt, pass, &mut self.claimed, most) {
+            Ok(busy) => Ok((self.claimed.take_first(), busy)),
+            Err(error) => Err(error),
+        }
+    }
+
+    /// Gives all instances back that were claimed and not begun, the last one first, so that they are ready in the order in which they were claimed.
     pub(crate) fn give_back<J: Naming, D: Disk, R: Wait>(
         &mut self,
         rt: &R,
@@ -63,7 +120,7 @@ impl Hand {
         ensures none { self.new.claimed ≡ [] }
         ensures ahead { IsPrefix pass.old.seen pass.new.seen }
     {
-        while let Some(task) = self.claimed.take_first() {
+        while let Some(task) = self.claimed.take_last() {
             let _ = settled(rt, hub.release(rt, pass, task));
         }
     }
@@ -75,6 +132,7 @@ impl Hand {
         let Hand {
             claimed,
             slow: _,
+            spent: _,
             vain: _,
         } = self;
         claimed.end();

@@ -10,7 +10,7 @@ pub enum Answer {
     Stop,
 }
 
-/// A worker asks it after each claim, outside the lock. Any number of workers may be in it at one time. It is not asked
+/// A worker asks it before each body, outside the lock. Any number of workers may be in it at one time. It is not asked
 /// about what the calling thread runs after the workers have ended.
 pub trait Probe: Sync {
     ghost use Rattle.std.specs.Prelude.{◌≡◌, Bool, true};

@@ -10,7 +10,7 @@ ghost use Rattle.pool.specs.declared.worker.Turned.TheVariants.{Ends};
 ghost use Rattle.pool.specs.Worked.{AreClaimed, AreKept, IsTurned};
 
 use crate::hand::Hand;
-use crate::settling::{commit, exchange, finish, park, settled, stopped_by};
+use crate::settling::{commit, commit_kept, exchange, finish, park, settled, stopped_by};
 use crate::worker::{GROUP, Met, Turned, ends, goes_on_unless};
 use crate::{Answer, Probe};
 use commit::{Batch, Outcome};
@@ -23,9 +23,6 @@ use std::alloc::Global;
 use std::sync::Wait;
 use steplang::Run;
 use terms::{facts_are_told_apart, facts_go_on};
-
-// A body takes long if it makes so many statements and turns of loops: about as long as a commit on a disk.
-const LONG: u32 = 10_000;
 
 /// Runs one instance.
 pub(crate) fn run_task<'a, J: Naming, D: Disk, P: Probe, R: Wait>(
@@ -56,10 +53,15 @@ pub(crate) fn run_task<'a, J: Naming, D: Disk, P: Probe, R: Wait>(
     }
     match hub.run(rt, alloc, pass, &task) {
         Ok(Ran::Ended(outcome, statements)) => {
-            hand.slow = statements >= LONG;
+            hand.vain = 0;
+            hand.note(statements, kept.is_some());
             keep(rt, alloc, hub, pass, hand, task, outcome, kept)
         }
-        Ok(Ran::Waits(run)) => wait(rt, alloc, hub, pass, hand, task, run, kept),
+        Ok(Ran::Waits(run)) => {
+            hand.vain = 0;
+            hand.note(run.statements(), kept.is_some());
+            wait(rt, alloc, hub, pass, hand, task, run, kept)
+        }
         Err(error) => {
             let _ = settled(rt, hub.release(rt, pass, task));
             ends(rt, hub, pass, stopped_by(error), kept)
@@ -86,8 +88,8 @@ fn wait<'a, J: Naming, D: Disk, R: Wait>(
     ensures turned { IsTurned J.opening pass.new result }
     ensures asked { result ≡ Ends (Some MetAsked) → ⊥ }
 {
-    if run.statements() < LONG {
-        return park_beside(rt, hub, pass, task, run, kept);
+    if !hand.is_slow() {
+        return park_beside(rt, hub, pass, hand, task, run, kept);
     }
     match kept {
         Some(batch) => wait_for_own(rt, alloc, hub, pass, hand, task, run, batch),
@@ -95,11 +97,12 @@ fn wait<'a, J: Naming, D: Disk, R: Wait>(
     }
 }
 
-// Lets the instance wait, and goes on with what is kept.
+// Lets the instance wait, and goes on with what is kept, unless that is to be committed now.
 fn park_beside<'a, J: Naming, D: Disk, R: Wait>(
     rt: &R,
     hub: &'a Hub<J, D>,
     pass: &mut WorkPass<J>,
+    hand: &Hand,
     task: Task,
     run: Run<'a>,
     kept: Option<Batch<'a>>,
@@ -113,7 +116,12 @@ fn park_beside<'a, J: Naming, D: Disk, R: Wait>(
     facts_go_on();
     results_are_meant();
     match park(rt, hub, pass, task, run) {
-        None => Turned::GoesOn(kept),
+        None => {
+            if hand.is_due() {
+                return goes_on_unless(commit_kept(rt, hub, pass, kept));
+            }
+            Turned::GoesOn(kept)
+        }
         Some(met) => ends(rt, hub, pass, met, kept),
     }
 }
@@ -145,7 +153,7 @@ fn wait_for_own<'a, J: Naming, D: Disk, R: Wait>(
     }
     match hub.resume(rt, pass, run) {
         Ok(Ran::Ended(outcome, statements)) => {
-            hand.slow = statements >= LONG;
+            hand.note(statements, false);
             keep(rt, alloc, hub, pass, hand, task, outcome, None)
         }
         Ok(Ran::Waits(run)) => goes_on_unless(park(rt, hub, pass, task, run)),
@@ -195,8 +203,8 @@ fn keep<'a, J: Naming, D: Disk, R: Wait>(
     }
 }
 
-// Goes on with these results. They are committed if they are a group, and the worker claims the next instances with the same visit of the lock. They are
-// committed too if the last body took long, so that nobody waits for them; then what was claimed is given back, so that others can take it.
+// Goes on with these results. They are committed if bodies took long since the first of them, so that others do not wait for them; or if they are a group, and then
+// the worker claims the next instances with the same visit of the lock.
 fn go_on_with<'a, J: Naming, D: Disk, R: Wait>(
     rt: &R,
     hub: &'a Hub<J, D>,
@@ -210,11 +218,7 @@ fn go_on_with<'a, J: Naming, D: Disk, R: Wait>(
     ensures turned { IsTurned J.opening pass.new result }
     ensures asked { result ≡ Ends (Some MetAsked) → ⊥ }
 {
-    facts_are_told_apart();
-    facts_go_on();
-    results_are_meant();
-    if hand.slow {
-        hand.give_back(rt, hub, pass);
+    if hand.is_due() {
         return goes_on_unless(commit(rt, hub, pass, batch));
     }
     if batch.len() < GROUP {

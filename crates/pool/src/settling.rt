@@ -90,7 +90,9 @@ pub(crate) fn exchange<'a, J: Naming, D: Disk, R: Wait>(
 {
     // What is known of every batch: it has an instance.
     batch.len();
-    settled_all(rt, hub.exchange(rt, pass, batch, &mut hand.claimed, GROUP))
+    // No more than the hand has room for.
+    let most = GROUP.saturating_sub(hand.claimed.len());
+    settled_all(rt, hub.exchange(rt, pass, batch, &mut hand.claimed, most))
 }
 
 /// Commits the outcome of an instance by itself.

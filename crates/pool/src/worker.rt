@@ -57,14 +57,14 @@ pub(crate) enum Turned<'a> {
     Ends(Option<Met>),
 }
 
-/// How many results a worker commits together, and how many instances it claims at once, at most. It keeps fewer results.
+/// How many results a worker commits together, and how many instances it claims at once, at most. It keeps fewer results than that.
 pub(crate) const GROUP: usize = 8;
 
 // How often a worker that found nothing to do looks for a new commit, before it looks for something to do again. Each time that it finds nothing in a row
 // doubles this, up to `DOUBLINGS` times.
 const LOOKS: u32 = 64;
 
-const DOUBLINGS: u32 = 5;
+const DOUBLINGS: u32 = 3;
 
 // How many of these looks come at once. Before each of the others the worker yields to other threads.
 const SPINS: u32 = 8;
@@ -132,7 +132,7 @@ fn take_turns<J: Naming, D: Disk, P: Probe, R: Wait>(
     unreachable!()
 }
 
-// One turn of a worker: it runs an instance that it has claimed; or it claims some; or it commits what it keeps, or waits a little.
+// One turn of a worker: it runs an instance that it has claimed; or it commits what it keeps, or waits a little.
 fn turn<'a, J: Naming, D: Disk, P: Probe, R: Wait>(
     rt: &R,
     alloc: Global,
@@ -154,38 +154,9 @@ fn turn<'a, J: Naming, D: Disk, P: Probe, R: Wait>(
     if hub.stop_asked(pass) {
         return Turned::Ends(commit_kept(rt, hub, pass, kept));
     }
-    match hand.claimed.take_first() {
-        Some(task) => run_task(rt, alloc, hub, pass, probe, hand, task, kept),
-        None => claim(rt, hub, pass, hand, kept),
-    }
-}
-
-// Claims instances. If there is none to be claimed, what is kept is committed; or the worker waits a little for others; or it ends.
-fn claim<'a, J: Naming, D: Disk, R: Wait>(
-    rt: &R,
-    hub: &'a Hub<J, D>,
-    pass: &mut WorkPass<J>,
-    hand: &mut Hand,
-    kept: Option<Batch<'a>>,
-) -> Turned<'a>
-    requires claimed { AreClaimed J.opening hand.old.claimed }
-    requires kept { AreKept J.opening pass.old kept }
-    ensures claimed { AreClaimed J.opening hand.new.claimed }
-    ensures turned { IsTurned J.opening pass.new result }
-    ensures asked { result ≡ Ends (Some MetAsked) → ⊥ }
-{
-    facts_are_told_apart();
-    facts_go_on();
-    results_are_meant();
-    match hand.claim(rt, hub, pass) {
-        Ok(busy) => {
-            if hand.claimed.is_empty() {
-                idle(rt, hub, pass, hand, kept, busy)
-            } else {
-                hand.vain = 0;
-                Turned::GoesOn(kept)
-            }
-        }
+    match hand.next(rt, hub, pass) {
+        Ok((Some(task), _)) => run_task(rt, alloc, hub, pass, probe, hand, task, kept),
+        Ok((None, busy)) => idle(rt, hub, pass, hand, kept, busy),
         Err(error) => ends(rt, hub, pass, stopped_by(error), kept),
     }
 }
@@ -246,7 +217,7 @@ pub(crate) fn goes_on_unless<'a>(met: Option<Met>) -> Turned<'a>
     }
 }
 
-// Waits a little for a commit, since mostly a commit makes an instance ready.
+// Waits a little for a commit, since mostly a commit makes an instance ready; or until a stop is asked for.
 fn look_for_commits<J: Naming, D: Disk>(hub: &Hub<J, D>, pass: &mut WorkPass<J>, looks: u32) {
     let before = hub.commits(pass);
     for look in 0..looks {
@@ -255,7 +226,7 @@ fn look_for_commits<J: Naming, D: Disk>(hub: &Hub<J, D>, pass: &mut WorkPass<J>,
         } else {
             yield_now();
         }
-        if hub.commits(pass) != before {
+        if hub.commits(pass) != before || hub.stop_asked(pass) {
             return;
         }
     }
