@@ -11,6 +11,7 @@
 #     ROUNDS  how often each is measured (5)
 #
 # It needs cc, awk and SQLite with its header: apt-get install gcc sqlite3 libsqlite3-dev
+# Beside other work a sync waits for a processor; where that may be done, `chrt -f 50 peers.sh ..` gives it one at once.
 #
 # Measured of `cnc run`: from the start of the process to its reply `complete`, in a new store, made before. So the start of the process is in it, the opening of the
 # store, and the tags, which steps put, up to 4000 each. Not in it: `cnc create`, and the report after the reply. The steps are
@@ -23,7 +24,8 @@
 # item and the mark that it is done. Not in it: the start of the process, the tables, the graph, the tags, the choice of what runs next, the body of the step, and
 # the checkpoint when the database is closed. So it does less than `cnc run` does; it says what its writes and syncs take, not what a program with steps takes.
 #
-# Measured of the bare writes: 330 bytes at the end of a file, fdatasync, one byte in front of them, fdatasync, for each eight steps; and nothing else.
+# Measured of the bare writes: 330 bytes, fdatasync, one byte in front of them, fdatasync, for each eight steps; and nothing else. Once at the end of a file that grows,
+# once over zeros that were written and synced before.
 set -eu
 cnc=${1:?the program}
 folder=${2:-.}
@@ -117,10 +119,14 @@ static double database(const char *path, long steps, int marks) {
     return took;
 }
 
-static double bare(const char *path, long steps) {
+static double bare(const char *path, long steps, int over) {
     int file = open(path, O_RDWR | O_CREAT | O_TRUNC, 0666);
     char bytes[RECORD] = {0}, gate = 1;
-    need(file >= 0 && write(file, bytes, 1) == 1 && fdatasync(file) == 0, "no file");
+    need(file >= 0 && write(file, bytes, 1) == 1, "no file");
+    for (long step = 0; over && step < steps; step += TOGETHER) {
+        need(write(file, bytes, RECORD) == RECORD, "no zeros");
+    }
+    need(fdatasync(file) == 0, "no sync");
     off_t end = 0;
     double start = now();
     for (long step = 0; step < steps; step += TOGETHER) {
@@ -134,9 +140,10 @@ static double bare(const char *path, long steps) {
 }
 
 int main(int count, char **words) {
-    need(count == 4, "usage: peer one|two|bare PATH STEPS");
+    need(count == 4, "usage: peer one|two|grown|over PATH STEPS");
+    int one = strcmp(words[1], "one") == 0, two = strcmp(words[1], "two") == 0, over = strcmp(words[1], "over") == 0;
     long steps = atol(words[3]);
-    double took = strcmp(words[1], "bare") == 0 ? bare(words[2], steps) : database(words[2], steps, strcmp(words[1], "two") == 0);
+    double took = one || two ? database(words[2], steps, two) : bare(words[2], steps, over);
     printf("%.3f\n", took / steps);
     return 0;
 }
@@ -293,7 +300,8 @@ for ((round = 0; round < rounds; round++)); do
     done
     measure "SQLite, one insert a step" of_peer one
     measure "SQLite, two inserts a step" of_peer two
-    measure "bare writes and syncs" of_peer bare
+    measure "bare writes and syncs, a file that grows" of_peer grown
+    measure "bare writes and syncs, over zeros" of_peer over
 done
 
 # ---- the medians
@@ -309,6 +317,6 @@ for workers in 1 4; do
         echo "$name: $(middle "$room/$name.times")"
     done
 done
-for name in "SQLite, one insert a step" "SQLite, two inserts a step" "bare writes and syncs"; do
+for name in "SQLite, one insert a step" "SQLite, two inserts a step" "bare writes and syncs, a file that grows" "bare writes and syncs, over zeros"; do
     echo "$name: $(middle "$room/$name.times")"
 done

@@ -2,6 +2,7 @@
 //! on every schedule, unless a thread looks for another 10,000,000 times in vain.
 #![tactic(auto)]
 
+mod batches;
 mod claims;
 mod handles;
 mod held;

@@ -1,9 +1,10 @@
-//! A task of another hub, given to `finish`.
+//! A task of another hub, given to `finish`, and in a batch to `finish_all`.
 ghost use Rattle.std.specs.Prelude.{◌≡◌, IfOk};
 ghost use Rattle.commit.specs.Came.{IsOutcomeIn};
 ghost use Rattle.hub.specs.Opening.{facts_behind};
 ghost use Rattle.hub.specs.Whole.{IsNamedFor};
 
+use crate::batches::try_batch;
 use crate::handles::Handles;
 use crate::stores::{created, fib, number};
 use crate::task::{keep, release};
@@ -22,12 +23,15 @@ pub(crate) fn try_foreign<R: Handles>(rt: &R) -> Result<(), Error> {
     open_both(rt, filled(rt)?, filled(rt)?)
 }
 
-// A store in which `(add: 2)` is ready.
+// A store in which `(add: 2)` and `(add: 5)` are ready.
 fn filled<R: Handles>(rt: &R) -> Result<Core<MemDisk>, Error> {
     let mut core = created(rt.alloc(), MemDisk::new(rt.alloc()))?;
     core.put_item(fib(0), 0)?;
     core.put_item(fib(1), 1)?;
+    core.put_item(fib(3), 2)?;
+    core.put_item(fib(4), 3)?;
     core.put_tag(number(2))?;
+    core.put_tag(number(5))?;
     Ok(core)
 }
 
@@ -61,6 +65,7 @@ fn open_here<J: Naming, D: Disk + Drop, R: Handles>(
         rt,
         &here,
         &mut runner,
+        &mut releaser,
         instance,
         outcome,
         other_core,
@@ -68,8 +73,8 @@ fn open_here<J: Naming, D: Disk + Drop, R: Handles>(
     )
 }
 
-// The outcome of the ready instance, which is ready again afterwards.
-fn outcome_here<'a, J: Naming, D: Disk + Drop, R: Handles>(
+/// The outcome of the first ready instance, which is ready again afterwards.
+pub(crate) fn outcome_here<'a, J: Naming, D: Disk + Drop, R: Handles>(
     rt: &R,
     here: &'a Hub<J, D>,
     runner: &mut WorkPass<J>,
@@ -93,6 +98,7 @@ fn open_there<J: Naming, K: Naming, D: Disk + Drop, R: Handles>(
     rt: &R,
     here: &Hub<J, D>,
     runner: &mut WorkPass<J>,
+    releaser: &mut WorkPass<J>,
     instance: Inst,
     outcome: Outcome<'_>,
     core: Core<D>,
@@ -113,11 +119,11 @@ fn open_there<J: Naming, K: Naming, D: Disk + Drop, R: Handles>(
     };
     release(rt, &there, &mut stranger, task)?;
     println!(rt; "  the task of {:?} came back", instance.key.components())?;
-    Ok(())
+    try_batch(rt, here, runner, releaser, &there, &mut stranger)
 }
 
-// The task of this instance.
-fn claimed<K: Naming, D: Disk + Drop, R: Handles>(
+/// The task of this instance.
+pub(crate) fn claimed<K: Naming, D: Disk + Drop, R: Handles>(
     rt: &R,
     there: &Hub<K, D>,
     stranger: &mut WorkPass<K>,

@@ -1,6 +1,7 @@
 //! Tasks, each of which must be spent.
 use crate::handles::Handles;
 use anyhow::{Error, bail};
+use commit::Batch;
 use disk::Disk;
 use hub::{Hub, TaskError, WorkPass};
 use instances::Task;
@@ -12,6 +13,13 @@ use std::sync::Wait;
 pub(crate) fn keep<R: Wait>(rt: &R, task: Task) {
     for _ in rt.forever() {}
     let _ = task.inst();
+    unreachable!()
+}
+
+/// Keeps a batch that cannot be spent, as `keep` does a task.
+pub(crate) fn keep_batch<R: Wait>(rt: &R, batch: Batch<'_>) {
+    for _ in rt.forever() {}
+    batch.len();
     unreachable!()
 }
 

@@ -1,0 +1,7 @@
+use Rattle.threads.proofs.Outcomes.{back_of, back_whole}
+use Rattle.threads.proofs.batches.comes_back.Goals as goal
+
+pub returns-in-Ok-tell : goal.returns-in-Ok-tell
+returns-in-Ok-tell g c =
+    back_whole c.facts_are_told_apart.ensures.among c.facts_go_on.ensures.all c.results_are_meant.ensures.stay g.J.Naming.opening c.args.runner.now c.finish_all.new.pass c.args.batch c.in-Err-Foreign.batch c.finish_all.ensures.seen.starts
+    (back_of c.args.batch c.in-Err-Foreign.batch c.in-Err-Foreign.field-0 _ c.in-Err-Foreign.field-0-is c.in-Err-Foreign.ensures.refused) c.requires
