@@ -1,5 +1,5 @@
 -- What a worker keeps, and what it knows of a refusal.
-use Rattle.std.proofs.Common.{◌≡◌, ◌≤◌, ◌++◌, ℕ, zero, suc, List, [], ◌∷◌, length, take, drop, Option, Some, None, sym, subst}
+use Rattle.std.proofs.Common.{◌≡◌, ◌≤◌, ◌++◌, ℕ, zero, suc, List, [], ◌∷◌, length, take, drop, Option, Some, None, IfSome, MatchOption, sym, subst}
 use mathlib.Core.List.{IsPrefix}
 use Rattle.std.specs.List.{AllByRecursion}
 use Rattle.terms.specs.declared.name.Inst.{Inst}
@@ -49,9 +49,12 @@ pub claimed_more : (opening : Opening) (known : Known) (most : ℕ) (old new : L
 claimed_more opening known most old new adds are =
     subst (AreClaimed opening) (sym adds.added) (all_of_both (InstanceIsOf opening.graph) old adds.more are (of_graph opening known adds.more adds.may_run))
 
--- the first one is taken
-pub first_claimed : (opening : Opening) (task : Inst) (old new : List Inst) → old ≡ task ∷ new → AreClaimed opening old → InstanceIsOf opening.graph task × AreClaimed opening new
-first_claimed opening task old new is are = subst (AreClaimed opening) is are
+-- the first one is taken, if there is one
+pub first_taken : (opening : Opening) (first : Option Inst) (old new : List Inst) → MatchOption first ((old ≡ []) × (new ≡ [])) (λ task. old ≡ task ∷ new) → AreClaimed opening old → AreClaimed opening new × IfSome first (InstanceIsOf opening.graph)
+first_taken opening None old new is are = (subst (AreClaimed opening) (sym is.1) tt, tt)
+first_taken opening (Some task) old new is are =
+    let both = subst (AreClaimed opening) is are in
+    (both.1, both.0)
 
 -- ---- what is kept, further
 

@@ -75,7 +75,7 @@ fn with_own<'a, J: Naming, D: Disk, R: Handles>(
         keep_batch(rt, batch);
         bail!("nothing was claimed")
     };
-    let Ok(Ran::Ended(outcome)) = here.run(rt, rt.alloc(), runner, &task) else {
+    let Ok(Ran::Ended(outcome, _)) = here.run(rt, rt.alloc(), runner, &task) else {
         keep(rt, task);
         keep_batch(rt, batch);
         bail!("it did not end")

@@ -1,0 +1,20 @@
+use Rattle.std.proofs.Common.{◌∙◌, Bool, ap, subst}
+use mathlib.Core.List.{IsPrefix}
+use Rattle.passes.specs.Known.{Known, heard_of}
+use Rattle.pool.proofs.Kept.{kept_stay}
+use Rattle.pool.proofs.worker.turn.Goals as goal
+
+pub run_task-requires-clause-kept : goal.run_task-requires-clause-kept
+run_task-requires-clause-kept g c κs within =
+    kept_stay c.facts_are_told_apart.ensures.among c.facts_go_on.ensures.all c.results_are_meant.ensures.stay g.J.Naming.opening c.args.pass.now c.next.new.pass c.args.kept
+    (subst (λ (known : Known). IsPrefix known.seen c.next.new.pass.seen) (c.stop_asked.ensures.pass ∙ ap (λ (heard : Bool). heard_of heard c.args.pass.now) c.if-stop_asked.false) c.next.ensures.ahead) c.requires.kept
+
+pub idle-requires : goal.idle-requires
+idle-requires g c =
+    kept_stay c.facts_are_told_apart.ensures.among c.facts_go_on.ensures.all c.results_are_meant.ensures.stay g.J.Naming.opening c.args.pass.now c.next.new.pass c.args.kept
+    (subst (λ (known : Known). IsPrefix known.seen c.next.new.pass.seen) (c.stop_asked.ensures.pass ∙ ap (λ (heard : Bool). heard_of heard c.args.pass.now) c.if-stop_asked.false) c.next.ensures.ahead) c.requires.kept
+
+pub ends-requires-clause-kept : goal.ends-requires-clause-kept
+ends-requires-clause-kept g c =
+    kept_stay c.facts_are_told_apart.ensures.among c.facts_go_on.ensures.all c.results_are_meant.ensures.stay g.J.Naming.opening c.args.pass.now c.next.new.pass c.args.kept
+    (subst (λ (known : Known). IsPrefix known.seen c.next.new.pass.seen) (c.stop_asked.ensures.pass ∙ ap (λ (heard : Bool). heard_of heard c.args.pass.now) c.if-stop_asked.false) c.next.ensures.ahead) c.requires.kept
