@@ -87,22 +87,23 @@ impl Load {
 /// Prints what `report` prints for each graph, on the calling thread.
 pub(crate) fn measure<R: Handles>(rt: &HostRuntime, _threads: &R, steps: u32) -> Result<(), Error> {
     for load in LOADS {
-        report::<R>(rt, load, steps, &Driver::Alone)?;
+        report::<R>(rt, load, steps, 1, &Driver::Alone)?;
     }
     Ok(())
 }
 
 /// Runs `steps` steps of a graph, or for a wavefront those of a square, on the files A and B of the folder that this is
-/// run in. It empties these files first. It prints the microseconds of a step, and those of a record of as many bytes,
-/// which is written behind a closed gate, synced, opened, and synced.
+/// run in. It empties these files first. It prints the microseconds of a step, and those of its share of a record with the
+/// ends of `together` steps, which is written behind a closed gate, synced, opened, and synced.
 pub(crate) fn report<R: Handles>(
     rt: &HostRuntime,
     load: Load,
     steps: u32,
+    together: u16,
     driver: &Driver<'_, R, AlwaysGo>,
 ) -> Result<(), Error> {
     let tags = load.tags(rt.alloc(), steps)?;
-    compare(rt, load, &tags, steps, driver)
+    compare(rt, load, &tags, steps, together, driver)
 }
 
 // The same for the steps with these tags.
@@ -111,12 +112,13 @@ fn compare<R: Handles>(
     load: Load,
     tags: &[Key],
     steps: u32,
+    together: u16,
     driver: &Driver<'_, R, AlwaysGo>,
 ) -> Result<(), Error> {
     let core = prepared(rt, load, tags, steps)?;
     let seconds = seconds_of(rt, core, driver)?;
-    let alone = records(rt, tags)?;
-    tell(rt, load, tags.len(), seconds, alone)
+    let alone = records(rt, tags, together)?;
+    tell(rt, load, tags.len(), together, seconds, alone)
 }
 
 /// The seconds of a run of a store, in which nothing is left to do then.
@@ -148,11 +150,18 @@ fn square(steps: u32) -> i64 {
     i64::from(side)
 }
 
-// Prints the microseconds of a step and of its record.
-fn tell(rt: &HostRuntime, load: Load, steps: usize, seconds: f64, alone: f64) -> Result<(), Error> {
+// Prints the microseconds of a step and of its share of a record.
+fn tell(
+    rt: &HostRuntime,
+    load: Load,
+    steps: usize,
+    together: u16,
+    seconds: f64,
+    alone: f64,
+) -> Result<(), Error> {
     let one = 1e6 / f64::from(u32::try_from(steps)?.max(1));
     println!(rt;
-        "{}: {steps} steps, {:.2} µs each; the records alone {:.2} µs; beyond them {:.2} µs",
+        "{}: {steps} steps, {:.2} µs each; records of {together} alone {:.2} µs; beyond them {:.2} µs",
         load.name(),
         seconds * one,
         alone * one,
@@ -254,11 +263,12 @@ pub(crate) fn idle<D: Disk + Drop>(core: Core<D>) -> Result<Core<D>, Error>
     Ok(core)
 }
 
-// The seconds of a record for each of these steps, each with the bytes of the end of a step, and two syncs.
-fn records(rt: &HostRuntime, tags: &[Key]) -> Result<f64, Error> {
-    let payload = payload_of(rt.alloc(), key_of(tags))?;
+// The seconds of records with the bytes of the ends of these steps, `together` in each, and two syncs a record.
+fn records(rt: &HostRuntime, tags: &[Key], together: u16) -> Result<f64, Error> {
+    let payload = payload_of(rt.alloc(), key_of(tags), together)?;
     let mut disk = emptied(rt)?;
-    write_records(rt, &mut disk, tags.len(), &payload)
+    let count = tags.len().div_ceil(usize::from(together.max(1)));
+    write_records(rt, &mut disk, count, &payload)
 }
 
 // The seconds of `count` records on an empty file.
@@ -287,13 +297,21 @@ pub(crate) fn record(disk: &mut FileDisk, end: u64, payload: &[u8]) -> Result<u6
     Ok(end.saturating_add(payload.len() as u64))
 }
 
-// The bytes of a record behind its gate, for the end of an instance with this key that puts one item: the length, the
-// event, and a closed gate.
-fn payload_of(alloc: Global, key: Key) -> Result<Vec<u8>, Error> {
+// The bytes of a record behind its gate, for the ends of `together` instances with this key, each of which puts one item:
+// the length, the events, and a closed gate. Several are a group, with its kind and their number in front.
+fn payload_of(alloc: Global, key: Key, together: u16) -> Result<Vec<u8>, Error> {
     let event = event_of(alloc, key)?;
+    let mut events = Vec::new(alloc);
+    if together > 1 {
+        events.push(5)?;
+        events.extend_from_slice(&together.to_le_bytes())?;
+    }
+    for _ in 0..together {
+        events.extend_from_slice(&event)?;
+    }
     let mut bytes = Vec::new(alloc);
-    bytes.extend_from_slice(&u32::try_from(event.len())?.to_le_bytes())?;
-    bytes.extend_from_slice(&event)?;
+    bytes.extend_from_slice(&u32::try_from(events.len())?.to_le_bytes())?;
+    bytes.extend_from_slice(&events)?;
     bytes.push(0)?;
     Ok(bytes)
 }

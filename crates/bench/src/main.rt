@@ -23,6 +23,7 @@ const USAGE: &str = "usage: bench canonical FILE
        bench codec ITEMS
        bench core STEPS
        bench evaluate STATEMENTS
+       bench group STEPS
        bench hub CALLS
        bench machine STEPS
        bench open RECORDS
@@ -39,6 +40,7 @@ fn asked<R: Handles>(rt: &HostRuntime, threads: &R, words: &[String]) -> Result<
     if words.len() == 3 {
         return match (words[1].as_str(), words[2].parse::<u32>()) {
             ("core", Ok(count)) => done(cores::measure(rt, threads, count)),
+            ("group", Ok(count)) => done(pools::on_files(rt, threads, count)),
             ("hub", Ok(count)) => done(hubs::measure(threads, count)),
             ("pool", Ok(count)) => done(pools::measure(rt, threads, count)),
             (_, count) => without_threads(rt, words[1].as_str(), words[2].as_str(), count.ok()),

@@ -29,9 +29,12 @@ const COUNTS: [u8; 3] = [1, 2, 4];
 // How many separate runs go side by side.
 const COPIES: u8 = 4;
 
+// How many steps a worker commits together, if it has as many.
+const TOGETHER: u16 = 8;
+
 /// Measures `steps` empty steps in memory; a five-hundredth as many that take a millisecond each; and a fiftieth as many
-/// on the files A and B of the folder that this is run in, which it empties. They are run by 1, 2 and 4 workers, and in
-/// memory by the calling thread too.
+/// on the files A and B of the folder that this is run in, which it empties. They are run by the calling thread, and by 1,
+/// 2 and 4 workers.
 pub(crate) fn measure<R: Handles>(rt: &HostRuntime, threads: &R, steps: u32) -> Result<(), Error> {
     empty(threads, steps)?;
     heavy(threads, steps / 500)?;
@@ -162,9 +165,14 @@ fn put_tags<D: Disk>(core: &mut Core<D>, steps: u32) -> Result<(), Error> {
 
 // ---- on files
 
-// Prints the microseconds of a step of each graph.
-fn on_files<R: Handles>(rt: &HostRuntime, threads: &R, steps: u32) -> Result<(), Error> {
+/// Prints the microseconds of a step of each graph, on the files A and B of the folder that this is run in, which it
+/// empties: on the calling thread, which commits each step by itself, and on workers, each of which commits up to eight
+/// steps together. Beside the first stand records of one step, beside the others records of eight. On one worker all
+/// steps of `wide` are committed by eights; where steps wait for each other, they may be committed by fewer.
+pub(crate) fn on_files<R: Handles>(rt: &HostRuntime, threads: &R, steps: u32) -> Result<(), Error> {
     for load in LOADS {
+        print!(rt; "alone, ")?;
+        cores::report::<R>(rt, load, steps, 1, &Driver::Alone)?;
         for workers in COUNTS {
             by_crew_on_files(rt, threads, load, steps, workers)?;
         }
@@ -183,5 +191,5 @@ fn by_crew_on_files<R: Handles>(
     requires { (1 ≤ workers) × (workers ≤ 64) }
 {
     print!(rt; "{workers} workers, ")?;
-    cores::report(rt, load, steps, &crew(threads, workers))
+    cores::report(rt, load, steps, TOGETHER, &crew(threads, workers))
 }
