@@ -1,14 +1,15 @@
 use crate::State;
 use crate::step::Step;
+use maps::KeyWalk;
 use std::marker::Model;
-use terms::{Inst, Key, StepCollection};
+use terms::{Inst, StepCollection};
 
 /// The instances that are left of a walk, by step and then by key, each with its state. It does not allocate.
 #[derive(Drop)]
 pub struct InstanceWalk<'a> {
     // What is left of the step with this number, and the steps after it.
     pub(crate) number: u16,
-    pub(crate) entries: &'a [(Key, State)],
+    pub(crate) entries: KeyWalk<'a, State>,
     pub(crate) steps: &'a [Step],
 }
 
@@ -20,7 +21,7 @@ impl<'a> Model for InstanceWalk<'a> {
 
     ghost Value = { List (Instance × InstanceState) };
 
-    ghost view = { λ w. left_of w.number w.entries.now w.steps.now };
+    ghost view = { λ w. left_of w.number w.entries w.steps.now };
 
     ghost invariant = { λ w. w.number + length w.steps.now < 2 ^ 16 };
 }
@@ -36,14 +37,12 @@ impl<'a> Iterator for InstanceWalk<'a> {
 
     fn next(&mut self) -> Option<(Inst, State)> {
         loop {
-            if let Some((first, others)) = self.entries.split_first() {
-                self.entries = others;
-                let (key, state) = *first;
+            if let Some((key, state)) = self.entries.next() {
                 let collection = StepCollection(self.number);
                 return Some((Inst { collection, key }, state));
             }
             let (step, others) = self.steps.split_first()?;
-            self.entries = step.instances.entries();
+            self.entries = step.instances.walk();
             self.steps = others;
             self.number += 1;
         }

@@ -6,7 +6,7 @@ ghost use Rattle.instances.specs.Known.{AllCanTake, AllGrown, AllHaveRoom, chang
 use crate::step::Step;
 use crate::step_instances::StepInstances;
 use crate::{InstanceWalk, State, TagWalk, Task, listing};
-use maps::CollectionMap;
+use maps::{CollectionMap, KeyWalk};
 use std::alloc::{AllocError, Global};
 use std::marker::Model;
 use terms::{Addr, Inst, StepCollection, Tag, TagCollection};
@@ -77,12 +77,12 @@ impl Instances {
         match self.steps.split_first() {
             Some((step, others)) => InstanceWalk {
                 number: 0,
-                entries: step.instances.entries(),
+                entries: step.instances.walk(),
                 steps: others,
             },
             None => InstanceWalk {
                 number: 0,
-                entries: &[],
+                entries: KeyWalk::none(),
                 steps: &[],
             },
         }
@@ -165,7 +165,7 @@ impl Instances {
     {
         let mut count = 0usize;
         for number in 0..self.steps.len() {
-            count = count.saturating_add(self.steps[number].instances.entries().len());
+            count = count.saturating_add(self.steps[number].instances.count());
         }
         count
     }

@@ -2,7 +2,7 @@ ghost use Rattle.std.specs.Prelude.{◌≡◌};
 ghost use Rattle.instances.specs.OfStep.{is_done as is_done_state, is_waiting as is_waiting_state};
 
 use crate::State;
-use maps::KeyMap;
+use maps::{KeyMap, KeyWalk};
 use std::alloc::{AllocError, Global};
 use std::collections::VecDeque;
 use std::marker::Model;
@@ -15,8 +15,7 @@ pub(crate) struct StepInstances {
     states: KeyMap<State>,
     // The keys of the ready instances, with room for all instances. A new one goes to the end of the queue, and one
     // that already ran goes to its front. So they run in about the order in which they came, whether they had to wait
-    // or not; items are then put in about the order of their keys, which saves moves. No promise is made about that
-    // order.
+    // or not. No promise is made about that order.
     ready: VecDeque<Key>,
     running: usize,
 }
@@ -38,7 +37,7 @@ impl Model for StepInstances {
 }
 
 impl StepInstances {
-    ghost use Rattle.std.specs.Prelude.{◌≡◌, ◌+◌, ◌<◌, ◌≤◌, IfSome, IsSome, OnOk, OnErr, Some, None, cond};
+    ghost use Rattle.std.specs.Prelude.{◌≡◌, ◌+◌, ◌<◌, ◌≤◌, IfSome, IsSome, OnOk, OnErr, Some, None, cond, length};
     ghost use Rattle.std.specs.FinMap.{empty, entries, get};
     ghost use Rattle.instances.specs.declared.state.State.TheVariants.{Ready, Running, Waiting, Done};
     ghost use Rattle.instances.specs.OfStep.{is_ready, is_running, is_waiting, is_done, how_many, IsWaiting, Moves, AddsInstance};
@@ -62,10 +61,17 @@ impl StepInstances {
     }
 
     /// The instances with their states, in the order of their keys.
-    pub(crate) fn entries(&self) -> &[(Key, State)]
-        ensures { result.now ≡ entries self.now.states }
+    pub(crate) fn walk(&self) -> KeyWalk<'_, State>
+        ensures { result ≡ entries self.now.states }
     {
-        self.states.entries()
+        self.states.walk()
+    }
+
+    /// The number of instances.
+    pub(crate) fn count(&self) -> usize
+        ensures { result ≡ length (entries self.now.states) }
+    {
+        self.states.count()
     }
 
     /// The number of ready instances.
@@ -87,8 +93,7 @@ impl StepInstances {
         ensures { result ≡ how_many is_waiting self.now.states }
     {
         self.states
-            .entries()
-            .iter()
+            .walk()
             .filter(|entry| is_waiting(&entry.1))
             .count()
     }
@@ -97,11 +102,7 @@ impl StepInstances {
     pub(crate) fn done(&self) -> usize
         ensures { result ≡ how_many is_done self.now.states }
     {
-        self.states
-            .entries()
-            .iter()
-            .filter(|entry| is_done(&entry.1))
-            .count()
+        self.states.walk().filter(|entry| is_done(&entry.1)).count()
     }
 
     /// The number of further instances that there is room for.
@@ -110,7 +111,7 @@ impl StepInstances {
     {
         self.states
             .room()
-            .min(self.ready.capacity() - self.states.entries().len())
+            .min(self.ready.capacity() - self.states.count())
     }
 
     /// Makes room for `count` more instances. It fails only if there was less room.
@@ -125,7 +126,7 @@ impl StepInstances {
             return Ok(());
         }
         self.states.make_room(count)?;
-        let others = self.states.entries().len() - self.ready.len();
+        let others = self.states.count() - self.ready.len();
         self.ready
             .reserve(others.checked_add(count).ok_or(AllocError)?)
     }

@@ -1,6 +1,11 @@
-mod Places
-mod Searched
-mod Refused
+mod Amid
 mod ByNumber
-mod Whole
+mod Growing
+mod Halves
+mod Joined
 mod OneCollection
+mod Places
+mod Refused
+mod Searched
+mod Whole
+mod Written

@@ -1,7 +1,7 @@
 ghost use Rattle.std.specs.Prelude.{◌≡◌, IfOk, replicate};
 ghost use Rattle.maps.specs.Keyed.{none};
 
-use crate::{InsertError, KeyMap, Walk};
+use crate::{InsertError, KeyMap, KeyWalk, Walk};
 use std::alloc::{AllocError, Global};
 use std::marker::Model;
 use terms::Key;
@@ -57,12 +57,12 @@ impl<V: Copy> CollectionMap<V> {
         match self.collections.split_first() {
             Some((collection, others)) => Walk {
                 number: 0,
-                entries: collection.entries(),
+                entries: collection.walk(),
                 collections: others,
             },
             None => Walk {
                 number: 0,
-                entries: &[],
+                entries: KeyWalk::none(),
                 collections: &[],
             },
         }
@@ -75,12 +75,12 @@ impl<V: Copy> CollectionMap<V> {
         match self.collections.get(number as usize) {
             Some(collection) => Walk {
                 number,
-                entries: collection.entries(),
+                entries: collection.walk(),
                 collections: &[],
             },
             None => Walk {
                 number: 0,
-                entries: &[],
+                entries: KeyWalk::none(),
                 collections: &[],
             },
         }
@@ -92,7 +92,7 @@ impl<V: Copy> CollectionMap<V> {
     {
         let mut count = 0usize;
         for number in 0..self.collections.len() {
-            count = count.saturating_add(self.collections[number].entries().len());
+            count = count.saturating_add(self.collections[number].count());
         }
         count
     }

@@ -1,44 +1,41 @@
-use crate::InsertError;
+use crate::pages::{Found, Pages};
+use crate::{InsertError, KeyWalk};
 use std::alloc::{AllocError, Global};
 use std::marker::Model;
 use terms::Key;
 
-/// A map from keys to values, in the order of its keys, with room for more. A look-up is a binary search, except for a
-/// key greater than all others; to insert such a key moves no entry.
+/// A map from keys to values, in the order of its keys, with room for more. A look-up is a binary search, and so is an
+/// insertion, wherever the key goes; for a key greater than all others it is one comparison.
 #[derive(Drop)]
 pub struct KeyMap<V> {
-    items: Vec<(Key, V)>,
+    pages: Pages<V>,
 }
 
 impl<V> Model for KeyMap<V> {
-    ghost use Rattle.std.specs.Prelude.{◌-◌, T};
-    ghost use Rattle.std.specs.FinMap.{from_entries, is_sorted};
-    ghost use Rattle.std.specs.Vec.{vec_capacity, vec_len};
-    ghost use Rattle.terms.specs.Key.{key_cmp};
+    ghost use Rattle.std.specs.FinMap.{from_entries};
     ghost use Rattle.maps.specs.Keyed.{Keyed};
     ghost use Rattle.maps.specs.Codes.{keyed_code};
+    ghost use Rattle.maps.specs.Paged.{all_of};
 
     ghost Value = { Keyed V };
 
     ghost coded = { keyed_code V.code };
 
-    ghost view = { λ s. record { items = from_entries s.items.items; room = vec_capacity s.items - vec_len s.items } };
-
-    ghost invariant = { λ s. T (is_sorted key_cmp s.items.items) };
+    ghost view = { λ s. record { items = from_entries (all_of s.pages.pages); room = s.pages.room } };
 }
 
 impl<V: Copy> KeyMap<V> {
-    ghost use Rattle.std.specs.Prelude.{◌≡◌, ◌<◌, ◌≤◌, IfOk, IfErr, IsSome, IsTrue, OnOk, OnErr, None, length};
+    ghost use Rattle.std.specs.Prelude.{◌≡◌, ◌<◌, ◌≤◌, IfErr, IsSome, OnOk, OnErr, length};
     ghost use Rattle.std.specs.FinMap.{entries, get, insert};
     ghost use Rattle.maps.specs.Insertion.{IsRefused};
-    ghost use Rattle.maps.specs.Keyed.{none, Adds, IsAt, IsGapFor};
+    ghost use Rattle.maps.specs.Keyed.{none, Adds};
 
     /// A map without entries and without room.
     pub fn new(alloc: Global) -> Self
         ensures { result ≡ none }
     {
         KeyMap {
-            items: Vec::new(alloc),
+            pages: Pages::new(alloc),
         }
     }
 
@@ -46,24 +43,32 @@ impl<V: Copy> KeyMap<V> {
     pub fn get(&self, key: Key) -> Option<V>
         ensures { result ≡ get self.now.items key }
     {
-        match self.search(key) {
-            Ok(place) => Some(self.items[place].1),
-            Err(_) => None,
+        match self.pages.search(key) {
+            Found::At(page, place) => Some(self.pages.value(page, place)),
+            Found::Gap(_, _) => None,
+            Found::Behind => None,
         }
     }
 
     /// The entries, in the order of their keys.
-    pub fn entries(&self) -> &[(Key, V)]
-        ensures { result.now ≡ entries self.now.items }
+    pub fn walk(&self) -> KeyWalk<'_, V>
+        ensures { result ≡ entries self.now.items }
     {
-        &self.items
+        self.pages.walk()
+    }
+
+    /// The number of entries.
+    pub fn count(&self) -> usize
+        ensures { result ≡ length (entries self.now.items) }
+    {
+        self.pages.count()
     }
 
     /// The number of further entries that there is room for.
     pub fn room(&self) -> usize
         ensures { result ≡ self.now.room }
     {
-        self.items.capacity() - self.items.len()
+        self.pages.room()
     }
 
     /// Makes room for `count` more entries. It fails only if there was less room, and then changes nothing.
@@ -74,10 +79,7 @@ impl<V: Copy> KeyMap<V> {
         ensures enough { count ≤ self.old.room → self.new ≡ self.old }
         ensures refused { OnErr result ((self.new ≡ self.old) × (self.old.room < count)) }
     {
-        if count <= self.room() {
-            return Ok(());
-        }
-        self.items.reserve(count)
+        self.pages.make_room(count)
     }
 
     /// Adds an entry with a key that has none. An error changes nothing, and `NoMemory` comes only if there was no
@@ -87,11 +89,16 @@ impl<V: Copy> KeyMap<V> {
         ensures refused { IfErr result (IsRefused (get self.old.items key) self.old.room) }
         ensures unchanged { OnErr result (self.new ≡ self.old) }
     {
-        match self.search(key) {
-            Ok(place) => Err(InsertError::Taken(self.items[place].1)),
-            Err(place) => {
-                self.make_room(1)?;
-                self.items.insert(place, (key, value))?;
+        match self.pages.search(key) {
+            Found::At(page, place) => Err(InsertError::Taken(self.pages.value(page, place))),
+            Found::Gap(page, place) => {
+                self.pages.make_room(1)?;
+                self.pages.add(page, place, key, value);
+                Ok(())
+            }
+            Found::Behind => {
+                self.pages.make_room(1)?;
+                self.pages.add_behind(key, value);
                 Ok(())
             }
         }
@@ -102,29 +109,10 @@ impl<V: Copy> KeyMap<V> {
         requires { IsSome (get self.old.items key) }
         ensures { self.new ≡ record { items = insert self.old.items key value; room = self.old.room } }
     {
-        if let Ok(place) = self.search(key) {
-            self.items[place] = (key, value);
-        }
-    }
-
-    // Where the key is, or where it would go.
-    fn search(&self, key: Key) -> Result<usize, usize>
-        ensures found { IfOk result (IsAt (entries self.now.items) key) }
-        ensures absent { IfErr result (IsGapFor (entries self.now.items) key) }
-    {
-        if self.is_last(key) {
-            return Err(self.items.len());
-        }
-        self.items.binary_search_by_key(&key, |&(other, _)| other)
-    }
-
-    // Whether the key is greater than all keys in the map. Keys often come in order, and then no search is needed.
-    fn is_last(&self, key: Key) -> bool
-        ensures { IsTrue result → IsGapFor (entries self.now.items) key (length (entries self.now.items)) }
-    {
-        match self.items.last() {
-            Some((last, _)) => *last < key,
-            None => true,
+        match self.pages.search(key) {
+            Found::At(page, place) => self.pages.set(page, place, key, value),
+            Found::Gap(_, _) => {}
+            Found::Behind => {}
         }
     }
 }

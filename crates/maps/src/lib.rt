@@ -9,9 +9,13 @@
 mod collection_map;
 mod error;
 mod key_map;
+mod key_walk;
+mod page;
+mod pages;
 mod walk;
 
 pub use collection_map::CollectionMap;
 pub use error::InsertError;
 pub use key_map::KeyMap;
+pub use key_walk::KeyWalk;
 pub use walk::Walk;

@@ -1,4 +1,4 @@
-use crate::KeyMap;
+use crate::{KeyMap, KeyWalk};
 use std::marker::Model;
 use terms::Key;
 
@@ -7,7 +7,7 @@ use terms::Key;
 pub struct Walk<'a, V> {
     // What is left of the collection with this number, and the collections after it.
     pub(crate) number: u16,
-    pub(crate) entries: &'a [(Key, V)],
+    pub(crate) entries: KeyWalk<'a, V>,
     pub(crate) collections: &'a [KeyMap<V>],
 }
 
@@ -17,7 +17,7 @@ impl<'a, V> Model for Walk<'a, V> {
 
     ghost Value = { List (Place × V) };
 
-    ghost view = { λ w. left_of w.number w.entries.now w.collections.now };
+    ghost view = { λ w. left_of w.number w.entries w.collections.now };
 
     ghost invariant = { λ w. w.number + length w.collections.now < 2 ^ 16 };
 }
@@ -33,13 +33,11 @@ impl<'a, V: Copy> Iterator for Walk<'a, V> {
 
     fn next(&mut self) -> Option<((u16, Key), V)> {
         loop {
-            if let Some((first, others)) = self.entries.split_first() {
-                self.entries = others;
-                let (key, value) = *first;
+            if let Some((key, value)) = self.entries.next() {
                 return Some(((self.number, key), value));
             }
             let (collection, others) = self.collections.split_first()?;
-            self.entries = collection.entries();
+            self.entries = collection.walk();
             self.collections = others;
             self.number += 1;
         }

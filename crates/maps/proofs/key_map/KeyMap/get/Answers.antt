@@ -1,13 +1,15 @@
-use Rattle.std.proofs.Common.{◌∙◌, sym}
-use Rattle.std.specs.FinMap.{get-entries}
-use Rattle.maps.proofs.Searched.{at_place, its_item}
+use Rattle.std.proofs.Common.{◌∙◌, ap, sym, Some}
+use Rattle.std.specs.FinMap.{get, get-from_entries}
+use Rattle.maps.specs.Paged.{all_of}
+use Rattle.maps.specs.PlaceOrder.{keys_total}
 use Rattle.maps.proofs.key_map.KeyMap.get.Goals as goal
 
-pub index-requires : goal.index-requires
-index-requires g c = at_place c.self.inside.items c.args.self.now c.args.key c.in-Ok.place c.self.invariant c.self.view_is c.in-Ok.ensures.found
+pub returns-in-At : goal.returns-in-At
+returns-in-At g c =
+    ap Some (c.value.ensures (c.args.key, c.value.result)) ∙ sym (c.in-At.ensures.found (c.args.key, c.value.result)) ∙ sym (get-from_entries keys_total (all_of c.self.inside.pages.pages) c.args.key) ∙ ap (λ s. get s.items c.args.key) c.self.view_is
 
-pub returns-in-Ok : goal.returns-in-Ok
-returns-in-Ok g c = its_item c.self.inside.items c.args.self.now c.args.key c.in-Ok.place c.index.result.now c.self.invariant c.self.view_is c.in-Ok.ensures.found c.index.ensures
+pub returns-in-Gap : goal.returns-in-Gap
+returns-in-Gap g c = sym c.in-Gap.ensures.absent ∙ sym (get-from_entries keys_total (all_of c.self.inside.pages.pages) c.args.key) ∙ ap (λ s. get s.items c.args.key) c.self.view_is
 
-pub returns-in-Err : goal.returns-in-Err
-returns-in-Err g c = sym (get-entries _ _ ∙ c.in-Err.ensures.absent.absent)
+pub returns-in-Behind : goal.returns-in-Behind
+returns-in-Behind g c = sym c.in-Behind.ensures.absent ∙ sym (get-from_entries keys_total (all_of c.self.inside.pages.pages) c.args.key) ∙ ap (λ s. get s.items c.args.key) c.self.view_is

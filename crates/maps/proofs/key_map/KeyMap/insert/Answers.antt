@@ -1,36 +1,47 @@
-use Rattle.std.proofs.Common.{◌∙◌, ap, sym, length, arith}
-use Rattle.std.specs.FinMap.{entries, get, get-entries}
+use Rattle.std.proofs.Common.{◌≡◌, ◌∙◌, ◌+◌, ◌<◌, ◌≤◌, ap, sym, Some, None, arith}
+use Rattle.std.specs.FinMap.{get, get-from_entries, insert, put}
+use Rattle.terms.specs.Key.{key_cmp}
 use Rattle.maps.specs.Insertion.{IsRefused}
-use Rattle.maps.proofs.Searched.{seen_entries, at_place, its_item, added}
+use Rattle.maps.specs.Paged.{all_of}
+use Rattle.maps.specs.PlaceOrder.{keys_total}
 use Rattle.maps.proofs.Refused.{refused_for_memory}
+use Rattle.maps.proofs.Written.{put_is_insert}
 use Rattle.maps.proofs.key_map.KeyMap.insert.Goals as goal
 
-pub index-requires : goal.index-requires
-index-requires g c = at_place c.self.inside.items c.args.self.now c.args.key c.in-Ok.place c.self.invariant c.self.view_is c.in-Ok.ensures.found
-
-pub returns-in-Ok-clause-refused : goal.returns-in-Ok-clause-refused
-returns-in-Ok-clause-refused g c =
-    sym (its_item c.self.inside.items c.args.self.now c.args.key c.in-Ok.place c.index.result.now c.self.invariant c.self.view_is c.in-Ok.ensures.found c.index.ensures)
-
-pub returns-in_err-make_room-in-Err-clause-refused : goal.returns-in_err-make_room-in-Err-clause-refused
-returns-in_err-make_room-in-Err-clause-refused g c =
+pub returns-in_err-make_room-in-Gap-clause-refused : goal.returns-in_err-make_room-in-Gap-clause-refused
+returns-in_err-make_room-in-Gap-clause-refused g c =
     refused_for_memory c.from_residual.result (IsRefused (get c.args.self.now.items c.args.key) c.args.self.now.room) c.from_residual.ensures.1
-    (get-entries _ _ ∙ c.in-Err.ensures.absent.absent, omega (arith, c.in_err-make_room-in-Err.ensures.refused.1))
+    (ap (λ s. get s.items c.args.key) (sym c.self.view_is) ∙ get-from_entries keys_total (all_of c.self.inside.pages.pages) c.args.key ∙ c.in-Gap.ensures.absent, omega (arith, c.in_err-make_room-in-Gap.ensures.refused.1, ap (λ s. s.room) c.self.view_is))
 
-pub insert-requires : goal.insert-requires
-insert-requires g c =
-    let old_entries = sym (ap entries c.make_room.ensures.items) ∙ seen_entries c.self-in-Err.inside.items _ c.self-in-Err.invariant c.self-in-Err.view_is in
-    omega (arith, c.in-Err.ensures.absent.within, ap length old_entries, c.self-in-Err.inside.items.ok.0)
+pub returns-in_err-make_room-in-Behind-clause-refused : goal.returns-in_err-make_room-in-Behind-clause-refused
+returns-in_err-make_room-in-Behind-clause-refused g c =
+    refused_for_memory c.from_residual-in_err-make_room-in-Behind.result (IsRefused (get c.args.self.now.items c.args.key) c.args.self.now.room) c.from_residual-in_err-make_room-in-Behind.ensures.1
+    (ap (λ s. get s.items c.args.key) (sym c.self.view_is) ∙ get-from_entries keys_total (all_of c.self.inside.pages.pages) c.args.key ∙ c.in-Behind.ensures.absent, omega (arith, c.in_err-make_room-in-Behind.ensures.refused.1, ap (λ s. s.room) c.self.view_is))
 
-pub invariant_of-self-in-Err : goal.invariant_of-self-in-Err
-invariant_of-self-in-Err g c =
-    (added c.self-in-Err.inside.items c.insert.new.self _ c.args.self.now c.args.key c.args.value c.in-Err.place c.self-in-Err.invariant c.self-in-Err.view_is c.make_room.ensures.items c.in-Err.ensures.absent c.in_ok-insert-in-Err.ensures.items).0
+pub returns-in-At-clause-refused : goal.returns-in-At-clause-refused
+returns-in-At-clause-refused g c =
+    sym (ap Some (c.value.ensures (c.args.key, c.value.result)) ∙ sym (c.in-At.ensures.found (c.args.key, c.value.result)) ∙ sym (get-from_entries keys_total (all_of c.self.inside.pages.pages) c.args.key) ∙ ap (λ s. get s.items c.args.key) c.self.view_is)
 
-pub returns-in_ok-insert-in-Err-clause-ok : goal.returns-in_ok-insert-in-Err-clause-ok
-returns-in_ok-insert-in-Err-clause-ok g c = record {
-  absent = get-entries _ _ ∙ c.in-Err.ensures.absent.absent;
-  items = (added c.self-in-Err.inside.items c.insert.new.self _ c.args.self.now c.args.key c.args.value c.in-Err.place c.self-in-Err.invariant c.self-in-Err.view_is c.make_room.ensures.items c.in-Err.ensures.absent c.in_ok-insert-in-Err.ensures.items).1;
-  lower = λ some.
-      let room = ap (λ s. s.room) (c.self-in-Err.view_is ∙ c.make_room.ensures.enough (omega (arith, some))) in
-      omega (arith, some, room, c.in_ok-insert-in-Err.ensures.len, (c.insert.ensures.in_place (omega (arith, some, room))).1.0);
-}
+pub returns-in_ok-make_room-in-Gap-clause-ok : goal.returns-in_ok-make_room-in-Gap-clause-ok
+returns-in_ok-make_room-in-Gap-clause-ok g c =
+    let pages = c.in_ok-make_room-in-Gap.ensures.pages in
+    record {
+      absent = ap (λ s. get s.items c.args.key) (sym c.self.view_is) ∙ get-from_entries keys_total (all_of c.self.inside.pages.pages) c.args.key ∙ c.in-Gap.ensures.absent;
+      items = put_is_insert (all_of c.self.inside.pages.pages) (all_of c.add.new.self.pages) c.args.key c.args.value (c.add.ensures.entries ∙ ap (λ ps. put key_cmp c.args.key c.args.value (all_of ps)) pages) ∙ ap (λ s. insert s.items c.args.key c.args.value) c.self.view_is;
+      lower = λ some.
+          let room = ap (λ s. s.room) c.self.view_is in
+          let same = ap (λ s. s.room) (c.in_ok-make_room-in-Gap.ensures.enough (omega (arith, some, room))) in
+          omega (arith, some, room, same, c.add.ensures.room);
+    }
+
+pub returns-in_ok-make_room-in-Behind-clause-ok : goal.returns-in_ok-make_room-in-Behind-clause-ok
+returns-in_ok-make_room-in-Behind-clause-ok g c =
+    let pages = c.in_ok-make_room-in-Behind.ensures.pages in
+    record {
+      absent = ap (λ s. get s.items c.args.key) (sym c.self.view_is) ∙ get-from_entries keys_total (all_of c.self.inside.pages.pages) c.args.key ∙ c.in-Behind.ensures.absent;
+      items = put_is_insert (all_of c.self.inside.pages.pages) (all_of c.add_behind.new.self.pages) c.args.key c.args.value (c.add_behind.ensures.entries ∙ ap (λ ps. put key_cmp c.args.key c.args.value (all_of ps)) pages) ∙ ap (λ s. insert s.items c.args.key c.args.value) c.self.view_is;
+      lower = λ some.
+          let room = ap (λ s. s.room) c.self.view_is in
+          let same = ap (λ s. s.room) (c.in_ok-make_room-in-Behind.ensures.enough (omega (arith, some, room))) in
+          omega (arith, some, room, same, c.add_behind.ensures.room);
+    }

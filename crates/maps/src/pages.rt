@@ -1,0 +1,286 @@
+ghost use Rattle.std.specs.Prelude.{◌≡◌, ◌⊎◌, ◌+◌, ◌^◌, ◌<◌, ◌≤◌, [], IfOk, OnOk, length};
+ghost use Rattle.std.specs.List.{AllByRecursion};
+ghost use Rattle.std.specs.List.{insert as add};
+ghost use Rattle.std.specs.Vec.{vec_capacity};
+ghost use Rattle.maps.specs.PagesKept.{IsEnough};
+
+use crate::page::{HALF, PAGE, Page};
+use crate::KeyWalk;
+use std::alloc::{AllocError, Global};
+use std::marker::Model;
+use terms::Key;
+
+/// Where a key is among pages.
+#[derive(Clone, Copy)]
+pub(crate) enum Found {
+    /// In this page, at this place.
+    At(usize, usize),
+    /// Nowhere; it would go into this page, to this place.
+    Gap(usize, usize),
+    /// Nowhere; it would go after all entries, into a page of its own.
+    Behind,
+}
+
+/// The entries of a map, in the order of their keys, in pages of at most `PAGE`. Each page but the last is at least half
+/// full. So a search looks at few pages, and a new entry moves at most a page of entries, and the places of the pages.
+#[derive(Drop)]
+pub(crate) struct Pages<V> {
+    pages: Vec<Page<V>>,
+    // Empty pages, by which new entries need no memory.
+    spare: Vec<Page<V>>,
+    count: usize,
+    room: usize,
+    alloc: Global,
+}
+
+impl<V> Model for Pages<V> {
+    ghost use Rattle.std.specs.Vec.{vec_capacity};
+    ghost use Rattle.maps.specs.Codes.{paged_code};
+    ghost use Rattle.maps.specs.Paged.{Paged};
+    ghost use Rattle.maps.specs.PagesKept.{AreKept};
+
+    ghost Value = { Paged V };
+
+    ghost coded = { paged_code V.code };
+
+    ghost view = { λ s. record { pages = s.pages.items; room = s.room } };
+
+    ghost invariant = { λ s. AreKept s.pages.items s.spare.items (vec_capacity s.pages) s.count s.room };
+}
+
+impl<V: Copy> Pages<V> {
+    ghost use Rattle.std.specs.Prelude.{◌≡◌, ◌+◌, ◌<◌, ◌≤◌, ℤ, List, [], T, OnErr, OnOk, length, get_or};
+    ghost use Rattle.std.specs.FinMap.{is_sorted, put};
+    ghost use Rattle.terms.specs.Key.{key_cmp};
+    ghost use Rattle.maps.specs.declared.page.TheConstants.{PAGE};
+    ghost use Rattle.maps.specs.Paged.{GoesBehind, AreLess, GoesInto, IsFound, IsInPage, IsPageFor, all_of, last_page, page_at};
+
+    /// No entries, and no room.
+    pub fn new(alloc: Global) -> Self
+        ensures { result ≡ record { pages = []; room = 0 } }
+    {
+        Pages {
+            pages: Vec::new(alloc),
+            spare: Vec::new(alloc),
+            count: 0,
+            room: 0,
+            alloc,
+        }
+    }
+
+    /// The number of entries.
+    pub fn count(&self) -> usize
+        ensures count { result ≡ length (all_of self.now.pages) }
+        ensures sorted { T (is_sorted key_cmp (all_of self.now.pages)) }
+    {
+        self.count
+    }
+
+    /// The number of further entries that there is room for.
+    pub fn room(&self) -> usize
+        ensures { result ≡ self.now.room }
+    {
+        self.room
+    }
+
+    /// The entries, in the order of their keys.
+    pub fn walk(&self) -> KeyWalk<'_, V>
+        ensures walk { result ≡ all_of self.now.pages }
+        ensures sorted { T (is_sorted key_cmp (all_of self.now.pages)) }
+    {
+        KeyWalk {
+            entries: &[],
+            pages: &self.pages,
+        }
+    }
+
+    /// The value at a place of a page.
+    pub fn value(&self, page: usize, place: usize) -> V
+        requires page { page < length self.now.pages }
+        requires place { place < length (page_at self.now.pages page) }
+        ensures { (other : _) → result ≡ (get_or (page_at self.now.pages page) place other).1 }
+    {
+        self.pages[page].value(place)
+    }
+
+    /// Where the key is, or where it would go. If the key is greater than all others, that takes one comparison.
+    pub fn search(&self, key: Key) -> Found
+        ensures { IsFound self.now.pages key result }
+    {
+        let count = self.pages.len();
+        if count == 0 {
+            return Found::Behind;
+        }
+        if self.pages[count - 1].ends_before(key) {
+            return self.end();
+        }
+        self.search_page(self.page_for(key), key)
+    }
+
+    // Where a key would go that is greater than all others.
+    fn end(&self) -> Found
+        requires { 0 < length self.now.pages }
+        ensures { (key : List ℤ) → AreLess (last_page self.now.pages) key → IsFound self.now.pages key result }
+    {
+        let last = self.pages.len() - 1;
+        let place = self.pages[last].len();
+        if place < PAGE {
+            return Found::Gap(last, place);
+        }
+        Found::Behind
+    }
+
+    // Where the key is in the page for it, or where it would go there.
+    fn search_page(&self, page: usize, key: Key) -> Found
+        requires { IsPageFor self.now.pages key page }
+        ensures { IsFound self.now.pages key result }
+    {
+        match self.pages[page].search(key) {
+            Ok(place) => Found::At(page, place),
+            Err(place) => Found::Gap(page, place),
+        }
+    }
+
+    // The page in which the key is, if it is in one.
+    fn page_for(&self, key: Key) -> usize
+        requires { 0 < length self.now.pages }
+        ensures { IsPageFor self.now.pages key result }
+    {
+        let mut low = 0;
+        let mut high = self.pages.len();
+        while high - low > 1 {
+            let middle = low + (high - low) / 2;
+            if self.pages[middle].begins_after(key) {
+                high = middle;
+            } else {
+                low = middle;
+            }
+        }
+        low
+    }
+
+    /// Gives a new value to a key that is in a page.
+    pub fn set(&mut self, page: usize, place: usize, key: Key, value: V)
+        requires { IsInPage self.old.pages key page place }
+        ensures entries { all_of self.new.pages ≡ put key_cmp key value (all_of self.old.pages) }
+        ensures room { self.new.room ≡ self.old.room }
+    {
+        self.pages[page].set(place, key, value);
+    }
+
+    /// Adds an entry into a page, at the place where its key goes.
+    pub fn add(&mut self, page: usize, place: usize, key: Key, value: V)
+        requires goes { GoesInto self.old.pages key page place }
+        requires room { 0 < self.old.room }
+        ensures entries { all_of self.new.pages ≡ put key_cmp key value (all_of self.old.pages) }
+        ensures room { self.new.room + 1 ≡ self.old.room }
+    {
+        if self.pages[page].len() < PAGE {
+            self.add_to_page(page, place, key, value);
+        } else {
+            self.add_to_full_page(page, place, key, value);
+        }
+    }
+
+    // Adds an entry into a page that is not full.
+    fn add_to_page(&mut self, page: usize, place: usize, key: Key, value: V)
+        requires goes { GoesInto self.old.pages key page place }
+        requires not_full { length (page_at self.old.pages page) < PAGE }
+        requires room { 0 < self.old.room }
+        ensures entries { all_of self.new.pages ≡ put key_cmp key value (all_of self.old.pages) }
+        ensures room { self.new.room + 1 ≡ self.old.room }
+    {
+        self.pages[page].insert(place, key, value);
+        self.count += 1;
+        self.room -= 1;
+    }
+
+    // Adds an entry into a page that is full, which is divided in two.
+    fn add_to_full_page(&mut self, page: usize, place: usize, key: Key, value: V)
+        requires goes { GoesInto self.old.pages key page place }
+        requires full { length (page_at self.old.pages page) ≡ PAGE }
+        requires room { 0 < self.old.room }
+        ensures entries { all_of self.new.pages ≡ put key_cmp key value (all_of self.old.pages) }
+        ensures room { self.new.room + 1 ≡ self.old.room }
+    {
+        if let Some(spare) = self.spare.pop() {
+            let mut upper = spare;
+            self.pages[page].divide(place, key, value, &mut upper);
+            insert_page(&mut self.pages, page + 1, upper);
+            self.count += 1;
+            self.room -= 1;
+        }
+    }
+
+    /// Adds an entry whose key goes after all others, in a page of its own.
+    pub fn add_behind(&mut self, key: Key, value: V)
+        requires goes { GoesBehind self.old.pages key }
+        requires room { 0 < self.old.room }
+        ensures entries { all_of self.new.pages ≡ put key_cmp key value (all_of self.old.pages) }
+        ensures room { self.new.room + 1 ≡ self.old.room }
+    {
+        if let Some(spare) = self.spare.pop() {
+            let mut page = spare;
+            page.insert(0, key, value);
+            self.pages.push_reserved(page);
+            self.count += 1;
+            self.room -= 1;
+        }
+    }
+
+    /// Makes room for `count` more entries. It fails only if there was less room, and then changes nothing.
+    pub fn make_room(&mut self, count: usize) -> Result<(), AllocError>
+        ensures pages { self.new.pages ≡ self.old.pages }
+        ensures ok { OnOk result (count ≤ self.new.room) }
+        ensures not_less { self.old.room ≤ self.new.room }
+        ensures enough { count ≤ self.old.room → self.new ≡ self.old }
+        ensures refused { OnErr result ((self.new ≡ self.old) × (self.old.room < count)) }
+    {
+        if count <= self.room {
+            return Ok(());
+        }
+        let enough = spare_pages(self.pages.len(), self.count, count)?;
+        self.pages.reserve(enough)?;
+        fill_spare(self.alloc, &mut self.spare, enough)?;
+        self.room = count;
+        Ok(())
+    }
+}
+
+// Inserts a page, for which there is a place.
+fn insert_page<V: Copy>(pages: &mut Vec<Page<V>>, at: usize, page: Page<V>)
+    requires within { at ≤ length pages.old.items }
+    requires place { length pages.old.items < vec_capacity pages.old }
+    ensures pages { pages.new.items ≡ add pages.old.items at page }
+    ensures places { vec_capacity pages.new ≡ vec_capacity pages.old }
+{
+    let _inserted = pages.insert(at, page);
+}
+
+// How many spare pages are enough for this room, if so many entries stand in so many pages.
+fn spare_pages(pages: usize, count: usize, room: usize) -> Result<usize, AllocError>
+    ensures enough { IfOk result (λ spare. IsEnough pages spare count room) }
+    ensures most { OnOk result (count + room < 2 ^ 64) }
+{
+    let all = count.checked_add(room).ok_or(AllocError)?;
+    let needed = (all / HALF + 2).saturating_sub(pages);
+    Ok(needed.min(room))
+}
+
+// Makes empty pages until there are so many.
+fn fill_spare<V: Copy>(
+    alloc: Global,
+    spare: &mut Vec<Page<V>>,
+    enough: usize,
+) -> Result<(), AllocError>
+    requires { AllByRecursion (λ page. page ≡ []) spare.old.items }
+    ensures empty { AllByRecursion (λ page. page ≡ []) spare.new.items }
+    ensures more { length spare.old.items ≤ length spare.new.items }
+    ensures few { (length spare.new.items ≤ enough) ⊎ (length spare.new.items ≡ length spare.old.items) }
+    ensures ok { OnOk result (enough ≤ length spare.new.items) }
+{
+    for _page in spare.len()..enough {
+        spare.push(Page::new(alloc)?)?;
+    }
+    Ok(())
+}
