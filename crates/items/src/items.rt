@@ -4,14 +4,14 @@ ghost use Rattle.terms.specs.Name.{inst_cmp};
 ghost use Rattle.items.specs.Once.{is_one_of};
 
 use crate::{PutError, Walk};
-use maps::{CollectionMap, InsertError};
+use maps::{CollectionMap, InsertError, Steps};
 use std::alloc::{AllocError, Global};
 use std::collections::BTreeMap;
 use std::marker::Model;
 use terms::{Addr, Inst, ItemCollection, Producer, orders_are_total};
 
-/// The items of a store, and the instances that wait for items. A `get` is a binary search. A put with a key greater
-/// than all others of its collection needs no search and moves no item.
+/// The items of a store, and the instances that wait for items. A `get` is a binary search, and so is a put, wherever its
+/// key goes; a put with a key greater than all others of its collection takes one comparison.
 #[derive(Drop)]
 pub struct Items {
     items: CollectionMap<(i64, Producer)>,
@@ -36,7 +36,7 @@ impl Model for Items {
 }
 
 impl Items {
-    ghost use Rattle.std.specs.Prelude.{◌<◌, ◌≤◌, ◌-◌, ◌^◌, false, IfOk, IfErr, OnOk, OnErr, length, map, min, replicate};
+    ghost use Rattle.std.specs.Prelude.{◌+◌, ◌*◌, ◌/◌, ◌<◌, ◌≤◌, ◌-◌, ◌^◌, ℕ, false, IfOk, IfErr, OnOk, OnErr, length, map, min, replicate};
     ghost use Rattle.std.specs.FinMap.{empty, entries};
     ghost use Rattle.maps.specs.Numbered.{of_number, AddsAt, OnlyMakesRoom};
     ghost use Rattle.items.specs.Held.{
@@ -69,6 +69,16 @@ impl Items {
         ensures { result ≡ item_at self.now addr }
     {
         self.items.get(addr.collection.0, addr.key)
+    }
+
+    /// The item at the address and who put it, if there is one. If its collection has a number of items with `d` binary
+    /// digits, that takes at most `d * (d + 1) / 2` comparisons of keys, all of which are counted.
+    pub fn find(&self, addr: Addr, steps: &mut Steps) -> Option<(i64, Producer)>
+        ensures item { result ≡ item_at self.now addr }
+        ensures cost { (digits : ℕ) → length (of_number addr.collection.0 (entries self.now.items.items)) < 2 ^ digits → steps.new ≤ steps.old + digits * (digits + 1) / 2 }
+    {
+        let key = addr.key;
+        self.items.find(addr.collection.0, &key, steps)
     }
 
     /// All items, in the order of their addresses.

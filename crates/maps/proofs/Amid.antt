@@ -38,7 +38,7 @@ module _ {X : Type 0} (pages : List (List (Entry X))) (sorted : T (is_sorted key
         absent = absent_above key (all_of pages) all;
         goes = λ v.
             let here : add (page_at pages last) place (key, v) ≡ last_page pages ++ (key, v) ∷ [] =
-                ap (λ n. add (page_at pages last) n (key, v)) at ∙ insert_end (page_at pages last) (key, v) ∙ ap (λ es. es ++ (key, v) ∷ []) (ap (λ n. page_at pages n) is ∙ last_is pages) in
+            ap (λ n. add (page_at pages last) n (key, v)) at ∙ insert_end (page_at pages last) (key, v) ∙ ap (λ es. es ++ (key, v) ∷ []) (ap (λ n. page_at pages n) is ∙ last_is pages) in
             goes_to_end key v (all_of pages) all ∙ sym (more_in_last pages (key, v) some) ∙ sym (ap (λ es. all_of (set pages last es)) here ∙ ap (λ n. all_of (set pages n (last_page pages ++ (key, v) ∷ []))) is);
       }
 

@@ -13,7 +13,7 @@ use Rattle.maps.specs.Keyed.{Keyed}
 use Rattle.maps.specs.Numbered.{Place, place_cmp, placed, all_from}
 use Rattle.maps.specs.PlaceOrder.{keys_total, places_total, same_places}
 use Rattle.maps.proofs.Places.{first, second, listed}
-use Rattle.maps.proofs.Searched.{Entry}
+use Rattle.maps.specs.Paged.{Entry}
 
 abbrev Placed : Type 0 → Type 0
 Placed X = Place × X

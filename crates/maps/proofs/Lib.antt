@@ -1,11 +1,11 @@
 mod Amid
 mod ByNumber
+mod Costs
 mod Growing
 mod Halves
 mod Joined
 mod OneCollection
 mod Places
 mod Refused
-mod Searched
 mod Whole
 mod Written

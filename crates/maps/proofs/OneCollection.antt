@@ -6,7 +6,7 @@ use Rattle.std.proofs.lemmas.List.{length-map}
 use Rattle.std.proofs.lemmas.List.Sums.{sum_by-append}
 use Rattle.maps.specs.Keyed.{Keyed}
 use Rattle.maps.specs.Numbered.{Numbered, Place, placed, all_from, of_number}
-use Rattle.maps.proofs.Searched.{Entry}
+use Rattle.maps.specs.Paged.{Entry}
 use Rattle.maps.proofs.Whole.{seen_numbered, walked}
 
 -- the entries that a collection has, if there is such a collection

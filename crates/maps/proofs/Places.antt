@@ -104,3 +104,19 @@ module _ {K X : Type 0} {R : K → K → Ordering} (o : IsTotalOrder R) where
       let later : R e.0 q ≡ Less = sym (alike_right o (get_or es at e).0 q e.0 (here e)) ∙ below_each e.0 es at e (first _ _ sorted) (omega (arith, within)) in
       ap (λ r. by_order r ((q, v) ∷ e ∷ es) ((e.0, v) ∷ es) (e ∷ put R q v es)) (turned o e.0 q later)
       ∙ ap (λ more. e ∷ more) (written same es q at v (second (below_all R e.0 es) _ sorted) (omega (arith, within)) here)
+
+  -- all keys up to a lesser one are less, and all from a greater one on are greater
+  pub less_up_to : (es : List (K × X)) (q : K) (at : ℕ) → at < length es → T (is_sorted R es) → HoldsAt (λ e. R e.0 q ≡ Less) es at → AllWithin (λ e. R e.0 q ≡ Less) es 0 (suc at)
+  less_up_to [] q at within sorted here k d low high = absurd (omega (arith, within))
+  less_up_to (e ∷ es) q zero within sorted here zero d low high = here d
+  less_up_to (e ∷ es) q zero within sorted here (suc k) d low high = absurd (omega (arith, high))
+  less_up_to (e ∷ es) q (suc at) within sorted here zero d low high = o.trans e.0 (get_or es at d).0 q (below_each e.0 es at d (first _ _ sorted) (omega (arith, within))) (here d)
+  less_up_to (e ∷ es) q (suc at) within sorted here (suc k) d low high = less_up_to es q at (omega (arith, within)) (second (below_all R e.0 es) _ sorted) here k d (omega arith) (omega (arith, high))
+
+  pub greater_from : (es : List (K × X)) (q : K) (at : ℕ) → at < length es → T (is_sorted R es) → HoldsAt (λ e. R e.0 q ≡ Greater) es at → AllWithin (λ e. R e.0 q ≡ Greater) es at (length es)
+  greater_from [] q at within sorted here k d low high = absurd (omega (arith, within))
+  greater_from (e ∷ es) q zero within sorted here zero d low high = here d
+  greater_from (e ∷ es) q zero within sorted here (suc k) d low high =
+      turned o q (get_or es k d).0 (o.trans q e.0 (get_or es k d).0 (turned_back o e.0 q (here d)) (below_each e.0 es k d (first _ _ sorted) (omega (arith, high))))
+  greater_from (e ∷ es) q (suc at) within sorted here zero d low high = absurd (omega (arith, low))
+  greater_from (e ∷ es) q (suc at) within sorted here (suc k) d low high = greater_from es q at (omega (arith, within)) (second (below_all R e.0 es) _ sorted) here k d (omega (arith, low)) (omega (arith, high))

@@ -1,7 +1,7 @@
 ghost use Rattle.std.specs.Prelude.{◌≡◌, IfOk, replicate};
 ghost use Rattle.maps.specs.Keyed.{none};
 
-use crate::{InsertError, KeyMap, KeyWalk, Walk};
+use crate::{InsertError, KeyMap, KeyWalk, Steps, Walk};
 use std::alloc::{AllocError, Global};
 use std::marker::Model;
 use terms::Key;
@@ -28,7 +28,7 @@ impl<V> Model for CollectionMap<V> {
 }
 
 impl<V: Copy> CollectionMap<V> {
-    ghost use Rattle.std.specs.Prelude.{◌≡◌, ◌<◌, ◌≤◌, ◌-◌, ◌^◌, IfOk, IfErr, IsSome, OnOk, OnErr, length, min, replicate};
+    ghost use Rattle.std.specs.Prelude.{◌≡◌, ◌<◌, ◌≤◌, ◌+◌, ◌-◌, ◌*◌, ◌/◌, ◌^◌, ℕ, IfOk, IfErr, IsSome, OnOk, OnErr, length, min, replicate};
     ghost use Rattle.std.specs.FinMap.{empty, entries, get, insert};
     ghost use Rattle.maps.specs.Insertion.{IsRefused};
     ghost use Rattle.maps.specs.Numbered.{of_number, room_at, AddsAt, OnlyMakesRoom};
@@ -48,6 +48,18 @@ impl<V: Copy> CollectionMap<V> {
         ensures { result ≡ get self.now.items (number, key) }
     {
         self.collections.get(number as usize)?.get(key)
+    }
+
+    /// The value at the place, if there is one. If its collection has a number of entries with `d` binary digits, that
+    /// takes at most `d * (d + 1) / 2` comparisons, all of which are counted.
+    pub fn find(&self, number: u16, key: &Key, steps: &mut Steps) -> Option<V>
+        ensures value { result ≡ get self.now.items (number, key.now) }
+        ensures cost { (digits : ℕ) → length (of_number number (entries self.now.items)) < 2 ^ digits → steps.new ≤ steps.old + digits * (digits + 1) / 2 }
+    {
+        match self.collections.get(number as usize) {
+            Some(collection) => collection.find(key, steps),
+            None => None,
+        }
     }
 
     /// All entries, in the order of their places.

@@ -1,5 +1,5 @@
 use crate::pages::{Found, Pages};
-use crate::{InsertError, KeyWalk};
+use crate::{InsertError, KeyWalk, Steps};
 use std::alloc::{AllocError, Global};
 use std::marker::Model;
 use terms::Key;
@@ -25,7 +25,7 @@ impl<V> Model for KeyMap<V> {
 }
 
 impl<V: Copy> KeyMap<V> {
-    ghost use Rattle.std.specs.Prelude.{◌≡◌, ◌<◌, ◌≤◌, IfErr, IsSome, OnOk, OnErr, length};
+    ghost use Rattle.std.specs.Prelude.{◌≡◌, ◌+◌, ◌*◌, ◌/◌, ◌^◌, ◌<◌, ◌≤◌, ℕ, IfErr, IsSome, OnOk, OnErr, length};
     ghost use Rattle.std.specs.FinMap.{entries, get, insert};
     ghost use Rattle.maps.specs.Insertion.{IsRefused};
     ghost use Rattle.maps.specs.Keyed.{none, Adds};
@@ -43,11 +43,16 @@ impl<V: Copy> KeyMap<V> {
     pub fn get(&self, key: Key) -> Option<V>
         ensures { result ≡ get self.now.items key }
     {
-        match self.pages.search(key) {
-            Found::At(page, place) => Some(self.pages.value(page, place)),
-            Found::Gap(_, _) => None,
-            Found::Behind => None,
-        }
+        self.pages.value(self.pages.search(key))
+    }
+
+    /// The value of the key, if it has one. If the map has a number of entries with `d` binary digits, that takes at most
+    /// `d * (d + 1) / 2` comparisons, all of which are counted.
+    pub fn find(&self, key: &Key, steps: &mut Steps) -> Option<V>
+        ensures value { result ≡ get self.now.items key.now }
+        ensures cost { (digits : ℕ) → length (entries self.now.items) < 2 ^ digits → steps.new ≤ steps.old + digits * (digits + 1) / 2 }
+    {
+        self.pages.value(self.pages.find(key, steps))
     }
 
     /// The entries, in the order of their keys.
@@ -90,7 +95,7 @@ impl<V: Copy> KeyMap<V> {
         ensures unchanged { OnErr result (self.new ≡ self.old) }
     {
         match self.pages.search(key) {
-            Found::At(page, place) => Err(InsertError::Taken(self.pages.value(page, place))),
+            Found::At(page, place) => Err(InsertError::Taken(self.pages.value_at(page, place))),
             Found::Gap(page, place) => {
                 self.pages.make_room(1)?;
                 self.pages.add(page, place, key, value);

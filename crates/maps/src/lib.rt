@@ -1,7 +1,8 @@
 //! Maps that keep their keys in order, and for which room can be made before they grow.
 //!
 //! A `KeyMap` maps the keys of one collection. A `CollectionMap` maps the keys of several, each by the collection's
-//! number. Clauses see them as finite maps, together with the number of further entries that there is room for.
+//! number. Clauses see them as finite maps, together with the number of further entries that there is room for. Inside,
+//! `Pages` hold the entries of a collection, in order, in pages of at most 64.
 //!
 //! The crates above rely on `insert`: if there is room it never returns `NoMemory`, and an error changes nothing.
 #![tactic(auto)]
@@ -12,10 +13,12 @@ mod key_map;
 mod key_walk;
 mod page;
 mod pages;
+mod steps;
 mod walk;
 
 pub use collection_map::CollectionMap;
 pub use error::InsertError;
 pub use key_map::KeyMap;
 pub use key_walk::KeyWalk;
+pub use steps::Steps;
 pub use walk::Walk;

@@ -1,4 +1,6 @@
+use crate::Steps;
 use std::alloc::{AllocError, Global};
+use std::cmp::Ordering;
 use std::marker::Model;
 use terms::Key;
 
@@ -31,7 +33,7 @@ impl<V> Model for Page<V> {
 }
 
 impl<V: Copy> Page<V> {
-    ghost use Rattle.std.specs.Prelude.{◌≡◌, ◌<◌, ◌≤◌, ◌++◌, [], T, IfErr, IfOk, IsTrue, length, get_or, set};
+    ghost use Rattle.std.specs.Prelude.{◌≡◌, ◌+◌, ◌^◌, ◌<◌, ◌≤◌, ◌++◌, ℕ, [], T, IfErr, IfOk, IsTrue, length, get_or, set};
     ghost use Rattle.std.specs.List.{insert as add};
     ghost use Rattle.std.specs.Ordering.{is_lt};
     ghost use Rattle.std.specs.FinMap.{is_sorted};
@@ -72,11 +74,12 @@ impl<V: Copy> Page<V> {
     }
 
     /// Whether the first key is greater than this one.
-    pub fn begins_after(&self, key: Key) -> bool
+    pub fn begins_after(&self, key: &Key, steps: &mut Steps) -> bool
         requires { 0 < length self.now }
-        ensures { result ≡ is_lt (key_cmp key (first_key self.now)) }
+        ensures tells { result ≡ is_lt (key_cmp key.now (first_key self.now)) }
+        ensures cost { steps.new ≤ steps.old + 1 }
     {
-        key < self.entries[0].0
+        matches!(steps.compare(key, &self.entries[0].0), Ordering::Less)
     }
 
     /// Whether all keys are less than this one.
@@ -90,13 +93,24 @@ impl<V: Copy> Page<V> {
         }
     }
 
-    /// Where the key is, or where it would go.
-    pub fn search(&self, key: Key) -> Result<usize, usize>
+    /// Where the key is, or where it would go: by one comparison for each binary digit of the number of entries, at most.
+    pub fn search(&self, key: &Key, steps: &mut Steps) -> Result<usize, usize>
         requires { T (is_sorted key_cmp self.now) }
-        ensures found { IfOk result (IsAt self.now key) }
-        ensures absent { IfErr result (IsGapFor self.now key) }
+        ensures found { IfOk result (IsAt self.now key.now) }
+        ensures absent { IfErr result (IsGapFor self.now key.now) }
+        ensures cost { (digits : ℕ) → length self.now < 2 ^ digits → steps.new ≤ steps.old + digits }
     {
-        self.entries.binary_search_by_key(&key, |&(other, _)| other)
+        let mut low = 0;
+        let mut high = self.entries.len();
+        while low < high {
+            let middle = low + (high - low) / 2;
+            match steps.compare(&self.entries[middle].0, key) {
+                Ordering::Less => low = middle + 1,
+                Ordering::Equal => return Ok(middle),
+                Ordering::Greater => high = middle,
+            }
+        }
+        Err(low)
     }
 
     /// Puts another entry in the place of one.

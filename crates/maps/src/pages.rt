@@ -5,7 +5,7 @@ ghost use Rattle.std.specs.Vec.{vec_capacity};
 ghost use Rattle.maps.specs.PagesKept.{IsEnough};
 
 use crate::page::{HALF, PAGE, Page};
-use crate::KeyWalk;
+use crate::{KeyWalk, Steps};
 use std::alloc::{AllocError, Global};
 use std::marker::Model;
 use terms::Key;
@@ -49,8 +49,8 @@ impl<V> Model for Pages<V> {
 }
 
 impl<V: Copy> Pages<V> {
-    ghost use Rattle.std.specs.Prelude.{◌≡◌, ◌+◌, ◌<◌, ◌≤◌, ℤ, List, [], T, OnErr, OnOk, length, get_or};
-    ghost use Rattle.std.specs.FinMap.{is_sorted, put};
+    ghost use Rattle.std.specs.Prelude.{◌≡◌, ◌+◌, ◌*◌, ◌/◌, ◌^◌, ◌<◌, ◌≤◌, ℕ, ℤ, List, [], T, OnErr, OnOk, length, get_or};
+    ghost use Rattle.std.specs.FinMap.{find, is_sorted, put};
     ghost use Rattle.terms.specs.Key.{key_cmp};
     ghost use Rattle.maps.specs.declared.page.TheConstants.{PAGE};
     ghost use Rattle.maps.specs.Paged.{GoesBehind, AreLess, GoesInto, IsFound, IsInPage, IsPageFor, all_of, last_page, page_at};
@@ -94,8 +94,20 @@ impl<V: Copy> Pages<V> {
         }
     }
 
+    /// The value that a search found.
+    pub fn value(&self, found: Found) -> Option<V>
+        requires { (key : List ℤ) × IsFound self.now.pages key found }
+        ensures { (key : List ℤ) → IsFound self.now.pages key found → result ≡ find key_cmp key (all_of self.now.pages) }
+    {
+        match found {
+            Found::At(page, place) => Some(self.value_at(page, place)),
+            Found::Gap(_, _) => None,
+            Found::Behind => None,
+        }
+    }
+
     /// The value at a place of a page.
-    pub fn value(&self, page: usize, place: usize) -> V
+    pub fn value_at(&self, page: usize, place: usize) -> V
         requires page { page < length self.now.pages }
         requires place { place < length (page_at self.now.pages page) }
         ensures { (other : _) → result ≡ (get_or (page_at self.now.pages page) place other).1 }
@@ -103,7 +115,21 @@ impl<V: Copy> Pages<V> {
         self.pages[page].value(place)
     }
 
-    /// Where the key is, or where it would go. If the key is greater than all others, that takes one comparison.
+    /// Where the key is, or where it would go. If there are `n` entries, and `n` has `d` binary digits, it takes at most `d`
+    /// comparisons if they stand in one page, and otherwise `d + 2`.
+    pub fn find(&self, key: &Key, steps: &mut Steps) -> Found
+        ensures found { IsFound self.now.pages key.now result }
+        ensures cost { (digits : ℕ) → length (all_of self.now.pages) < 2 ^ digits → steps.new ≤ steps.old + digits * (digits + 1) / 2 }
+        ensures sorted { T (is_sorted key_cmp (all_of self.now.pages)) }
+    {
+        if self.pages.is_empty() {
+            return Found::Behind;
+        }
+        let page = self.page_for(key, steps);
+        self.search_page(page, key, steps)
+    }
+
+    /// The same; if the key is greater than all others, that takes one comparison.
     pub fn search(&self, key: Key) -> Found
         ensures { IsFound self.now.pages key result }
     {
@@ -114,7 +140,7 @@ impl<V: Copy> Pages<V> {
         if self.pages[count - 1].ends_before(key) {
             return self.end();
         }
-        self.search_page(self.page_for(key), key)
+        self.find(&key, &mut Steps::new())
     }
 
     // Where a key would go that is greater than all others.
@@ -131,26 +157,28 @@ impl<V: Copy> Pages<V> {
     }
 
     // Where the key is in the page for it, or where it would go there.
-    fn search_page(&self, page: usize, key: Key) -> Found
-        requires { IsPageFor self.now.pages key page }
-        ensures { IsFound self.now.pages key result }
+    fn search_page(&self, page: usize, key: &Key, steps: &mut Steps) -> Found
+        requires { IsPageFor self.now.pages key.now page }
+        ensures found { IsFound self.now.pages key.now result }
+        ensures cost { (digits : ℕ) → length (page_at self.now.pages page) < 2 ^ digits → steps.new ≤ steps.old + digits }
     {
-        match self.pages[page].search(key) {
+        match self.pages[page].search(key, steps) {
             Ok(place) => Found::At(page, place),
             Err(place) => Found::Gap(page, place),
         }
     }
 
     // The page in which the key is, if it is in one.
-    fn page_for(&self, key: Key) -> usize
+    fn page_for(&self, key: &Key, steps: &mut Steps) -> usize
         requires { 0 < length self.now.pages }
-        ensures { IsPageFor self.now.pages key result }
+        ensures page { IsPageFor self.now.pages key.now result }
+        ensures cost { (digits : ℕ) → length self.now.pages ≤ 2 ^ digits → steps.new ≤ steps.old + digits }
     {
         let mut low = 0;
         let mut high = self.pages.len();
         while high - low > 1 {
             let middle = low + (high - low) / 2;
-            if self.pages[middle].begins_after(key) {
+            if self.pages[middle].begins_after(key, steps) {
                 high = middle;
             } else {
                 low = middle;

@@ -20,7 +20,7 @@ returns-in_err-make_room-in-Behind-clause-refused g c =
 
 pub returns-in-At-clause-refused : goal.returns-in-At-clause-refused
 returns-in-At-clause-refused g c =
-    sym (ap Some (c.value.ensures (c.args.key, c.value.result)) ∙ sym (c.in-At.ensures.found (c.args.key, c.value.result)) ∙ sym (get-from_entries keys_total (all_of c.self.inside.pages.pages) c.args.key) ∙ ap (λ s. get s.items c.args.key) c.self.view_is)
+    sym (ap Some (c.value_at.ensures (c.args.key, c.value_at.result)) ∙ sym (c.in-At.ensures.found (c.args.key, c.value_at.result)) ∙ sym (get-from_entries keys_total (all_of c.self.inside.pages.pages) c.args.key) ∙ ap (λ s. get s.items c.args.key) c.self.view_is)
 
 pub returns-in_ok-make_room-in-Gap-clause-ok : goal.returns-in_ok-make_room-in-Gap-clause-ok
 returns-in_ok-make_room-in-Gap-clause-ok g c =

@@ -1,6 +1,6 @@
 use Rattle.std.proofs.Common.{◌∙◌, ap, sym}
 use Rattle.std.specs.FinMap.{entries}
-use Rattle.maps.proofs.Searched.{entries_listed}
+use Rattle.maps.proofs.Written.{entries_listed}
 use Rattle.maps.proofs.key_map.KeyMap.walk.Goals as goal
 
 pub returns : goal.returns

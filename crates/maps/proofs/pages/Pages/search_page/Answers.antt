@@ -14,18 +14,18 @@ search-requires g c =
     let within : c.args.page < length pages = omega (arith, c.requires.within, ap (λ s. length s.pages) c.self.view_is) in
     subst (λ (es : List (Entry g.row.V.Denot)). T (is_sorted key_cmp es)) (sym (page_read pages c.args.page c.index.result.now within c.index.ensures)) (page_sorted pages c.args.page c.self.invariant.sorted)
 
-pub returns-in-Ok : goal.returns-in-Ok
-returns-in-Ok g c =
+pub returns-in-Ok-clause-found : goal.returns-in-Ok-clause-found
+returns-in-Ok-clause-found g c =
     let pages = c.self.inside.pages.items in
     let same = ap (λ s. s.pages) c.self.view_is in
-    let it = subst (λ (ps : List (List (Entry g.row.V.Denot))). IsPageFor ps c.args.key c.args.page) (sym same) c.requires in
-    let at = subst (λ (es : List (Entry g.row.V.Denot)). IsAt es c.args.key c.in-Ok.place) (page_read pages c.args.page c.index.result.now it.within c.index.ensures) c.in-Ok.ensures.found in
-    subst (λ (ps : List (List (Entry g.row.V.Denot))). IsInPage ps c.args.key c.args.page c.in-Ok.place) same (is_in_page pages c.self.invariant.sorted c.self.invariant.filled c.args.key c.args.page c.in-Ok.place it at)
+    let it = subst (λ (ps : List (List (Entry g.row.V.Denot))). IsPageFor ps c.args.key.now c.args.page) (sym same) c.requires in
+    let at = subst (λ (es : List (Entry g.row.V.Denot)). IsAt es c.args.key.now c.in-Ok.place) (page_read pages c.args.page c.index.result.now it.within c.index.ensures) c.in-Ok.ensures.found in
+    subst (λ (ps : List (List (Entry g.row.V.Denot))). IsInPage ps c.args.key.now c.args.page c.in-Ok.place) same (is_in_page pages c.self.invariant.sorted c.self.invariant.filled c.args.key.now c.args.page c.in-Ok.place it at)
 
-pub returns-in-Err : goal.returns-in-Err
-returns-in-Err g c =
+pub returns-in-Err-clause-found : goal.returns-in-Err-clause-found
+returns-in-Err-clause-found g c =
     let pages = c.self.inside.pages.items in
     let same = ap (λ s. s.pages) c.self.view_is in
-    let it = subst (λ (ps : List (List (Entry g.row.V.Denot))). IsPageFor ps c.args.key c.args.page) (sym same) c.requires in
-    let at = subst (λ (es : List (Entry g.row.V.Denot)). IsGapFor es c.args.key c.in-Err.place) (page_read pages c.args.page c.index.result.now it.within c.index.ensures) c.in-Err.ensures.absent in
-    subst (λ (ps : List (List (Entry g.row.V.Denot))). GoesInto ps c.args.key c.args.page c.in-Err.place) same (goes_into_page pages c.self.invariant.sorted c.self.invariant.filled c.args.key c.args.page c.in-Err.place it at)
+    let it = subst (λ (ps : List (List (Entry g.row.V.Denot))). IsPageFor ps c.args.key.now c.args.page) (sym same) c.requires in
+    let at = subst (λ (es : List (Entry g.row.V.Denot)). IsGapFor es c.args.key.now c.in-Err.place) (page_read pages c.args.page c.index.result.now it.within c.index.ensures) c.in-Err.ensures.absent in
+    subst (λ (ps : List (List (Entry g.row.V.Denot))). GoesInto ps c.args.key.now c.args.page c.in-Err.place) same (goes_into_page pages c.self.invariant.sorted c.self.invariant.filled c.args.key.now c.args.page c.in-Err.place it at)
