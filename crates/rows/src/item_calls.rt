@@ -3,19 +3,22 @@
 //! `put ADDRESS VALUE`, by the environment, or `put ADDRESS VALUE INSTANCE NUMBER`, by the put of an instance with that
 //! number; `get ADDRESS`; `wait ADDRESS INSTANCE`; `take ADDRESS`, which takes the instances that wait there; `walk`;
 //! and `room COLLECTION COUNT`, which makes room. An address or an instance is the number of its collection and the
-//! components of its key: `0:`, `0:5`, `0:5,-1`.
+//! components of its key: `0:`, `0:5`, `0:5,-1`. Of many items: `fill`, `find` and `alike` (`many_items`).
 ghost use Rattle.std.specs.Prelude.{◌≡◌, length};
 
+use crate::many_items;
 use crate::telling::{part, tell_instance, tell_item};
 use items::Items;
 use std::alloc::{AllocError, Global};
 use terms::{Addr, Inst, ItemCollection, Key, MAX_COMPONENTS, Producer, StepCollection};
 
-const COLLECTIONS: u16 = 3;
+/// The number of collections.
+pub(crate) const COLLECTIONS: u16 = 3;
 
+/// The items of three collections.
 #[derive(Drop)]
-struct Three {
-    items: Items,
+pub(crate) struct Three {
+    pub(crate) items: Items,
     ghost collections: { length items.items.room ≡ 3 },
 }
 
@@ -64,6 +67,9 @@ fn take(alloc: Global, three: &mut Three, line: &str, told: &mut String) -> Resu
     match word {
         "walk" => return walk(three, told),
         "room" => return make_room(three, name, more, told),
+        "fill" => return many_items::fill(three, name, more, told),
+        "find" => return many_items::find(three, name, more, told),
+        "alike" => return many_items::alike(three, name, more, told),
         _ => {}
     }
     let Some(address) = address_of(alloc, name)? else {

@@ -17,6 +17,7 @@ mod graphs;
 mod item_calls;
 mod journals;
 mod laws;
+mod many_items;
 mod named;
 mod orders;
 mod reopening;
