@@ -30,6 +30,8 @@ pub mod OnceOnly
 pub mod Parked
 pub mod Promised
 pub mod PutFacts
+pub mod PutsInTurn
+pub mod PutsRow
 pub mod Putting
 pub mod Quiet
 pub mod Reached
