@@ -6,6 +6,7 @@ mod evaluate;
 mod hubs;
 mod images;
 mod machines;
+mod many_items;
 mod plain_disk;
 mod pools;
 mod readings;
@@ -25,6 +26,7 @@ const USAGE: &str = "usage: bench canonical FILE
        bench evaluate STATEMENTS
        bench group STEPS
        bench hub CALLS
+       bench items ITEMS
        bench machine STEPS
        bench open RECORDS
        bench pool STEPS
@@ -65,6 +67,7 @@ fn without_threads(
         ("parse", _) => done(texts::measure(rt, argument)),
         ("codec", Some(count)) => done(images::measure(rt, count)),
         ("evaluate", Some(count)) => done(evaluate::measure(rt, count)),
+        ("items", Some(count)) => done(many_items::measure(rt, count)),
         ("machine", Some(count)) => done(machines::measure(rt, count)),
         ("open", Some(count)) => done(stores::measure(rt, count)),
         ("sync", Some(count)) => done(syncs::measure(rt, count)),

@@ -2,6 +2,7 @@
 ghost use Rattle.std.specs.Prelude.{◌≡◌, List, map, OnOk, ℕ};
 ghost use Rattle.std.specs.Io.KnownBytes.{Appends};
 ghost use Rattle.commit.specs.Core.{facts, graph};
+ghost use Rattle.report.specs.Named.{item_text};
 ghost use Rattle.report.specs.ReportText.{AreGot, AreItemLines, IsReport, counts_text, fault_line, item_lines, line};
 ghost use Rattle.report.specs.Sinks.{TellsFailure, TellsReport};
 ghost use Rattle.report.specs.declared.error.ReportError.TheVariants.{NoMemory};
@@ -14,7 +15,7 @@ use graph::Graph;
 use machine::{Counts, ItemsOf};
 use std::alloc::Global;
 use std::io::Write;
-use terms::{FaultKind, Inst, ItemCollection};
+use terms::{Addr, FaultKind, Inst, ItemCollection};
 
 /// Writes a line for each of these items.
 fn write_items<S: Sink>(graph: &Graph, items: ItemsOf<'_>, out: &mut S) -> Result<(), SinkFailed>
@@ -22,10 +23,23 @@ fn write_items<S: Sink>(graph: &Graph, items: ItemsOf<'_>, out: &mut S) -> Resul
     ensures fails { TellsFailure S.target S.has_failed out.old out.new result }
 {
     for (address, value) in items {
-        let named = NamedAddress { graph, address };
-        writeln!(out, "{named} = {value}")?;
+        write_item(graph, address, value, out)?;
     }
     Ok(())
+}
+
+/// Writes the line of an item.
+fn write_item<S: Sink>(
+    graph: &Graph,
+    address: Addr,
+    value: i64,
+    out: &mut S,
+) -> Result<(), SinkFailed>
+    ensures written { OnOk result (Appends (S.contents out.old) (S.contents out.new) (line (item_text graph.now address value))) }
+    ensures fails { TellsFailure S.target S.has_failed out.old out.new result }
+{
+    let named = NamedAddress { graph, address };
+    writeln!(out, "{named} = {value}")
 }
 
 /// Writes the lines of the items of these collections, one collection after another.
