@@ -71,11 +71,12 @@ impl Items {
         self.items.get(addr.collection.0, addr.key)
     }
 
-    /// The item at the address and who put it, if there is one. If its collection has a number of items with `d` binary
-    /// digits, that takes at most `d * (d + 1) / 2` comparisons of keys, all of which are counted.
+    /// The item at the address and who put it, if there is one. It compares keys by `Steps::compare` alone; if the collection
+    /// has a number of items with `d` binary digits, it does so at most `d * (d + 1) / 2` times.
     pub fn find(&self, addr: Addr, steps: &mut Steps) -> Option<(i64, Producer)>
         ensures item { result ≡ item_at self.now addr }
         ensures cost { (digits : ℕ) → length (of_number addr.collection.0 (entries self.now.items.items)) < 2 ^ digits → steps.new ≤ steps.old + digits * (digits + 1) / 2 }
+        ensures more { steps.old ≤ steps.new }
     {
         let key = addr.key;
         self.items.find(addr.collection.0, &key, steps)
@@ -120,6 +121,7 @@ impl Items {
         ensures ok { OnOk result (count ≤ room_for self.new collection) }
         ensures grows { OnlyMakesRoom self.old.items self.new.items collection.0 }
         ensures waiting { self.new.waiting ≡ self.old.waiting }
+        ensures enough { count ≤ room_for self.old collection → self.new ≡ self.old }
         ensures refused { OnErr result ((self.new ≡ self.old) × (room_for self.old collection < count)) }
     {
         self.items.make_room(collection.0, count)

@@ -1,5 +1,5 @@
 -- What a search within the page for a key says of all pages, and where a key goes that is greater than all.
-use Rattle.std.proofs.Common.{◌≡◌, ◌∙◌, ap, sym, refl, subst, ℕ, suc, ◌-◌, ◌<◌, ◌≤◌, ℤ, T, List, [], ◌∷◌, ◌++◌, length, set, get_or, slice_get, Some, arith}
+use Rattle.std.proofs.Common.{◌≡◌, ◌∙◌, ap, sym, subst, ℕ, zero, suc, ◌-◌, ◌<◌, ◌≤◌, ℤ, T, List, [], ◌∷◌, ◌++◌, length, set, slice_get, Some, arith}
 use Rattle.std.specs.declared.cmp.Ordering.TheVariants.{Less}
 use Rattle.std.specs.List.{insert as add}
 use Rattle.std.specs.FinMap.{is_sorted}
@@ -9,14 +9,20 @@ use Rattle.terms.specs.Key.{key_cmp}
 use Rattle.maps.specs.Keyed.{IsAt, IsGapFor}
 use Rattle.maps.specs.Paged.{AreFilled, AreLess, Entry, GoesBehind, GoesInto, IsInPage, IsPageFor, all_of, last_page, page_at}
 use Rattle.maps.specs.PlaceOrder.{keys_total}
-use Rattle.maps.specs.declared.page.TheConstants.{HALF, PAGE}
+use Rattle.maps.specs.declared.page.TheConstants.{HALF}
 use Rattle.maps.proofs.Halves.{all_half_full}
-use Rattle.maps.proofs.Joined.{absent_above, all_less_by_last, amid, goes_to_end, last_is, more_behind, more_in_last, page_sorted}
+use Rattle.maps.proofs.Joined.{absent_above, all_less_by_last, amid, goes_to_end, last_is, more_behind, more_in_last}
 use Rattle.maps.proofs.Places.{all_less}
 
 -- if the last key is less, all are
 pub less_by_last : {X : Type 0} (es : List (Entry X)) (key : List ℤ) (last : Entry X) → T (is_sorted key_cmp es) → slice_get es (length es - 1) ≡ Some last → key_cmp last.0 key ≡ Less → AreLess es key
 less_by_last es key last sorted is lesser = recursion_from_All (λ entry. key_cmp entry.0 key ≡ Less) es (λ k d within. all_less keys_total es key last sorted is lesser k d (omega arith) within)
+
+-- and if all are less, so is the one at any place
+pub less_at : {X : Type 0} (es : List (Entry X)) (key : List ℤ) (n : ℕ) (e : Entry X) → AreLess es key → slice_get es n ≡ Some e → key_cmp e.0 key ≡ Less
+less_at {X} [] key n e all is = absurd (cc)
+less_at {X} (first ∷ es) key zero e all is = let same : first ≡ e = cc in subst (λ (x : Entry X). key_cmp x.0 key ≡ Less) same all.0
+less_at {X} (first ∷ es) key (suc n) e all is = less_at es key n e all.1 is
 
 module _ {X : Type 0} (pages : List (List (Entry X))) (sorted : T (is_sorted key_cmp (all_of pages))) (filled : AreFilled pages) where
   pub is_in_page : (key : List ℤ) (page place : ℕ) → IsPageFor pages key page → IsAt (page_at pages page) key place → IsInPage pages key page place

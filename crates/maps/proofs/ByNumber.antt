@@ -136,10 +136,6 @@ module _ {X : Type 0} (maps : List (Keyed X)) (number : ℕ) (old new : Keyed X)
           ap (λ o. item_of o q.1) (written_elsewhere maps number q.0 new other)
           ∙ sym (ap (λ b. cond b (Some item) (item_of (slice_get maps q.0) q.1)) (by_number_apart q address other))
 
--- several empty collections have no items
-pub none_held : {X : Type 0} → (maps : List (Keyed X)) → ((n : ℕ) (key : List ℤ) → item_of (slice_get maps n) key ≡ None) → (q : Place) → get (held maps) q ≡ None
-none_held maps empty q = item_held maps q ∙ empty q.0 q.1
-
 -- The entries are in the order of their addresses.
 
 both : (a b : Bool) → T a → T b → T (a && b)

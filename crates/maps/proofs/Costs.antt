@@ -1,5 +1,5 @@
 -- How many comparisons a search makes.
-use Rattle.std.proofs.Common.{◌≡◌, ◌+◌, ◌-◌, ◌*◌, ◌/◌, ◌^◌, ◌<◌, ◌≤◌, ℕ, zero, suc, List, [], ◌∷◌, ◌++◌, length, arith, length-append}
+use Rattle.std.proofs.Common.{◌+◌, ◌*◌, ◌/◌, ◌^◌, ◌<◌, ◌≤◌, ℕ, zero, suc, List, [], ◌∷◌, ◌++◌, length, arith, length-append}
 use Rattle.std.proofs.Math.Nat.{mul-le-mul_left, pow-suc}
 use Rattle.maps.specs.declared.page.TheConstants.{HALF}
 use Rattle.maps.specs.Paged.{AreFilled, all_of, page_at}

@@ -1,6 +1,5 @@
 -- Pages with one more entry, or with one that is rewritten, are kept as pages are.
-use Rattle.std.specs.Prelude.{Vec}
-use Rattle.std.proofs.Common.{◌≡◌, ◌∙◌, ap, sym, refl, subst, ℕ, zero, suc, ◌+◌, ◌-◌, ◌<◌, ◌≤◌, ℤ, T, List, [], ◌∷◌, ◌++◌, length, set, get_or, cond, is_some, None, arith, length-append}
+use Rattle.std.proofs.Common.{◌≡◌, ◌∙◌, ap, sym, subst, ℕ, zero, suc, ◌+◌, ◌-◌, ◌<◌, ◌≤◌, ℤ, T, List, [], ◌∷◌, ◌++◌, length, set, get_or, cond, is_some, None, arith, length-append}
 use Rattle.std.specs.List.{AllByRecursion}
 use Rattle.std.specs.List.{insert as add}
 use Rattle.std.specs.FinMap.{find, put, is_sorted}
@@ -8,12 +7,11 @@ use Rattle.std.specs.FinMap.Entries.{is_sorted-put, length-put}
 use Rattle.std.proofs.lemmas.List.{length-set}
 use Rattle.std.proofs.lemmas.List.Edits.{length-insert}
 use Rattle.terms.specs.Key.{key_cmp}
-use Rattle.maps.specs.Paged.{AreFilled, Entry, GoesBehind, GoesInto, IsInPage, Paged, all_of, page_at}
+use Rattle.maps.specs.Paged.{AreFilled, Entry, GoesBehind, GoesInto, IsInPage, all_of, page_at}
 use Rattle.maps.specs.PagesKept.{AreKept, IsEnough}
 use Rattle.maps.specs.PlaceOrder.{keys_total}
-use Rattle.maps.specs.declared.page.TheConstants.{HALF, PAGE}
+use Rattle.maps.specs.declared.page.TheConstants.{HALF}
 use Rattle.maps.proofs.Halves.{all_divided, enough_in_new, enough_in_page, filled_behind, filled_count, filled_divided, filled_set, has_spare}
-use Rattle.maps.proofs.Joined.{more_behind}
 
 -- a page that was read is the page at its number
 pub page_read : {X : Type 0} → (pages : List (List X)) (n : ℕ) (page : List X) → n < length pages → page ≡ get_or pages n page → page ≡ page_at pages n

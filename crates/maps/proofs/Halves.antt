@@ -1,5 +1,5 @@
 -- How full pages are, and how many there are room for.
-use Rattle.std.proofs.Common.{◌≡◌, ◌⊎◌, inl, inr, ◌∙◌, ap, sym, refl, ℕ, zero, suc, ◌+◌, ◌-◌, ◌*◌, ◌<◌, ◌≤◌, List, [], ◌∷◌, ◌++◌, length, set, get_or, take, drop, arith, length-append, append_assoc}
+use Rattle.std.proofs.Common.{◌≡◌, inl, inr, ap, sym, ℕ, zero, suc, ◌+◌, ◌-◌, ◌*◌, ◌<◌, ◌≤◌, List, [], ◌∷◌, ◌++◌, length, set, arith, length-append, append_assoc}
 use Rattle.std.specs.List.{insert as add}
 use Rattle.maps.specs.declared.page.TheConstants.{HALF}
 use Rattle.maps.specs.Paged.{AreFilled, AreHalfFull, all_of, last_page, page_at}
@@ -76,8 +76,3 @@ enough_in_new pages spare left count room (inl each) some is = inl (omega (arith
 enough_in_new pages spare left count room (inr halves) some is =
     let same : (pages + 1) + left - 1 ≡ pages + spare - 1 = omega (arith, is) in
     inr (omega (arith, halves, some, ap (λ n. HALF * n) same))
-
--- more spare pages are enough too
-pub enough_with_more : (pages fewer spare count room : ℕ) → fewer ≤ spare → IsEnough pages fewer count room → IsEnough pages spare count room
-enough_with_more pages fewer spare count room more (inl each) = inl (omega (arith, each, more))
-enough_with_more pages fewer spare count room more (inr halves) = inr (omega (arith, halves, more))

@@ -1,5 +1,5 @@
 -- A key among pages: it is found, and put, within the page for it.
-use Rattle.std.proofs.Common.{◌≡◌, ◌∙◌, ap, sym, refl, subst, ℕ, zero, suc, ◌+◌, ◌-◌, ◌<◌, ℤ, T, Bool, true, false, cond, ◌&&◌, List, [], ◌∷◌, ◌++◌, length, set, get_or, Some, None, arith, append-nil, append_assoc}
+use Rattle.std.proofs.Common.{◌≡◌, ◌∙◌, ap, sym, refl, subst, ℕ, zero, suc, ◌-◌, ◌<◌, ℤ, T, Bool, true, false, cond, ◌&&◌, List, [], ◌∷◌, ◌++◌, length, set, Some, None, arith, append-nil, append_assoc}
 use mathlib.Core.Bool.{false≢true}
 use Rattle.std.specs.declared.cmp.Ordering.{Ordering}
 use Rattle.std.specs.declared.cmp.Ordering.TheVariants.{Less, Equal, Greater}

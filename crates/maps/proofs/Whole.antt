@@ -95,3 +95,9 @@ walked maps now is = sym (in_place_order maps) ∙ ap (λ seen. entries seen.ite
 pub no_elements : {X : Type 0} → (maps : List (Keyed X)) → length maps ≡ 0 → maps ≡ []
 no_elements [] none = refl
 no_elements (m ∷ maps) none = absurd (omega (arith, none))
+
+-- a collection that is as it was changes nothing
+pub set_same : {X : Type 0} → (maps : List (Keyed X)) (number : ℕ) (m : Keyed X) → m ≡ get_or maps number m → set maps number m ≡ maps
+set_same [] number m is = refl
+set_same (first ∷ maps) zero m is = ap (λ n. n ∷ maps) is
+set_same (first ∷ maps) (suc number) m is = ap (λ rest. first ∷ rest) (set_same maps number m is)

@@ -50,11 +50,12 @@ impl<V: Copy> CollectionMap<V> {
         self.collections.get(number as usize)?.get(key)
     }
 
-    /// The value at the place, if there is one. If its collection has a number of entries with `d` binary digits, that
-    /// takes at most `d * (d + 1) / 2` comparisons, all of which are counted.
+    /// The value at the place, if there is one. It compares keys by `Steps::compare` alone; if the collection has a number
+    /// of entries with `d` binary digits, it does so at most `d * (d + 1) / 2` times.
     pub fn find(&self, number: u16, key: &Key, steps: &mut Steps) -> Option<V>
         ensures value { result ≡ get self.now.items (number, key.now) }
         ensures cost { (digits : ℕ) → length (of_number number (entries self.now.items)) < 2 ^ digits → steps.new ≤ steps.old + digits * (digits + 1) / 2 }
+        ensures more { steps.old ≤ steps.new }
     {
         match self.collections.get(number as usize) {
             Some(collection) => collection.find(key, steps),
@@ -125,6 +126,7 @@ impl<V: Copy> CollectionMap<V> {
         requires { number < length self.old.room }
         ensures ok { OnOk result (count ≤ room_at self.new number) }
         ensures grows { OnlyMakesRoom self.old self.new number }
+        ensures enough { count ≤ room_at self.old number → self.new ≡ self.old }
         ensures refused { OnErr result ((self.new ≡ self.old) × (room_at self.old number < count)) }
     {
         self.collections[number as usize].make_room(count)

@@ -4,8 +4,8 @@ use std::alloc::{AllocError, Global};
 use std::marker::Model;
 use terms::Key;
 
-/// A map from keys to values, in the order of its keys, with room for more. A look-up is a binary search, and so is an
-/// insertion, wherever the key goes; for a key greater than all others it is one comparison.
+/// A map from keys to values, in the order of its keys, with room for more. A look-up is a binary search. So is the search of
+/// an insertion, wherever its key goes, and it moves few entries; for a key greater than all others it takes one comparison.
 #[derive(Drop)]
 pub struct KeyMap<V> {
     pages: Pages<V>,
@@ -46,11 +46,12 @@ impl<V: Copy> KeyMap<V> {
         self.pages.value(self.pages.search(key))
     }
 
-    /// The value of the key, if it has one. If the map has a number of entries with `d` binary digits, that takes at most
-    /// `d * (d + 1) / 2` comparisons, all of which are counted.
+    /// The value of the key, if it has one. It compares keys by `Steps::compare` alone; if the map has a number of entries
+    /// with `d` binary digits, it does so at most `d * (d + 1) / 2` times.
     pub fn find(&self, key: &Key, steps: &mut Steps) -> Option<V>
         ensures value { result ≡ get self.now.items key.now }
         ensures cost { (digits : ℕ) → length (entries self.now.items) < 2 ^ digits → steps.new ≤ steps.old + digits * (digits + 1) / 2 }
+        ensures more { steps.old ≤ steps.new }
     {
         self.pages.value(self.pages.find(key, steps))
     }

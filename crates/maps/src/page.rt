@@ -33,7 +33,7 @@ impl<V> Model for Page<V> {
 }
 
 impl<V: Copy> Page<V> {
-    ghost use Rattle.std.specs.Prelude.{◌≡◌, ◌+◌, ◌^◌, ◌<◌, ◌≤◌, ◌++◌, ℕ, [], T, IfErr, IfOk, IsTrue, length, get_or, set};
+    ghost use Rattle.std.specs.Prelude.{◌≡◌, ◌+◌, ◌^◌, ◌<◌, ◌≤◌, ◌↔◌, ◌++◌, ℕ, [], T, IfErr, IfOk, IsTrue, length, get_or, set};
     ghost use Rattle.std.specs.List.{insert as add};
     ghost use Rattle.std.specs.Ordering.{is_lt};
     ghost use Rattle.std.specs.FinMap.{is_sorted};
@@ -78,6 +78,7 @@ impl<V: Copy> Page<V> {
         requires { 0 < length self.now }
         ensures tells { result ≡ is_lt (key_cmp key.now (first_key self.now)) }
         ensures cost { steps.new ≤ steps.old + 1 }
+        ensures more { steps.old ≤ steps.new }
     {
         matches!(steps.compare(key, &self.entries[0].0), Ordering::Less)
     }
@@ -85,7 +86,7 @@ impl<V: Copy> Page<V> {
     /// Whether all keys are less than this one.
     pub fn ends_before(&self, key: Key) -> bool
         requires { T (is_sorted key_cmp self.now) }
-        ensures { IsTrue result → AreLess self.now key }
+        ensures { IsTrue result ↔ AreLess self.now key }
     {
         match self.entries.last() {
             Some((last, _)) => *last < key,
@@ -99,6 +100,7 @@ impl<V: Copy> Page<V> {
         ensures found { IfOk result (IsAt self.now key.now) }
         ensures absent { IfErr result (IsGapFor self.now key.now) }
         ensures cost { (digits : ℕ) → length self.now < 2 ^ digits → steps.new ≤ steps.old + digits }
+        ensures more { steps.old ≤ steps.new }
     {
         let mut low = 0;
         let mut high = self.entries.len();

@@ -22,11 +22,12 @@ pub(crate) enum Found {
 }
 
 /// The entries of a map, in the order of their keys, in pages of at most `PAGE`. Each page but the last is at least half
-/// full. So a search looks at few pages, and a new entry moves at most a page of entries, and the places of the pages.
+/// full. So a search looks at few pages, and a new entry moves at most a page of entries; if it divides a page, it also moves
+/// the places of the pages after it, 24 bytes each.
 #[derive(Drop)]
 pub(crate) struct Pages<V> {
     pages: Vec<Page<V>>,
-    // Empty pages, by which new entries need no memory.
+    // Empty pages, so that adding an entry allocates nothing.
     spare: Vec<Page<V>>,
     count: usize,
     room: usize,
@@ -115,11 +116,11 @@ impl<V: Copy> Pages<V> {
         self.pages[page].value(place)
     }
 
-    /// Where the key is, or where it would go. If there are `n` entries, and `n` has `d` binary digits, it takes at most `d`
-    /// comparisons if they stand in one page, and otherwise `d + 2`.
+    /// Where the key is, or where it would go. It counts its comparisons.
     pub fn find(&self, key: &Key, steps: &mut Steps) -> Found
         ensures found { IsFound self.now.pages key.now result }
         ensures cost { (digits : ℕ) → length (all_of self.now.pages) < 2 ^ digits → steps.new ≤ steps.old + digits * (digits + 1) / 2 }
+        ensures more { steps.old ≤ steps.new }
         ensures sorted { T (is_sorted key_cmp (all_of self.now.pages)) }
     {
         if self.pages.is_empty() {
@@ -161,6 +162,7 @@ impl<V: Copy> Pages<V> {
         requires { IsPageFor self.now.pages key.now page }
         ensures found { IsFound self.now.pages key.now result }
         ensures cost { (digits : ℕ) → length (page_at self.now.pages page) < 2 ^ digits → steps.new ≤ steps.old + digits }
+        ensures more { steps.old ≤ steps.new }
     {
         match self.pages[page].search(key, steps) {
             Ok(place) => Found::At(page, place),
@@ -173,6 +175,7 @@ impl<V: Copy> Pages<V> {
         requires { 0 < length self.now.pages }
         ensures page { IsPageFor self.now.pages key.now result }
         ensures cost { (digits : ℕ) → length self.now.pages ≤ 2 ^ digits → steps.new ≤ steps.old + digits }
+        ensures more { steps.old ≤ steps.new }
     {
         let mut low = 0;
         let mut high = self.pages.len();

@@ -19,7 +19,7 @@ impl Model for Steps {
 }
 
 impl Steps {
-    ghost use Rattle.std.specs.Prelude.{◌+◌, ◌-◌, ◌^◌, min};
+    ghost use Rattle.std.specs.Prelude.{◌+◌, ◌-◌, ◌^◌, ◌≤◌, min};
     ghost use Rattle.terms.specs.Key.{key_cmp};
 
     /// No comparison yet.
@@ -40,6 +40,7 @@ impl Steps {
     pub fn compare(&mut self, one: &Key, two: &Key) -> Ordering
         ensures order { result ≡ key_cmp one.now two.now }
         ensures counts { self.new ≡ min (self.old + 1) (2 ^ 64 - 1) }
+        ensures more { self.old ≤ self.new }
     {
         self.made = self.made.saturating_add(1);
         one.cmp(two)

@@ -1,5 +1,5 @@
-use Rattle.std.proofs.Common.{◌≡◌, ◌∙◌, ap, sym, map, [], ◌++◌}
-use Rattle.maps.specs.Numbered.{all_from, left_of, placed}
+use Rattle.std.proofs.Common.{◌∙◌, ap, sym, []}
+use Rattle.maps.specs.Numbered.{all_from, left_of}
 use Rattle.maps.proofs.Whole.{no_elements, walked}
 use Rattle.maps.proofs.collection_map.CollectionMap.walk.Goals as goal
 

@@ -1,4 +1,4 @@
-use Rattle.std.proofs.Common.{◌≡◌, ◌∙◌, ◌<◌, ◌^◌, ap, sym, subst, length}
+use Rattle.std.proofs.Common.{◌∙◌, ◌<◌, ◌^◌, ap, sym, subst, length}
 use Rattle.std.specs.FinMap.{entries, get, get-from_entries}
 use Rattle.maps.specs.Paged.{all_of}
 use Rattle.maps.specs.PlaceOrder.{keys_total}

@@ -1,4 +1,4 @@
-use Rattle.std.proofs.Common.{◌≡◌, ◌∙◌, ◌+◌, ◌<◌, ◌≤◌, ap, sym, Some, None, arith}
+use Rattle.std.proofs.Common.{◌∙◌, ap, sym, Some, arith}
 use Rattle.std.specs.FinMap.{get, get-from_entries, insert, put}
 use Rattle.terms.specs.Key.{key_cmp}
 use Rattle.maps.specs.Insertion.{IsRefused}

@@ -1,4 +1,4 @@
-use Rattle.std.proofs.Common.{◌≡◌, ◌∙◌, ap, subst, sym, IsSome}
+use Rattle.std.proofs.Common.{◌∙◌, ap, subst, sym, IsSome}
 use mathlib.Core.Bool.{false≢true}
 use Rattle.std.specs.FinMap.{get, get-from_entries, insert}
 use Rattle.maps.specs.Paged.{all_of}

@@ -1,4 +1,4 @@
-use Rattle.std.proofs.Common.{◌<◌, ◌≤◌, ◌++◌, ◌∙◌, ap, sym, arith}
+use Rattle.std.proofs.Common.{◌++◌, ◌∙◌, ap, sym, arith}
 use Rattle.std.specs.List.{insert as add}
 use Rattle.std.proofs.lemmas.List.Edits.{insert-append_right}
 use Rattle.maps.specs.declared.page.TheConstants.{HALF}

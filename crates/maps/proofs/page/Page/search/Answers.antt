@@ -1,6 +1,5 @@
-use Rattle.std.proofs.Common.{◌≡◌, ◌+◌, ◌-◌, ◌/◌, ◌^◌, ◌<◌, ◌≤◌, ◌∙◌, ap, sym, refl, subst, suc, length, get_or, arith}
+use Rattle.std.proofs.Common.{◌≡◌, ◌+◌, ◌-◌, ◌/◌, ◌<◌, ◌∙◌, ap, sym, suc, length, get_or, arith}
 use Rattle.std.specs.declared.cmp.Ordering.TheVariants.{Less, Equal, Greater}
-use Rattle.std.specs.List.{HoldsAt}
 use Rattle.std.proofs.lemmas.List.Elements.{at_read}
 use Rattle.terms.specs.Key.{key_cmp}
 use Rattle.maps.specs.Paged.{Entry}
@@ -21,6 +20,7 @@ loop-low-preserved-in-Less g c =
       within = (omega (arith, c.loop-low-test.true), c.loop-low.invariant.within.1);
       lesser = λ k d low high. less_up_to keys_total es c.args.key.now middle within c.requires here k d low (omega (arith, high));
       greater = c.loop-low.invariant.greater;
+      more = omega (arith, c.loop-low.invariant.more, c.compare.ensures.more);
       cost = λ digits few. digit_less (c.loop-low.high - c.loop-low.low) (c.loop-low.high - (middle + 1)) c.loop-low.steps c.compare.new.self c.args.steps.now digits (omega (arith, c.loop-low-test.true)) (omega arith) (omega (arith, c.compare.ensures.counts)) (c.loop-low.invariant.cost digits few);
     }
 
@@ -35,6 +35,7 @@ loop-low-preserved g c =
       within = (omega arith, omega (arith, within));
       lesser = c.loop-low.invariant.lesser;
       greater = greater_from keys_total es c.args.key.now middle within c.requires here;
+      more = omega (arith, c.loop-low.invariant.more, c.compare.ensures.more);
       cost = λ digits few. digit_less (c.loop-low.high - c.loop-low.low) (middle - c.loop-low.low) c.loop-low.steps c.compare.new.self c.args.steps.now digits (omega (arith, c.loop-low-test.true)) (omega arith) (omega (arith, c.compare.ensures.counts)) (c.loop-low.invariant.cost digits few);
     }
 

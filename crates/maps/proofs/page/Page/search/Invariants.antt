@@ -1,4 +1,4 @@
-use Rattle.std.proofs.Common.{◌≡◌, ◌+◌, ◌-◌, ◌^◌, ◌<◌, ◌≤◌, ℕ, length}
+use Rattle.std.proofs.Common.{◌≡◌, ◌-◌, ◌^◌, ◌<◌, ◌≤◌, ℕ, length}
 use Rattle.std.specs.declared.cmp.Ordering.TheVariants.{Less, Greater}
 use Rattle.std.specs.List.{AllWithin}
 use Rattle.terms.specs.Key.{key_cmp}
@@ -12,6 +12,7 @@ invariant-loop-low g l = record {
   within : (l.low ≤ l.high) × (l.high ≤ length l.self);
   lesser : AllWithin (λ (entry : Entry g.row.V.Denot). key_cmp entry.0 l.key ≡ Less) l.self 0 l.low;
   greater : AllWithin (λ (entry : Entry g.row.V.Denot). key_cmp entry.0 l.key ≡ Greater) l.self l.high (length l.self);
+  more : l.fn.steps ≤ l.steps;
   cost : (digits : ℕ) → length l.self < 2 ^ digits → Leaves (l.high - l.low) l.steps l.fn.steps digits;
 }
 

@@ -1,8 +1,6 @@
-use Rattle.std.proofs.Common.{◌≡◌, ◌++◌, ◌+◌, ◌-◌, ◌≤◌, ◌∙◌, ap, sym, drop, take, length, List, [], arith, take_all}
+use Rattle.std.proofs.Common.{◌≡◌, ◌++◌, ◌-◌, ◌≤◌, ◌∙◌, ap, drop, take, length, [], arith, take_all}
 use Rattle.std.proofs.lemmas.List.{length-drop, take-append-drop}
 use Rattle.std.specs.Prelude.{if◌then◌else◌}
-use Rattle.std.specs.Result.{is_ok}
-use Rattle.maps.specs.Paged.{Entry}
 use Rattle.maps.proofs.page.Page.split.Goals as goal
 
 pub returns-clause-all : goal.returns-clause-all

@@ -1,10 +1,10 @@
-use Rattle.std.proofs.Common.{◌≡◌, ◌+◌, ◌-◌, ◌<◌, ◌≤◌, ◌∙◌, ap, subst, sym, suc, set, length, [], ◌∷◌, ◌++◌, List, arith}
+use Rattle.std.proofs.Common.{◌≡◌, ◌+◌, ◌-◌, ◌<◌, ◌∙◌, ap, subst, sym, suc, set, [], List, arith}
 use Rattle.std.specs.List.{AllByRecursion}
 use Rattle.std.specs.List.{insert as add}
 use Rattle.std.specs.Vec.{vec_capacity}
 use Rattle.std.specs.FinMap.{put}
 use Rattle.terms.specs.Key.{key_cmp}
-use Rattle.maps.specs.Paged.{Entry, GoesInto, all_of, page_at}
+use Rattle.maps.specs.Paged.{Entry, GoesInto, all_of}
 use Rattle.maps.specs.PagesKept.{AreKept}
 use Rattle.maps.proofs.Growing.{all_of_divided, front_empty, kept_divided, page_read, some_spare}
 use Rattle.maps.proofs.pages.Pages.add_to_full_page.Goals as goal

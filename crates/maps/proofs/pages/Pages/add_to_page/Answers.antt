@@ -1,6 +1,6 @@
-use Rattle.std.proofs.Common.{◌≡◌, ◌<◌, ◌∙◌, ap, subst, sym, List, arith}
+use Rattle.std.proofs.Common.{◌<◌, ◌∙◌, ap, subst, sym, List, arith}
 use Rattle.std.specs.List.{insert as add}
-use Rattle.maps.specs.Paged.{Entry, GoesInto, page_at}
+use Rattle.maps.specs.Paged.{Entry, GoesInto}
 use Rattle.maps.proofs.Growing.{kept_in_page, page_read}
 use Rattle.maps.proofs.pages.Pages.add_to_page.Goals as goal
 

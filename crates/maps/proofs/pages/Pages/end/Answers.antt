@@ -1,4 +1,4 @@
-use Rattle.std.proofs.Common.{◌≡◌, ◌-◌, ◌<◌, ◌≤◌, ◌∙◌, ap, subst, sym, length, List, ℤ, arith}
+use Rattle.std.proofs.Common.{◌≡◌, ◌-◌, ◌<◌, ◌≤◌, ◌∙◌, ap, subst, length, List, ℤ, arith}
 use Rattle.maps.specs.Paged.{AreLess, Entry, GoesBehind, GoesInto, last_page, page_at}
 use Rattle.maps.specs.declared.page.TheConstants.{HALF}
 use Rattle.maps.proofs.Amid.{goes_behind, goes_into_last}

@@ -1,4 +1,4 @@
-use Rattle.std.proofs.Common.{◌≡◌, ◌*◌, ◌+◌, ◌/◌, ◌^◌, ◌<◌, ◌≤◌, ℕ, List, ap, subst, length, arith}
+use Rattle.std.proofs.Common.{◌*◌, ◌+◌, ◌/◌, ◌^◌, ◌<◌, ◌≤◌, ℕ, List, ap, subst, length, arith}
 use Rattle.maps.specs.Paged.{Entry, all_of, page_at}
 use Rattle.maps.proofs.Costs.{in_all}
 use Rattle.maps.proofs.pages.Pages.find.Goals as goal

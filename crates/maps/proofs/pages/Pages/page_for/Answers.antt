@@ -1,4 +1,4 @@
-use Rattle.std.proofs.Common.{◌≡◌, ◌+◌, ◌-◌, ◌/◌, ◌^◌, ◌<◌, ◌≤◌, ◌∙◌, ap, subst, sym, length, arith}
+use Rattle.std.proofs.Common.{◌+◌, ◌-◌, ◌/◌, ◌<◌, ◌∙◌, ap, subst, sym, length, arith}
 use Rattle.std.specs.Ordering.{is_lt}
 use Rattle.terms.specs.Key.{key_cmp}
 use Rattle.maps.specs.Paged.{first_key, page_at}
@@ -26,6 +26,7 @@ loop-high-preserved-then-begins_after g c =
       within = (omega (arith, c.loop-high-test.true), omega (arith, within, same));
       from = c.loop-high.invariant.from;
       up_to = λ _. sym (ap (λ es. is_lt (key_cmp c.args.key.now (first_key es))) page) ∙ sym c.begins_after.ensures.tells ∙ c.if-begins_after.true;
+      more = omega (arith, c.loop-high.invariant.more, c.begins_after.ensures.more);
       cost = λ digits few. part_less (c.loop-high.high - c.loop-high.low) (middle - c.loop-high.low) c.loop-high.steps c.begins_after.new.steps c.args.steps.now digits (omega (arith, c.loop-high-test.true)) (omega arith) c.begins_after.ensures.cost (c.loop-high.invariant.cost digits few);
     }
 
@@ -40,5 +41,6 @@ loop-high-preserved g c =
       within = (omega (arith, c.loop-high-test.true, c.loop-high.invariant.within.0), c.loop-high.invariant.within.1);
       from = λ _. sym (ap (λ es. is_lt (key_cmp c.args.key.now (first_key es))) page) ∙ sym c.begins_after.ensures.tells ∙ c.if-begins_after.false;
       up_to = c.loop-high.invariant.up_to;
+      more = omega (arith, c.loop-high.invariant.more, c.begins_after.ensures.more);
       cost = λ digits few. part_less (c.loop-high.high - c.loop-high.low) (c.loop-high.high - middle) c.loop-high.steps c.begins_after.new.steps c.args.steps.now digits (omega (arith, c.loop-high-test.true)) (omega arith) c.begins_after.ensures.cost (c.loop-high.invariant.cost digits few);
     }

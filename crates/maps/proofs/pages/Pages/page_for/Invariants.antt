@@ -1,4 +1,4 @@
-use Rattle.std.proofs.Common.{◌≡◌, ◌+◌, ◌-◌, ◌^◌, ◌<◌, ◌≤◌, ℕ, true, false, length}
+use Rattle.std.proofs.Common.{◌≡◌, ◌-◌, ◌^◌, ◌<◌, ◌≤◌, ℕ, true, false, length}
 use Rattle.std.specs.Ordering.{is_lt}
 use Rattle.terms.specs.Key.{key_cmp}
 use Rattle.maps.specs.Paged.{first_key, page_at}
@@ -11,6 +11,7 @@ invariant-loop-high g l = record {
   within : (l.low < l.high) × (l.high ≤ length l.self.pages);
   from : 0 < l.low → is_lt (key_cmp l.key (first_key (page_at l.self.pages l.low))) ≡ false;
   up_to : l.high < length l.self.pages → is_lt (key_cmp l.key (first_key (page_at l.self.pages l.high))) ≡ true;
+  more : l.fn.steps ≤ l.steps;
   cost : (digits : ℕ) → length l.self.pages ≤ 2 ^ digits → LeavesSome (l.high - l.low) l.steps l.fn.steps digits;
 }
 

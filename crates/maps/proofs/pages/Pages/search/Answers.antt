@@ -18,4 +18,4 @@ returns-then-ends_before g c =
     let within : c.len-count.result - 1 < length pages = omega (arith, c.len-count.ensures, c.if-count-eq0.false, c.self.inside.pages.ok.0) in
     let last : c.len-count.result - 1 ≡ length pages - 1 = omega (arith, c.len-count.ensures, c.self.inside.pages.ok.0) in
     let page = page_read pages (c.len-count.result - 1) c.index.result.now within c.index.ensures ∙ ap (page_at pages) last ∙ last_is pages ∙ ap (λ s. last_page s.pages) c.self.view_is in
-    c.end.ensures c.args.key (subst (λ (es : List (Entry g.row.V.Denot)). AreLess es c.args.key) page (c.ends_before.ensures c.if-ends_before.true))
+    c.end.ensures c.args.key (subst (λ (es : List (Entry g.row.V.Denot)). AreLess es c.args.key) page (c.ends_before.ensures.0 c.if-ends_before.true))

@@ -1,8 +1,8 @@
-use Rattle.std.proofs.Common.{◌≡◌, ◌<◌, ◌∙◌, ap, subst, sym, length, T, List, ℤ, arith}
+use Rattle.std.proofs.Common.{◌<◌, ap, subst, sym, length, T, List, arith}
 use Rattle.std.specs.FinMap.{is_sorted}
 use Rattle.terms.specs.Key.{key_cmp}
 use Rattle.maps.specs.Keyed.{IsAt, IsGapFor}
-use Rattle.maps.specs.Paged.{Entry, GoesInto, IsInPage, IsPageFor, page_at}
+use Rattle.maps.specs.Paged.{Entry, GoesInto, IsInPage, IsPageFor}
 use Rattle.maps.proofs.Amid.{goes_into_page, is_in_page}
 use Rattle.maps.proofs.Growing.{page_read}
 use Rattle.maps.proofs.Joined.{page_sorted}

@@ -1,5 +1,5 @@
-use Rattle.std.proofs.Common.{◌≡◌, ◌∙◌, ap, subst, sym, set, List}
-use Rattle.maps.specs.Paged.{Entry, IsInPage, page_at}
+use Rattle.std.proofs.Common.{◌∙◌, ap, subst, sym, set, List}
+use Rattle.maps.specs.Paged.{Entry, IsInPage}
 use Rattle.maps.proofs.Growing.{kept_rewritten, page_read}
 use Rattle.maps.proofs.pages.Pages.set.Goals as goal
 
