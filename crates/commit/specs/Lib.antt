@@ -8,6 +8,7 @@ pub mod Gets
 pub mod Kept
 pub mod Opened
 pub mod Outcome
+pub mod PutsAll
 pub mod Room
 pub mod Runs
 pub mod Status

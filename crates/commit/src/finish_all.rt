@@ -109,8 +109,8 @@ impl<D: Disk> Core<D> {
         }
     }
 
-    // Makes room for all the puts of these ends.
-    fn make_room_for_ends(&mut self, ends: &[Event]) -> Result<(), CoreError>
+    /// Makes room for all the puts of these ends, or for these puts of the environment.
+    pub(crate) fn make_room_for_ends(&mut self, ends: &[Event]) -> Result<(), CoreError>
         requires { AreLegalFrom (graph self.old) (facts self.old) ends.now }
         ensures ok { OnOk result (HasRoom self.new.machine (puts_of_all ends.now)) }
         ensures err { OnErr result (result ≡ Err (Store NoMemory)) }
@@ -214,8 +214,8 @@ fn stopped_as(end: &Event, kind: FaultKind) -> Event
     }
 }
 
-// Keeps the events of an append that returned an error, if the error halted the vault.
-fn keep_in_doubt(in_doubt: &mut Events, halted: bool, events: Vec<Event>)
+/// Keeps the events of an append that returned an error, if the error halted the vault.
+pub(crate) fn keep_in_doubt(in_doubt: &mut Events, halted: bool, events: Vec<Event>)
     ensures { in_doubt.new ≡ cond halted (Several events) in_doubt.old }
 {
     if halted {
@@ -223,8 +223,8 @@ fn keep_in_doubt(in_doubt: &mut Events, halted: bool, events: Vec<Event>)
     }
 }
 
-// Keeps the events of a commit as the latest.
-fn keep_latest(latest: &mut Events, events: Vec<Event>)
+/// Keeps the events of a commit as the latest.
+pub(crate) fn keep_latest(latest: &mut Events, events: Vec<Event>)
     ensures { latest.new ≡ Several events }
 {
     *latest = Events::Several(events);

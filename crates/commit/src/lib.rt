@@ -2,7 +2,7 @@
 //!
 //! Contracts see a `Core` as its vault, its machine, the events in doubt, those of the latest commit, and its allowance. It
 //! takes only events that are legal, and a crash at any moment leaves the facts before the event or after it. The layers above use
-//! `put_item`, `put_tag`, `finish` and `turn`, `claim`, `park` and `release`, and `status`, which says when nothing is
+//! `put_item`, `put_tag`, `put_all`, `finish` and `turn`, `claim`, `park` and `release`, and `status`, which says when nothing is
 //! left to do: then the facts are the meaning of the graph.
 #![tactic(auto)]
 
@@ -21,6 +21,7 @@ mod gets;
 mod keeping;
 mod opening;
 mod outcome;
+mod put_all;
 mod puts;
 mod runs;
 mod status;

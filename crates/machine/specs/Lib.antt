@@ -16,6 +16,8 @@ pub mod Memory
 pub mod Mixed
 pub mod Producers
 pub mod Promise
+pub mod Puts
+pub mod PutsExample
 pub mod Putting
 pub mod Restored
 pub mod Restoring

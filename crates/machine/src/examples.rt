@@ -3,6 +3,7 @@ ghost use Rattle.machine.specs.Examples.{FiveNumbers, OneNumber, Conflict, PutTw
 ghost use Rattle.machine.specs.GroupExample.{TwoMeet};
 ghost use Rattle.machine.specs.Mixed.{MixedIsRefused};
 ghost use Rattle.machine.specs.Putting.{EachIsCounted};
+ghost use Rattle.machine.specs.PutsExample.{TagIsRepeated};
 
 use steptree::ends_once;
 use terms::facts_are_told_apart;
@@ -48,6 +49,13 @@ pub fn two_ends_meet()
 {
     facts_are_told_apart();
     ends_once();
+}
+
+/// A tag that the environment puts twice: of the two puts the first comes.
+pub fn tag_is_repeated()
+    ensures { TagIsRepeated }
+{
+    facts_are_told_apart();
 }
 
 /// The room that a list of puts needs is counted for each collection by itself.

@@ -6,7 +6,7 @@
 //! Contracts see a `Machine` as its graph and what it holds: the sets `facts` and `environment`, and the state of each
 //! instance. It checks whether an event is legal (`may_put_item`, `may_end`), makes room (`make_room`), and takes the event
 //! (`take_item`, `take_end`); `is_kept` states its invariant. `look_at_ends` says how far several ends come together,
-//! and `take_ends` takes them. `image` lists what it holds, and `of_image` restores it from such a list.
+//! and `take_ends` takes them; `look_at_puts` and `take_puts` do so for puts of the environment. `image` lists what it holds, and `of_image` restores it from such a list.
 #![tactic(auto)]
 
 mod absence;
@@ -28,6 +28,7 @@ mod looks;
 mod machine;
 mod memory;
 mod promise;
+mod puts_together;
 mod reads;
 mod refusal;
 mod restoring;
@@ -45,7 +46,7 @@ pub use counts::Counts;
 pub use end::End;
 pub use examples::{
     fibonacci_numbers, item_put_twice, meant_and_not_reached, refused_examples, room_is_counted,
-    two_ends_meet,
+    tag_is_repeated, two_ends_meet,
 };
 pub use group::Ended;
 pub use items_of::ItemsOf;
