@@ -6,12 +6,14 @@ pub mod Counted
 pub mod Driven
 pub mod Ended
 pub mod Found
+pub mod GoingOn
 pub mod Idle
 pub mod Joined
 pub mod Lists
 pub mod Making
 pub mod Moving
 mod Putting
+pub mod PutsTogether
 pub mod Ran
 pub mod Roomy
 pub mod Running

@@ -91,7 +91,7 @@ halted_still {D} {T} failures refusals old new halted vault doubt = record {
 
 module _ {D : Type 0} (files : D → Side → File) (moment : D → ℕ) (left_at : D → ℕ → Contents → Type 0) (failures refusals : D → ℕ) (honest : Type 0) (old mid : Core D) (room : GivesRoom old mid) where
   -- what room leaves unchanged
-  unchanged : (new : Core D) → IsUnchanged mid new → IsUnchanged old new
+  pub unchanged : (new : Core D) → IsUnchanged mid new → IsUnchanged old new
   unchanged new it = record {
     stays = record {
       graph = it.stays.graph ∙ room.machine.graph;
@@ -127,10 +127,10 @@ module _ {D : Type 0} (files : D → Side → File) (moment : D → ℕ) (left_a
   refusal_apart : (refusal : Refusal) (error : VaultError) → Refused refusal ≡ Store error → ⊥
   refusal_apart refusal error is = cc
 
-  memory_halts : Store NoMemory ≡ Store Halted → ⊥
+  pub memory_halts : Store NoMemory ≡ Store Halted → ⊥
   memory_halts is = cc
 
-  memory_device : Store NoMemory ≡ Store Device → ⊥
+  pub memory_device : Store NoMemory ≡ Store Device → ⊥
   memory_device is = cc
 
   halts_first : {T : Type 0} (why : Refusal → Type 0) (event : Event) (error : CoreError) → RefusesFirst old why event error → Halts {T = T} failures refusals old mid (Err error)

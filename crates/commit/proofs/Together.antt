@@ -37,7 +37,7 @@ use Rattle.commit.specs.Calls.{AreInDoubt, AreTooLong, CrashLeaves, Halts, commi
 use Rattle.commit.specs.Core.{Core, environment, facts, graph, is_halted}
 use Rattle.commit.specs.Kept.{IsKept}
 use Rattle.commit.specs.Room.{GivesRoom}
-use Rattle.commit.specs.Runs.{IsEnd, Runs, in_one}
+use Rattle.commit.specs.Runs.{AcknowledgesFrom, IsEnd, Runs, in_one}
 use Rattle.commit.proofs.Lists.{given_by_ends, with_nothing}
 use Rattle.commit.proofs.Putting.{halted_still}
 use Rattle.commit.proofs.Roomy.{moments as moments_before, rests as rests_before, unhalted}
@@ -104,7 +104,7 @@ module _ {D : Type 0} (old mid : Core D) (room : GivesRoom old mid) where
     tag_room = λ c. omega (arith, room.machine.tag_room c, it.tag_room c);
   }
 
-  takes_in_turn : (m : Machine) (commit : Commit) → 1 ≤ length commit → TakesInTurn mid.machine commit m → TakesInTurn old.machine commit m
+  pub takes_in_turn : (m : Machine) (commit : Commit) → 1 ≤ length commit → TakesInTurn mid.machine commit m → TakesInTurn old.machine commit m
   takes_in_turn m [] some turn = absurd (omega (arith, some))
   takes_in_turn m (event ∷ events) some turn = (turn.0, takes_one turn.0 event turn.1, turn.2)
 
@@ -120,7 +120,7 @@ module _ {D : Type 0} (old mid : Core D) (room : GivesRoom old mid) where
     generation = it.generation ∙ ap (λ (v : Vault D). v.generation) room.vault;
   }
 
-  too_long : (commit : Commit) → AreTooLong mid commit → AreTooLong old commit
+  pub too_long : (commit : Commit) → AreTooLong mid commit → AreTooLong old commit
   too_long commit long = subst (λ (v : Vault D). LIMIT ≤ v.journal.end + commit_length commit) room.vault long
 
   pub too_long_then : (commit : Commit) → AreTooLong old commit → AreTooLong mid commit
@@ -238,7 +238,7 @@ halts_first failures refusals old new (Store Exists) it vault doubt = absurd it
 
 module _ {D : Type 0} (files : D → Side → File) (moment : D → ℕ) (left_at : D → ℕ → Contents → Type 0) (failures refusals : D → ℕ) (honest : Type 0) where
   -- at each moment of one commit a crash leaves it, or nothing of it
-  begins : (honest → AppendLeaves files moment left_at) → (old new : Core D) (commit : Commit) → honest → CrashLeaves files moment left_at old new commit
+  pub begins : (honest → AppendLeaves files moment left_at) → (old new : Core D) (commit : Commit) → honest → CrashLeaves files moment left_at old new commit
       → LeavesOnly moment left_at old.vault.disk new.vault.disk (StandsForBeginning (graph old) (environment old) (facts old) [] (commit ∷ []))
   begins leaves old new commit on it =
       leaves on old.vault new.vault (graph old) (environment old) (facts old) [] commit
@@ -260,11 +260,34 @@ module _ {D : Type 0} (files : D → Side → File) (moment : D → ℕ) (left_a
     environment_after fact = takes.rest.environment fact ∙ adds.given fact
 
   -- the facts after one commit
-  one_behind : (X : Facts) (commit : Commit) → facts_behind X (commit ∷ []) ≡ with_facts X (stated.facts commit)
+  pub one_behind : (X : Facts) (commit : Commit) → facts_behind X (commit ∷ []) ≡ with_facts X (stated.facts commit)
   one_behind X commit = ap (λ (events : List Event). with_facts X (stated.facts events)) (append-nil commit)
 
-  given_behind : (E : Facts) (commit : Commit) → environment_behind E (commit ∷ []) ≡ with_facts E (stated.environment commit)
+  pub given_behind : (E : Facts) (commit : Commit) → environment_behind E (commit ∷ []) ≡ with_facts E (stated.environment commit)
   given_behind E commit = ap (λ (events : List Event). with_facts E (stated.environment events)) (append-nil commit)
+
+  -- once it was made, it is acknowledged
+  pub acknowledged_all : (honest → HeldLeaves files moment left_at) → (old new : Core D) (commit : Commit) → is_halted new ≡ false → graph new ≡ graph old → facts new ≡ with_facts (facts old) (stated.facts commit)
+      → environment new ≡ with_facts (environment old) (stated.environment commit) → (honest → IsKept files new) → (honest → LeavesOnly moment left_at old.vault.disk new.vault.disk (StandsForBeginning (graph old) (environment old) (facts old) [] (commit ∷ [])))
+      → honest → AcknowledgesFrom (graph old) (environment old) (facts old) (left_at new.vault.disk) (moment new.vault.disk) (moment old.vault.disk) [] (commit ∷ []) (in_one new.in_doubt)
+  acknowledged_all held old new commit working same sets given kept crash on = (
+    moment new.vault.disk,
+    (crash on).later,
+    omega arith,
+    λ t contents after before was. (crash on).each t contents after before was,
+    λ t contents after before was.
+        let stands = (held on new.vault (graph new) (environment new) (facts new) ((kept on).holds working)).each t contents after before was in
+        let of_graph : Stands contents (graph old) (environment new) (facts new) = subst (λ (g : Graph). Stands contents g (environment new) (facts new)) same stands in
+        let of_given : Stands contents (graph old) (environment_behind (environment old) (commit ∷ [])) (facts new) =
+        subst (λ (E : Facts). Stands contents (graph old) E (facts new)) (given ∙ sym (given_behind (environment old) commit)) of_graph
+        in
+        record {
+          made = [];
+          later = in_one new.in_doubt;
+          beginning = refl;
+          stands = subst (λ (X : Facts). Stands contents (graph old) (environment_behind (environment old) (commit ∷ [])) X) (sets ∙ sym (one_behind (facts old) commit)) of_given;
+        },
+  )
 
   -- a commit that was taken
   ended : (law : TakenInTurn) → (honest → AppendLeaves files moment left_at) → (honest → HeldLeaves files moment left_at) → (old new : Core D) (tasks : List Inst) (commit : Commit) (answer : Ended) → is_halted old ≡ false
@@ -286,24 +309,7 @@ module _ {D : Type 0} (files : D → Side → File) (moment : D → ℕ) (left_a
         generation = λ _. takes.generation;
         end = λ _. with_record new.vault.journal.end old.vault.journal.end (commit_length commit) takes.moved;
         crashes = λ on. subst (λ (events : List Event). LeavesOnly moment left_at old.vault.disk new.vault.disk (StandsForBeginning (graph old) (environment old) (facts old) [] (commit ∷ in_one events))) (sym settled) (crash on);
-        acknowledged = λ on. (
-          moment new.vault.disk,
-          (crash on).later,
-          omega arith,
-          λ t contents after before was. (crash on).each t contents after before was,
-          λ t contents after before was.
-              let stands = (held on new.vault (graph new) (environment new) (facts new) ((kept on).holds takes.working.1)).each t contents after before was in
-              let of_graph : Stands contents (graph old) (environment new) (facts new) = subst (λ (g : Graph). Stands contents g (environment new) (facts new)) (graph_after law old new tasks commit takes) stands in
-              let of_given : Stands contents (graph old) (environment_behind (environment old) (commit ∷ [])) (facts new) =
-              subst (λ (E : Facts). Stands contents (graph old) E (facts new)) (given ∙ sym (given_behind (environment old) commit)) of_graph
-              in
-              record {
-                made = [];
-                later = in_one new.in_doubt;
-                beginning = refl;
-                stands = subst (λ (X : Facts). Stands contents (graph old) (environment_behind (environment old) (commit ∷ [])) X) (sets ∙ sym (one_behind (facts old) commit)) of_given;
-              },
-        );
+        acknowledged = acknowledged_all held old new commit takes.working.1 (graph_after law old new tasks commit takes) sets given kept crash;
         gates = λ on has. (moments on).gates has;
         halts = (λ is. elim (halts.halts.0 is) [ inl before ↦ absurd (false≢true (sym working ∙ before)) | inr erred ↦ erred ], λ erred. halts.halts.1 (inr erred));
         later = halts.disk.later;

@@ -42,7 +42,7 @@ or_false false = refl
 
 module _ (both : AmongBoth) where
   -- facts are added, and then more
-  both_added : (X : Facts) (one two : List Fact) → with_facts (with_facts X one) two ≡ with_facts X (one ++ two)
+  pub both_added : (X : Facts) (one two : List Fact) → with_facts (with_facts X one) two ≡ with_facts X (one ++ two)
   both_added X one two = λ i fact. (or_assoc (X fact) (among one fact) (among two fact) ∙ ap (λ b. X fact || b) (sym (both one two fact))) i
 
   pub taken_in_turn : (old : Machine) (events : List Event) (new : Machine) → TakesInTurn old events new → AddsAllFacts old events new

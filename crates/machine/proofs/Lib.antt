@@ -30,6 +30,7 @@ pub mod OnceOnly
 pub mod Parked
 pub mod Promised
 pub mod PutFacts
+pub mod PutsInTurn
 pub mod Putting
 pub mod Quiet
 pub mod Reached

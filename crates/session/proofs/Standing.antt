@@ -141,7 +141,7 @@ module _ {D : Type 0} (files : D → Side → File) (moment : D → ℕ) (left_a
       over = λ ended. elim ended [ inl failed ↦ absurd (false≢true failed) | inr stops ↦ stopped_here so_far it g of_graph tells stops ];
     }
 
-  calm_so_far : (drive : Drive) (commands left : List Command) (first now : S) (old new : Core D) (ending : Ending) (failed : Bool) → failed ≡ false → Stands files moment left_at failures refusals honest target has_failed contents drive commands left first now old new ending failed → StaysCalm target has_failed first now
+  pub calm_so_far : (drive : Drive) (commands left : List Command) (first now : S) (old new : Core D) (ending : Ending) (failed : Bool) → failed ≡ false → Stands files moment left_at failures refusals honest target has_failed contents drive commands left first now old new ending failed → StaysCalm target has_failed first now
   calm_so_far drive commands left first now old new ending true works it = absurd (false≢true (sym works))
   calm_so_far drive commands left first now old new ending false works it = it.sink
 
