@@ -31,6 +31,7 @@ pub mod Parked
 pub mod Promised
 pub mod PutFacts
 pub mod PutsInTurn
+pub mod PutsRow
 pub mod Putting
 pub mod Quiet
 pub mod Reached

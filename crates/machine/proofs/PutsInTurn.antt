@@ -1,5 +1,5 @@
 -- Puts of the environment, one after another: which is legal after others, and how they are taken.
-use Rattle.std.proofs.Common.{◌≡◌, ◌∙◌, ap, sym, refl, subst, inl, inr, ◌⊎◌, ℕ, zero, suc, ◌+◌, ◌<◌, ◌≤◌, ℤ, Bool, true, false, ◌||◌, List, [], ◌∷◌, ◌++◌, take, drop, length, MatchBool, arith}
+use Rattle.std.proofs.Common.{◌≡◌, ◌∙◌, ap, sym, refl, subst, inl, inr, ℕ, zero, suc, ℤ, Bool, true, false, ◌||◌, List, [], ◌∷◌, ◌++◌, take, drop, MatchBool}
 use Rattle.std.proofs.lemmas.Bool.{false≢true}
 use Rattle.std.specs.List.{AllByRecursion}
 use Rattle.terms.specs.declared.name.Addr.{Addr}
@@ -17,8 +17,8 @@ use Rattle.graph.specs.Graph.{Graph}
 use Rattle.machine.specs.Group.{TakesInTurn, puts_of_all}
 use Rattle.machine.specs.GroupLaws.{RoomInTurn}
 use Rattle.machine.specs.Legal.{IsLegal}
-use Rattle.machine.specs.Machine.{HasRoom, IsPut, Machine, Takes, facts, puts_of}
-use Rattle.machine.specs.Puts.{AreOfOne, IsRepeated, PutsTogether}
+use Rattle.machine.specs.Machine.{HasRoom, IsPut, Machine, Takes, facts}
+use Rattle.machine.specs.Puts.{IsRepeated}
 use Rattle.machine.specs.State.{AreLegalFrom}
 use Rattle.machine.proofs.InTurn.{both_added, legal_in_turn}
 
