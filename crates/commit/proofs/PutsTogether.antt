@@ -1,5 +1,5 @@
 -- Several puts of the environment that are committed as one: after room was made, and what is promised of them.
-use Rattle.std.proofs.Common.{◌≡◌, ◌∙◌, ◌≤◌, ◌+◌, ap, sym, refl, subst, inl, inr, ℕ, true, false, List, [], ◌∷◌, length, Result, Ok, Err, IfErr, OnOk, OnErr, arith}
+use Rattle.std.proofs.Common.{◌≡◌, ◌∙◌, ◌≤◌, ◌+◌, ap, sym, refl, subst, inl, inr, ℕ, zero, suc, true, false, List, [], ◌∷◌, length, take, Result, Ok, Err, IfErr, OnOk, OnErr, arith}
 use Rattle.std.proofs.lemmas.Bool.{false≢true}
 use Rattle.std.specs.List.{AllByRecursion}
 use Rattle.disk.specs.declared.side.Side.{Side}
@@ -43,6 +43,11 @@ none_back m = record { graph = refl; facts = λ _. refl; environment = λ _. ref
 pub behind_puts : NoMoreRun → (m : Machine) (puts : List Event) (n : Machine) (allowance : ℕ) → AllByRecursion IsPut puts → TakesInTurn m puts n → running_count m ≤ allowance → running_count n ≤ allowance
 behind_puts law m [] n allowance all same allowed = subst (λ (k : Machine). running_count k ≤ allowance) (sym same) allowed
 behind_puts law m (put ∷ puts) n allowance all turn allowed = behind_puts law turn.0 puts n allowance all.1 turn.2 (behind_put law m turn.0 put allowance all.0 turn.1 allowed)
+
+pub counted : (n : ℕ) (puts : List Event) → n ≤ length puts → length (take n puts) ≡ n
+counted zero puts within = refl
+counted (suc n) [] within = absurd (omega (arith, within))
+counted (suc n) (put ∷ puts) within = ap suc (counted n puts (omega (arith, within)))
 
 -- ---- after room was made
 
