@@ -1,12 +1,12 @@
 -- How a core goes on: by nothing, or by several puts that are tried as one commit.
-use Rattle.std.proofs.Common.{◌≡◌, ◌∙◌, ◌≤◌, ◌<◌, ◌++◌, ap, refl, sym, subst, inl, inr, ℕ, Bool, true, false, List, [], ◌∷◌, length, Result, Err, arith}
+use Rattle.std.proofs.Common.{◌≡◌, ◌∙◌, ◌≤◌, ◌++◌, ap, refl, sym, subst, inl, inr, ℕ, Bool, true, false, List, [], ◌∷◌, length, Result, Err, arith}
 use Rattle.std.proofs.lemmas.Bool.{false≢true}
 use Rattle.std.proofs.lemmas.List.{append-nil}
 use Rattle.disk.specs.declared.side.Side.{Side}
 use Rattle.disk.specs.File.{File}
 use Rattle.disk.specs.Time.{Contents, LeavesOnly, HasErred}
 use Rattle.terms.specs.declared.event.Event.{Event}
-use Rattle.terms.specs.Commits.{Commit, environment_behind, facts_behind}
+use Rattle.terms.specs.Commits.{Commit}
 use Rattle.terms.specs.Facts as stated
 use Rattle.terms.specs.Sets.{Facts, with_facts}
 use Rattle.machine.specs.GroupLaws.{TakenInTurn}

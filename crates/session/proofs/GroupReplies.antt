@@ -1,7 +1,8 @@
 -- The replies to several puts that came as one commit: `ok` to each of them.
-use Rattle.std.proofs.Common.{◌≡◌, ◌≢◌, ◌∙◌, ap, refl, sym, subst, inl, ℕ, zero, suc, ◌+◌, ◌-◌, ◌<◌, ◌≤◌, ◌↔◌, false, true, List, [], ◌∷◌, ◌++◌, length, map, take, drop, None, Option, append_assoc, append-nil, arith}
+use Rattle.std.proofs.Common.{◌≡◌, ◌≢◌, ◌∙◌, ap, refl, sym, subst, inl, ℕ, Bool, zero, suc, ◌+◌, ◌-◌, ◌<◌, ◌≤◌, ◌↔◌, false, true, List, [], ◌∷◌, ◌++◌, length, map, take, drop, get_or, None, Option, append_assoc, append-nil, arith}
 use Rattle.std.proofs.lemmas.Bool.{false≢true}
 use Rattle.std.proofs.lemmas.Grind.{flat_map-append}
+use Rattle.std.specs.Borrow.{GName}
 use Rattle.std.specs.Io.KnownBytes.{Appends}
 use Rattle.std.specs.List.{AllByRecursion}
 use Rattle.std.proofs.KnownBytes.{Appends-trans}
@@ -20,10 +21,12 @@ use Rattle.session.specs.declared.ending.Ending.{Ending}
 use Rattle.session.specs.declared.reply.Reply.{Reply}
 use Rattle.session.specs.declared.reply.Reply.TheVariants.{Done, Halted}
 use Rattle.session.specs.Answers.{Drive}
-use Rattle.session.specs.Lines.{Answered}
+use Rattle.session.specs.Lines.{Answered, TellsReplies, TellsReply}
 use Rattle.session.specs.Replies.{reply_text}
 use Rattle.session.specs.Session.{AreReplies, all_of, ending_from, no_ending, replies_text, with_reply}
 use Rattle.session.specs.Went.{Puts, dones, put_by}
+use Rattle.session.proofs.Failing.{calm_twice, then_failed}
+use Rattle.session.proofs.Lines.{written_more}
 
 -- ---- what puts put
 
@@ -185,3 +188,43 @@ puts_behind (suc count) (suc row) (first ∷ commands) all = subst (λ n. AllByR
   where
     one_less : (a b : ℕ) → a - b ≡ suc a - suc b
     one_less a b = omega arith
+
+-- the first of them
+pub puts_first : (count row : ℕ) (commands : List Command) → count ≤ row → AllByRecursion Puts (take row commands) → AllByRecursion Puts (take count commands)
+puts_first count row commands few all = subst (λ (list : List Command). AllByRecursion Puts list) (fewer count row commands few) (puts_before count (take row commands) all)
+
+-- what is left of a row, if the last lines are none of it
+pub row_behind : (count behind : ℕ) (commands left : List Command) → left ≡ drop count commands → AllByRecursion Puts (take (length commands - behind) commands) → AllByRecursion Puts (take (length left - behind) left)
+row_behind count behind commands left is all =
+    let many : length left ≡ length commands - count = ap length is ∙ length_behind count commands in
+    let row : length commands - behind - count ≡ length left - behind = omega (arith, many) in
+    subst (λ n. AllByRecursion Puts (take n left)) row (subst (λ (list : List Command). AllByRecursion Puts (take (length commands - behind - count) list)) (sym is) (puts_behind count (length commands - behind) commands all))
+
+-- the first of a list, and the others
+pub head_is : (commands : List Command) (first : Command) → 1 ≤ length commands → first ≡ get_or commands 0 first → commands ≡ first ∷ drop 1 commands
+head_is [] first some is = absurd (omega (arith, some))
+head_is (one ∷ commands) first some is = ap (λ (c : Command). c ∷ commands) (sym is)
+
+-- ---- replies one after another
+
+dones_more : (commands : List Command) (command : Command) → dones (commands ++ command ∷ []) ≡ dones commands ++ Done ∷ []
+dones_more [] command = refl
+dones_more (first ∷ commands) command = ap (λ (list : List Reply). Done ∷ list) (dones_more commands command)
+
+ending_more : (ending : Ending) (commands : List Command) (command : Command) → ending_from ending (commands ++ command ∷ []) (dones (commands ++ command ∷ [])) ≡ with_reply (ending_from ending commands (dones commands)) command Done
+ending_more ending [] command = refl
+ending_more ending (first ∷ commands) command = ending_more (with_reply ending first Done) commands command
+
+module _ {S : Type 0} (target : S → GName) (has_failed : S → Bool) (contents : S → Option (List ℕ)) (g : Graph) (first here there : S) (before mid ending : Ending) (commands : List Command) (command : Command)
+    (told : TellsReplies target has_failed contents g commands (dones commands) first here before mid false) where
+  -- one more `ok`
+  pub done_next : TellsReply target has_failed contents g command Done here there mid ending false → TellsReplies target has_failed contents g (commands ++ command ∷ []) (dones (commands ++ command ∷ [])) first there before ending false
+  done_next tells = (
+    calm_twice target has_failed first here there told.0 tells.0,
+    tells.1 ∙ ap (λ (e : Ending). with_reply e command Done) told.1 ∙ sym (ending_more before commands command),
+    subst (λ (list : List Reply). Appends (contents first) (contents there) (replies_text g list)) (sym (dones_more commands command)) (written_more (contents first) (contents here) (contents there) g g (dones commands) Done refl told.2 tells.2),
+  )
+
+  -- one that could not be written
+  pub done_failed : TellsReply target has_failed contents g command Done here there mid ending true → (all : List Command) → TellsReplies target has_failed contents g all (dones all) first there before ending true
+  done_failed tells all = then_failed target has_failed first here there told.0 tells

@@ -22,7 +22,7 @@ use Rattle.session.specs.Fails.{AnswersLines}
 use Rattle.session.specs.Lines.{Answered, CameTogether, Linked, SoFar, Stands, TellsReplies, went_of}
 use Rattle.session.specs.Progress.{KeepsStanding}
 use Rattle.session.specs.Session.{all_of, ending_from}
-use Rattle.session.specs.Went.{ComeTogether, GoesOnBy, GoesOnByLine, dones, group, put_by}
+use Rattle.session.specs.Went.{ComeTogether, GoesOnBy, GoesOnByLine, dones, in_group, put_by}
 use Rattle.session.proofs.Coming.{facts_behind_it, graph_behind, joined_by}
 use Rattle.session.proofs.Failing.{calm_twice, then_failed}
 use Rattle.session.proofs.GroupReplies.{lines_more, none_ends, went_on_by, written_all}
@@ -40,7 +40,7 @@ module _ {D : Type 0} (files : D → Side → File) (moment : D → ℕ) (left_a
         (subst (λ (all : List Reply). GoesOnByLine files moment left_at failures refusals honest old last (begun ++ (puts ++ more)) all ((events ++ came) ++ later)) (sym (append_assoc replies (dones puts) rest))
         (subst (λ (all : List (List Event)). GoesOnByLine files moment left_at failures refusals honest old last (begun ++ (puts ++ more)) (replies ++ (dones puts ++ rest)) all) (sym (append_assoc events came later))
         (linked.follows last (puts ++ more) (dones puts ++ rest) (came ++ later) (record {
-          rows = group puts came ∷ it.rows;
+          rows = in_group puts came ∷ it.rows;
           left = it.left;
           commands_are = ap (λ (list : List Command). puts ++ list) it.commands_are ∙ sym (append_assoc puts _ it.left);
           replies_are = ap (λ (list : List Reply). dones puts ++ list) it.replies_are;

@@ -17,7 +17,7 @@ pub mod Scripted
 pub mod Standing
 pub mod Strictly
 pub mod Taken
-pub mod Together
+pub mod Tried
 pub mod Told
 pub mod Turns
 pub mod Went

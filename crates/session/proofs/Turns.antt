@@ -13,7 +13,7 @@ use Rattle.session.specs.declared.reply.Reply.{Reply}
 use Rattle.session.specs.Answers.{Drive, Replies}
 use Rattle.session.specs.Lines.{Answered, Linked}
 use Rattle.session.specs.Session.{AreReplies, all_of, ending_of, stop_of, with_reply}
-use Rattle.session.specs.Went.{GoesOnBy, GoesOnByAll, GoesOnByLine, HasCause, one}
+use Rattle.session.specs.Went.{GoesOnBy, GoesOnByAll, GoesOnByLine, HasCause, by_itself}
 use Rattle.session.proofs.Coming.{answered_there, graph_behind, joined_by}
 use Rattle.session.proofs.Went.{begun_with, ended, one_line_more, stopped, went_on}
 
@@ -30,7 +30,7 @@ module _ {D : Type 0} (files : D → Side → File) (moment : D → ℕ) (left_a
         (subst (λ (all : List Reply). GoesOnByLine files moment left_at failures refusals honest old last (begun ++ command ∷ more) all ((events ++ came ∷ []) ++ later)) (sym (append_assoc replies (reply ∷ []) rest))
         (subst (λ (all : List (List Event)). GoesOnByLine files moment left_at failures refusals honest old last (begun ++ command ∷ more) (replies ++ reply ∷ rest) all) (sym (append_assoc events (came ∷ []) later))
         (linked.follows last (command ∷ more) (reply ∷ rest) (came ∷ later) (record {
-          rows = one command reply came ∷ it.rows;
+          rows = by_itself command reply came ∷ it.rows;
           left = it.left;
           commands_are = ap (λ (list : List Command). command ∷ list) it.commands_are;
           replies_are = ap (λ (list : List Reply). reply ∷ list) it.replies_are;

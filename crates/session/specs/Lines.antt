@@ -12,7 +12,7 @@ use Rattle.graph.specs.Graph.{Graph}
 use Rattle.machine.specs.State.{AreLegalFrom}
 use Rattle.commit.specs.declared.verdict.RunError.{RunError}
 use Rattle.commit.specs.declared.verdict.Verdict.{Verdict}
-use Rattle.commit.specs.declared.verdict.Verdict.TheVariants as verdict
+use Rattle.commit.specs.declared.verdict.Verdict.TheVariants as came_to
 use Rattle.commit.specs.Calls.{KeepsStore}
 use Rattle.commit.specs.Core.{Core, facts, graph, is_halted}
 use Rattle.commit.specs.Runs.{RunsWithin}
@@ -94,7 +94,7 @@ module _ {D : Type 0} (files : D → Side → File) (moment : D → ℕ) (left_a
 
   -- a run on one thread, or by workers, returned this
   pub record HasRunTo (most : ℕ) (may_be_asked may_spawn : Bool) (old new : Core D) (verdict : Result Verdict RunError) : Type 0 where
-    pub halted : is_halted old ≡ true → (new ≡ old) × (verdict ≡ Ok verdict.Halted)
+    pub halted : is_halted old ≡ true → (new ≡ old) × (verdict ≡ Ok came_to.Halted)
     pub runs : is_halted old ≡ false → RunsWithin files moment left_at failures refusals honest may_be_asked may_spawn old new most verdict
 
   -- the command `run` comes to this reply, if the run returned this

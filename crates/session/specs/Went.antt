@@ -81,24 +81,24 @@ put_by Run = []
 -- Lines that were answered together: one line, with its reply and the events that came by it; or several puts, with the events that came by each, to all of which the reply is
 -- `ok`.
 pub data Row : Type 0 where
-  one : Command → Reply → List Event → Row
-  group : List Command → List (List Event) → Row
+  by_itself : Command → Reply → List Event → Row
+  in_group : List Command → List (List Event) → Row
 
 -- the lines of these rows, the replies to them, and the events that came by each
 abbrev pub commands_in : List Row → List Command
 commands_in [] = []
-commands_in (one command reply came ∷ rows) = command ∷ commands_in rows
-commands_in (group commands events ∷ rows) = commands ++ commands_in rows
+commands_in (by_itself command reply came ∷ rows) = command ∷ commands_in rows
+commands_in (in_group commands events ∷ rows) = commands ++ commands_in rows
 
 abbrev pub replies_in : List Row → List Reply
 replies_in [] = []
-replies_in (one command reply came ∷ rows) = reply ∷ replies_in rows
-replies_in (group commands events ∷ rows) = dones commands ++ replies_in rows
+replies_in (by_itself command reply came ∷ rows) = reply ∷ replies_in rows
+replies_in (in_group commands events ∷ rows) = dones commands ++ replies_in rows
 
 abbrev pub events_in : List Row → List (List Event)
 events_in [] = []
-events_in (one command reply came ∷ rows) = came ∷ events_in rows
-events_in (group commands events ∷ rows) = events ++ events_in rows
+events_in (by_itself command reply came ∷ rows) = came ∷ events_in rows
+events_in (in_group commands events ∷ rows) = events ++ events_in rows
 
 -- ---- lines
 
@@ -122,8 +122,8 @@ module _ {D : Type 0} (files : D → Side → File) (moment : D → ℕ) (left_a
   -- commit.
   abbrev pub GoesOnByRow : Core D → Core D → List Row → Type 0
   GoesOnByRow old new [] = new ≡ old
-  GoesOnByRow old new (one command reply came ∷ later) = (mid : Core D) × (goes : GoesOnBy old mid came) × HasCause failures old mid command goes.commits reply × GoesOnByRow mid new later
-  GoesOnByRow old new (group commands events ∷ later) = (mid : Core D) × ComeTogether old mid commands events × GoesOnByRow mid new later
+  GoesOnByRow old new (by_itself command reply came ∷ later) = (mid : Core D) × (goes : GoesOnBy old mid came) × HasCause failures old mid command goes.commits reply × GoesOnByRow mid new later
+  GoesOnByRow old new (in_group commands events ∷ later) = (mid : Core D) × ComeTogether old mid commands events × GoesOnByRow mid new later
 
   -- Line by line: the lines that were answered are rows, each of one line or of several puts that were committed as one, and the core goes on row by row. So the events of a row are
   -- there when the next one begins, and no crash undoes them from then on. A crash in a row of several puts leaves all of their events, or none of them.

@@ -1,5 +1,5 @@
 //! How far the lines of a script are.
-ghost use Rattle.std.specs.Prelude.{◌≡◌, ◌∷◌, ◌<◌, ◌≤◌, ⊤, [], None, false, true, length, take, IfSome, IsTrue, MatchBool};
+ghost use Rattle.std.specs.Prelude.{◌≡◌, ◌∷◌, ◌<◌, ◌≤◌, [], None, false, true, length, take, IfSome, IsTrue};
 ghost use Rattle.std.specs.List.{AllByRecursion};
 ghost use Rattle.commit.specs.Runs.{NoneRuns};
 ghost use Rattle.commit.specs.declared.batch.TheConstants.{MOST_TOGETHER};
@@ -15,7 +15,6 @@ use graph::Graph;
 use report::Sink;
 use script::Command;
 use std::alloc::Global;
-use std::cmp::min;
 use terms::facts_are_told_apart;
 use vault::stores_go_on;
 
@@ -117,17 +116,17 @@ impl<'a> Progress<'a> {
             return;
         }
         let behind = self.left.len() - row;
-        'groups: while self.goes_on() && behind < self.left.len() {
-            let most = min(self.left.len() - behind, MOST_TOGETHER);
+        'groups: while self.goes_on(behind) {
+            let most = (self.left.len() - behind).min(MOST_TOGETHER);
             self.put_group(alloc, core, most, out);
         }
     }
 
-    // Whether the session goes on: the sink has not failed, and no reply has ended it.
-    fn goes_on(&self) -> bool
-        ensures { MatchBool result ((self.now.failed ≡ false) × (self.now.ending.stop ≡ None)) ⊤ }
+    // Whether the session goes on, since the sink has not failed and no reply has ended it, to a line before the last `behind` ones.
+    fn goes_on(&self, behind: usize) -> bool
+        ensures { result ≡ true → (self.now.failed ≡ false) × (self.now.ending.stop ≡ None) × (behind < length self.now.left.now) }
     {
-        !self.failed && self.ending.stop.is_none()
+        !self.failed && self.ending.stop.is_none() && behind < self.left.len()
     }
 
     // Answers the first of these puts in front: as many as come as one commit, or one alone.
@@ -150,14 +149,15 @@ impl<'a> Progress<'a> {
     {
         facts_are_told_apart();
         stores_go_on::<D>();
-        let group = &self.left[..most];
+        let left = self.left;
+        let group = &left[..most];
         match put_some(alloc, core, group) {
             Ok(count) => {
-                self.left = &self.left[count..];
+                self.left = &left[count..];
                 self.reply_done(core.graph(), &group[..count], out);
             }
             Err(reply) => {
-                self.left = &self.left[1..];
+                self.left = &left[1..];
                 self.reply(core.graph(), group[0], &reply, out);
             }
         }

@@ -1,12 +1,12 @@
-use Rattle.std.proofs.Common.{◌≡◌, ◌∙◌, ◌+◌, List, [], false, cond, ap, length, refl, rules, sym, subst}
+use Rattle.std.proofs.Common.{◌≡◌, ◌∙◌, ◌+◌, List, [], false, cond, ap, refl, rules, sym, subst}
 use Rattle.std.specs.List.{AllByRecursion}
 use Rattle.terms.specs.declared.event.Event.{Event}
 use Rattle.terms.specs.Facts as stated
 use Rattle.terms.specs.Sets.{with_facts}
 use Rattle.codec.specs.Spelling.{HasFewPuts}
 use Rattle.graph.specs.Fits.{FitAfter}
-use Rattle.machine.specs.Group.{TakesInTurn, puts_of_all}
-use Rattle.machine.specs.Machine.{HasRoom, IsPut, environment as environment_of, facts as facts_of}
+use Rattle.machine.specs.Group.{TakesInTurn}
+use Rattle.machine.specs.Machine.{environment as environment_of, facts as facts_of}
 use Rattle.machine.specs.State.{AreLegalFrom}
 use Rattle.vault.specs.Store.{Holds}
 use Rattle.commit.specs.Core.{Core, facts, graph, is_halted}

@@ -1,8 +1,7 @@
-use Rattle.std.proofs.Common.{◌≡◌, ◌∙◌, ◌≤◌, ℕ, List, Ok, ap, arith, false, length, refl, rules, subst, sym, take, IsTrue}
+use Rattle.std.proofs.Common.{◌≡◌, ◌∙◌, ◌≤◌, ℕ, List, ap, arith, false, length, refl, rules, subst, sym, take, IsTrue}
 use Rattle.terms.specs.declared.event.Event.{Event}
 use Rattle.machine.specs.Machine.{facts as facts_of}
 use Rattle.machine.specs.Puts.{PutsTogether}
-use Rattle.machine.specs.State.{AreLegalFrom}
 use Rattle.commit.specs.Core.{Core, facts, graph, is_halted}
 use Rattle.commit.specs.PutsAll.{TriesPuts}
 use Rattle.commit.proofs.Answered.{if_ok}
