@@ -181,7 +181,7 @@ puts_behind (suc count) zero commands all = subst (λ n. AllByRecursion Puts (ta
     none n = omega arith
 puts_behind (suc count) (suc row) [] all = subst (λ (list : List Command). AllByRecursion Puts list) (sym (nothing (suc row - suc count))) tt
   where
-    nothing : (n : ℕ) → take n [] ≡ []
+    nothing : (n : ℕ) → take {A = Command} n [] ≡ []
     nothing zero = refl
     nothing (suc n) = refl
 puts_behind (suc count) (suc row) (first ∷ commands) all = subst (λ n. AllByRecursion Puts (take n (drop count commands))) (one_less row count) (puts_behind count row commands all.1)

@@ -1,5 +1,5 @@
 -- What several puts come to that are tried as one commit.
-use Rattle.std.proofs.Common.{◌≡◌, ◌≢◌, ◌∙◌, ◌↔◌, ◌+◌, ◌<◌, ◌≤◌, ap, refl, sym, subst, inl, ℕ, zero, suc, ℤ, Bool, true, false, List, [], ◌∷◌, length, map, take, Option, Some, None, Result, Ok, Err, arith}
+use Rattle.std.proofs.Common.{◌≡◌, ◌≢◌, ◌∙◌, ◌↔◌, ◌<◌, ◌≤◌, ap, refl, sym, subst, inl, ℕ, zero, suc, ℤ, Bool, true, false, List, [], ◌∷◌, length, map, take, get_or, Option, Some, None, Result, Ok, Err, arith}
 use Rattle.std.proofs.lemmas.Bool.{false≢true}
 use Rattle.std.specs.List.{AllByRecursion}
 use Rattle.disk.specs.declared.side.Side.{Side}
@@ -27,8 +27,7 @@ use Rattle.vault.specs.declared.error.VaultError.TheVariants as store
 use Rattle.commit.specs.declared.batch.TheConstants.{MOST_TOGETHER}
 use Rattle.commit.specs.declared.error.CoreError.{CoreError}
 use Rattle.commit.specs.declared.error.CoreError.TheVariants.{Refused, Store}
-use Rattle.journal.specs.declared.journal.TheConstants.{LIMIT}
-use Rattle.commit.specs.Calls.{KeepsStore, commit_length}
+use Rattle.commit.specs.Calls.{KeepsStore}
 use Rattle.commit.specs.Core.{Core, environment, facts, graph, is_halted, state_of}
 use Rattle.commit.specs.PutsAll.{PutsAll, PutsGoOn, RefusesPuts, TakesAny, TakesPuts}
 use Rattle.commit.specs.Runs.{NoneRuns, in_one}
@@ -46,7 +45,7 @@ use Rattle.session.specs.Answers.{Drive, Replies, RepliesTo, TellsHalt, reply_of
 use Rattle.session.specs.Lines.{AnswersAtOnce, AnswersFirst, CameTogether, ComesTo, FirstCame}
 use Rattle.session.specs.Session.{all_of, stop_of}
 use Rattle.session.specs.Went.{GoesOnBy, HasCause, HasNoRoom, Puts, put_by}
-use Rattle.session.proofs.Coming.{facts_behind_it, graph_behind, joined_by}
+use Rattle.session.proofs.Coming.{joined_on}
 use Rattle.session.proofs.GroupReplies.{as_many, first_put, length_first, puts_before}
 use Rattle.session.proofs.OneLine.{at_once}
 use Rattle.session.proofs.Puts.{calm, no_run, put_device, some_is_none}
@@ -61,9 +60,9 @@ ends_none (event.Stopped ended kind) is instance ends = is
 
 idle_in_turn : (m : Machine) (puts : List Event) (n : Machine) → AllByRecursion IsPut puts → TakesInTurn m puts n → ((instance : Inst) → machine.state_of m instance ≢ Some Running) → (instance : Inst) → machine.state_of n instance ≢ Some Running
 idle_in_turn m [] n all same idle instance runs = idle instance (ap (λ (k : Machine). machine.state_of k instance) (sym same) ∙ runs)
-idle_in_turn m (put ∷ puts) n all turn idle =
+idle_in_turn m (put ∷ puts) n all turn idle instance runs =
     idle_in_turn turn.0 puts n all.1 turn.2
-    (λ instance runs. idle instance (goes_on (facts_of turn.0.memory) (machine.state_of m instance) (machine.state_of turn.0 instance) (turn.1.states instance (ends_none put all.0 instance)) runs))
+    (λ i ran. idle i (goes_on (facts_of turn.0.memory) (machine.state_of m i) (machine.state_of turn.0 i) (turn.1.states i (ends_none put all.0 i)) ran)) instance runs
 
 first_puts : (count : ℕ) (puts : List Event) → AllByRecursion IsPut puts → AllByRecursion IsPut (take count puts)
 first_puts zero puts all = tt
@@ -77,12 +76,12 @@ idle_any old new (put ∷ puts) all taken idle = idle_in_turn old.machine (put �
 module _ {D : Type 0} (files : D → Side → File) (moment : D → ℕ) (left_at : D → ℕ → Contents → Type 0) (failures refusals : D → ℕ) (honest : Type 0) where
   -- after the call no instance runs, if none ran before
   pub idle_after : (old new : Core D) (puts : List Event) (result : Result ℕ CoreError) → AllByRecursion IsPut puts → PutsAll files moment left_at failures refusals honest old new puts result → NoneRuns old → NoneRuns new
-  idle_after old new puts (Ok count) all it idle = idle_any old new (take it.count puts) (first_puts it.count puts all) it.tries.takes idle
+  idle_after old new puts (Ok count) all it idle instance runs = idle_any old new (take it.count puts) (first_puts it.count puts all) it.tries.takes idle instance runs
   idle_after old new puts (Err error) all it idle instance runs = idle instance (sym (it.tries.unchanged.states instance) ∙ runs)
 
   -- ---- none comes
 
-  same_store : (core : Core D) → KeepsStore core core
+  pub same_store : (core : Core D) → KeepsStore core core
   same_store core = record { graph = refl; facts = λ _. refl; environment = λ _. refl; vault = same_vault core.vault core.vault refl; in_doubt = refl; latest = refl }
 
   pub none_came : (old new : Core D) (puts : List Event) → PutsAll files moment left_at failures refusals honest old new puts (Ok 0) → KeepsStore old new × GoesOn files moment left_at failures refusals honest old new []
@@ -209,7 +208,7 @@ module _ {D : Type 0} (files : D → Side → File) (moment : D → ℕ) (left_a
     stays (Store store.NotAStore) is why none = absurd why
     stays (Store store.Exists) is why none = absurd why
 
-    nothing_came : GoesOnBy files moment left_at failures refusals honest old new []
+    abbrev nothing_came : GoesOnBy files moment left_at failures refusals honest old new []
     nothing_came = record { commits = []; order = refl; goes_on = it.goes_on }
 
     legal_first : (event : Event) (rest : List Event) → puts ≡ event ∷ rest → is_halted old ≡ false → 0 < length (take it.count puts) → IsLegal (graph old) (facts old) event
@@ -255,12 +254,9 @@ module _ {D : Type 0} (files : D → Side → File) (moment : D → ℕ) (left_a
     halted_as : is_halted mid ≡ is_halted old
     halted_as = still.vault.halted
 
-    before : GoesOnBy files moment left_at failures refusals honest old mid []
-    before = record { commits = []; order = refl; goes_on = nothing }
-
     no_room : (command : Command) → Puts command → (commits : List Commit) → HasNoRoom mid command commits → HasNoRoom old command commits
-    no_room (Put address v) is commits full = subst (λ n. LIMIT ≤ n + commit_length (event.EnvItem address v ∷ [])) still.vault.end full
-    no_room (Tag name) is commits full = subst (λ n. LIMIT ≤ n + commit_length (event.EnvTag name ∷ [])) still.vault.end full
+    no_room (Put address v) is commits full = omega (arith, still.vault.end, full)
+    no_room (Tag name) is commits full = omega (arith, still.vault.end, full)
     no_room (Get address) is commits full = absurd is
     no_room Run is commits full = absurd is
 
@@ -269,7 +265,11 @@ module _ {D : Type 0} (files : D → Side → File) (moment : D → ℕ) (left_a
         let it = answers drive (was ∙ sym halted_as) in
         record {
           came = it.came;
-          goes_on = joined_by files moment left_at failures refusals honest both gates_stay old mid new [] it.came before it.goes_on;
+          goes_on = record {
+            commits = it.goes_on.commits;
+            order = it.goes_on.order;
+            goes_on = joined_on files moment left_at failures refusals honest both gates_stay old mid new [] it.goes_on.commits nothing it.goes_on.goes_on;
+          };
           replies = subst (λ (g : Graph). Replies g drive (facts old) command it.came reply) still.graph (subst (λ (X : Facts). Replies (graph mid) drive X command it.came reply) (λ i fact. still.facts fact i) it.replies);
           cause = record {
             halted = it.cause.halted;
@@ -280,3 +280,10 @@ module _ {D : Type 0} (files : D → Side → File) (moment : D → ℕ) (left_a
           };
           stays = λ none. it.stays none ∙ halted_as;
         }
+
+    -- the first of some puts
+    pub first_alone : (commands : List Command) (first : Command) (reply : Reply) → 1 ≤ length commands → AllByRecursion Puts commands → first ≡ get_or commands 0 first
+        → AnswersAtOnce files moment left_at failures refusals honest mid new first (Some reply) → AnswersFirst files moment left_at failures refusals honest old new commands reply
+    first_alone [] first reply some all is answers = absurd (omega (arith, some))
+    first_alone (command ∷ commands) first reply some all is answers =
+        alone command reply all.0 (subst (λ (c : Command). AnswersAtOnce files moment left_at failures refusals honest mid new c (Some reply)) is answers)

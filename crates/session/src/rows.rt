@@ -13,7 +13,7 @@ use commit::Core;
 use disk::Disk;
 use script::Command;
 use std::alloc::{AllocError, Global};
-use terms::Event;
+use terms::{Event, facts_are_told_apart};
 use vault::stores_go_on;
 
 /// How several puts came, that were tried as one commit.
@@ -64,6 +64,8 @@ pub(crate) fn put_some<D: Disk>(
     ensures idle { NoneRuns core.new }
     ensures answers { AnswersSome D.files D.moment D.left_at D.failures D.refusals (IsTrue D.is_honest) core.old core.new commands.now result }
 {
+    facts_are_told_apart();
+    stores_go_on::<D>();
     match put_together(alloc, core, commands) {
         Together::Came(count) => Ok(count),
         Together::Apart => Err(put_first(core, commands[0])),
