@@ -2,6 +2,7 @@
 use Rattle.std.proofs.Common.{◌≡◌, ◌≢◌, ◌∙◌, ap, refl, sym, subst, inl, ℕ, Bool, zero, suc, ◌+◌, ◌-◌, ◌<◌, ◌≤◌, ◌↔◌, false, true, List, [], ◌∷◌, ◌++◌, length, map, take, drop, get_or, None, Option, append_assoc, append-nil, arith}
 use Rattle.std.proofs.lemmas.Bool.{false≢true}
 use Rattle.std.proofs.lemmas.Grind.{flat_map-append}
+use Rattle.std.proofs.lemmas.List.{take_all}
 use Rattle.std.specs.Borrow.{GName}
 use Rattle.std.specs.Io.KnownBytes.{Appends}
 use Rattle.std.specs.List.{AllByRecursion}
@@ -200,11 +201,6 @@ row_behind count behind commands left is all =
     let row : length commands - behind - count ≡ length left - behind = omega (arith, many) in
     subst (λ n. AllByRecursion Puts (take n left)) row (subst (λ (list : List Command). AllByRecursion Puts (take (length commands - behind - count) list)) (sym is) (puts_behind count (length commands - behind) commands all))
 
--- the first of a list, and the others
-pub head_is : (commands : List Command) (first : Command) → 1 ≤ length commands → first ≡ get_or commands 0 first → commands ≡ first ∷ drop 1 commands
-head_is [] first some is = absurd (omega (arith, some))
-head_is (one ∷ commands) first some is = ap (λ (c : Command). c ∷ commands) (sym is)
-
 -- ---- replies one after another
 
 dones_more : (commands : List Command) (command : Command) → dones (commands ++ command ∷ []) ≡ dones commands ++ Done ∷ []
@@ -228,3 +224,14 @@ module _ {S : Type 0} (target : S → GName) (has_failed : S → Bool) (contents
   -- one that could not be written
   pub done_failed : TellsReply target has_failed contents g command Done here there mid ending true → (all : List Command) → TellsReplies target has_failed contents g all (dones all) first there before ending true
   done_failed tells all = then_failed target has_failed first here there told.0 tells
+
+-- ---- the first line of a row
+
+pub head_of : (most : ℕ) (commands : List Command) (first : Command) → 1 ≤ most → 1 ≤ length commands → first ≡ get_or (take most commands) 0 first → commands ≡ first ∷ drop 1 commands
+head_of most [] first some within is = absurd (omega (arith, within))
+head_of zero (command ∷ commands) first some within is = absurd (omega (arith, some))
+head_of (suc most) (command ∷ commands) first some within is = ap (λ (c : Command). c ∷ commands) (sym is)
+
+-- what is left of a list is all of the rest
+pub to_end : {X : Type 0} (n : ℕ) (list : List X) → take (length list - n) (drop n list) ≡ drop n list
+to_end n list = take_all (length list - n) (drop n list) (omega (arith, length_behind n list))

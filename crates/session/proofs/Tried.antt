@@ -248,6 +248,12 @@ module _ {D : Type 0} (files : D → Side → File) (moment : D → ℕ) (left_a
     first_halted (Get address ∷ commands) some all is = absurd all.0
     first_halted (Run ∷ commands) some all is = absurd all.0
 
+  -- the first of some commands came to its reply
+  pub first_answers : (old new : Core D) (commands : List Command) (first : Command) (reply : Reply) → 1 ≤ length commands → first ≡ get_or commands 0 first → AnswersFirst files moment left_at failures refusals honest old new commands reply
+      → AnswersAtOnce files moment left_at failures refusals honest old new first (Some reply)
+  first_answers old new [] first reply some is answers = absurd answers
+  first_answers old new (command ∷ commands) first reply some is answers = subst (λ (c : Command). AnswersAtOnce files moment left_at failures refusals honest old new c (Some reply)) (sym is) answers
+
   -- ---- a put alone, after others were tried
 
   module _ (both : AmongBoth) (gates_stay : honest → GatesStay files moment left_at) (old mid new : Core D) (still : KeepsStore old mid) (nothing : GoesOn files moment left_at failures refusals honest old mid []) where

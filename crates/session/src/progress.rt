@@ -202,8 +202,8 @@ impl<'a> Progress<'a> {
         ensures left { self.new.left.now ≡ self.old.left.now }
         ensures tells { TellsReplies O.target O.has_failed O.contents graph.now commands.now (dones commands.now) out.old out.new self.old.ending self.new.ending self.new.failed }
     {
-        let done = Reply::Done;
         for command in commands {
+            let done = Reply::Done;
             self.reply(graph, *command, &done, out);
             if self.failed {
                 return;
