@@ -1,5 +1,5 @@
 -- How a session stands after several puts that came as one commit.
-use Rattle.std.proofs.Common.{◌≡◌, ◌≢◌, ◌∙◌, ap, refl, sym, subst, inl, inr, ℕ, Bool, true, false, List, [], ◌∷◌, ◌++◌, map, Option, None, append_assoc, append-nil}
+use Rattle.std.proofs.Common.{◌≡◌, ◌∙◌, ap, sym, subst, inl, inr, ℕ, Bool, true, false, List, [], ◌∷◌, ◌++◌, map, Option, None, append_assoc, append-nil}
 use Rattle.std.proofs.lemmas.Bool.{false≢true}
 use Rattle.std.specs.Borrow.{GName}
 use Rattle.disk.specs.declared.side.Side.{Side}
@@ -11,7 +11,7 @@ use Rattle.terms.specs.Sets.{AmongBoth, Facts, with_facts}
 use Rattle.graph.specs.Graph.{Graph}
 use Rattle.machine.specs.State.{AreLegalFrom}
 use Rattle.vault.specs.Commits.{GatesStay}
-use Rattle.commit.specs.Core.{Core, facts, graph, is_halted}
+use Rattle.commit.specs.Core.{Core, facts, graph}
 use Rattle.report.specs.Sinks.{StaysCalm}
 use Rattle.script.specs.declared.command.Command.{Command}
 use Rattle.session.specs.declared.ending.Ending.{Ending}

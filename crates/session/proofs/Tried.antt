@@ -1,5 +1,5 @@
 -- What several puts come to that are tried as one commit.
-use Rattle.std.proofs.Common.{◌≡◌, ◌≢◌, ◌∙◌, ◌↔◌, ◌<◌, ◌≤◌, ap, refl, sym, subst, inl, ℕ, zero, suc, ℤ, Bool, true, false, List, [], ◌∷◌, length, map, take, get_or, Option, Some, None, Result, Ok, Err, arith}
+use Rattle.std.proofs.Common.{◌≡◌, ◌≢◌, ◌∙◌, ◌↔◌, ◌<◌, ◌≤◌, ap, refl, sym, subst, inl, ℕ, zero, suc, ℤ, Bool, true, false, List, [], ◌∷◌, length, map, take, get_or, Some, None, Result, Ok, Err, arith}
 use Rattle.std.proofs.lemmas.Bool.{false≢true}
 use Rattle.std.specs.List.{AllByRecursion}
 use Rattle.disk.specs.declared.side.Side.{Side}
@@ -19,17 +19,15 @@ use Rattle.machine.specs.Legal.{IsLegal}
 use Rattle.machine.specs.Machine.{Ends, IsPut, Machine}
 use Rattle.machine.specs.Machine as machine
 use Rattle.machine.specs.Memory.{facts_of}
-use Rattle.machine.specs.Puts.{PutsTogether}
 use Rattle.machine.specs.State.{AreLegalFrom}
 use Rattle.vault.specs.Commits.{GatesStay}
-use Rattle.vault.specs.declared.vault.Vault.{Vault}
 use Rattle.vault.specs.declared.error.VaultError.TheVariants as store
 use Rattle.commit.specs.declared.batch.TheConstants.{MOST_TOGETHER}
 use Rattle.commit.specs.declared.error.CoreError.{CoreError}
 use Rattle.commit.specs.declared.error.CoreError.TheVariants.{Refused, Store}
 use Rattle.commit.specs.Calls.{KeepsStore}
-use Rattle.commit.specs.Core.{Core, environment, facts, graph, is_halted, state_of}
-use Rattle.commit.specs.PutsAll.{PutsAll, PutsGoOn, RefusesPuts, TakesAny, TakesPuts}
+use Rattle.commit.specs.Core.{Core, facts, graph, is_halted}
+use Rattle.commit.specs.PutsAll.{PutsAll, RefusesPuts, TakesAny, TakesPuts}
 use Rattle.commit.specs.Runs.{NoneRuns, in_one}
 use Rattle.commit.specs.Went.{GoesOn}
 use Rattle.commit.proofs.GoingOn.{in_one_of}
@@ -41,8 +39,8 @@ use Rattle.script.specs.declared.command.Command.TheVariants.{Put, Tag, Get, Run
 use Rattle.session.specs.declared.ending.Stop.TheVariants as stop
 use Rattle.session.specs.declared.reply.Reply.{Reply}
 use Rattle.session.specs.declared.reply.Reply.TheVariants as replied
-use Rattle.session.specs.Answers.{Drive, Replies, RepliesTo, TellsHalt, reply_of}
-use Rattle.session.specs.Lines.{AnswersAtOnce, AnswersFirst, CameTogether, ComesTo, FirstCame}
+use Rattle.session.specs.Answers.{Drive, Replies, RepliesTo, reply_of}
+use Rattle.session.specs.Lines.{AnswersAtOnce, AnswersFirst, FirstCame}
 use Rattle.session.specs.Session.{all_of, stop_of}
 use Rattle.session.specs.Went.{GoesOnBy, HasCause, HasNoRoom, Puts, put_by}
 use Rattle.session.proofs.Coming.{joined_on}

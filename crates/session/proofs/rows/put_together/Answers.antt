@@ -1,12 +1,10 @@
-use Rattle.std.proofs.Common.{Err, List, Ok, ap, arith, length, map, subst, sym, IsTrue}
+use Rattle.std.proofs.Common.{List, Ok, ap, arith, length, subst, sym, IsTrue}
 use Rattle.std.specs.List.{AllByRecursion}
 use Rattle.terms.specs.declared.event.Event.{Event}
 use Rattle.machine.specs.Machine.{IsPut}
 use Rattle.commit.specs.PutsAll.{PutsAll}
 use Rattle.session.specs.declared.reply.Reply.{Reply}
 use Rattle.session.specs.Lines.{AnswersFirst}
-use Rattle.session.specs.Session.{all_of}
-use Rattle.session.specs.Went.{put_by}
 use Rattle.session.proofs.Coming.{nothing_came}
 use Rattle.session.proofs.GroupReplies.{are_puts, no_more}
 use Rattle.session.proofs.Tried.{first_came, first_halted, idle_after, same_store}

@@ -1,4 +1,4 @@
-use Rattle.std.proofs.Common.{◌≡◌, ◌∙◌, ◌≤◌, ◌∷◌, ◌++◌, List, Some, ap, arith, drop, length, subst, sym, take, IsTrue}
+use Rattle.std.proofs.Common.{◌≡◌, ◌∙◌, ◌≤◌, ◌++◌, List, Some, ap, arith, drop, length, subst, sym, take, IsTrue}
 use Rattle.script.specs.declared.command.Command.{Command}
 use Rattle.session.specs.Lines.{AnswersAtOnce, Stands}
 use Rattle.session.proofs.GroupReplies.{fewer, head_of, in_parts, length_first, to_end}

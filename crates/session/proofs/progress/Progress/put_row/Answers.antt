@@ -1,4 +1,4 @@
-use Rattle.std.proofs.Common.{◌≤◌, ◌-◌, ap, arith, length}
+use Rattle.std.proofs.Common.{◌-◌, ap, arith, length}
 use Rattle.session.proofs.GroupReplies.{length_behind, puts_first, row_behind}
 use Rattle.session.proofs.progress.Progress.put_row.Goals as goal
 
