@@ -1,4 +1,4 @@
--- Several puts of the environment that are committed as one: how far they come, and what is promised of them.
+-- Several puts of the environment that are committed as one: how many of them come, and what is promised of them.
 use Rattle.std.specs.Prelude.{◌≡◌, ◌+◌, ◌<◌, ℕ, true, false, List, [], ◌∷◌, length, take, Result, Ok, Err, IfOk, IfErr, OnOk, OnErr}
 use Rattle.disk.specs.declared.side.Side.{Side}
 use Rattle.disk.specs.File.{File}
@@ -31,8 +31,8 @@ abbrev pub TakesAny : {D : Type 0} → Core D → Core D → Commit → Type 0
 TakesAny old new [] = (is_halted old ≡ false) × (new ≡ old)
 TakesAny old new (first ∷ commit) = TakesPuts old new (first ∷ commit)
 
--- Why the puts are refused, of which these were tried as one commit. A halted core returns `Halted`, and nothing else. Puts that come together are refused if their record
--- does not fit, if the device failed, or if memory was refused. Puts of which none comes are not refused.
+-- Why a commit of these puts is refused. A halted core returns `Halted`, and nothing else. Otherwise it is refused if its record does not fit, if the device
+-- failed, or if memory was refused; and if there is no put in it, it is not refused.
 abbrev pub RefusesPuts : {D : Type 0} → Core D → Commit → CoreError → Type 0
 RefusesPuts c commit (Refused refusal) = ⊥
 RefusesPuts c commit (Store Halted) = is_halted c ≡ true

@@ -23,7 +23,8 @@ impl<D: Disk> Core<D> {
     /// first that may not come, given those before it. A crash leaves all of the commit, or nothing. The answer is how many came; if
     /// none did, nothing was tried.
     ///
-    /// The causes of a refusal, in their order: `Halted`; `Full`. An error that does not halt leaves everything as it was.
+    /// It is refused with `Halted` by a halted core; otherwise only if some come: with `NoMemory`, with `Full`, or with `Device`. An error
+    /// that does not halt leaves everything as it was; after one that does, all of the commit may be there, or nothing of it.
     pub fn put_all(&mut self, puts: Vec<Event>) -> Result<usize, CoreError>
         requires puts { AllByRecursion IsPut puts.items }
         requires few { length puts.items ≤ MOST_TOGETHER }

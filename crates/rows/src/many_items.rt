@@ -1,5 +1,5 @@
-//! Calls on many items of a collection: `fill COLLECTION COUNT STEP` puts COUNT items, with the keys 0, 1, .. in the order in
-//! which steps of that size, modulo COUNT, come to them; each has its key as its value. `find COLLECTION COUNT MOST` looks for
+//! Calls on many items of a collection: `fill COLLECTION COUNT STEP` puts COUNT items, with the keys STEP, 2 * STEP, .., modulo
+//! COUNT; each has its key as its value. `find COLLECTION COUNT MOST` looks for
 //! so many keys by `Items::find`; its result says how many were found with their values, and whether each look-up took at most
 //! MOST comparisons. `alike COLLECTION COLLECTION` compares the items of two.
 use crate::item_calls::{COLLECTIONS, Three};
@@ -32,7 +32,7 @@ fn put_many(three: &mut Three, number: u16, count: u32, step: u32) -> u32 {
     let mut put = 0u32;
     if number < COLLECTIONS {
         for at in 0..count {
-            let key = (u64::from(at) * u64::from(step)) % u64::from(count);
+            let key = ((u64::from(at) + 1) * u64::from(step)) % u64::from(count);
             if put_one(three, number, key as i64) {
                 put = put.wrapping_add(1);
             }

@@ -142,7 +142,7 @@ module _ {D : Type 0} (files : D → Side → File) (moment : D → ℕ) (left_a
         }
 
     -- a call after others
-    joined_on : GoesOn files moment left_at failures refusals honest old mid first → GoesOn files moment left_at failures refusals honest mid new second → GoesOn files moment left_at failures refusals honest old new (first ++ second)
+    pub joined_on : GoesOn files moment left_at failures refusals honest old mid first → GoesOn files moment left_at failures refusals honest mid new second → GoesOn files moment left_at failures refusals honest old new (first ++ second)
     joined_on one two = record { went = λ working. at working (is_halted mid) refl; stays = λ halted. still halted; settled = two.settled; later = omega (arith, one.later, two.later) }
       where
         at : is_halted old ≡ false → (b : Bool) → is_halted mid ≡ b → Went files moment left_at failures refusals honest old new (first ++ second)

@@ -1,6 +1,8 @@
 pub mod ByName
 pub mod Coming
 pub mod Failing
+pub mod GroupReplies
+pub mod Grouped
 pub mod Lines
 pub mod Listed
 pub mod OneLine
@@ -15,6 +17,7 @@ pub mod Scripted
 pub mod Standing
 pub mod Strictly
 pub mod Taken
+pub mod Tried
 pub mod Told
 pub mod Turns
 pub mod Went

@@ -96,7 +96,7 @@ put_halt failures refusals old new why event (Err error) takes refuses halts = (
 -- ---- causes
 
 -- what puts something is no run
-no_run : (command : Command) → Puts command → command ≡ Run → ⊥
+pub no_run : (command : Command) → Puts command → command ≡ Run → ⊥
 no_run (Put address v) puts is = cc
 no_run (Tag name) puts is = cc
 no_run (Get address) puts is = absurd puts
@@ -114,7 +114,7 @@ device_alone (Store store.NotAStore) is = absurd (cc)
 device_alone (Store store.Exists) is = absurd (cc)
 
 -- the reply to a put is `Device` exactly if its result is
-put_device : {T : Type 0} (result : Result T CoreError) → put_reply result ≡ replied.Device → IsErrOf result (Store store.Device)
+pub put_device : {T : Type 0} (result : Result T CoreError) → put_reply result ≡ replied.Device → IsErrOf result (Store store.Device)
 put_device (Ok done) is = absurd (cc)
 put_device (Err error) is = ap (λ (cause : CoreError). Err cause) (device_alone error is)
 
@@ -151,7 +151,7 @@ module _ {D T : Type 0} (failures refusals : D → ℕ) (old new : Core D) (erro
   error_is is = cc
 
   -- an error other than `Device` and `NoMemory` halts nothing
-  calm : error ≢ Store store.Device → error ≢ Store store.NoMemory → is_halted old ≡ false → is_halted new ≡ is_halted old
+  pub calm : error ≢ Store store.Device → error ≢ Store store.NoMemory → is_halted old ≡ false → is_halted new ≡ is_halted old
   calm not_device not_memory working = at (is_halted new) refl
     where
       erred : HasErred failures refusals old.vault.disk new.vault.disk → ⊥
@@ -162,7 +162,7 @@ module _ {D T : Type 0} (failures refusals : D → ℕ) (old new : Core D) (erro
       at false goes = goes ∙ sym working
       at true stops = elim (halts.halts.0 stops) [ inl before ↦ stops ∙ sym before | inr it ↦ absurd (erred it) ]
 
-some_is_none : (end : Stop) → ◌≡◌ {A = Option Stop} (Some end) None → ⊥
+pub some_is_none : (end : Stop) → ◌≡◌ {A = Option Stop} (Some end) None → ⊥
 some_is_none end is = cc
 
 -- after a put whose reply ends no session the core is halted exactly if it was before

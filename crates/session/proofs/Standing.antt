@@ -20,7 +20,7 @@ use Rattle.session.specs.declared.reply.Reply.{Reply}
 use Rattle.session.specs.Answers.{Drive}
 use Rattle.session.specs.Fails.{AnswersLines}
 use Rattle.session.specs.Lines.{Answered, ComesTo, Linked, SoFar, Stands, TellsReply, went_of}
-use Rattle.session.specs.Progress.{StandsAt}
+use Rattle.session.specs.Progress.{KeepsStanding}
 use Rattle.session.specs.Session.{AreReplies, ending_of, no_ending, stop_of}
 use Rattle.session.specs.Streams.{TellsSink}
 use Rattle.session.specs.Went.{GoesOnByLine}
@@ -31,10 +31,6 @@ use Rattle.session.proofs.Turns.{Turned, by_all, by_these, linked_nowhere, turne
 use Rattle.session.proofs.Went.{finished, some_is_not_none, went_nowhere}
 
 module _ {D : Type 0} (files : D → Side → File) (moment : D → ℕ) (left_at : D → ℕ → Contents → Type 0) (failures refusals : D → ℕ) (honest : Type 0) {S : Type 0} (target : S → GName) (has_failed : S → Bool) (contents : S → Option (List ℕ)) where
-  -- however the session stood before, it stands so now
-  abbrev pub KeepsStanding : (before after : Progress) → (here there : S) → (from new : Core D) → Type 0
-  KeepsStanding before after here there from new = (drive : Drive) (commands : List Command) (first : S) (old : Core D) → StandsAt files moment left_at failures refusals honest target has_failed contents drive commands first here old from before → StandsAt files moment left_at failures refusals honest target has_failed contents drive commands first there old new after
-
   -- ---- before the first line
 
   begun : (honest → RestLeaves files moment left_at) → (honest → GatesRest files moment left_at) → (drive : Drive) (commands : List Command) (first : S) (core : Core D) → (honest → IsKept files core) → (is_halted core ≡ false → core.in_doubt ≡ [])
@@ -145,7 +141,7 @@ module _ {D : Type 0} (files : D → Side → File) (moment : D → ℕ) (left_a
       over = λ ended. elim ended [ inl failed ↦ absurd (false≢true failed) | inr stops ↦ stopped_here so_far it g of_graph tells stops ];
     }
 
-  calm_so_far : (drive : Drive) (commands left : List Command) (first now : S) (old new : Core D) (ending : Ending) (failed : Bool) → failed ≡ false → Stands files moment left_at failures refusals honest target has_failed contents drive commands left first now old new ending failed → StaysCalm target has_failed first now
+  pub calm_so_far : (drive : Drive) (commands left : List Command) (first now : S) (old new : Core D) (ending : Ending) (failed : Bool) → failed ≡ false → Stands files moment left_at failures refusals honest target has_failed contents drive commands left first now old new ending failed → StaysCalm target has_failed first now
   calm_so_far drive commands left first now old new ending true works it = absurd (false≢true (sym works))
   calm_so_far drive commands left first now old new ending false works it = it.sink
 
@@ -161,7 +157,7 @@ module _ {D : Type 0} (files : D → Side → File) (moment : D → ℕ) (left_a
   pub keeps_on : AmongBoth → (honest → GatesStay files moment left_at) → (start was took now : Progress) (begin here there : S) (from mid new : Core D) (command : Command) (reply : Reply) (g : Graph)
       → was.left.now ≡ command ∷ took.left.now → was.failed ≡ false → was.ending.stop ≡ None → took.ending ≡ was.ending → now.left.now ≡ took.left.now → g ≡ graph new
       → ((drive : Drive) → drive.was_halted ≡ is_halted mid → ComesTo files moment left_at failures refusals honest drive mid new command reply) → TellsReply target has_failed contents g command reply here there took.ending now.ending now.failed
-      → KeepsStanding start was begin here from mid → KeepsStanding start now begin there from new
+      → KeepsStanding files moment left_at failures refusals honest target has_failed contents start was begin here from mid → KeepsStanding files moment left_at failures refusals honest target has_failed contents start now begin there from new
   keeps_on both gates_stay start was took now begin here there from mid new command reply g is works none same left of_graph comes tells stood drive commands first old stands =
       subst (λ (list : List Command). Stands files moment left_at failures refusals honest target has_failed contents drive commands list first there old new now.ending now.failed) (sym left)
       (stands_on both gates_stay drive commands was.left.now took.left.now first here there old mid new command reply was.ending now.ending was.failed now.failed g is works none of_graph (stood drive commands first old stands) (comes drive)

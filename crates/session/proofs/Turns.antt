@@ -1,5 +1,5 @@
 -- One more line: what the core comes to by it, and what was answered up to it.
-use Rattle.std.proofs.Common.{◌≡◌, ◌≢◌, ℕ, List, [], ◌∷◌, ◌++◌, None, append_assoc, append-nil, refl, subst, sym}
+use Rattle.std.proofs.Common.{◌≡◌, ◌≢◌, ℕ, List, [], ◌∷◌, ◌++◌, None, ap, append_assoc, append-nil, refl, subst, sym}
 use Rattle.disk.specs.declared.side.Side.{Side}
 use Rattle.disk.specs.File.{File}
 use Rattle.disk.specs.Time.{Contents}
@@ -13,7 +13,7 @@ use Rattle.session.specs.declared.reply.Reply.{Reply}
 use Rattle.session.specs.Answers.{Drive, Replies}
 use Rattle.session.specs.Lines.{Answered, Linked}
 use Rattle.session.specs.Session.{AreReplies, all_of, ending_of, stop_of, with_reply}
-use Rattle.session.specs.Went.{GoesOnBy, GoesOnByAll, GoesOnByLine, HasCause}
+use Rattle.session.specs.Went.{GoesOnBy, GoesOnByAll, GoesOnByLine, HasCause, by_itself}
 use Rattle.session.proofs.Coming.{answered_there, graph_behind, joined_by}
 use Rattle.session.proofs.Went.{begun_with, ended, one_line_more, stopped, went_on}
 
@@ -29,7 +29,14 @@ module _ {D : Type 0} (files : D → Side → File) (moment : D → ℕ) (left_a
         subst (λ (commands : List Command). GoesOnByLine files moment left_at failures refusals honest old last commands ((replies ++ reply ∷ []) ++ rest) ((events ++ came ∷ []) ++ later)) (sym (append_assoc begun (command ∷ []) more))
         (subst (λ (all : List Reply). GoesOnByLine files moment left_at failures refusals honest old last (begun ++ command ∷ more) all ((events ++ came ∷ []) ++ later)) (sym (append_assoc replies (reply ∷ []) rest))
         (subst (λ (all : List (List Event)). GoesOnByLine files moment left_at failures refusals honest old last (begun ++ command ∷ more) (replies ++ reply ∷ rest) all) (sym (append_assoc events (came ∷ []) later))
-        (linked.follows last (command ∷ more) (reply ∷ rest) (came ∷ later) (new, goes, cause, it))));
+        (linked.follows last (command ∷ more) (reply ∷ rest) (came ∷ later) (record {
+          rows = by_itself command reply came ∷ it.rows;
+          left = it.left;
+          commands_are = ap (λ (list : List Command). command ∷ list) it.commands_are;
+          replies_are = ap (λ (list : List Reply). reply ∷ list) it.replies_are;
+          events_are = ap (λ (list : List (List Event)). came ∷ list) it.events_are;
+          by_row = (new, goes, cause, it.by_row);
+        }))));
   }
 
   -- it went on by these alone, whatever commands are left
@@ -37,7 +44,7 @@ module _ {D : Type 0} (files : D → Side → File) (moment : D → ℕ) (left_a
       → GoesOnByLine files moment left_at failures refusals honest old new (begun ++ left) replies events
   by_these old new begun left replies events linked =
       subst (λ (all : List Reply). GoesOnByLine files moment left_at failures refusals honest old new (begun ++ left) all events) (append-nil replies)
-      (subst (λ (all : List (List Event)). GoesOnByLine files moment left_at failures refusals honest old new (begun ++ left) (replies ++ []) all) (append-nil events) (linked.follows new left [] [] refl))
+      (subst (λ (all : List (List Event)). GoesOnByLine files moment left_at failures refusals honest old new (begun ++ left) (replies ++ []) all) (append-nil events) (linked.follows new left [] [] (record { rows = []; left = left; commands_are = refl; replies_are = refl; events_are = refl; by_row = refl })))
 
   module _ (drive : Drive) where
     -- After this command: the session goes on if the reply does not end it, and else no further command is answered.

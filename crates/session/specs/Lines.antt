@@ -1,5 +1,5 @@
 -- The lines of a script: what those that were answered came to, and how a session goes on from there.
-use Rattle.std.specs.Prelude.{◌≡◌, ◌≢◌, ◌⊎◌, ℕ, Bool, true, false, List, ◌++◌, Option, Some, None, Result, Ok, Err}
+use Rattle.std.specs.Prelude.{◌≡◌, ◌≢◌, ◌⊎◌, ◌≤◌, ℕ, Bool, true, false, List, [], ◌∷◌, ◌++◌, length, map, take, Option, Some, None, Result, Ok, Err}
 use Rattle.std.specs.Borrow.{GName}
 use Rattle.std.specs.Io.KnownBytes.{Appends}
 use Rattle.disk.specs.declared.side.Side.{Side}
@@ -9,11 +9,14 @@ use Rattle.terms.specs.declared.event.Event.{Event}
 use Rattle.terms.specs.Facts as stated
 use Rattle.terms.specs.Sets.{Facts, with_facts}
 use Rattle.graph.specs.Graph.{Graph}
+use Rattle.machine.specs.State.{AreLegalFrom}
 use Rattle.commit.specs.declared.verdict.RunError.{RunError}
 use Rattle.commit.specs.declared.verdict.Verdict.{Verdict}
-use Rattle.commit.specs.declared.verdict.Verdict.TheVariants.{Halted}
+use Rattle.commit.specs.declared.verdict.Verdict.TheVariants as came_to
+use Rattle.commit.specs.Calls.{KeepsStore}
 use Rattle.commit.specs.Core.{Core, facts, graph, is_halted}
 use Rattle.commit.specs.Runs.{RunsWithin}
+use Rattle.commit.specs.Went.{GoesOn}
 use Rattle.report.specs.Sinks.{HasJustFailed, StaysCalm}
 use Rattle.script.specs.declared.command.Command.{Command}
 use Rattle.script.specs.declared.command.Command.TheVariants.{Run}
@@ -21,12 +24,14 @@ use Rattle.session.specs.declared.ending.Ending.{Ending}
 use Rattle.session.specs.declared.error.SessionError.{SessionError}
 use Rattle.session.specs.declared.error.SessionError.TheVariants.{Write}
 use Rattle.session.specs.declared.reply.Reply.{Reply}
+use Rattle.session.specs.declared.rows.Together.{Together}
+use Rattle.session.specs.declared.rows.Together.TheVariants.{Came, Apart, Halted}
 use Rattle.session.specs.Answers.{Drive, Replies, drive_of}
 use Rattle.session.specs.Fails.{AnswersCommands, AnswersLines}
 use Rattle.session.specs.Replies.{reply_text}
 use Rattle.session.specs.Session.{AreReplies, all_of, ending_from, no_ending, replies_text, stop_of, with_reply}
 use Rattle.session.specs.Streams.{TellsSink}
-use Rattle.session.specs.Went.{GoesOnBy, GoesOnByLine, HasCause}
+use Rattle.session.specs.Went.{ComeTogether, GoesOnBy, GoesOnByLine, HasCause, put_by}
 
 -- From these facts on the commands `begun` were answered with these replies, and these events came; the session went on, with this ending so far.
 pub record Answered (g : Graph) (drive : Drive) (X : Facts) (begun : List Command) (ending : Ending) (replies : List Reply) (events : List (List Event)) : Type 0 where
@@ -55,14 +60,41 @@ module _ {D : Type 0} (files : D → Side → File) (moment : D → ℕ) (left_a
     pub cause : HasCause failures old new command goes_on.commits reply
     pub stays : stop_of reply ≡ None → is_halted new ≡ is_halted old
 
+  -- These puts came as one commit: their events were legal, one after another.
+  pub record CameTogether (old new : Core D) (commands : List Command) : Type 0 where
+    pub legal : AreLegalFrom (graph old) (facts old) (all_of (map put_by commands))
+    pub together : ComeTogether files moment left_at failures refusals honest old new commands (map put_by commands)
+
   -- any command but a run comes to its reply, and a run is left to do
   abbrev pub AnswersAtOnce : (old new : Core D) → Command → Option Reply → Type 0
   AnswersAtOnce old new command None = (command ≡ Run) × (new ≡ old)
   AnswersAtOnce old new command (Some reply) = (drive : Drive) → drive.was_halted ≡ is_halted old → ComesTo drive old new command reply
 
+  -- the first of these commands came to this reply
+  abbrev pub AnswersFirst : (old new : Core D) → List Command → Reply → Type 0
+  AnswersFirst old new [] reply = ⊥
+  AnswersFirst old new (command ∷ rest) reply = AnswersAtOnce old new command (Some reply)
+
+  -- the first ones of these puts came as one commit
+  pub record FirstCame (old new : Core D) (commands : List Command) (count : ℕ) : Type 0 where
+    pub some : 1 ≤ count
+    pub within : count ≤ length commands
+    pub came : CameTogether old new (take count commands)
+
+  -- what some puts come to: the first ones came as one commit; or the first alone was answered, with this reply
+  abbrev pub AnswersSome : (old new : Core D) → List Command → Result ℕ Reply → Type 0
+  AnswersSome old new commands (Ok count) = FirstCame old new commands count
+  AnswersSome old new commands (Err reply) = AnswersFirst old new commands reply
+
+  -- the same if they are tried as one commit: or nothing came, and nothing has changed but room in memory
+  abbrev pub AnswersTogether : (old new : Core D) → List Command → Together → Type 0
+  AnswersTogether old new commands (Came count) = FirstCame old new commands count
+  AnswersTogether old new commands Apart = KeepsStore old new × GoesOn files moment left_at failures refusals honest old new []
+  AnswersTogether old new commands (Halted reply) = AnswersFirst old new commands reply
+
   -- a run on one thread, or by workers, returned this
   pub record HasRunTo (most : ℕ) (may_be_asked may_spawn : Bool) (old new : Core D) (verdict : Result Verdict RunError) : Type 0 where
-    pub halted : is_halted old ≡ true → (new ≡ old) × (verdict ≡ Ok Halted)
+    pub halted : is_halted old ≡ true → (new ≡ old) × (verdict ≡ Ok came_to.Halted)
     pub runs : is_halted old ≡ false → RunsWithin files moment left_at failures refusals honest may_be_asked may_spawn old new most verdict
 
   -- the command `run` comes to this reply, if the run returned this
@@ -106,3 +138,8 @@ module _ {S : Type 0} (target : S → GName) (has_failed : S → Bool) where
   abbrev pub TellsReply : (contents : S → Option (List ℕ)) → Graph → Command → Reply → (old new : S) → (before ending : Ending) → (failed : Bool) → Type 0
   TellsReply contents g command reply old new before ending true = HasJustFailed target has_failed old new
   TellsReply contents g command reply old new before ending false = StaysCalm target has_failed old new × (ending ≡ with_reply before command reply) × Appends (contents old) (contents new) (reply_text g reply)
+
+  -- the same of several replies
+  abbrev pub TellsReplies : (contents : S → Option (List ℕ)) → Graph → List Command → List Reply → (old new : S) → (before ending : Ending) → (failed : Bool) → Type 0
+  TellsReplies contents g commands replies old new before ending true = HasJustFailed target has_failed old new
+  TellsReplies contents g commands replies old new before ending false = StaysCalm target has_failed old new × (ending ≡ ending_from before commands replies) × Appends (contents old) (contents new) (replies_text g replies)

@@ -1,5 +1,5 @@
 -- How far the lines of a script are, and what its calls do with them, however a session came there.
-use Rattle.std.specs.Prelude.{◌≡◌, ℕ, Bool, true, false, List, ◌∷◌, Option, None, Result}
+use Rattle.std.specs.Prelude.{◌≡◌, ◌≤◌, ℕ, Bool, true, false, List, ◌∷◌, drop, Option, None, Result}
 use Rattle.std.specs.Borrow.{GName}
 use Rattle.disk.specs.declared.side.Side.{Side}
 use Rattle.disk.specs.File.{File}
@@ -15,11 +15,22 @@ use Rattle.session.specs.Fails.{AnswersLines}
 use Rattle.session.specs.Lines.{HasRunTo, Stands, went_of}
 use Rattle.session.specs.Streams.{TellsSink}
 
+-- what is left behind at least one of these commands, and at most so many
+pub record IsBehind (most : ℕ) (commands left : List Command) : Type 0 where
+  pub count : ℕ
+  pub some : 1 ≤ count
+  pub within : count ≤ most
+  pub rest : left ≡ drop count commands
+
 module _ {D : Type 0} (files : D → Side → File) (moment : D → ℕ) (left_at : D → ℕ → Contents → Type 0) (failures refusals : D → ℕ) (honest : Type 0)
     {S : Type 0} (target : S → GName) (has_failed : S → Bool) (contents : S → Option (List ℕ)) where
   -- how a session stands whose lines are so far
   abbrev pub StandsAt : Drive → List Command → (first now : S) → (old new : Core D) → Progress → Type 0
   StandsAt drive commands first now old new progress = Stands files moment left_at failures refusals honest target has_failed contents drive commands progress.left.now first now old new progress.ending progress.failed
+
+  -- however the session stood before, it stands so now
+  abbrev pub KeepsStanding : (before after : Progress) → (here there : S) → (from new : Core D) → Type 0
+  KeepsStanding before after here there from new = (drive : Drive) (commands : List Command) (first : S) (old : Core D) → StandsAt drive commands first here old from before → StandsAt drive commands first there old new after
 
   -- it goes on, and the next line is a run
   abbrev pub IsAtRun : Drive → List Command → (first now : S) → (old new : Core D) → Progress → Type 0

@@ -1,5 +1,6 @@
 -- How a core goes on by the lines of a script, and the cause of the reply to each.
-use Rattle.std.specs.Prelude.{⊤, ◌≡◌, ◌≢◌, ◌⊎◌, ◌<◌, ◌↔◌, ℕ, true, List, [], ◌∷◌}
+use Rattle.std.specs.Prelude.{⊤, ◌≡◌, ◌≢◌, ◌⊎◌, ◌<◌, ◌≤◌, ◌↔◌, ℕ, true, false, List, [], ◌∷◌, ◌++◌, length, map}
+use Rattle.std.specs.List.{AllByRecursion}
 use Rattle.disk.specs.declared.side.Side.{Side}
 use Rattle.disk.specs.File.{File}
 use Rattle.disk.specs.Time.{Contents}
@@ -8,6 +9,7 @@ use Rattle.terms.specs.declared.event.Event.TheVariants.{EnvItem, EnvTag}
 use Rattle.terms.specs.Commits.{Commit, events_of}
 use Rattle.terms.specs.Sets.{Facts}
 use Rattle.graph.specs.Graph.{Graph}
+use Rattle.commit.specs.declared.batch.TheConstants.{MOST_TOGETHER}
 use Rattle.commit.specs.declared.status.Status.TheVariants as status
 use Rattle.commit.specs.Calls.{IsTooLong}
 use Rattle.commit.specs.Core.{Core, is_halted}
@@ -36,6 +38,10 @@ Puts (Tag name) = ⊤
 Puts (Get address) = ⊥
 Puts Run = ⊥
 
+-- `ok` to each of these commands
+abbrev pub dones : List Command → List Reply
+dones commands = map (λ _. replied.Done) commands
+
 -- How far the core is after a run with this reply, if the reply does not say it: something is left to do; or no memory was there for the list of those that
 -- wait.
 abbrev pub IsLeft : {D : Type 0} → Core D → Reply → Type 0
@@ -63,6 +69,37 @@ pub record HasCauseOfRun {D : Type 0} (g : Graph) (X : Facts) (from : ℕ) (new 
   pub full : reply ≡ replied.Full → MetFull g X from commits
   pub left : IsLeft new reply
 
+-- ---- rows
+
+-- what a command puts; nothing, if it is a get or a run
+abbrev pub put_by : Command → List Event
+put_by (Put address v) = EnvItem address v ∷ []
+put_by (Tag name) = EnvTag name ∷ []
+put_by (Get address) = []
+put_by Run = []
+
+-- Lines that were answered together: one line, with its reply and the events that came by it; or several puts, with the events that came by each, to all of which the reply is
+-- `ok`.
+pub data Row : Type 0 where
+  by_itself : Command → Reply → List Event → Row
+  in_group : List Command → List (List Event) → Row
+
+-- the lines of these rows, the replies to them, and the events that came by each
+abbrev pub commands_in : List Row → List Command
+commands_in [] = []
+commands_in (by_itself command reply came ∷ rows) = command ∷ commands_in rows
+commands_in (in_group commands events ∷ rows) = commands ++ commands_in rows
+
+abbrev pub replies_in : List Row → List Reply
+replies_in [] = []
+replies_in (by_itself command reply came ∷ rows) = reply ∷ replies_in rows
+replies_in (in_group commands events ∷ rows) = dones commands ++ replies_in rows
+
+abbrev pub events_in : List Row → List (List Event)
+events_in [] = []
+events_in (by_itself command reply came ∷ rows) = came ∷ events_in rows
+events_in (in_group commands events ∷ rows) = events ++ events_in rows
+
 -- ---- lines
 
 module _ {D : Type 0} (files : D → Side → File) (moment : D → ℕ) (left_at : D → ℕ → Contents → Type 0) (failures refusals : D → ℕ) (honest : Type 0) where
@@ -72,12 +109,31 @@ module _ {D : Type 0} (files : D → Side → File) (moment : D → ℕ) (left_a
     pub order : events_of commits ≡ events
     pub goes_on : GoesOn files moment left_at failures refusals honest old new commits
 
-  -- Line by line: from one line to the next the core goes on by the events of that line, and the reply has its cause. So the events of a line are
-  -- there when the next one begins, and no crash undoes them from then on.
-  abbrev pub GoesOnByLine : Core D → Core D → List Command → List Reply → (events : List (List Event)) → Type 0
-  GoesOnByLine old new commands replies [] = new ≡ old
-  GoesOnByLine old new (command ∷ more) (reply ∷ rest) (came ∷ later) = (mid : Core D) × (goes : GoesOnBy old mid came) × HasCause failures old mid command goes.commits reply × GoesOnByLine mid new more rest later
-  GoesOnByLine old new commands replies events = ⊥
+  -- Several puts that were committed as one: the event of each came by its line, all of them as one commit, and the core is not halted.
+  pub record ComeTogether (old new : Core D) (commands : List Command) (events : List (List Event)) : Type 0 where
+    pub some : 1 ≤ length commands
+    pub few : length commands ≤ MOST_TOGETHER
+    pub puts : AllByRecursion Puts commands
+    pub each : events ≡ map put_by commands
+    pub goes_on : GoesOn files moment left_at failures refusals honest old new (all_of events ∷ [])
+    pub working : (is_halted old ≡ false) × (is_halted new ≡ false)
+
+  -- Row by row: from one row to the next the core goes on by the events of that row. If the row is one line, the reply has its cause; otherwise its events came as one
+  -- commit.
+  abbrev pub GoesOnByRow : Core D → Core D → List Row → Type 0
+  GoesOnByRow old new [] = new ≡ old
+  GoesOnByRow old new (by_itself command reply came ∷ later) = (mid : Core D) × (goes : GoesOnBy old mid came) × HasCause failures old mid command goes.commits reply × GoesOnByRow mid new later
+  GoesOnByRow old new (in_group commands events ∷ later) = (mid : Core D) × ComeTogether old mid commands events × GoesOnByRow mid new later
+
+  -- Line by line: the lines that were answered are rows, each of one line or of several puts that were committed as one, and the core goes on row by row. So the events of a row are
+  -- there when the next one begins, and no crash undoes them from then on. A crash in a row of several puts leaves all of their events, or none of them.
+  pub record GoesOnByLine (old new : Core D) (commands : List Command) (replies : List Reply) (events : List (List Event)) : Type 0 where
+    pub rows : List Row
+    pub left : List Command
+    pub commands_are : commands ≡ commands_in rows ++ left
+    pub replies_are : replies ≡ replies_in rows
+    pub events_are : events ≡ events_in rows
+    pub by_row : GoesOnByRow old new rows
 
   -- how the core goes on by these lines: by all their events together, and line by line
   pub record GoesOnByAll (old new : Core D) (commands : List Command) (replies : List Reply) (events : List (List Event)) : Type 0 where

@@ -110,8 +110,8 @@ fn got<D: Disk>(core: &Core<D>, address: Addr) -> Reply
     }
 }
 
-// The reply to an error of a put or a get.
-fn refusal(error: CoreError) -> Reply
+/// The reply to an error of a put or a get.
+pub(crate) fn refusal(error: CoreError) -> Reply
     ensures { result ≡ reply_of error }
 {
     match error {

@@ -39,7 +39,7 @@ pub(crate) fn run_script<D: Disk + Send, O: Sink, H: Threads + Wait + Sync, P: P
     core.is_kept();
     let mut core = core;
     let mut progress = Progress::new(commands);
-    while progress.reach_run(&mut core, out) {
+    while progress.reach_run(alloc, &mut core, out) {
         let (next, verdict) = driver.run(alloc, core, limit);
         core = next;
         progress.answer_run(alloc, &core, verdict, out);
@@ -65,7 +65,7 @@ pub(crate) fn run_script_alone<D: Disk, O: Sink>(
     core.is_kept();
     let mut core = core;
     let mut progress = Progress::new(commands);
-    while progress.reach_run(&mut core, out) {
+    while progress.reach_run(alloc, &mut core, out) {
         let (next, verdict) = run_with(alloc, core, &mut First, limit);
         core = next;
         progress.answer_run(alloc, &core, verdict, out);

@@ -12,6 +12,7 @@ mod error;
 mod laws;
 mod progress;
 mod reply;
+mod rows;
 mod sessions;
 mod source;
 mod waiting;

@@ -1,11 +1,15 @@
 //! How far the lines of a script are.
-ghost use Rattle.std.specs.Prelude.{◌≡◌, ◌∷◌, ◌<◌, [], None, false, true, length, IfSome, IsTrue};
+ghost use Rattle.std.specs.Prelude.{◌≡◌, ◌∷◌, ◌<◌, ◌≤◌, [], None, false, true, length, take, IfSome, IsTrue};
+ghost use Rattle.std.specs.List.{AllByRecursion};
 ghost use Rattle.commit.specs.Runs.{NoneRuns};
+ghost use Rattle.commit.specs.declared.batch.TheConstants.{MOST_TOGETHER};
+ghost use Rattle.session.specs.Went.{Puts, dones};
 
 use crate::answers::{answer, ran};
 use crate::reply::{NamedReply, Reply};
+use crate::rows::{put_some, puts_in_front};
 use crate::{Ending, SessionError};
-use commit::{Core, RunError, Verdict};
+use commit::{Core, MOST_TOGETHER, RunError, Verdict};
 use disk::Disk;
 use graph::Graph;
 use report::Sink;
@@ -15,7 +19,8 @@ use terms::facts_are_told_apart;
 use vault::stores_go_on;
 
 /// How far the lines of a script are. It does what each line asks for, one after another, and writes the replies; but at
-/// a `run` it stops. Its caller then runs the steps, and passes on the verdict.
+/// a `run` it stops. Its caller then runs the steps, and passes on the verdict. Where more puts stand in a row than may be committed
+/// together, it commits them in groups.
 #[derive(Drop)]
 pub(crate) struct Progress<'a> {
     /// The lines that are left.
@@ -27,8 +32,8 @@ pub(crate) struct Progress<'a> {
 }
 
 impl<'a> Progress<'a> {
-    ghost use Rattle.session.specs.Lines.{TellsReply, went_of};
-    ghost use Rattle.session.specs.Progress.{AnswersRun, ReachesRun};
+    ghost use Rattle.session.specs.Lines.{TellsReplies, TellsReply, went_of};
+    ghost use Rattle.session.specs.Progress.{AnswersRun, IsBehind, KeepsStanding, ReachesRun};
     ghost use Rattle.session.specs.Session.{no_ending};
 
     /// No line of a script is answered.
@@ -46,7 +51,12 @@ impl<'a> Progress<'a> {
 
     /// Answers the lines up to the next `run`, and returns whether there is one. If there is none, the lines have ended:
     /// all are answered, or a reply ended the session, or the sink failed.
-    pub(crate) fn reach_run<D: Disk, O: Sink>(&mut self, core: &mut Core<D>, out: &mut O) -> bool
+    pub(crate) fn reach_run<D: Disk, O: Sink>(
+        &mut self,
+        alloc: Global,
+        core: &mut Core<D>,
+        out: &mut O,
+    ) -> bool
         requires idle { NoneRuns core.old }
         ensures idle { NoneRuns core.new }
         ensures reaches { ReachesRun D.files D.moment D.left_at D.failures D.refusals (IsTrue D.is_honest) O.target O.has_failed O.contents self.old self.new out.old out.new core.old core.new result }
@@ -54,13 +64,16 @@ impl<'a> Progress<'a> {
     {
         facts_are_told_apart();
         stores_go_on::<D>();
-        while let Some(command) = self.next() {
+        'lines: loop {
+            self.put_row(alloc, core, out);
+            let Some(command) = self.next() else {
+                return false;
+            };
             match answer(core, *command) {
                 Some(reply) => self.reply(core.graph(), *command, &reply, out),
                 None => return true,
             }
         }
-        false
     }
 
     /// Answers the `run` that was reached, which returned this verdict and left this core.
@@ -88,6 +101,66 @@ impl<'a> Progress<'a> {
             return Err(SessionError::Write);
         }
         Ok(self.ending)
+    }
+
+    // Answers the puts in front, if more than `MOST_TOGETHER` of them stand in a row. They are committed in groups of up to so many; one
+    // that does not come with others is put alone.
+    fn put_row<D: Disk, O: Sink>(&mut self, alloc: Global, core: &mut Core<D>, out: &mut O)
+        requires idle { NoneRuns core.old }
+        ensures idle { NoneRuns core.new }
+        ensures keeps { KeepsStanding D.files D.moment D.left_at D.failures D.refusals (IsTrue D.is_honest) O.target O.has_failed O.contents self.old self.new out.old out.new core.old core.new }
+        ensures fewer { length self.new.left.now ≤ length self.old.left.now }
+    {
+        let row = puts_in_front(self.left);
+        if row <= MOST_TOGETHER {
+            return;
+        }
+        let behind = self.left.len() - row;
+        'groups: while self.goes_on(behind) {
+            let most = (self.left.len() - behind).min(MOST_TOGETHER);
+            self.put_group(alloc, core, most, out);
+        }
+    }
+
+    // Whether the session goes on, since the sink has not failed and no reply has ended it, to a line before the last `behind` ones.
+    fn goes_on(&self, behind: usize) -> bool
+        ensures { result ≡ true → (self.now.failed ≡ false) × (self.now.ending.stop ≡ None) × (behind < length self.now.left.now) }
+    {
+        !self.failed && self.ending.stop.is_none() && behind < self.left.len()
+    }
+
+    // Answers the first of these puts in front: as many as come as one commit, or one alone.
+    fn put_group<D: Disk, O: Sink>(
+        &mut self,
+        alloc: Global,
+        core: &mut Core<D>,
+        most: usize,
+        out: &mut O,
+    )
+        requires idle { NoneRuns core.old }
+        requires going { (self.old.failed ≡ false) × (self.old.ending.stop ≡ None) }
+        requires some { 1 ≤ most }
+        requires few { most ≤ MOST_TOGETHER }
+        requires within { most ≤ length self.old.left.now }
+        requires puts { AllByRecursion Puts (take most self.old.left.now) }
+        ensures idle { NoneRuns core.new }
+        ensures keeps { KeepsStanding D.files D.moment D.left_at D.failures D.refusals (IsTrue D.is_honest) O.target O.has_failed O.contents self.old self.new out.old out.new core.old core.new }
+        ensures rest { IsBehind most self.old.left.now self.new.left.now }
+    {
+        facts_are_told_apart();
+        stores_go_on::<D>();
+        let left = self.left;
+        let group = &left[..most];
+        match put_some(alloc, core, group) {
+            Ok(count) => {
+                self.left = &left[count..];
+                self.reply_done(core.graph(), &group[..count], out);
+            }
+            Err(reply) => {
+                self.left = &left[1..];
+                self.reply(core.graph(), group[0], &reply, out);
+            }
+        }
     }
 
     // Takes the next line, unless the session has ended.
@@ -120,6 +193,21 @@ impl<'a> Progress<'a> {
         match out.write_fmt(named) {
             Ok(()) => self.ending = self.ending.with_reply(command, reply),
             Err(_) => self.failed = true,
+        }
+    }
+
+    // Writes `ok` for each of these puts, up to the first that cannot be written.
+    fn reply_done<O: Sink>(&mut self, graph: &Graph, commands: &[Command], out: &mut O)
+        requires going { self.old.failed ≡ false }
+        ensures left { self.new.left.now ≡ self.old.left.now }
+        ensures tells { TellsReplies O.target O.has_failed O.contents graph.now commands.now (dones commands.now) out.old out.new self.old.ending self.new.ending self.new.failed }
+    {
+        for command in commands {
+            let done = Reply::Done;
+            self.reply(graph, *command, &done, out);
+            if self.failed {
+                return;
+            }
         }
     }
 }

@@ -27,8 +27,10 @@ use vault::stores_go_on;
 ///
 /// The driver runs the steps, with this limit for each run. A reply of `refused 8`, `9` or `10`, or that a thread could
 /// not be started, ends the session without a report. An error before the first line leaves the store and the output as
-/// they were; after a later error, what was committed stays. A crash at any moment of a line leaves all that came by the
-/// lines before it, and a prefix of its own commits.
+/// they were; after a later error, what was committed stays. Where more than 64 puts stand in a row they are committed in
+/// groups of up to 64, and the replies to a group are written after its record is on the disk. A crash at any moment of a
+/// line, or of such a group, leaves all that came by the lines before it, and a prefix of its own commits: so of a group
+/// all or nothing.
 pub fn session<D: Disk + Send, S: Source, O: Sink, H: Threads + Wait + Sync, P: Probe>(
     alloc: Global,
     core: Core<D>,

@@ -1,4 +1,4 @@
-use Rattle.std.proofs.Common.{IsTrue, arith, ap, length, refl, subst, sym}
+use Rattle.std.proofs.Common.{IsTrue, refl, subst, sym}
 use Rattle.std.specs.Prelude.{Result}
 use Rattle.commit.specs.Core.{is_halted}
 use Rattle.pool.specs.Driver.{may_be_asked, may_spawn}

@@ -2,49 +2,48 @@ use Rattle.std.proofs.Common.{◌∙◌, ap, arith, length, refl, IsTrue}
 use Rattle.session.proofs.Standing.{at_run, is_over, keeps_on}
 use Rattle.session.proofs.progress.Progress.reach_run.Goals as goal
 
-pub loop-command-init : goal.loop-command-init
-loop-command-init g c = record { idle = c.requires.idle; stands = λ drive commands first old it. it; fewer = omega arith }
-
 pub returns-in-None-clause-reaches : goal.returns-in-None-clause-reaches
 returns-in-None-clause-reaches g c drive commands first old stands =
-    let it = c.loop-command in
+    let it = c.put_row.new in
     let some = c.in-Some.ensures.some in
     let none = c.in-None.ensures.answers in
     let same = c.next.ensures.same in
     at_run g.D.Disk.files g.D.Disk.moment g.D.Disk.left_at g.D.Disk.failures g.D.Disk.refusals (IsTrue g.D.Disk.is_honest) g.O.Sink.target g.O.Sink.has_failed g.O.Sink.contents
     drive commands it.self.left.now c.next.new.self.left.now first it.out old it.core c.answer.new.core c.in-Some.command.now it.self.ending c.next.new.self.ending it.self.failed c.next.new.self.failed
-    some.2 none.0 some.0 some.1 same.0 same.1 none.1 (it.invariant.stands drive commands first old stands)
+    some.2 none.0 some.0 some.1 same.0 same.1 none.1 (c.put_row.ensures.keeps drive commands first old (c.lines.invariant.stands drive commands first old stands))
 
-pub returns-clause-reaches : goal.returns-clause-reaches
-returns-clause-reaches g c drive commands first old stands =
-    let it = c.loop-command in
+pub returns-in_default-clause-reaches : goal.returns-in_default-clause-reaches
+returns-in_default-clause-reaches g c drive commands first old stands =
+    let it = c.put_row.new in
     let same = c.next.ensures.same in
     is_over g.D.Disk.files g.D.Disk.moment g.D.Disk.left_at g.D.Disk.failures g.D.Disk.refusals (IsTrue g.D.Disk.is_honest) g.O.Sink.target g.O.Sink.has_failed g.O.Sink.contents
     drive commands it.self.left.now first it.out old it.core it.self.ending c.next.new.self.ending it.self.failed c.next.new.self.failed
-    (c.in_default.ensures.none refl) same.0 same.1 (it.invariant.stands drive commands first old stands)
+    (c.in_default.ensures.none refl) same.0 same.1 (c.put_row.ensures.keeps drive commands first old (c.lines.invariant.stands drive commands first old stands))
 
-pub loop-command-preserved : goal.loop-command-preserved
-loop-command-preserved g c =
-    let it = c.loop-command in
+pub lines-preserved : goal.lines-preserved
+lines-preserved g c =
+    let it = c.put_row.new in
     let some = c.in-Some.ensures.some in
     let same = c.next.ensures.same in
     record {
       idle = c.answer.ensures.idle;
       stands = keeps_on g.D.Disk.files g.D.Disk.moment g.D.Disk.left_at g.D.Disk.failures g.D.Disk.refusals (IsTrue g.D.Disk.is_honest) g.O.Sink.target g.O.Sink.has_failed g.O.Sink.contents c.facts_are_told_apart.ensures.among c.stores_go_on.ensures.gates_stay
           c.args.self.now it.self c.next.new.self c.reply.new.self c.args.out.now it.out c.reply.new.out c.args.core.now it.core c.answer.new.core c.in-Some.command.now c.in-Some-answer.reply c.deref.result.now
-          some.2 some.0 some.1 same.0 c.reply.ensures.left (c.deref.ensures ∙ c.graph.ensures) c.in-Some-answer.ensures.answers (c.reply.ensures.tells (same.1 ∙ some.0)) it.invariant.stands;
-      fewer = omega (arith, it.invariant.fewer, ap length some.2, ap length c.reply.ensures.left);
+          some.2 some.0 some.1 same.0 c.reply.ensures.left (c.deref.ensures ∙ c.graph.ensures) c.in-Some-answer.ensures.answers (c.reply.ensures.tells (same.1 ∙ some.0))
+          (λ drive commands first old stands. c.put_row.ensures.keeps drive commands first old (c.lines.invariant.stands drive commands first old stands));
+      fewer = omega (arith, c.lines.invariant.fewer, c.put_row.ensures.fewer, ap length some.2, ap length c.reply.ensures.left);
     }
 
-pub loop-command-preserved-in-Some-answer : goal.loop-command-preserved-in-Some-answer
-loop-command-preserved-in-Some-answer g c =
-    let it = c.loop-command in
+pub lines-preserved-in-Some-answer : goal.lines-preserved-in-Some-answer
+lines-preserved-in-Some-answer g c =
+    let it = c.put_row.new in
     let some = c.in-Some.ensures.some in
     let same = c.next.ensures.same in
     record {
       idle = c.answer.ensures.idle;
       stands = keeps_on g.D.Disk.files g.D.Disk.moment g.D.Disk.left_at g.D.Disk.failures g.D.Disk.refusals (IsTrue g.D.Disk.is_honest) g.O.Sink.target g.O.Sink.has_failed g.O.Sink.contents c.facts_are_told_apart.ensures.among c.stores_go_on.ensures.gates_stay
           c.args.self.now it.self c.next.new.self c.reply.new.self c.args.out.now it.out c.reply.new.out c.args.core.now it.core c.answer.new.core c.in-Some.command.now c.in-Some-answer.reply c.deref.result.now
-          some.2 some.0 some.1 same.0 c.reply.ensures.left (c.deref.ensures ∙ c.graph.ensures) c.in-Some-answer.ensures.answers (c.reply.ensures.tells (same.1 ∙ some.0)) it.invariant.stands;
-      fewer = omega (arith, it.invariant.fewer, ap length some.2, ap length c.reply.ensures.left);
+          some.2 some.0 some.1 same.0 c.reply.ensures.left (c.deref.ensures ∙ c.graph.ensures) c.in-Some-answer.ensures.answers (c.reply.ensures.tells (same.1 ∙ some.0))
+          (λ drive commands first old stands. c.put_row.ensures.keeps drive commands first old (c.lines.invariant.stands drive commands first old stands));
+      fewer = omega (arith, c.lines.invariant.fewer, c.put_row.ensures.fewer, ap length some.2, ap length c.reply.ensures.left);
     }
