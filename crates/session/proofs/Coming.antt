@@ -27,7 +27,7 @@ use Rattle.commit.proofs.Acknowledged.{carried, joined as both_acknowledged}
 use Rattle.commit.proofs.Joined.{ends_behind}
 use Rattle.commit.proofs.Lists.{environment_joined, events_joined, facts_joined, legal_joined, records_joined, with_nothing}
 use Rattle.commit.proofs.Running.{acknowledged_once, begins, legal_in_doubt, rests, with_record}
-use Rattle.commit.proofs.Same.{alike, alike_on}
+use Rattle.commit.proofs.Same.{alike_on}
 use Rattle.commit.proofs.Went.{of_run}
 use Rattle.script.specs.declared.command.Command.{Command}
 use Rattle.session.specs.declared.reply.Reply.{Reply}
@@ -173,21 +173,7 @@ module _ {D : Type 0} (files : D → Side → File) (moment : D → ℕ) (left_a
     goes_on = joined_on both gates_stay old mid new one.commits two.commits one.goes_on two.goes_on;
   }
 
-  -- ---- nothing
-
   module _ (leaves : honest → RestLeaves files moment left_at) (gates_rest : honest → GatesRest files moment left_at) where
-    -- a core that is as it was
-    pub nothing_came : (core : Core D) → (honest → IsKept files core) → (is_halted core ≡ false → core.in_doubt ≡ []) → GoesOn files moment left_at failures refusals honest core core []
-    nothing_came core kept settled = record {
-      went = λ working.
-          of_run files moment left_at failures refusals honest core core core.allowance []
-          (rests files moment left_at failures refusals honest leaves gates_rest (with_allowance core core.allowance) core working kept
-          (record { graph = refl; facts = λ _. refl; environment = λ _. refl; allowance = refl; latest = refl; disk = refl; generation = refl; end = refl; halted = working; settled = settled working }));
-      stays = λ halted. (record { graph = refl; facts = λ _. refl; environment = λ _. refl; vault = alike core.vault; in_doubt = refl; latest = refl }, refl);
-      settled = settled;
-      later = omega arith;
-    }
-
     -- ---- puts
 
     module _ {T : Type 0} (append : honest → AppendLeaves files moment left_at) (held : honest → HeldLeaves files moment left_at) (old new : Core D) (event : Event) (why : Refusal → Type 0) (kept : honest → IsKept files old) (kept_after : honest → IsKept files new) (settled : is_halted old ≡ false → old.in_doubt ≡ []) where

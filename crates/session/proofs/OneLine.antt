@@ -26,7 +26,7 @@ use Rattle.session.specs.Session.{stop_of}
 use Rattle.commit.specs.Went.{GoesOn}
 use Rattle.session.specs.Went.{GoesOnBy, HasCause, HasCauseOfRun}
 use Rattle.commit.proofs.Went.{of_run}
-use Rattle.session.proofs.Coming.{nothing_came}
+use Rattle.commit.proofs.GoingOn.{nothing_came}
 use Rattle.session.proofs.Ran.{cause_of_run, front_legal}
 
 module _ {D : Type 0} (files : D → Side → File) (moment : D → ℕ) (left_at : D → ℕ → Contents → Type 0) (failures refusals : D → ℕ) (honest : Type 0) where

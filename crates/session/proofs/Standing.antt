@@ -24,7 +24,7 @@ use Rattle.session.specs.Progress.{KeepsStanding}
 use Rattle.session.specs.Session.{AreReplies, ending_of, no_ending, stop_of}
 use Rattle.session.specs.Streams.{TellsSink}
 use Rattle.session.specs.Went.{GoesOnByLine}
-use Rattle.session.proofs.Coming.{nothing_came}
+use Rattle.commit.proofs.GoingOn.{nothing_came}
 use Rattle.session.proofs.Failing.{calm_twice, then_failed}
 use Rattle.session.proofs.Lines.{appends_nothing, written_more}
 use Rattle.session.proofs.Turns.{Turned, by_all, by_these, linked_nowhere, turned}

@@ -1,5 +1,5 @@
 use Rattle.std.proofs.Common.{IsTrue}
-use Rattle.session.proofs.Coming.{nothing_came}
+use Rattle.commit.proofs.GoingOn.{nothing_came}
 use Rattle.session.proofs.answers.get.Goals as goal
 
 pub returns-clause-goes_on : goal.returns-clause-goes_on

@@ -5,7 +5,7 @@ use Rattle.machine.specs.Machine.{IsPut}
 use Rattle.commit.specs.PutsAll.{PutsAll}
 use Rattle.session.specs.declared.reply.Reply.{Reply}
 use Rattle.session.specs.Lines.{AnswersFirst}
-use Rattle.session.proofs.Coming.{nothing_came}
+use Rattle.commit.proofs.GoingOn.{nothing_came}
 use Rattle.session.proofs.GroupReplies.{are_puts, no_more}
 use Rattle.session.proofs.Tried.{first_came, first_halted, idle_after, same_store}
 use Rattle.session.proofs.rows.put_together.Goals as goal
