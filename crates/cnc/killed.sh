@@ -56,7 +56,8 @@ records() {
             at += 4 + word(at)
             at += 4 + word(at)
             while (byte[at] == 1) {
-                steps = byte[at + 5] == 3 ? 1 : byte[at + 5] == 5 ? byte[at + 6] + 256 * byte[at + 7] : 0
+                # A record of one step; or a group of steps, but not of lines that were put.
+                steps = byte[at + 5] == 3 ? 1 : byte[at + 5] == 5 && byte[at + 8] == 3 ? byte[at + 6] + 256 * byte[at + 7] : 0
                 if (steps > 0) { done += steps; count++ }
                 if (steps > most) most = steps
                 at += 5 + word(at + 1)

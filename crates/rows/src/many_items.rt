@@ -2,6 +2,8 @@
 //! COUNT; each has its key as its value. `find COLLECTION COUNT MOST` looks for
 //! so many keys by `Items::find`; its result says how many were found with their values, and whether each look-up took at most
 //! MOST comparisons. `alike COLLECTION COLLECTION` compares the items of two.
+ghost use Rattle.std.specs.Prelude.{◌≡◌};
+
 use crate::item_calls::{COLLECTIONS, Three};
 use maps::Steps;
 use std::alloc::AllocError;
@@ -49,7 +51,9 @@ fn put_one(three: &mut Three, number: u16, key: i64) -> bool {
     three.items.put(address, key, Producer::Env).is_ok()
 }
 
-fn address_of(number: u16, key: i64) -> Addr {
+fn address_of(number: u16, key: i64) -> Addr
+    ensures { result.collection.0 ≡ number }
+{
     Addr {
         collection: ItemCollection(number),
         key: Key::new(&[key]),
