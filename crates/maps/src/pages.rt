@@ -288,7 +288,7 @@ fn insert_page<V: Copy>(pages: &mut Vec<Page<V>>, at: usize, page: Page<V>)
     let _inserted = pages.insert(at, page);
 }
 
-// How many spare pages are enough for this room, if so many entries stand in so many pages.
+// How many spare pages are enough for this room, beside `count` entries in `pages` pages.
 fn spare_pages(pages: usize, count: usize, room: usize) -> Result<usize, AllocError>
     ensures enough { IfOk result (λ spare. IsEnough pages spare count room) }
     ensures most { OnOk result (count + room < 2 ^ 64) }
@@ -298,7 +298,7 @@ fn spare_pages(pages: usize, count: usize, room: usize) -> Result<usize, AllocEr
     Ok(needed.min(room))
 }
 
-// Makes empty pages until there are so many.
+// Makes empty pages until there are enough.
 fn fill_spare<V: Copy>(
     alloc: Global,
     spare: &mut Vec<Page<V>>,

@@ -15,7 +15,7 @@ use passes::Naming;
 use std::alloc::{AllocError, Global};
 use std::sync::Wait;
 
-// A body takes long if it makes so many statements and turns of loops: some 60 microseconds, about as long as one of a commit's two syncs on a disk.
+// A body takes long if it makes this number of statements and turns of loops: some 60 microseconds, about as long as one of a commit's two syncs on a disk.
 const LONG: u32 = 10_000;
 
 // What a body takes beside its statements, counted in statements.
@@ -47,7 +47,7 @@ impl Hand {
         })
     }
 
-    /// Notes a body that has made so many statements, and whether results are kept beside it.
+    /// Notes how many statements a body has made, and whether results are kept beside it.
     pub(crate) fn note(&mut self, statements: u32, keeps: bool)
         ensures { self.new.claimed ≡ self.old.claimed }
     {
@@ -90,7 +90,7 @@ impl Hand {
         }
     }
 
-    // Claims up to so many instances, and takes the first of them.
+    // Claims up to `most` instances, and takes the first of them.
     fn claim<J: Naming, D: Disk, R: Wait>(
         &mut self,
         rt: &R,

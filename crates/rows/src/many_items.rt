@@ -1,6 +1,6 @@
 //! Calls on many items of a collection: `fill COLLECTION COUNT STEP` puts COUNT items, with the keys STEP, 2 * STEP, .., modulo
 //! COUNT; each has its key as its value. `find COLLECTION COUNT MOST` looks for
-//! so many keys by `Items::find`; its result says how many were found with their values, and whether each look-up took at most
+//! that number of keys by `Items::find`; its result says how many were found with their values, and whether each look-up took at most
 //! MOST comparisons. `alike COLLECTION COLLECTION` compares the items of two.
 ghost use Rattle.std.specs.Prelude.{◌≡◌};
 

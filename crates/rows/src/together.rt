@@ -1,4 +1,4 @@
-//! Several instances of a store, whose ends are committed together: `together NUMBER` lets so many of the ready ones run,
+//! Several instances of a store, whose ends are committed together: `together NUMBER` lets that number of the ready ones run,
 //! in their order, or fewer if fewer are ready. One whose body waits for an item is given back.
 ghost use Rattle.std.specs.Prelude.{◌≡◌, IfSome, Some};
 ghost use Rattle.instances.specs.declared.state.State.TheVariants.{Running};

@@ -15,7 +15,7 @@ use Rattle.session.specs.Fails.{AnswersLines}
 use Rattle.session.specs.Lines.{HasRunTo, Stands, went_of}
 use Rattle.session.specs.Streams.{TellsSink}
 
--- what is left behind at least one of these commands, and at most so many
+-- what is left after at least one, and at most `most`, of these commands
 pub record IsBehind (most : ℕ) (commands left : List Command) : Type 0 where
   pub count : ℕ
   pub some : 1 ≤ count

@@ -103,7 +103,7 @@ impl<'a> Progress<'a> {
         Ok(self.ending)
     }
 
-    // Answers the puts in front, if more than `MOST_TOGETHER` of them stand in a row. They are committed in groups of up to so many; one
+    // Answers the puts in front, if more than `MOST_TOGETHER` of them stand in a row. They are committed in groups of up to that number; one
     // that does not come with others is put alone.
     fn put_row<D: Disk, O: Sink>(&mut self, alloc: Global, core: &mut Core<D>, out: &mut O)
         requires idle { NoneRuns core.old }

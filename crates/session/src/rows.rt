@@ -19,7 +19,7 @@ use vault::stores_go_on;
 /// How several puts came, that were tried as one commit.
 #[derive(Drop)]
 pub(crate) enum Together {
-    /// The first ones came, so many; at least one.
+    /// This number of the first ones came; at least one.
     Came(usize),
     /// None came, and the core goes on as it was.
     Apart,
