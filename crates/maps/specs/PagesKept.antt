@@ -6,8 +6,8 @@ use Rattle.terms.specs.Key.{key_cmp}
 use Rattle.maps.specs.declared.page.TheConstants.{HALF}
 use Rattle.maps.specs.Paged.{AreFilled, Entry, all_of}
 
--- There are enough spare pages for this room: one for each further entry; or so many that all entries would fill at most half of each page but one,
--- so that a page can always be divided.
+-- There are enough spare pages for this room: either one for each further entry; or all entries together would fill at most half of each page but one.
+-- In both cases a page is spare whenever one has to be divided.
 abbrev pub IsEnough : (pages spare count room : ℕ) → Type 0
 IsEnough pages spare count room = (room ≤ spare) ⊎ (room + count ≤ HALF * (pages + spare - 1))
 
