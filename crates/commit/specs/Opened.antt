@@ -9,6 +9,7 @@ use Rattle.graph.specs.Fits.{IsPrescribed}
 use Rattle.instances.specs.declared.state.State.TheVariants.{Ready}
 use Rattle.machine.specs.Restored.{IsReadyOrDone}
 use Rattle.codec.specs.Image.{Lists}
+use Rattle.holdings.specs.Holdings.{image_of}
 use Rattle.vault.specs.declared.opening.Recovered.{Recovered}
 use Rattle.vault.specs.declared.refused.Refused.{Refused}
 use Rattle.vault.specs.Opened.{IsOfOpening, OnlyReads, TellsWhy, contents_of}
@@ -32,11 +33,11 @@ pub record IsOpened {D : Type 0} (c : Core D) : Type 0 where
   pub instances : (instance : Inst) → IsReadyOrDone (state_of c instance)
   pub ready : (instance : Inst) → IsPrescribed (graph c) (facts c) instance → facts c (done instance) ≡ false → state_of c instance ≡ Some Ready
 
--- it has what an opening gave: the vault, the graph, and the facts of the image, and of these the environment put those of the image
+-- it has what an opening gave: the vault, the graph and the facts that were held, and of these the environment put the same
 pub record IsCoreOf {D : Type 0} (recovered : Recovered D) (c : Core D) : Type 0 where
   pub vault : c.vault ≡ recovered.vault
   pub graph : graph c ≡ recovered.graph
-  pub lists : Lists recovered.image (environment c) (facts c)
+  pub lists : Lists (image_of recovered.holdings) (environment c) (facts c)
 
 -- it has the graph and the facts that the files stood for when they were opened
 abbrev pub Finds : {D : Type 0} → (D → Side → File) → D → Core D → Type 0

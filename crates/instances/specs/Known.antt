@@ -26,6 +26,10 @@ tag_place name = (name.collection.0, name.key)
 abbrev pub tag_at : Place → Tag
 tag_at at = record { collection = record { 0 = at.0 }; key = at.1 }
 
+-- an instance as the number of its step and its key
+abbrev pub inst_place : Inst → Place
+inst_place instance = (instance.collection.0, instance.key)
+
 -- the mark of a tag, if the tag is there: whether the environment put it
 abbrev pub mark_of : Known → Tag → Option Bool
 mark_of known name = get known.tags.items (tag_place name)

@@ -4,5 +4,6 @@ pub mod Known
 pub mod KnownCodes
 pub mod Listed
 pub mod OfStep
+pub mod Restored
 pub mod Running
 pub mod There

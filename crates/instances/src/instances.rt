@@ -59,6 +59,21 @@ impl Instances {
         Ok(Instances { tags, steps })
     }
 
+    /// These tags, which it takes over, and the instances that they prescribe: as done if they are among `ended`, each by the number of its
+    /// step and its key, else as ready. `prescribers` has the tag collection that prescribes each step.
+    pub fn restored(
+        alloc: Global,
+        tags: CollectionMap<bool>,
+        ended: &CollectionMap<()>,
+        prescribers: &[TagCollection],
+    ) -> Result<Self, AllocError>
+        requires { length prescribers.now ≤ 2 ^ 16 }
+        ensures { IfOk result (IsRestored tags ended.now.items prescribers.now) }
+    {
+        let steps = restored_steps(alloc, &tags, ended, prescribers)?;
+        Ok(Instances { tags, steps })
+    }
+
     /// The tags that are there, in order, each with a mark whether the environment put it.
     pub fn tags(&self) -> TagWalk<'_>
         ensures { result ≡ map (λ entry. (tag_at entry.0, entry.1)) (entries self.now.tags.items) }
@@ -221,24 +236,6 @@ impl Instances {
         ensures { Prescribes self.old self.new tag by_environment (λ _. Ready) }
     {
         self.restore(tag, by_environment, &[]);
-    }
-
-    /// Puts a tag that is not there, and with it the instances that it prescribes: as done if they are among `ended`,
-    /// else as ready. There must be room for them. This restores the tags and instances of a store that was closed
-    /// before.
-    pub fn restore(&mut self, tag: Tag, by_environment: bool, ended: &[Inst])
-        requires absent { mark_of self.old tag ≡ None }
-        requires room { 0 < room_for self.old tag.collection }
-        requires rising { IsSorted inst_cmp ended.now }
-        ensures { Prescribes self.old self.new tag by_environment (first_state ended.now) }
-    {
-        if self
-            .tags
-            .insert(tag.collection.0, tag.key, by_environment)
-            .is_ok()
-        {
-            prescribe_all(&mut self.steps, tag, ended);
-        }
     }
 
     /// Lets one of the ready instances run, by its number among them.

@@ -5,7 +5,7 @@ use Rattle.terms.specs.declared.put.Put.{Put}
 use Rattle.terms.specs.declared.put.Put.TheVariants as put
 use Rattle.terms.specs.Facts.{Fact, event_facts, environment_facts}
 use Rattle.terms.specs.Sets.{Facts, among}
-use Rattle.codec.specs.declared.image.Image.{Image}
+use Rattle.holdings.specs.Holdings.{Holdings, image_of}
 use Rattle.codec.specs.Image.{image_facts, image_environment}
 use Rattle.graph.specs.Graph.{Graph}
 use Rattle.graph.specs.Fits.{IsAbsent, PutIsOf}
@@ -14,13 +14,14 @@ use Rattle.graph.specs.Fits.{IsAbsent, PutIsOf}
 pub record AlsoHas (stated old new : List Fact) : Type 0 where
   pub same : (fact : Fact) → among new fact ≡ among (old ++ stated) fact
 
--- the new image has the facts of the old one and those stated; the environment put what it had put in the old one, and those given
-pub record Grows (given stated : List Fact) (old new : Image) : Type 0 where
-  pub facts : AlsoHas stated (image_facts old) (image_facts new)
-  pub environment : AlsoHas given (image_environment old) (image_environment new)
+-- More is held: the facts stated, and as facts of the environment those given. The collections are the same.
+pub record Grows (given stated : List Fact) (old new : Holdings) : Type 0 where
+  pub facts : AlsoHas stated (image_facts (image_of old)) (image_facts (image_of new))
+  pub environment : AlsoHas given (image_environment (image_of old)) (image_environment (image_of new))
+  pub counts : new.counts ≡ old.counts
 
--- the image grows by what an event states
-abbrev pub IsGrownBy : Event → Image → Image → Type 0
+-- what is held grows by what an event states
+abbrev pub IsGrownBy : Event → Holdings → Holdings → Type 0
 IsGrownBy event = Grows (environment_facts event) (event_facts event)
 
 -- if the put is an item, there is none at its address yet

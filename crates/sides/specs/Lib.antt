@@ -1,5 +1,4 @@
 pub mod Growth
-pub mod Image
 pub mod Looks
 pub mod Reading
 pub mod Replaying

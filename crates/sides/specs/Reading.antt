@@ -8,6 +8,7 @@ use Rattle.codec.specs.declared.image.Image.{Image}
 use Rattle.codec.specs.Commits.{commit_bytes, IsCommit}
 use Rattle.codec.specs.Spelling.{SpellsImage, HasPutNumber}
 use Rattle.codec.specs.Image.{image_facts, image_environment, facts_in, environment_in}
+use Rattle.holdings.specs.Holdings.{Holdings, IsFor, image_of}
 use Rattle.journal.specs.Records.{StandsFor, records}
 use Rattle.graph.specs.Graph.{Graph}
 use Rattle.graph.specs.Canonical.{canonical}
@@ -53,17 +54,19 @@ pub record AreCommits (g : Graph) (image : Image) (bytes : List ℕ) (commits : 
   pub stands : StandsFor bytes (map commit_bytes commits)
   pub fit : AllFit g (image_facts image) (events_of commits)
 
--- the bytes stand for such commits, whose records end here; the new image has what the old one has and what they state
-pub record IsReplayed (g : Graph) (old new : Image) (bytes : List ℕ) (end : ℕ) : Type 0 where
+-- the bytes stand for such commits, whose records end here; what is held afterwards is what was held and what they state
+pub record IsReplayed (g : Graph) (old new : Holdings) (bytes : List ℕ) (end : ℕ) : Type 0 where
   pub commits : List Commit
-  pub are : AreCommits g old bytes commits
+  pub are : AreCommits g (image_of old) bytes commits
   pub ends : end ≡ length (records (map commit_bytes commits))
-  pub facts : (fact : Fact) → facts_in new fact ≡ among (image_facts old ++ facts (events_of commits)) fact
-  pub environment : (fact : Fact) → environment_in new fact ≡ among (image_environment old ++ environment (events_of commits)) fact
+  pub facts : (fact : Fact) → facts_in (image_of new) fact ≡ among (image_facts (image_of old) ++ facts (events_of commits)) fact
+  pub environment : (fact : Fact) → environment_in (image_of new) fact ≡ among (image_environment (image_of old) ++ environment (events_of commits)) fact
+  pub counts : new.counts ≡ old.counts
 
 -- the side's bytes stand for what was read from them, the text is its graph's, and the journal ends at the position given
 pub record IsRead (bytes : List ℕ) (generation : ℕ) (standing : Standing) : Type 0 where
-  pub is_side : IsSide bytes standing.graph generation (environment_in standing.holdings) (facts_in standing.holdings)
+  pub is_side : IsSide bytes standing.graph generation (environment_in (image_of standing.holdings)) (facts_in (image_of standing.holdings))
   pub ends : standing.end ≡ end_of is_side
   pub text : standing.text.items ≡ canonical standing.graph
-  pub numbered : AllByRecursion HasPutNumber standing.holdings.items
+  pub numbered : AllByRecursion HasPutNumber (image_of standing.holdings).items
+  pub collections : IsFor standing.graph standing.holdings

@@ -8,6 +8,7 @@ use Rattle.codec.specs.declared.image.Image.{Image}
 use Rattle.codec.specs.Commits.{commit_bytes, IsCommit, SpellsCommit}
 use Rattle.codec.specs.Spelling.{HasPutNumber}
 use Rattle.codec.specs.Image.{image_facts, image_environment, facts_in, environment_in}
+use Rattle.holdings.specs.Holdings.{Holdings, image_of}
 use Rattle.journal.specs.WholeRecords.{LeadsTo}
 use Rattle.graph.specs.Graph.{Graph}
 use Rattle.graph.specs.Fits.{AllFit}
@@ -17,34 +18,35 @@ use Rattle.sides.specs.Growth.{Grows}
 use Rattle.sides.specs.Reading.{AreCommits, IsReplayed}
 use Rattle.terms.specs.declared.key.TheConstants.{MAX_COMPONENTS}
 
--- a payload spells a commit whose events fit after the old image, and the new image has what they state too
-pub record IsTaken (g : Graph) (old new : Image) (payload : List ℕ) : Type 0 where
+-- a payload spells a commit whose events fit after what was held, and what they state is held too
+pub record IsTaken (g : Graph) (old new : Holdings) (payload : List ℕ) : Type 0 where
   pub commit : Commit
   pub spelled : SpellsCommit MAX_COMPONENTS payload commit
-  pub fit : AllFit g (image_facts old) commit
+  pub fit : AllFit g (image_facts (image_of old)) commit
   pub grown : Grows (environment commit) (facts commit) old new
 
 -- a payload spells no such commit
 abbrev pub IsRefused : Graph → Image → List ℕ → Type 0
 IsRefused g old payload = (commit : Commit) → SpellsCommit MAX_COMPONENTS payload commit → AllFit g (image_facts old) commit → ⊥
 
--- a prefix of the bytes, up to this end, is records of commits that fit after the old image; the new one has what they state too
-pub record IsTakenTo (g : Graph) (old new : Image) (bytes : List ℕ) (end : ℕ) : Type 0 where
+-- a prefix of the bytes, up to this end, is records of commits that fit after what was held; what they state is held too
+pub record IsTakenTo (g : Graph) (old new : Holdings) (bytes : List ℕ) (end : ℕ) : Type 0 where
   pub commits : List Commit
   pub are_commits : AllByRecursion (IsCommit MAX_COMPONENTS) commits
   pub leads : LeadsTo bytes end (map commit_bytes commits)
-  pub fit : AllFit g (image_facts old) (events_of commits)
-  pub facts : (fact : Fact) → facts_in new fact ≡ among (image_facts old ++ facts (events_of commits)) fact
-  pub environment : (fact : Fact) → environment_in new fact ≡ among (image_environment old ++ environment (events_of commits)) fact
+  pub fit : AllFit g (image_facts (image_of old)) (events_of commits)
+  pub facts : (fact : Fact) → facts_in (image_of new) fact ≡ among (image_facts (image_of old) ++ facts (events_of commits)) fact
+  pub environment : (fact : Fact) → environment_in (image_of new) fact ≡ among (image_environment (image_of old) ++ environment (events_of commits)) fact
+  pub counts : new.counts ≡ old.counts
 
 -- the bytes stand for commits that fit after the old image, up to this end, or they stand for no such commits
-abbrev pub Replays : Graph → Image → Image → List ℕ → Replay → Type 0
+abbrev pub Replays : Graph → Holdings → Holdings → List ℕ → Replay → Type 0
 Replays g old new bytes (Ended end) = IsReplayed g old new bytes end
-Replays g old new bytes (Broken place) = (commits : List Commit) → AreCommits g old bytes commits → ⊥
+Replays g old new bytes (Broken place) = (commits : List Commit) → AreCommits g (image_of old) bytes commits → ⊥
 
--- where all were taken, the image's puts have numbers that a put may have
-abbrev pub IsNumbered : Image → Replay → Type 0
-IsNumbered new (Ended end) = AllByRecursion HasPutNumber new.items
+-- where all were taken, the puts that are held have numbers that a put may have
+abbrev pub IsNumbered : Holdings → Replay → Type 0
+IsNumbered new (Ended end) = AllByRecursion HasPutNumber (image_of new).items
 IsNumbered new (Broken place) = ⊤
 
 -- the position of the result lies among the bytes, or at their end

@@ -1,5 +1,6 @@
 -- What opening finds of a store's files, and what it leaves of them.
 use Rattle.std.specs.Prelude.{◌≡◌, ◌≢◌, ◌⊎◌, ℕ, List, length, Option, Some, None, Result, IfErr, IsErrOf}
+use Rattle.std.specs.List.{AllByRecursion}
 use Rattle.disk.specs.declared.side.Side.{Side}
 use Rattle.disk.specs.declared.side.Side.TheVariants.{A, B}
 use Rattle.disk.specs.File.{File}
@@ -7,8 +8,9 @@ use Rattle.disk.specs.Time.{Contents, MayLeaveNow, LeavesOnly}
 use Rattle.terms.specs.Sets.{Facts}
 use Rattle.graph.specs.Graph.{Graph}
 use Rattle.graph.specs.Canonical.{canonical}
-use Rattle.codec.specs.declared.image.Image.{Image}
-use Rattle.codec.specs.Image.{facts_in, environment_in, IsListed}
+use Rattle.codec.specs.Image.{facts_in, environment_in}
+use Rattle.codec.specs.Spelling.{HasPutNumber}
+use Rattle.holdings.specs.Holdings.{Holdings, IsFor, image_of}
 use Rattle.graph.specs.Fits.{FitsState, HasOneItemEach}
 use Rattle.sides.specs.declared.gate.Gate.TheVariants.{Short}
 use Rattle.sides.specs.Reading.{Tells}
@@ -76,20 +78,21 @@ IsOfAhead contents error = (side : Side) × (place : ℕ) × IsAhead contents si
 -- ---- what a side gives
 
 -- The parts of what an opening gives fit together, whatever the disk is. Some bytes are a side of this graph, this generation and the
--- image's facts, whose journal ends at this position; the text is the graph's; the image's lists are in rising order, its facts fit the
--- graph, and each address has at most one item.
-pub record IsSound (g : Graph) (image : Image) (generation end : ℕ) (text : List ℕ) : Type 0 where
+-- facts that are held, whose journal ends at this position; the text is the graph's; the facts fit the graph, each address has at most
+-- one item, and the puts have numbers that a put may have; there is each collection of the graph.
+pub record IsSound (g : Graph) (held : Holdings) (generation end : ℕ) (text : List ℕ) : Type 0 where
   pub bytes : List ℕ
-  pub is_side : IsSide bytes g generation (environment_in image) (facts_in image)
+  pub is_side : IsSide bytes g generation (environment_in (image_of held)) (facts_in (image_of held))
   pub ends : end ≡ end_of is_side
   pub text_is : text ≡ canonical g
-  pub listed : IsListed image
-  pub fits : FitsState g (environment_in image) (facts_in image)
-  pub one_item : HasOneItemEach (facts_in image)
+  pub numbered : AllByRecursion HasPutNumber (image_of held).items
+  pub collections : IsFor g held
+  pub fits : FitsState g (environment_in (image_of held)) (facts_in (image_of held))
+  pub one_item : HasOneItemEach (facts_in (image_of held))
 
 -- the bytes of the side stand for what was found in them
 pub record IsFoundIn (side : Side) (bytes : List ℕ) (found : Found) : Type 0 where
-  pub is_side : IsSide bytes found.graph found.generation (environment_in found.image) (facts_in found.image)
+  pub is_side : IsSide bytes found.graph found.generation (environment_in (image_of found.holdings)) (facts_in (image_of found.holdings))
   pub side_is : found.journal.side ≡ side
   pub ends : found.journal.end ≡ end_of is_side
   pub text : found.text.items ≡ canonical found.graph
@@ -100,7 +103,7 @@ IsNoSide bytes = (g : Graph) (generation : ℕ) (E X : Facts) → IsSide bytes g
 
 -- both files stand for what was found, and the live one gave it
 pub record IsFound (contents : Contents) (found : Found) : Type 0 where
-  pub is_live : IsLive contents found.journal.side found.generation found.graph (environment_in found.image) (facts_in found.image)
+  pub is_live : IsLive contents found.journal.side found.generation found.graph (environment_in (image_of found.holdings)) (facts_in (image_of found.holdings))
   pub ends : found.journal.end ≡ end_of is_live.is_side
   pub text : found.text.items ≡ canonical found.graph
 

@@ -1,0 +1,2 @@
+pub mod ImageFacts
+pub mod Listed

@@ -1,0 +1,4 @@
+pub mod Codes
+pub mod Holdings
+pub mod ImageLaws
+pub mod Listing
