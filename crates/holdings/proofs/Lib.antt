@@ -1,2 +1,3 @@
 pub mod ImageFacts
 pub mod Listed
+pub mod Pushed
