@@ -20,6 +20,9 @@ use Rattle.codec.specs.Image.{facts_in, environment_in}
 use Rattle.maps.specs.Numbered.{place_cmp}
 use Rattle.items.specs.Held.{place}
 use Rattle.instances.specs.Known.{inst_place, tag_place}
+use Rattle.graph.specs.Graph.{Graph}
+use Rattle.graph.specs.Fits.{FitsState}
+use Rattle.holdings.specs.Holdings.{AreWithin}
 use Rattle.holdings.specs.Listing.{items_of, tags_of, insts_of}
 
 -- it is an item of this value by this producer
@@ -61,3 +64,7 @@ ImagesTell = (image : Image) (items : FinMap place_cmp (ℤ × Producer)) (tags 
 
 abbrev pub DoneTell : Type 0
 DoneTell = (image : Image) (ended : FinMap place_cmp ⊤) → image.done ≡ insts_of (entries ended) → TellsDone image ended
+
+-- an image whose facts fit a graph names only collections and steps that it has
+abbrev pub FittingIsWithin : Type 0
+FittingIsWithin = (g : Graph) (image : Image) → FitsState g (environment_in image) (facts_in image) → AreWithin g image
