@@ -1,5 +1,5 @@
 -- The instances of a store that was read: those that its tags prescribe.
-use Rattle.std.specs.Prelude.{◌≡◌, ⊤, ℕ, Bool, cond, List, length, slice_get, Option, Some, None, is_some}
+use Rattle.std.specs.Prelude.{◌≡◌, ⊤, ℕ, Bool, cond, List, slice_get, Option, Some, None, is_some}
 use Rattle.std.specs.Option.{option_map}
 use Rattle.std.specs.FinMap.{FinMap, get}
 use Rattle.terms.specs.declared.name.Inst.{Inst}
@@ -19,7 +19,7 @@ first_state_in tags ended None instance = None
 first_state_in tags ended (Some prescriber) instance = option_map (λ _. begins ended instance) (get tags.items (prescriber.0, instance.key))
 
 -- the tags are taken over, and the instances are those that they prescribe
-pub record IsRestored (tags : Numbered Bool) (ended : FinMap place_cmp ⊤) (prescribers : List TagCollection) (known : Known) : Type 0 where
-  pub tags : known.tags ≡ tags
-  pub prescribers : (number : ℕ) → prescriber_at known number ≡ option_map (λ tag. tag.0) (slice_get prescribers number)
-  pub states : (instance : Inst) → state_at known instance ≡ first_state_in tags ended (slice_get prescribers instance.collection.0) instance
+pub record IsRestored (held : Numbered Bool) (ended : FinMap place_cmp ⊤) (collections : List TagCollection) (known : Known) : Type 0 where
+  pub tags : known.tags ≡ held
+  pub prescribers : (number : ℕ) → prescriber_at known number ≡ option_map (λ tag. tag.0) (slice_get collections number)
+  pub states : (instance : Inst) → state_at known instance ≡ first_state_in held ended (slice_get collections instance.collection.0) instance
