@@ -1,2 +1,4 @@
 pub mod ImageFacts
 pub mod Listed
+pub mod Pushed
+pub mod Within

@@ -1,5 +1,6 @@
 -- What lists say that are made of the entries of finite maps, and that they rise.
-use Rattle.std.proofs.Common.{◌≡◌, ◌∙◌, ap, sym, refl, subst, ⊤, ℤ, T, Bool, true, false, cond, ◌&&◌, ◌||◌, List, [], ◌∷◌, map, Option, Some, None, is_some}
+use Rattle.std.proofs.Common.{◌≡◌, ◌∙◌, ap, sym, refl, subst, ℤ, T, Bool, true, false, cond, ◌&&◌, ◌||◌, List, [], ◌∷◌, map, Option, Some, None, is_some}
+use Rattle.std.specs.Bool.{⊤}
 use Rattle.std.specs.declared.cmp.Ordering.{Ordering}
 use Rattle.std.specs.declared.cmp.Ordering.TheVariants.{Less, Equal, Greater}
 use Rattle.std.specs.List.{flat_map, list_any}
@@ -30,15 +31,15 @@ use Rattle.holdings.proofs.ImageFacts.{or_false, item_fact, tag_fact, facts_tag,
 abbrev Entry : Type 0
 Entry = ℤ × Producer
 
-first : (a b : Bool) → T (a && b) → T a
+pub first : (a b : Bool) → T (a && b) → T a
 first true b p = tt
 first false b p = p
 
-second : (a b : Bool) → T (a && b) → T b
+pub second : (a b : Bool) → T (a && b) → T b
 second true b p = p
 second false b p = absurd p
 
-less : (o : Ordering) → T (is_lt o) → o ≡ Less
+pub less : (o : Ordering) → T (is_lt o) → o ≡ Less
 less Less p = refl
 less Equal p = absurd p
 less Greater p = absurd p
@@ -153,8 +154,8 @@ done_rise (e ∷ f ∷ es) sorted = (
 pub images_tell : AmongBoth → ImagesTell
 images_tell both image items tags are_items are_tags =
     record {
-      items = λ a v p. facts_item both image a v p ∙ listed_item a v p;
-      tags = λ name. facts_tag both image name ∙ ap (λ (list : List MarkedTag). among (map tag_fact list) (tag name)) are_tags ∙ tag_found (entries tags) name ∙ ap is_some (sym (get-entries tags (tag_place name)));
+      of_items = λ a v p. facts_item both image a v p ∙ listed_item a v p;
+      of_tags = λ name. facts_tag both image name ∙ ap (λ (list : List MarkedTag). among (map tag_fact list) (tag name)) are_tags ∙ tag_found (entries tags) name ∙ ap is_some (sym (get-entries tags (tag_place name)));
       given_items = λ a v. given_own both image a v ∙ listed_item a v Env;
       given_tags = λ name.
           given_tag both image name ∙ ap (λ (list : List MarkedTag). among (flat_map environment_tag list) (tag name)) are_tags
@@ -170,7 +171,7 @@ images_tell both image items tags are_items are_tags =
 
 pub done_tell : AmongBoth → IsTotalOrder inst_cmp → DoneTell
 done_tell both total image ended are = record {
-  done = λ i.
+  of_done = λ i.
       facts_done both image i ∙ done_listed total image.done i ∙ ap (λ (list : List Inst). list_any (eq_by_cmp inst_cmp i) list) are
       ∙ done_found (entries ended) i ∙ ap is_some (sym (get-entries ended (inst_place i)));
   rise = subst (λ (list : List Inst). Rises inst_cmp list) (sym are) (done_rise (entries ended) (entries_sorted ended));
@@ -178,8 +179,8 @@ done_tell both total image ended are = record {
 
 pub rest_told : AmongBoth → IsTotalOrder inst_cmp → (image : Image) → TellsRest image
 rest_told both total image = record {
-  done = λ i. facts_done both image i ∙ done_listed total image.done i;
-  fault = facts_bad both image;
+  of_done = λ i. facts_done both image i ∙ done_listed total image.done i;
+  of_fault = facts_bad both image;
   given_by = given_by both image;
   given_done = given_done both image;
   given_fault = given_bad both image;

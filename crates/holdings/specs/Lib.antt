@@ -1,4 +1,3 @@
-pub mod Codes
 pub mod Holdings
 pub mod ImageLaws
 pub mod Listing

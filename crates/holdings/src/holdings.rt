@@ -21,12 +21,16 @@ pub struct Holdings {
 impl Model for Holdings {
     ghost use Rattle.std.specs.Prelude.{◌≡◌, length};
     ghost use Rattle.std.specs.FinMap.{empty};
-    ghost use Rattle.holdings.specs.Codes.{holdings_code};
+    ghost use Rattle.std.specs.Coded.{codes};
+    ghost use Rattle.std.specs.FinMap.{code as map_code};
+    ghost use Rattle.terms.specs.contracts.fault.FaultKind as of_kind;
+    ghost use Rattle.terms.specs.contracts.name.Inst as of_inst;
+    ghost use Rattle.terms.specs.contracts.producer.Producer as of_producer;
     ghost use Rattle.holdings.specs.Holdings.{Holdings as Seen};
 
     ghost Value = { Seen };
 
-    ghost coded = { holdings_code };
+    ghost coded = { Prim.hlevel (codes, map_code, of_kind.the_row.coded, of_inst.the_row.coded, of_producer.the_row.coded) };
 
     ghost view = { λ h. record { fault = h.fault; items = h.items.items.items; tags = h.tags.items; done = h.done.items; counts = record { items = length h.items.items.room; tags = length h.tags.room; steps = length h.done.room } } };
 
@@ -92,9 +96,7 @@ impl Holdings {
     pub fn is_done(&self, instance: &Inst) -> bool
         ensures { result ≡ is_some (get self.now.done (inst_place instance.now)) }
     {
-        self.done
-            .get(instance.collection.0, instance.key)
-            .is_some()
+        self.done.get(instance.collection.0, instance.key).is_some()
     }
 
     /// Puts an item at its address, if none is there, and returns whether none was. An error changes nothing.

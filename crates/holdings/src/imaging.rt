@@ -41,8 +41,8 @@ impl Holdings {
         ensures { OnOk result (self.new ≡ with_items self.old items.now) }
     {
         for number in 0..items.len() {
-            let (address, value, producer) = items[number];
-            let _new = self.put_item(address, value, producer)?;
+            let one = items[number];
+            let _new = self.put_item(one.0, one.1, one.2)?;
         }
         Ok(())
     }
@@ -55,8 +55,8 @@ impl Holdings {
         ensures { OnOk result (self.new ≡ with_tags self.old tags.now) }
     {
         for number in 0..tags.len() {
-            let (name, mark) = tags[number];
-            let _new = self.put_tag(name, mark)?;
+            let one = tags[number];
+            let _new = self.put_tag(one.0, one.1)?;
         }
         Ok(())
     }
