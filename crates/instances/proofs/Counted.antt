@@ -1,9 +1,9 @@
 -- The number of entries of a map that pass a test, before and after a write.
-use Rattle.std.proofs.Common.{◌≡◌, ◌∙◌, ap, sym, refl, subst, ℕ, suc, ◌+◌, ◌≤◌, ℤ, T, Bool, true, false, cond, List, [], ◌∷◌, length, sum_by, Some, None, arith}
+use Rattle.std.proofs.Common.{◌≡◌, ◌∙◌, ap, sym, refl, subst, ℕ, suc, ◌+◌, ◌≤◌, ℤ, T, Bool, true, false, cond, List, [], ◌∷◌, length, sum_by, Some, arith}
 use Rattle.std.specs.Option.{unwrap_or}
 use Rattle.std.specs.declared.cmp.Ordering.{Ordering}
 use Rattle.std.specs.declared.cmp.Ordering.TheVariants.{Less, Equal, Greater}
-use Rattle.std.specs.Ordering.{is_lt, is_eq, eq_by_cmp}
+use Rattle.std.specs.Ordering.{is_eq, eq_by_cmp}
 use Rattle.std.specs.FinMap.{FinMap, entries, entries_sorted, entries-insert, find, get, get-entries, insert, put, is_sorted}
 use Rattle.std.specs.FinMap.Entries.{below_all, by_order}
 use Rattle.std.proofs.lemmas.List.Sums.{sum_by-append}
@@ -11,17 +11,10 @@ use Rattle.terms.specs.Key.{key_cmp}
 use Rattle.maps.specs.PlaceOrder.{keys_total}
 use Rattle.instances.specs.declared.state.State.{State}
 use Rattle.instances.specs.OfStep.{how_many, one_if}
-use Rattle.instances.proofs.Below.{first, second, less}
+use Rattle.instances.proofs.Below.{first, second, none_before}
 
 abbrev pub Entry : Type 0
 Entry = List ℤ × State
-
--- a key below all others is not found
-absent : (k : List ℤ) (x : List ℤ) (es : List Entry) → key_cmp k x ≡ Less → T (below_all key_cmp x es) → find key_cmp k es ≡ None
-absent k x [] lower below = refl
-absent k x (e ∷ es) lower below =
-    ap (λ r. cond (is_eq r) (Some e.1) (find key_cmp k es)) (keys_total.trans k x e.0 lower (less _ (first _ _ below)))
-    ∙ absent k x es lower (second (is_lt (key_cmp x e.0)) _ below)
 
 abbrev pub weight : (State → Bool) → Entry → ℕ
 weight test e = cond (test e.1) 1 0
@@ -66,7 +59,7 @@ module _ (test : State → Bool) where
     where
       by_cases : sum_by (weight test) (put key_cmp k v es) + one_if test (find key_cmp k es) ≡ sum_by (weight test) es + cond (test v) 1 0 → (r : Ordering) → key_cmp k e.0 ≡ r → sum_by (weight test) (by_order (key_cmp k e.0) ((k, v) ∷ e ∷ es) ((e.0, v) ∷ es) (e ∷ put key_cmp k v es)) + one_if test (cond (is_eq (key_cmp k e.0)) (Some e.1) (find key_cmp k es)) ≡ sum_by (weight test) (e ∷ es) + cond (test v) 1 0
       by_cases rest Less is =
-          let gone = absent k e.0 es is (first _ _ sorted) in
+          let gone = none_before keys_total k e.0 es is (first _ _ sorted) in
           subst (λ r. sum_by (weight test) (by_order r ((k, v) ∷ e ∷ es) ((e.0, v) ∷ es) (e ∷ put key_cmp k v es)) + one_if test (cond (is_eq r) (Some e.1) (find key_cmp k es)) ≡ sum_by (weight test) (e ∷ es) + cond (test v) 1 0) (sym is)
           (in_front _ (sum_by (weight test) (e ∷ es)) (cond (test v) 1 0) _ (front (weight test) (k, v) (e ∷ es)) (ap (one_if test) gone))
       by_cases rest Equal is =

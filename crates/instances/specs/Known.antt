@@ -1,16 +1,15 @@
 -- The tags that are there, and the instances that they prescribe.
-use Rattle.std.specs.Prelude.{◌≡◌, ◌≢◌, ℕ, suc, ℤ, ◌+◌, ◌-◌, ◌==◌, ◌<◌, ◌≤◌, min, Bool, false, cond, ◌&&◌, List, [], ◌∷◌, map, replicate, length, slice_get, Option, Some, None, is_some, ⊤}
-use Rattle.std.specs.List.{list_any, sum_by}
+use Rattle.std.specs.Prelude.{◌≡◌, ◌≢◌, ℕ, ℤ, ◌+◌, ◌-◌, ◌==◌, ◌<◌, ◌≤◌, min, Bool, false, cond, ◌&&◌, List, [], ◌∷◌, map, replicate, length, slice_get, Option, Some, None, is_some, ⊤}
+use Rattle.std.specs.List.{sum_by}
 use Rattle.std.specs.Ordering.{eq_by_cmp}
 use Rattle.std.specs.FinMap.{empty, get, insert}
 use Rattle.terms.specs.Key.{key_cmp}
-use Rattle.terms.specs.Name.{inst_cmp}
 use Rattle.terms.specs.declared.name.Inst.{Inst}
 use Rattle.terms.specs.declared.name.Tag.{Tag}
 use Rattle.terms.specs.declared.name.TagCollection.{TagCollection}
 use Rattle.maps.specs.Numbered.{Numbered, Place, AddsAt, room_at}
 use Rattle.instances.specs.declared.state.State.{State}
-use Rattle.instances.specs.declared.state.State.TheVariants.{Ready, Done}
+use Rattle.instances.specs.declared.state.State.TheVariants.{Ready}
 use Rattle.instances.specs.declared.step.Step.{Step}
 use Rattle.instances.specs.OfStep.{how_many, is_ready, is_running, one_if}
 
@@ -97,10 +96,6 @@ pub record Prescribes (old new : Known) (name : Tag) (mark : Bool) (first : Inst
   pub room : room_for new name.collection + 1 ≡ room_for old name.collection
   pub other_room : (collection : TagCollection) → collection.0 ≢ name.collection.0 → room_for new collection ≡ room_for old collection
 
--- an instance begins as done if it is among those that ended, else as ready
-abbrev pub first_state : List Inst → Inst → State
-first_state ended instance = cond (list_any (eq_by_cmp inst_cmp instance) ended) Done Ready
-
 -- a step without instances
 abbrev pub fresh_step : TagCollection → Step
 fresh_step prescriber = record { prescriber = prescriber; instances = record { states = empty; room = 0 } }
@@ -146,17 +141,12 @@ CanTake name step = step.prescriber.0 ≡ name.collection.0 → (get step.instan
 abbrev pub instance_at : ℕ → List ℤ → Inst
 instance_at number key = record { collection = record { 0 = number }; key = key }
 
--- the step with this number, to which the instance that the tag prescribes was added in its first state
-abbrev pub with_instance : Tag → (Inst → State) → ℕ → Step → Step
-with_instance name first number step =
+-- the step, to which the instance that the tag prescribes was added as ready
+abbrev pub with_instance : Tag → Step → Step
+with_instance name step =
     cond (step.prescriber.0 == name.collection.0)
-    (record { prescriber = step.prescriber; instances = record { states = insert step.instances.states name.key (first (instance_at number name.key)); room = step.instances.room - 1 } })
+    (record { prescriber = step.prescriber; instances = record { states = insert step.instances.states name.key Ready; room = step.instances.room - 1 } })
     step
-
--- a list with each element changed by its number; the first has this number
-abbrev pub changed_from : {X : Type 0} → (ℕ → X → X) → ℕ → List X → List X
-changed_from change number [] = []
-changed_from change number (x ∷ xs) = change number x ∷ changed_from change (suc number) xs
 
 -- each step can take the instance that the tag prescribes
 abbrev pub AllCanTake : Tag → List Step → Type 0

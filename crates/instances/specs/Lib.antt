@@ -1,9 +1,11 @@
 pub mod AllInstances
 pub mod Codes
+pub mod Ended
 pub mod Known
 pub mod KnownCodes
 pub mod Listed
 pub mod OfStep
 pub mod Restored
+pub mod RestoredSteps
 pub mod Running
 pub mod There

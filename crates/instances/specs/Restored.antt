@@ -1,5 +1,5 @@
 -- The instances of a store that was read: those that its tags prescribe.
-use Rattle.std.specs.Prelude.{◌≡◌, ⊤, ℕ, Bool, cond, List, length, slice_get, Option, Some, None, is_some}
+use Rattle.std.specs.Prelude.{◌≡◌, ⊤, ℕ, Bool, cond, List, slice_get, Option, Some, None, is_some}
 use Rattle.std.specs.Option.{option_map}
 use Rattle.std.specs.FinMap.{FinMap, get}
 use Rattle.terms.specs.declared.name.Inst.{Inst}

@@ -1,8 +1,7 @@
 ghost use Rattle.std.specs.Prelude.{◌≡◌, ◌<◌, ◌≤◌, ◌^◌, ℕ, IfOk, OnErr, OnOk, length, map};
-ghost use Rattle.std.specs.List.Sorted.{IsSorted};
-ghost use Rattle.terms.specs.Name.{inst_cmp};
-ghost use Rattle.instances.specs.Known.{AllCanTake, AllGrown, AllHaveRoom, changed_from, first_state, fresh_step, least, with_instance};
+ghost use Rattle.instances.specs.Known.{AllCanTake, AllGrown, AllHaveRoom, fresh_step, least, with_instance};
 
+use crate::restored::restored_steps;
 use crate::step::Step;
 use crate::step_instances::StepInstances;
 use crate::{InstanceWalk, State, TagWalk, Task, listing};
@@ -37,12 +36,12 @@ impl Instances {
     ghost use Rattle.std.specs.FinMap.{entries, find, is_sorted};
     ghost use Rattle.instances.specs.declared.state.State.TheVariants.{Ready, Running, Waiting, Done};
     ghost use Rattle.instances.specs.OfStep.{is_ready, is_running, is_waiting, IsWaiting};
-    ghost use Rattle.std.specs.List.Sorted.{IsSorted};
     ghost use Rattle.terms.specs.Name.{inst_cmp};
     ghost use Rattle.terms.specs.declared.name.Inst.{Inst as Instance};
     ghost use Rattle.instances.specs.AllInstances.{all_instances};
+    ghost use Rattle.instances.specs.Restored.{IsRestored};
     ghost use Rattle.instances.specs.Listed.{AreTheWaiting, AreTheDone, CountsAll, CountsDone};
-    ghost use Rattle.instances.specs.Known.{first_state, fresh, mark_of, tag_at, room_for, state_at, total, MovesOne, NoneIsActive, OnlyMakesRoom, Prescribes};
+    ghost use Rattle.instances.specs.Known.{fresh, mark_of, tag_at, room_for, state_at, total, MovesOne, NoneIsActive, OnlyMakesRoom, Prescribes};
 
     /// No tags and no instances, for this number of tag collections, with one step for each of the `prescribers`.
     pub fn new(
@@ -235,7 +234,13 @@ impl Instances {
         requires room { 0 < room_for self.old tag.collection }
         ensures { Prescribes self.old self.new tag by_environment (λ _. Ready) }
     {
-        self.restore(tag, by_environment, &[]);
+        if self
+            .tags
+            .insert(tag.collection.0, tag.key, by_environment)
+            .is_ok()
+        {
+            prescribe_all(&mut self.steps, tag);
+        }
     }
 
     /// Lets one of the ready instances run, by its number among them.
@@ -303,16 +308,14 @@ impl Instances {
     }
 }
 
-// Adds to each step the instance that a tag prescribes, as done if it is among those that ended.
-fn prescribe_all(steps: &mut Vec<Step>, tag: Tag, ended: &[Inst])
-    requires few { length steps.old.items ≤ 2 ^ 16 }
-    requires take { AllCanTake tag steps.old.items }
-    requires rising { IsSorted inst_cmp ended.now }
-    ensures { steps.new.items ≡ changed_from (with_instance tag (first_state ended.now)) 0 steps.old.items }
+// Adds to each step the instance that a tag prescribes.
+fn prescribe_all(steps: &mut Vec<Step>, tag: Tag)
+    requires { AllCanTake tag steps.old.items }
+    ensures { steps.new.items ≡ map (with_instance tag) steps.old.items }
 {
     for number in 0..steps.len() {
         let name = tag;
-        steps[number].prescribe(name, number as u16, ended);
+        steps[number].prescribe(name);
     }
 }
 

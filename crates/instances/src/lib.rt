@@ -5,8 +5,9 @@
 //! it and the states of its instances. They see a `Task` as its instance.
 //!
 //! The crate above relies on `prescribe`, which adds exactly the instances of a new tag; on `claim`; and on `finish`,
-//! `park`, `release` and `wake`, each of which moves one instance and changes nothing else. `restore` adds the
-//! instances of a store that was closed before, and `walk` gives all instances with their states.
+//! `park`, `release` and `wake`, each of which moves one instance and changes nothing else. `restored` takes over the tags
+//! of a store that was closed before, with the instances that they prescribe; and `walk` gives all instances with their
+//! states.
 #![tactic(auto)]
 
 mod ended;
@@ -14,6 +15,7 @@ mod instance_walk;
 mod instances;
 mod listing;
 mod prescribed;
+mod restored;
 mod running;
 mod state;
 mod step;

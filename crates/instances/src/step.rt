@@ -1,7 +1,6 @@
-use crate::ended::is_among;
 use crate::step_instances::StepInstances;
 use std::alloc::AllocError;
-use terms::{Inst, StepCollection, Tag, TagCollection};
+use terms::{Tag, TagCollection};
 
 /// The instances of a step, and the tag collection that prescribes them.
 #[derive(Drop)]
@@ -12,22 +11,15 @@ pub(crate) struct Step {
 
 impl Step {
     ghost use Rattle.std.specs.Prelude.{◌≡◌, ◌==◌, ◌<◌, ◌≤◌, OnErr, OnOk, cond, min};
-    ghost use Rattle.std.specs.List.Sorted.{IsSorted};
-    ghost use Rattle.terms.specs.Name.{inst_cmp};
-    ghost use Rattle.instances.specs.Known.{CanTake, GrownStep, first_state, with_instance};
+    ghost use Rattle.instances.specs.Known.{CanTake, GrownStep, with_instance};
 
-    /// Adds the instance that a tag prescribes, if it prescribes one of this step; `number` is the step's number. The
-    /// instance is done if it is among those that ended.
-    pub(crate) fn prescribe(&mut self, tag: Tag, number: u16, ended: &[Inst])
-        requires takes { CanTake tag self.old }
-        requires rising { IsSorted inst_cmp ended.now }
-        ensures { self.new ≡ with_instance tag (first_state ended.now) number self.old }
+    /// Adds the instance that a tag prescribes, if it prescribes one of this step.
+    pub(crate) fn prescribe(&mut self, tag: Tag)
+        requires { CanTake tag self.old }
+        ensures { self.new ≡ with_instance tag self.old }
     {
         if self.prescriber == tag.collection {
-            let collection = StepCollection(number);
-            let key = tag.key;
-            let is_done = is_among(ended, Inst { collection, key });
-            self.instances.add(tag.key, is_done);
+            self.instances.add(tag.key, false);
         }
     }
 

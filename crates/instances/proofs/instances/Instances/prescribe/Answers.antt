@@ -1,12 +1,13 @@
-use Rattle.std.proofs.Common.{◌∙◌, ◌<◌, ◌≤◌, ◌^◌, ap, sym, subst, List, length, arith}
+use Rattle.std.proofs.Common.{◌∙◌, ◌<◌, ◌≤◌, ◌^◌, ap, sym, subst, List, length, map, arith}
 use mathlib.Core.Bool.{false≢true}
 use Rattle.std.specs.FinMap.{get}
 use Rattle.maps.specs.Numbered.{room_at}
+use Rattle.instances.specs.declared.state.State.TheVariants.{Ready}
 use Rattle.instances.specs.declared.step.Step.{Step}
-use Rattle.instances.specs.Known.{tag_place, mark_of, room_for, ArePrescribed, Prescribes, changed_from, first_state, with_instance}
+use Rattle.instances.specs.Known.{tag_place, mark_of, room_for, ArePrescribed, Prescribes, with_instance}
 use Rattle.instances.proofs.Changes.{when_ok}
 use Rattle.instances.proofs.Prescribing.{least_le, room_within, not_refused, can_take, all_prescribed, prescribes}
-use Rattle.instances.proofs.instances.Instances.restore.Goals as goal
+use Rattle.instances.proofs.instances.Instances.prescribe.Goals as goal
 
 pub insert-requires : goal.insert-requires
 insert-requires c =
@@ -16,23 +17,19 @@ insert-requires c =
 pub prescribe_all-requires : goal.prescribe_all-requires
 prescribe_all-requires c =
     let some = subst (λ known. 0 < room_for known c.args.tag.collection) (sym c.self.view_is) c.requires.room in
-    record {
-      few = c.self.invariant.0;
-      take = can_take c.args.tag (first_state c.args.ended.now) c.self.inside.tags c.insert.new.self c.args.by_environment c.self.inside.steps.items (when_ok c.insert.result c.insert.ensures.ok c.if-is_ok.ensures.value) c.self.invariant.1 some;
-      rising = c.requires.rising;
-    }
+    can_take c.args.tag c.self.inside.tags c.insert.new.self c.args.by_environment c.self.inside.steps.items (when_ok c.insert.result c.insert.ensures.ok c.if-is_ok.ensures.value) c.self.invariant.1 some
 
 pub invariant_of-self : goal.invariant_of-self
 invariant_of-self c =
     subst (λ (steps : List Step). (length steps ≤ 2 ^ 16) × ArePrescribed c.insert.new.self steps) (sym c.prescribe_all.ensures)
-    (all_prescribed c.args.tag (first_state c.args.ended.now) c.self.inside.tags c.insert.new.self c.args.by_environment c.self.inside.steps.items (when_ok c.insert.result c.insert.ensures.ok c.if-is_ok.ensures.value) c.self.invariant)
+    (all_prescribed c.args.tag c.self.inside.tags c.insert.new.self c.args.by_environment c.self.inside.steps.items (when_ok c.insert.result c.insert.ensures.ok c.if-is_ok.ensures.value) c.self.invariant)
 
 pub returns-then-is_ok : goal.returns-then-is_ok
 returns-then-is_ok c =
     let some = subst (λ known. 0 < room_for known c.args.tag.collection) (sym c.self.view_is) c.requires.room in
-    subst (λ (steps : List Step). Prescribes c.args.self.now (record { tags = c.insert.new.self; steps = steps }) c.args.tag c.args.by_environment (first_state c.args.ended.now)) (sym c.prescribe_all.ensures)
-    (subst (λ known. Prescribes known (record { tags = c.insert.new.self; steps = changed_from (with_instance c.args.tag (first_state c.args.ended.now)) 0 c.self.inside.steps.items }) c.args.tag c.args.by_environment (first_state c.args.ended.now)) c.self.view_is
-    (prescribes c.args.tag (first_state c.args.ended.now) c.self.inside.tags c.insert.new.self c.args.by_environment c.self.inside.steps.items (when_ok c.insert.result c.insert.ensures.ok c.if-is_ok.ensures.value) some))
+    subst (λ (steps : List Step). Prescribes c.args.self.now (record { tags = c.insert.new.self; steps = steps }) c.args.tag c.args.by_environment (λ _. Ready)) (sym c.prescribe_all.ensures)
+    (subst (λ known. Prescribes known (record { tags = c.insert.new.self; steps = map (with_instance c.args.tag) c.self.inside.steps.items }) c.args.tag c.args.by_environment (λ _. Ready)) c.self.view_is
+    (prescribes c.args.tag c.self.inside.tags c.insert.new.self c.args.by_environment c.self.inside.steps.items (when_ok c.insert.result c.insert.ensures.ok c.if-is_ok.ensures.value) some))
 
 pub returns-else-is_ok : goal.returns-else-is_ok
 returns-else-is_ok c =
