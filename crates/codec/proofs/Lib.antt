@@ -1,5 +1,6 @@
 pub mod Agreeing
 pub mod Appended
+pub mod Chained
 pub mod ChoiceLaws
 pub mod CommitLaws
 pub mod Encodable

@@ -15,6 +15,7 @@ mod law;
 mod lists;
 mod payload;
 mod reader;
+mod source;
 mod spelled;
 mod writing;
 
@@ -24,3 +25,4 @@ pub use error::CodecError;
 pub use image::{Image, Instances, Items, Tags};
 pub use law::{spellings_of_commits, spellings_of_events, spellings_of_images};
 pub use payload::MOST_EVENTS;
+pub use source::{Chain, ImageBytes, ImageSource};

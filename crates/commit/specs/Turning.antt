@@ -5,6 +5,7 @@ use Rattle.disk.specs.File.{File, at_rest}
 use Rattle.disk.specs.Time.{Contents, LeavesOnly}
 use Rattle.codec.specs.declared.image.Image.{Image}
 use Rattle.codec.specs.Image.{IsListed, Lists}
+use Rattle.codec.specs.Spelling.{image_bytes}
 use Rattle.graph.specs.Canonical.{canonical}
 use Rattle.vault.specs.declared.error.VaultError.TheVariants.{Device, NoMemory, Damaged, Full, NotAStore, Halted, Exists}
 use Rattle.vault.specs.Opened.{contents_of}
@@ -30,15 +31,15 @@ IsImageOf c image = IsListed image × Lists image (environment c) (facts c)
 
 -- The journal ends at the last byte of the new side: one with an image of all that the core has, and no record.
 abbrev pub EndsAnew : {D : Type 0} → Core D → Core D → ℕ → Type 0
-EndsAnew old new generation = (image : Image) × IsImageOf old image × (new.vault.journal.end + 1 ≡ length (new_side generation old.vault.text.items image))
+EndsAnew old new generation = (image : Image) × IsImageOf old image × (new.vault.journal.end + 1 ≡ length (new_side generation old.vault.text.items (image_bytes image)))
 
 -- On an honest disk: after `Ok` the other file is the new side, with an image of all that the core has and no record.
 abbrev pub WritesAnew : {D : Type 0} → (D → Side → File) → Core D → Core D → ℕ → Type 0
-WritesAnew files old new generation = (image : Image) × IsImageOf old image × (files new.vault.disk (other_side old.vault.journal.side) ≡ at_rest (new_side generation (canonical (graph old)) image))
+WritesAnew files old new generation = (image : Image) × IsImageOf old image × (files new.vault.disk (other_side old.vault.journal.side) ≡ at_rest (new_side generation (canonical (graph old)) (image_bytes image)))
 
 -- the closed gate after this image would not lie below the limit
 abbrev pub IsTooLongWith : {D : Type 0} → Core D → Image → Type 0
-IsTooLongWith c image = IsTooLong (c.vault.generation + 1) c.vault.text.items image
+IsTooLongWith c image = IsTooLong (c.vault.generation + 1) c.vault.text.items (image_bytes image)
 
 -- Why it is refused: the core is halted; it is of the greatest generation, or the new side would be too long; the device failed; or memory was refused.
 abbrev pub RefusesTurn : {D : Type 0} → Core D → CoreError → Type 0

@@ -4,7 +4,6 @@ use Rattle.disk.specs.declared.side.Side.{Side}
 use Rattle.disk.specs.declared.side.Side.TheVariants.{A, B}
 use Rattle.disk.specs.File.{File, at_rest, overwritten}
 use Rattle.disk.specs.Time.{Contents, MayLeaveNow, LeavesOnly, HasCauses, HasErred, OtherStays}
-use Rattle.codec.specs.declared.image.Image.{Image}
 use Rattle.graph.specs.Graph.{Graph}
 use Rattle.graph.specs.Canonical.{canonical}
 use Rattle.graph.specs.Reads.{Reads}
@@ -14,6 +13,11 @@ use Rattle.vault.specs.declared.vault.Vault.{Vault}
 use Rattle.vault.specs.declared.error.VaultError.{VaultError}
 use Rattle.vault.specs.declared.error.VaultError.TheVariants.{Device, NoMemory, Full, Halted, Exists}
 use Rattle.vault.specs.Stands.{other_side}
+use Rattle.codec.specs.declared.image.Image.{Image}
+use Rattle.codec.specs.Spelling.{SpellsImage, image_bytes}
+use Rattle.codec.specs.Image.{Lists}
+use Rattle.terms.specs.Sets.{Facts}
+use Rattle.terms.specs.declared.key.TheConstants.{MAX_COMPONENTS}
 use Rattle.vault.specs.Store.{Holds, IsSame, IsReady, new_side, empty, nothing}
 
 -- ---- calls of a vault
@@ -67,14 +71,14 @@ pub record IsNew {D : Type 0} (text : List ℕ) (vault : Vault D) : Type 0 where
   pub working : vault.halted ≡ false
   pub generation : vault.generation ≡ 1
   pub side : vault.journal.side ≡ A
-  pub end : vault.journal.end + 1 ≡ length (new_side 1 text empty)
+  pub end : vault.journal.end + 1 ≡ length (new_side 1 text (image_bytes empty))
   pub text_is : vault.text.items ≡ text
 
 -- What a new store is, on an honest disk: its first side in A, without facts, and the closed gate of B; its vault holds nothing, and is
 -- ready for its first call.
 pub record IsCreated {D : Type 0} (files : D → Side → File) (text : List ℕ) (vault : Vault D) : Type 0 where
   pub holds : (g : Graph) → Reads text g → text ≡ canonical g → Holds files vault g nothing nothing
-  pub a : files vault.disk A ≡ at_rest (new_side 1 text empty)
+  pub a : files vault.disk A ≡ at_rest (new_side 1 text (image_bytes empty))
   pub b : files vault.disk B ≡ at_rest (0 ∷ [])
   pub ready : IsReady files vault
 
@@ -88,9 +92,13 @@ pub record LeavesNonEmpty {D T : Type 0} (files : D → Side → File) (moment :
 
 -- ---- turnovers
 
--- How a turnover leaves the vault, on every disk: after `Ok` the other side is live, one generation greater, and its journal ends at the
+-- the bytes spell an image of these facts, of which the environment put E
+abbrev pub SpellsFacts : List ℕ → Facts → Facts → Type 0
+SpellsFacts bytes E X = (image : Image) × SpellsImage MAX_COMPONENTS bytes image × Lists image E X
+
+-- How a turnover with the bytes of an image leaves the vault, on every disk: after `Ok` the other side is live, one generation greater, and its journal ends at the
 -- last byte of the new side; after an error the side and the generation are those before. The text stays.
-pub record TurnsOver {D : Type 0} (old new : Vault D) (image : Image) (result : Result ℕ VaultError) : Type 0 where
+pub record TurnsOver {D : Type 0} (old new : Vault D) (image : List ℕ) (result : Result ℕ VaultError) : Type 0 where
   pub working : OnOk result ((old.halted ≡ false) × (new.halted ≡ false))
   pub side : IfOk result (λ generation. (generation ≡ old.generation + 1) × (new.generation ≡ generation) × (new.journal.side ≡ other_side old.journal.side))
   pub end : IfOk result (λ generation. new.journal.end + 1 ≡ length (new_side generation old.text.items image))
@@ -99,7 +107,7 @@ pub record TurnsOver {D : Type 0} (old new : Vault D) (image : Image) (result : 
 
 -- What a turnover writes, on an honest disk: the other side anew. The file that was live stays as it was, whatever is returned; and if
 -- the vault is not halted, it is ready for the next call.
-pub record WritesSide {D : Type 0} (files : D → Side → File) (old new : Vault D) (image : Image) (result : Result ℕ VaultError) : Type 0 where
+pub record WritesSide {D : Type 0} (files : D → Side → File) (old new : Vault D) (image : List ℕ) (result : Result ℕ VaultError) : Type 0 where
   pub written : IfOk result (λ generation. files new.disk (other_side old.journal.side) ≡ at_rest (new_side generation old.text.items image))
   pub live : files new.disk old.journal.side ≡ files old.disk old.journal.side
   pub ready : new.halted ≡ false → IsReady files new

@@ -8,7 +8,6 @@ use Rattle.terms.specs.Commits.{Commit}
 use Rattle.terms.specs.Facts.{facts, environment}
 use Rattle.terms.specs.Sets.{Facts, among, with_facts}
 use Rattle.codec.specs.declared.image.Image.{Image}
-use Rattle.codec.specs.Spelling.{image_bytes}
 use Rattle.journal.specs.declared.journal.TheConstants.{LIMIT}
 use Rattle.graph.specs.Graph.{Graph}
 use Rattle.graph.specs.Canonical.{canonical}
@@ -69,16 +68,16 @@ BComesFirst contents = (contents A ≡ []) ⊎ (contents B ≡ 0 ∷ [])
 
 -- ---- sides
 
--- a side of this generation, with this graph text and this image, and no record
-abbrev pub new_side : ℕ → List ℕ → Image → List ℕ
-new_side generation text image = 1 ∷ behind_gate FORMAT generation text (image_bytes image) (0 ∷ [])
+-- a side of this generation, with this graph text and the bytes of an image, and no record
+abbrev pub new_side : ℕ → List ℕ → List ℕ → List ℕ
+new_side generation text image = 1 ∷ behind_gate FORMAT generation text image (0 ∷ [])
 
 abbrev pub empty : Image
 empty = record { fault = None; items = []; tags = []; done = [] }
 
 -- the closed gate of its journal would not lie below the limit
-abbrev pub IsTooLong : ℕ → List ℕ → Image → Type 0
-IsTooLong generation text image = LIMIT ≤ length (1 ∷ behind_gate FORMAT generation text (image_bytes image) [])
+abbrev pub IsTooLong : ℕ → List ℕ → List ℕ → Type 0
+IsTooLong generation text image = LIMIT ≤ length (1 ∷ behind_gate FORMAT generation text image [])
 
 -- the greatest generation
 abbrev pub IsLast : ℕ → Type 0

@@ -4,6 +4,7 @@ ghost use Rattle.disk.specs.Time.{OtherStays, OtherMayBe, LeavesOnly, MayLeaveNo
 ghost use Rattle.vault.specs.Stands.{other_side};
 ghost use Rattle.vault.specs.Turned.{IsShut, IsUnshut, Rests, RestsShut, HasBehindGate, MayShut, MayTurn};
 
+use codec::ImageSource;
 use disk::{Disk, DiskError, Side, write_synced};
 use sides::OPEN;
 
@@ -16,33 +17,66 @@ pub(crate) fn other(side: Side) -> Side
     }
 }
 
-/// Writes a side anew: an open gate and these bytes after it. All of its file is on the disk before. Until the gate is
-/// opened, at the end, the file is the old one or begins with a gate that is not open.
-pub(crate) fn write_side<D: Disk>(disk: &mut D, side: Side, behind: &[u8]) -> Result<(), DiskError>
-    requires { IsTrue D.is_honest → Rests (D.files disk.old side) }
-    ensures written { IsTrue D.is_honest → OnOk result (D.files disk.new side ≡ at_rest (1 ∷ behind.now)) }
+/// Writes a side anew: an open gate and the bytes of a source after it, which go through the buffer. All of its file is on the disk
+/// before. Until the gate is opened, at the end, the file is the old one or begins with a gate that is not open.
+pub(crate) fn write_side<D: Disk, S: ImageSource + Drop>(
+    disk: &mut D,
+    side: Side,
+    behind: S,
+    buffer: &mut [u8],
+) -> Result<(), DiskError>
+    requires rests { IsTrue D.is_honest → Rests (D.files disk.old side) }
+    requires room { 0 < length buffer.old }
+    ensures written { IsTrue D.is_honest → OnOk result (D.files disk.new side ≡ at_rest (1 ∷ S.left behind)) }
     ensures other { IsTrue D.is_honest → OtherStays side (D.files disk.old) (D.files disk.new) }
     ensures any_moment { IsTrue D.is_honest → (D.files disk.old side).content ≢ [] → LeavesOnly D.moment D.left_at disk.old disk.new
-        (λ contents. MayTurn (D.files disk.old side).content (1 ∷ behind.now) (contents side) × OtherMayBe side (D.files disk.old) contents) }
+        (λ contents. MayTurn (D.files disk.old side).content (1 ∷ S.left behind) (contents side) × OtherMayBe side (D.files disk.old) contents) }
     ensures cause { HasCause (D.failures disk.old) (D.failures disk.new) result }
     ensures refused { CountsRefusal (D.refusals disk.old) (D.refusals disk.new) result }
 {
     close_gate(disk, side)?;
-    write_behind(disk, side, behind)?;
+    write_behind(disk, side, behind, buffer)?;
     write_synced(disk, side, 0, &[OPEN])
 }
 
-// Writes these bytes, and no others, after a gate that is not open. At each moment the gate is there, and not open.
-fn write_behind<D: Disk>(disk: &mut D, side: Side, behind: &[u8]) -> Result<(), DiskError>
-    requires { IsTrue D.is_honest → RestsShut (D.files disk.old side) }
-    ensures written { IsTrue D.is_honest → OnOk result (HasBehindGate (D.files disk.new side) behind.now) }
+// Writes the bytes of a source, and no others, after a gate that is not open. At each moment the gate is there, and not open.
+fn write_behind<D: Disk, S: ImageSource + Drop>(
+    disk: &mut D,
+    side: Side,
+    behind: S,
+    buffer: &mut [u8],
+) -> Result<(), DiskError>
+    requires shut { IsTrue D.is_honest → RestsShut (D.files disk.old side) }
+    requires room { 0 < length buffer.old }
+    ensures written { IsTrue D.is_honest → OnOk result (HasBehindGate (D.files disk.new side) (S.left behind)) }
     ensures other { IsTrue D.is_honest → OtherStays side (D.files disk.old) (D.files disk.new) }
     ensures any_moment { IsTrue D.is_honest → LeavesOnly D.moment D.left_at disk.old disk.new (λ contents. IsShut (contents side) × OtherMayBe side (D.files disk.old) contents) }
     ensures cause { HasCause (D.failures disk.old) (D.failures disk.new) result }
     ensures refused { CountsRefusal (D.refusals disk.old) (D.refusals disk.new) result }
 {
     disk.cut(side, 1)?;
-    write_synced(disk, side, 1, behind)
+    write_pieces(disk, side, behind, buffer)?;
+    disk.sync(side)
+}
+
+// Writes the bytes of a source at the end of a file that has a gate alone, piece by piece, as the buffer has room.
+fn write_pieces<D: Disk, S: ImageSource + Drop>(
+    disk: &mut D,
+    side: Side,
+    behind: S,
+    buffer: &mut [u8],
+) -> Result<(), DiskError>
+{
+    let mut behind = behind;
+    let mut at = 1;
+    loop {
+        let count = behind.piece(buffer);
+        if count == 0 {
+            return Ok(());
+        }
+        disk.write_at(side, at, &buffer[..count])?;
+        at += count as u64;
+    }
 }
 
 // Closes the gate of a file, all of which is on the disk. An empty file gets a closed gate; in another nothing else changes.
