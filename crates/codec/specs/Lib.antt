@@ -4,4 +4,5 @@ pub mod Entries
 pub mod Image
 pub mod Laws
 pub mod Reading
+pub mod Room
 pub mod Spelling

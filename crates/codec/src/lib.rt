@@ -8,6 +8,7 @@
 
 mod decode;
 mod element;
+mod elements;
 mod encode;
 mod error;
 mod image;
@@ -20,6 +21,9 @@ mod spelled;
 mod writing;
 
 pub use decode::{decode_event, decode_image, decode_payload};
+pub use elements::{
+    MOST_BYTES, encode_count, encode_fault, encode_instance, encode_item, encode_tag,
+};
 pub use encode::{encode_event, encode_image, encode_payload};
 pub use error::CodecError;
 pub use image::{Image, Instances, Items, Tags};

@@ -1,10 +1,11 @@
-ghost use Rattle.std.specs.Prelude.{◌≡◌, ◌++◌, FitsSigned, length, take, OnOk, ⊤};
-ghost use Rattle.std.specs.Int.{w64};
+ghost use Rattle.std.specs.Prelude.{◌≡◌, ◌++◌, length, take, OnOk, ⊤};
 ghost use Rattle.terms.specs.declared.key.TheConstants.{MAX_COMPONENTS};
-ghost use Rattle.codec.specs.Spelling.{value_bytes, put_bytes, IsPut, item_bytes, HasPutNumber, IsItem, marked_bytes, IsMarked, inst_bytes, IsInstance, event_bytes, HasFewPuts, IsEvent};
+ghost use Rattle.codec.specs.Spelling.{put_bytes, IsPut, item_bytes, HasPutNumber, IsItem, marked_bytes, IsMarked, inst_bytes, IsInstance, event_bytes, HasFewPuts, IsEvent};
 
 use crate::encode::encode_event;
-use crate::writing::{write_address, write_instance, write_producer, write_tag, write_value};
+use crate::writing::{
+    write_address, write_instance, write_item, write_marked, write_tag, write_value,
+};
 use std::alloc::AllocError;
 use terms::{Addr, Event, Inst, Producer, Put, Tag};
 
@@ -27,18 +28,6 @@ pub(crate) trait Spelled {
         ensures spelled { OnOk result (out.new.items ≡ out.old.items ++ spelling self.now) }
         ensures in_range { OnOk result (Is self.now) }
         ensures kept { take (length out.old.items) out.new.items ≡ out.old.items };
-}
-
-impl Spelled for i64 {
-    ghost spelling = { value_bytes };
-
-    ghost May = { λ _. ⊤ };
-
-    ghost Is = { FitsSigned w64 };
-
-    fn write(&self, out: &mut Vec<u8>) -> Result<(), AllocError> {
-        write_value(out, *self)
-    }
 }
 
 impl Spelled for Put {
@@ -71,9 +60,7 @@ impl Spelled for (Addr, i64, Producer) {
     ghost Is = { IsItem MAX_COMPONENTS };
 
     fn write(&self, out: &mut Vec<u8>) -> Result<(), AllocError> {
-        write_address(out, &self.0)?;
-        write_value(out, self.1)?;
-        write_producer(out, &self.2)
+        write_item(out, self)
     }
 }
 
@@ -85,8 +72,7 @@ impl Spelled for (Tag, bool) {
     ghost Is = { IsMarked MAX_COMPONENTS };
 
     fn write(&self, out: &mut Vec<u8>) -> Result<(), AllocError> {
-        write_tag(out, &self.0)?;
-        Ok(out.push(u8::from(self.1))?)
+        write_marked(out, self)
     }
 }
 
