@@ -1,6 +1,7 @@
 -- The parts of a side, read one after another: what they make of its bytes, and what a side has where one is wrong.
-use Rattle.std.proofs.Common.{◌≡◌, ◌<◌, ◌+◌, ◌^◌, ℕ, List, [], ◌∷◌, ◌++◌, length, drop, map, get_or, refl, sym, ap, subst, ◌∙◌, arith}
+use Rattle.std.proofs.Common.{◌≡◌, ◌<◌, ◌+◌, ◌^◌, ℕ, List, [], ◌∷◌, ◌++◌, length, drop, map, get_or, Option, Some, None, refl, sym, ap, subst, ◌∙◌, arith}
 use Rattle.std.proofs.lemmas.List.{append-nil, length-append, drop_at}
+use Rattle.std.specs.Prelude.{MatchOption}
 use Rattle.byteorder.specs.Endian.{little_bytes}
 use Rattle.byteorder.specs.Numbers.{length-bytes_low_first}
 use Rattle.terms.specs.Commits.{events_of}
@@ -10,6 +11,7 @@ use Rattle.codec.specs.Commits.{commit_bytes}
 use Rattle.codec.specs.Laws.{SpellsOne}
 use Rattle.codec.specs.Spelling.{image_bytes, SpellsImage}
 use Rattle.codec.specs.Image.{image_facts, image_environment, facts_in, environment_in}
+use Rattle.holdings.specs.Holdings.{Holdings, image_of}
 use Rattle.journal.specs.Records.{StandsFor}
 use Rattle.graph.specs.Graph.{Graph}
 use Rattle.graph.specs.Canonical.{canonical}
@@ -55,14 +57,14 @@ module _ (bytes : List ℕ) (n : ℕ) (has : HasGeneration bytes n) (format : ge
         in_front ∙ ap (λ (rest : List ℕ). 1 ∷ FORMAT ∷ little_bytes 8 n ++ rest) (has_text.spelled ∙ ap (λ (rest : List ℕ). counted text ++ rest) has_part.spelled)
         ∙ ap (λ (rest : List ℕ). 1 ∷ FORMAT ∷ rest) (sym (parts_of (little_bytes 8 n) (counted text) (counted part) (drop (14 + length text + 4 + length part) bytes)))
 
-    module _ (g : Graph) (image new : Image) (end : ℕ) (is_text : IsTextOf text g) (is_image : IsImageOf g part image) (replayed : IsReplayed g image new (drop (14 + length text + 4 + length part) bytes) end) where
-      abbrev pub side_read : IsSide bytes g n (environment_in new) (facts_in new)
+    module _ (g : Graph) (old new : Holdings) (end : ℕ) (is_text : IsTextOf text g) (is_image : IsImageOf g part (image_of old)) (replayed : IsReplayed g old new (drop (14 + length text + 4 + length part) bytes) end) where
+      abbrev pub side_read : IsSide bytes g n (environment_in (image_of new)) (facts_in (image_of new))
       side_read = record {
         format = FORMAT;
         is_known = refl;
         small = has.0;
         reads = subst (λ (list : List ℕ). Reads list g) (sym is_text.1) is_text.0;
-        image = image;
+        image = image_of old;
         is_image = is_image.0.0;
         counted_image = subst (λ (list : List ℕ). length list < 2 ^ 32) is_image.0.1 has_part.short;
         commits = replayed.commits;
@@ -79,7 +81,14 @@ module _ (bytes : List ℕ) (n : ℕ) (has : HasGeneration bytes n) (format : ge
       pub ends_there : 14 + length text + 4 + length part + end ≡ end_of side_read
       ends_there =
           ap (λ (start : ℕ). start + end) (sym (starts n text part) ∙ (λ i. length (1 ∷ behind_gate FORMAT n (sym is_text.1 i) (is_image.0.1 i) [])))
-          ∙ ap (λ (more : ℕ). length (1 ∷ behind_gate FORMAT n (canonical g) (image_bytes image) []) + more) replayed.ends
+          ∙ ap (λ (more : ℕ). length (1 ∷ behind_gate FORMAT n (canonical g) (image_bytes (image_of old)) []) + more) replayed.ends
+
+-- bytes that spell an image which fits spell the one that is held; if it does not fit, they spell none that does
+pub image_read : SpellsOne (SpellsImage MAX_COMPONENTS) → (g : Graph) (bytes : List ℕ) (image : Image) → SpellsImage MAX_COMPONENTS bytes image → (found : Option Holdings)
+    → MatchOption found (FitsState g (environment_in image) (facts_in image) → ⊥) (λ held. (image_of held ≡ image) × FitsState g (environment_in image) (facts_in image))
+    → MatchOption found ((other : Image) → IsImageOf g bytes other → ⊥) (λ held. IsImageOf g bytes (image_of held))
+image_read one g bytes image spelled None misfit = λ other is. misfit (subst (λ (i : Image). FitsState g (environment_in i) (facts_in i)) (one bytes other image is.0 spelled) is.1)
+image_read one g bytes image spelled (Some held) fits = subst (IsImageOf g bytes) (sym fits.0) (spelled, fits.1)
 
 -- ---- what a side has there
 

@@ -7,7 +7,7 @@ use Rattle.std.proofs.Math.Seq.{drop-append_seam}
 use Rattle.terms.specs.Commits.{Commit, events_of}
 use Rattle.terms.specs.Facts.{Fact, facts, environment, FactsGoOn, EnvironmentGoesOn}
 use Rattle.terms.specs.Sets.{among, AmongBoth}
-use Rattle.codec.specs.declared.image.Image.{Image}
+use Rattle.holdings.specs.Holdings.{Holdings, image_of}
 use Rattle.codec.specs.Commits.{commit_bytes, IsCommit, SpellsCommit}
 use Rattle.codec.specs.Laws.{SpellsOne}
 use Rattle.codec.specs.Image.{image_facts, image_environment, facts_in, environment_in}
@@ -43,19 +43,20 @@ leads_on bytes payload end payloads leads begins = record {
 -- ---- what is taken
 
 -- nothing yet
-pub taken_none : (g : Graph) (image : Image) (bytes : List ℕ) → IsTakenTo g image image bytes 0
-taken_none g image bytes = record {
+pub taken_none : (g : Graph) (held : Holdings) (bytes : List ℕ) → IsTakenTo g held held bytes 0
+taken_none g held bytes = record {
   commits = [];
   are_commits = tt;
   leads = record { short = All-nil IsShort; within = omega arith; leads = refl; spelled = refl };
   fit = tt;
-  facts = λ fact. ap (λ (list : List Fact). among list fact) (sym (append-nil (image_facts image)));
-  environment = λ fact. ap (λ (list : List Fact). among list fact) (sym (append-nil (image_environment image)));
+  facts = λ fact. ap (λ (list : List Fact). among list fact) (sym (append-nil (image_facts (image_of held))));
+  environment = λ fact. ap (λ (list : List Fact). among list fact) (sym (append-nil (image_environment (image_of held))));
+  counts = refl;
 }
 
 -- one commit more
 module _ (both : AmongBoth) (facts_on : FactsGoOn) (given_on : EnvironmentGoesOn) (parts : AllFitInParts) (as_set : EventsAsSet) where
-  pub taken_more : (g : Graph) (old now new : Image) (bytes payload : List ℕ) (end : ℕ) → IsTakenTo g old now bytes end → BeginsWith payload (drop end bytes) → IsTaken g now new payload
+  pub taken_more : (g : Graph) (old now new : Holdings) (bytes payload : List ℕ) (end : ℕ) → IsTakenTo g old now bytes end → BeginsWith payload (drop end bytes) → IsTaken g now new payload
       → IsTakenTo g old new bytes (end + length (record_of payload))
   taken_more g old now new bytes payload end so_far begins next = record {
     commits = so_far.commits ++ next.commit ∷ [];
@@ -63,18 +64,19 @@ module _ (both : AmongBoth) (facts_on : FactsGoOn) (given_on : EnvironmentGoesOn
     leads = subst (LeadsTo bytes (end + length (record_of payload)))
         (ap (λ (last : List ℕ). map commit_bytes so_far.commits ++ last ∷ []) next.spelled.1 ∙ sym (map-append commit_bytes so_far.commits (next.commit ∷ [])))
         (leads_on bytes payload end (map commit_bytes so_far.commits) so_far.leads begins);
-    fit = fit_on parts g (image_facts old) so_far.commits next.commit so_far.fit
-        (as_set g (image_facts now) (image_facts old ++ facts (events_of so_far.commits)) next.commit so_far.facts next.fit);
-    facts = λ fact. next.grown.facts.same fact ∙ both (image_facts now) (facts next.commit) fact
-        ∙ set_grown both (image_facts old ++ facts (events_of so_far.commits)) (facts_in now) (facts next.commit) so_far.facts fact
-        ∙ ap (λ (list : List Fact). among list fact) (stated_on facts_on (image_facts old) so_far.commits next.commit);
-    environment = λ fact. next.grown.environment.same fact ∙ both (image_environment now) (environment next.commit) fact
-        ∙ set_grown both (image_environment old ++ environment (events_of so_far.commits)) (environment_in now) (environment next.commit) so_far.environment fact
-        ∙ ap (λ (list : List Fact). among list fact) (put_on given_on (image_environment old) so_far.commits next.commit);
+    fit = fit_on parts g (image_facts (image_of old)) so_far.commits next.commit so_far.fit
+        (as_set g (image_facts (image_of now)) (image_facts (image_of old) ++ facts (events_of so_far.commits)) next.commit so_far.facts next.fit);
+    facts = λ fact. next.grown.facts.same fact ∙ both (image_facts (image_of now)) (facts next.commit) fact
+        ∙ set_grown both (image_facts (image_of old) ++ facts (events_of so_far.commits)) (facts_in (image_of now)) (facts next.commit) so_far.facts fact
+        ∙ ap (λ (list : List Fact). among list fact) (stated_on facts_on (image_facts (image_of old)) so_far.commits next.commit);
+    environment = λ fact. next.grown.environment.same fact ∙ both (image_environment (image_of now)) (environment next.commit) fact
+        ∙ set_grown both (image_environment (image_of old) ++ environment (events_of so_far.commits)) (environment_in (image_of now)) (environment next.commit) so_far.environment fact
+        ∙ ap (λ (list : List Fact). among list fact) (put_on given_on (image_environment (image_of old)) so_far.commits next.commit);
+    counts = next.grown.counts ∙ so_far.counts;
   }
 
 -- all of them, up to a closed gate
-pub all_taken : (g : Graph) (old new : Image) (bytes : List ℕ) (end : ℕ) → IsTakenTo g old new bytes end → StandsFor (drop end bytes) [] → IsReplayed g old new bytes end
+pub all_taken : (g : Graph) (old new : Holdings) (bytes : List ℕ) (end : ℕ) → IsTakenTo g old new bytes end → StandsFor (drop end bytes) [] → IsReplayed g old new bytes end
 all_taken g old new bytes end so_far closes = record {
   commits = so_far.commits;
   are = record {
@@ -91,6 +93,7 @@ all_taken g old new bytes end so_far closes = record {
   ends = so_far.leads.leads;
   facts = so_far.facts;
   environment = so_far.environment;
+  counts = so_far.counts;
 }
 
 -- ---- what comes after the commits that were taken
@@ -120,15 +123,15 @@ module _ (each : SpellsOne (SpellsCommit MAX_COMPONENTS)) where
       record { more = others.more; whole = λ i. sym one i ∷ others.whole i; are_commits = others.are_commits; stands = others.stands }
 
   -- the commits that bytes stand for, after those that were taken
-  go_on : (g : Graph) (old now : Image) (bytes : List ℕ) (end : ℕ) (commits : List Commit) (so_far : IsTakenTo g old now bytes end) → AreCommits g old bytes commits → StandBehind so_far.commits commits (drop end bytes)
+  go_on : (g : Graph) (old now : Holdings) (bytes : List ℕ) (end : ℕ) (commits : List Commit) (so_far : IsTakenTo g old now bytes end) → AreCommits g (image_of old) bytes commits → StandBehind so_far.commits commits (drop end bytes)
   go_on g old now bytes end commits so_far are =
       stand_behind so_far.commits commits (drop end bytes) so_far.leads.short so_far.are_commits are.are_commits
       (subst (λ (whole : List ℕ). StandsFor whole (map commit_bytes commits)) so_far.leads.spelled are.stands)
 
   module _ (begin : BeginWithFirst) where
     -- where no record stands whole, nor a closed gate
-    pub none_ends : (g : Graph) (old now : Image) (bytes : List ℕ) (end : ℕ) → IsTakenTo g old now bytes end → BeginsWithNone (drop end bytes) → (StandsFor (drop end bytes) [] → ⊥)
-        → (commits : List Commit) → AreCommits g old bytes commits → ⊥
+    pub none_ends : (g : Graph) (old now : Holdings) (bytes : List ℕ) (end : ℕ) → IsTakenTo g old now bytes end → BeginsWithNone (drop end bytes) → (StandsFor (drop end bytes) [] → ⊥)
+        → (commits : List Commit) → AreCommits g (image_of old) bytes commits → ⊥
     none_ends g old now bytes end so_far none not_closed commits are = by behind.more behind.stands
       where
         behind : StandBehind so_far.commits commits (drop end bytes)
@@ -140,8 +143,8 @@ module _ (each : SpellsOne (SpellsCommit MAX_COMPONENTS)) where
 
     module _ (once : OneInFront) (closes : ClosedBeginsNone) (parts : AllFitInParts) (as_set : EventsAsSet) where
       -- where a record is there whose payload is no commit that fits
-      pub none_fits : (g : Graph) (old now : Image) (bytes payload : List ℕ) (end : ℕ) → IsTakenTo g old now bytes end → BeginsWith payload (drop end bytes)
-          → IsRefused g now payload → (commits : List Commit) → AreCommits g old bytes commits → ⊥
+      pub none_fits : (g : Graph) (old now : Holdings) (bytes payload : List ℕ) (end : ℕ) → IsTakenTo g old now bytes end → BeginsWith payload (drop end bytes)
+          → IsRefused g (image_of now) payload → (commits : List Commit) → AreCommits g (image_of old) bytes commits → ⊥
       none_fits g old now bytes payload end so_far begins refused commits are = by behind.more behind.whole behind.are_commits behind.stands
         where
           behind : StandBehind so_far.commits commits (drop end bytes)
@@ -151,6 +154,6 @@ module _ (each : SpellsOne (SpellsCommit MAX_COMPONENTS)) where
           by [] whole all stands = closes (drop end bytes) stands payload begins
           by (e ∷ es) whole all stands =
               let same : payload ≡ commit_bytes e = once (drop end bytes) payload (commit_bytes e) begins (begin (drop end bytes) (commit_bytes e) (map commit_bytes es) stands) in
-              let fit = (parts g (image_facts old) (events_of so_far.commits) (e ++ events_of es)).0 (subst (AllFit g (image_facts old)) (ap events_of whole ∙ events_both so_far.commits (e ∷ es)) are.fit) in
-              let first = (parts g (image_facts old ++ facts (events_of so_far.commits)) e (events_of es)).0 fit.1 in
-              refused e (all.0, same) (as_set g (image_facts old ++ facts (events_of so_far.commits)) (image_facts now) e (λ fact. sym (so_far.facts fact)) first.0)
+              let fit = (parts g (image_facts (image_of old)) (events_of so_far.commits) (e ++ events_of es)).0 (subst (AllFit g (image_facts (image_of old))) (ap events_of whole ∙ events_both so_far.commits (e ∷ es)) are.fit) in
+              let first = (parts g (image_facts (image_of old) ++ facts (events_of so_far.commits)) e (events_of es)).0 fit.1 in
+              refused e (all.0, same) (as_set g (image_facts (image_of old) ++ facts (events_of so_far.commits)) (image_facts (image_of now)) e (λ fact. sym (so_far.facts fact)) first.0)

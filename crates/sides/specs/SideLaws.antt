@@ -6,13 +6,14 @@ use Rattle.terms.specs.Sets.{Facts, with_facts}
 use Rattle.codec.specs.declared.image.Image.{Image}
 use Rattle.codec.specs.Commits.{commit_bytes, IsCommit}
 use Rattle.codec.specs.Spelling.{image_bytes, IsImage}
-use Rattle.codec.specs.Image.{facts_in, environment_in, IsListed}
+use Rattle.codec.specs.Image.{facts_in, environment_in}
 use Rattle.journal.specs.Records.{StandsFor, record_of}
 use Rattle.graph.specs.Graph.{Graph}
 use Rattle.graph.specs.Canonical.{canonical}
 use Rattle.graph.specs.Reads.{Reads}
 use Rattle.graph.specs.Fits.{AllFit, FitsState, HasOneItemEach}
 use Rattle.graph.specs.FitLaws.{SameSet}
+use Rattle.holdings.specs.Holdings.{Holdings, image_of}
 use Rattle.sides.specs.Side.{behind_gate, IsSide, start_of, end_of, facts_of}
 use Rattle.terms.specs.declared.key.TheConstants.{MAX_COMPONENTS}
 use Rattle.sides.specs.declared.gate.TheConstants.{FORMAT}
@@ -50,6 +51,6 @@ BeginsSide = (g : Graph) (generation : ℕ) (image : Image) → generation < 2 ^
     → (side : IsSide (1 ∷ behind_gate FORMAT generation (canonical g) (image_bytes image) (0 ∷ [])) g generation (environment_in image) (facts_in image))
     × (end_of side ≡ length (1 ∷ behind_gate FORMAT generation (canonical g) (image_bytes image) []))
 
--- an image whose lists are in rising order has at most one item at an address
-abbrev pub ListedOnce : Type 0
-ListedOnce = (image : Image) → IsListed image → HasOneItemEach (facts_in image)
+-- what is held has at most one item at an address
+abbrev pub HeldOnce : Type 0
+HeldOnce = (held : Holdings) → HasOneItemEach (facts_in (image_of held))

@@ -1,11 +1,12 @@
 //! The laws of what a side stands for. Each is a contract, with nothing to run.
 ghost use Rattle.sides.specs.Side.{OneMeaning, StandsWithGeneration, OneGeneration, AnyRest};
-ghost use Rattle.sides.specs.SideLaws.{HasJournal, StaysAlike, GrowsByCommit, SideAsSet, SideFits, BeginsSide, ListedOnce};
+ghost use Rattle.sides.specs.SideLaws.{HasJournal, StaysAlike, GrowsByCommit, SideAsSet, SideFits, BeginsSide, HeldOnce};
 
 use codec::{spellings_of_commits, spellings_of_images};
 use graph::{fitting, one_reading};
+use holdings::images_of_maps;
 use journal::one_meaning;
-use terms::{MAX_COMPONENTS, facts_are_told_apart, facts_go_on, orders_are_total};
+use terms::{MAX_COMPONENTS, facts_are_told_apart, facts_go_on};
 
 /// The bytes of a side stand for at most one graph, one generation and one set of facts, whatever bytes come after the gate
 /// that ends its journal.
@@ -36,10 +37,10 @@ pub fn sides_go_on()
     fitting();
 }
 
-/// An image whose lists are in rising order has at most one item at an address.
+/// What is held has at most one item at an address.
 pub fn one_item_each()
-    ensures { ListedOnce }
+    ensures { HeldOnce }
 {
     facts_are_told_apart();
-    orders_are_total();
+    images_of_maps();
 }

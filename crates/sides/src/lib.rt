@@ -7,8 +7,6 @@
 mod error;
 mod fitting;
 mod gate;
-mod holdings;
-mod imaging;
 mod law;
 mod parts;
 mod reading;
@@ -18,7 +16,6 @@ mod taking;
 
 pub use error::SideError;
 pub use gate::{FORMAT, Gate, HEAD, OPEN, gate_of};
-pub use holdings::Holdings;
 pub use law::{one_item_each, one_meaning_of_a_side, sides_go_on};
 pub use reading::{Standing, read_side};
 pub use spelling::spell_side;

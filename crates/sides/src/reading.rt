@@ -5,12 +5,13 @@ ghost use Rattle.sides.specs.Side.{IsOpen, HasGeneration, IsSide};
 ghost use Rattle.sides.specs.Reading.{IsRead};
 ghost use Rattle.sides.specs.declared.error.SideError.TheVariants.{Damaged};
 
+use crate::SideError;
 use crate::gate::{FORMAT, HEAD};
 use crate::parts::{COUNT, counted_at, read_graph, read_image};
 use crate::replay::{Replay, take_commits};
-use crate::{Holdings, SideError};
 use codec::spellings_of_images;
 use graph::{Graph, fitting, one_reading};
+use holdings::Holdings;
 use std::alloc::Global;
 use terms::MAX_COMPONENTS;
 

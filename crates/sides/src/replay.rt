@@ -1,11 +1,13 @@
 ghost use Rattle.std.specs.Prelude.{◌≡◌, false, IsTrue, IfOk};
 ghost use Rattle.std.specs.List.{AllByRecursion};
 ghost use Rattle.codec.specs.Spelling.{HasPutNumber};
+ghost use Rattle.holdings.specs.Holdings.{IsFor, image_of};
 ghost use Rattle.sides.specs.Replaying.{IsTaken, IsRefused, Replays, IsNumbered, IsWithin};
 
-use crate::Holdings;
+use crate::taking::take_all;
 use codec::{CodecError, decode_payload, spellings_of_commits};
 use graph::{Graph, fitting};
+use holdings::Holdings;
 use journal::{begins_closed, first_payload, record_length, records_lead};
 use std::alloc::{AllocError, Global};
 use terms::{Event, MAX_COMPONENTS, facts_are_told_apart, facts_go_on};
@@ -26,7 +28,8 @@ pub(crate) fn take_commits(
     holdings: &mut Holdings,
     journal: &[u8],
 ) -> Result<Replay, AllocError>
-    requires { AllByRecursion HasPutNumber holdings.old.items }
+    requires numbered { AllByRecursion HasPutNumber (image_of holdings.old).items }
+    requires collections { IsFor graph.now holdings.old }
     ensures commits { IfOk result (Replays graph.now holdings.old holdings.new journal.now) }
     ensures within { IfOk result (IsWithin journal.now) }
     ensures numbered { IfOk result (IsNumbered holdings.new) }
@@ -59,14 +62,15 @@ fn take_commit(
     commit: &mut Vec<Event>,
     payload: &[u8],
 ) -> Result<bool, AllocError>
-    requires { AllByRecursion HasPutNumber holdings.old.items }
+    requires numbered { AllByRecursion HasPutNumber (image_of holdings.old).items }
+    requires collections { IsFor graph.now holdings.old }
     ensures taken { IfOk result (λ taken. IsTrue taken → IsTaken graph.now holdings.old holdings.new payload.now) }
-    ensures refused { IfOk result (λ taken. taken ≡ false → IsRefused graph.now holdings.old payload.now) }
-    ensures numbered { IfOk result (λ taken. IsTrue taken → AllByRecursion HasPutNumber holdings.new.items) }
+    ensures refused { IfOk result (λ taken. taken ≡ false → IsRefused graph.now (image_of holdings.old) payload.now) }
+    ensures numbered { IfOk result (λ taken. IsTrue taken → AllByRecursion HasPutNumber (image_of holdings.new).items) }
 {
     spellings_of_commits(MAX_COMPONENTS);
     match decode_payload(alloc, payload, MAX_COMPONENTS, commit) {
-        Ok(()) => Ok(holdings.take_all(graph, commit)?),
+        Ok(()) => Ok(take_all(holdings, graph, commit)?),
         Err(CodecError::NoMemory) => Err(AllocError),
         Err(_) => Ok(false),
     }

@@ -6,6 +6,7 @@ use Rattle.disk.specs.Time.{Contents}
 use Rattle.terms.specs.Sets.{Facts}
 use Rattle.codec.specs.Image.{facts_in, environment_in}
 use Rattle.graph.specs.Graph.{Graph}
+use Rattle.holdings.specs.Holdings.{image_of}
 use Rattle.sides.specs.Side.{IsSide, IsOpen, HasGeneration, StandsWithGeneration, OneGeneration, end_of}
 use Rattle.vault.specs.declared.found.Found.{Found}
 use Rattle.vault.specs.Stands.{IsLive, IsBehind, other_side}
@@ -83,9 +84,9 @@ module _ (generation : StandsWithGeneration) where
         front : IsAhead contents found.journal.side
         front = subst (IsAhead contents) (sym it.side_is) ahead
 
-        there : (s : IsSide (contents found.journal.side) found.graph found.generation (environment_in found.image) (facts_in found.image)) × (found.journal.end ≡ end_of s)
+        there : (s : IsSide (contents found.journal.side) found.graph found.generation (environment_in (image_of found.holdings)) (facts_in (image_of found.holdings))) × (found.journal.end ≡ end_of s)
         there =
-            subst (λ (b : List ℕ). (s : IsSide b found.graph found.generation (environment_in found.image) (facts_in found.image)) × (found.journal.end ≡ end_of s))
+            subst (λ (b : List ℕ). (s : IsSide b found.graph found.generation (environment_in (image_of found.holdings)) (facts_in (image_of found.holdings))) × (found.journal.end ≡ end_of s))
             (is ∙ ap contents (sym it.side_is)) (it.is_side, it.ends)
 
         same : front.generation ≡ found.generation

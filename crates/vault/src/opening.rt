@@ -9,22 +9,23 @@ ghost use Rattle.vault.specs.declared.error.VaultError.{VaultError as Cause};
 ghost use Rattle.vault.specs.declared.error.VaultError.TheVariants.{Device, NoMemory};
 ghost use Rattle.disk.specs.declared.error.DiskError.TheVariants as DiskError;
 ghost use Rattle.codec.specs.Image.{facts_in, environment_in};
+ghost use Rattle.holdings.specs.Holdings.{image_of};
 
 use crate::found::{Found, found_in};
 use crate::heads::live_side;
 use crate::{Refused, Vault, VaultError};
-use codec::Image;
 use disk::{Disk, DiskError, Side};
 use graph::Graph;
+use holdings::Holdings;
 use sides::{one_meaning_of_a_side, sides_go_on};
 use std::alloc::Global;
 
-/// An opened store: its vault, its graph, and the image of what it holds.
+/// An opened store: its vault, its graph, and what it holds.
 #[derive(Drop)]
 pub struct Recovered<D: Disk> {
     pub vault: Vault<D>,
     pub graph: Graph,
-    pub image: Image,
+    pub holdings: Holdings,
 }
 
 /// Opens the store on two files, and reads what it holds.
@@ -37,12 +38,12 @@ pub struct Recovered<D: Disk> {
 /// the position of its length), and its journal (at the gate of the first record that is not whole and followed by a
 /// gate, is no event, or does not fit, or where the journal's first byte is missing).
 pub fn open<D: Disk>(alloc: Global, disk: D) -> Result<Recovered<D>, Refused<D>>
-    ensures found { IsTrue D.is_honest → IfOk result (λ r. Holds D.files r.vault r.graph (environment_in r.image) (facts_in r.image)) }
+    ensures found { IsTrue D.is_honest → IfOk result (λ r. Holds D.files r.vault r.graph (environment_in (image_of r.holdings)) (facts_in (image_of r.holdings))) }
     ensures ready { IsTrue D.is_honest → IfOk result (λ r. IsReady D.files r.vault) }
     ensures working { IfOk result (λ r. r.vault.halted ≡ false) }
 
     // The parts of what it gives fit together, on every disk.
-    ensures sound { IfOk result (λ r. IsSound r.graph r.image r.vault.generation r.vault.journal.end r.vault.text.items) }
+    ensures sound { IfOk result (λ r. IsSound r.graph r.holdings r.vault.generation r.vault.journal.end r.vault.text.items) }
 
     // What a refusal says of the files.
     ensures tells { IsTrue D.is_honest → TellsWhy (contents_of (D.files disk)) (HasErred D.failures D.refusals disk (disk_of_opening result)) (answer_of result) }
@@ -63,7 +64,7 @@ pub fn open<D: Disk>(alloc: Global, disk: D) -> Result<Recovered<D>, Refused<D>>
                 generation,
                 text,
                 graph,
-                image,
+                holdings,
             } = found;
             let vault = Vault {
                 disk,
@@ -77,7 +78,7 @@ pub fn open<D: Disk>(alloc: Global, disk: D) -> Result<Recovered<D>, Refused<D>>
             Ok(Recovered {
                 vault,
                 graph,
-                image,
+                holdings,
             })
         }
         Err(error) => Err(Refused { disk, error }),
@@ -87,7 +88,7 @@ pub fn open<D: Disk>(alloc: Global, disk: D) -> Result<Recovered<D>, Refused<D>>
 // Syncs both files, and reads what they stand for.
 fn recover<D: Disk>(alloc: Global, disk: &mut D) -> Result<Found, VaultError>
     ensures found { IsTrue D.is_honest → IfOk result (IsFound (contents_of (D.files disk.old))) }
-    ensures sound { IfOk result (λ found. IsSound found.graph found.image found.generation found.journal.end found.text.items) }
+    ensures sound { IfOk result (λ found. IsSound found.graph found.holdings found.generation found.journal.end found.text.items) }
     ensures rests { IsTrue D.is_honest → OnOk result ((side : Side) → D.files disk.new side ≡ at_rest (D.files disk.old side).content) }
     ensures nothing { IsTrue D.is_honest → IfErr result (λ error. SaysNothing error → StandsForNothing (contents_of (D.files disk.old))) }
     ensures heads { IsTrue D.is_honest → (error : Cause) → HeadsFault (contents_of (D.files disk.old)) error → IsErrOf result error ⊎ HasErred D.failures D.refusals disk.old disk.new }
@@ -114,7 +115,7 @@ fn settle<D: Disk>(disk: &mut D) -> Result<(), DiskError>
 // Reads what the files stand for.
 fn look<D: Disk>(alloc: Global, disk: &mut D) -> Result<Found, VaultError>
     ensures found { IsTrue D.is_honest → IfOk result (IsFound (contents_of (D.files disk.old))) }
-    ensures sound { IfOk result (λ found. IsSound found.graph found.image found.generation found.journal.end found.text.items) }
+    ensures sound { IfOk result (λ found. IsSound found.graph found.holdings found.generation found.journal.end found.text.items) }
     ensures nothing { IsTrue D.is_honest → IfErr result (λ error. SaysNothing error → StandsForNothing (contents_of (D.files disk.old))) }
     ensures heads { IsTrue D.is_honest → (error : Cause) → HeadsFault (contents_of (D.files disk.old)) error → IsErrOf result error ⊎ HasErred D.failures D.refusals disk.old disk.new }
     ensures cause { IsTrue D.is_honest → IfErr result (λ error. SaysNothing error → HeadsFault (contents_of (D.files disk.old)) error ⊎ IsOfAhead (contents_of (D.files disk.old)) error) }

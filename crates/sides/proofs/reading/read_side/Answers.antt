@@ -1,4 +1,4 @@
-use Rattle.std.proofs.Common.{◌≡◌, ◌+◌, ◌-◌, ℕ, List, length, take, drop, subst}
+use Rattle.std.proofs.Common.{◌≡◌, ◌+◌, ◌-◌, ℕ, List, length, take, drop, subst, ◌∙◌}
 use Rattle.std.proofs.lemmas.List.{take_rest}
 use Rattle.std.specs.List.{AllByRecursion}
 use Rattle.terms.specs.Commits.{Commit}
@@ -6,6 +6,7 @@ use Rattle.codec.specs.declared.image.Image.{Image}
 use Rattle.codec.specs.Spelling.{HasPutNumber}
 use Rattle.graph.specs.Canonical.{canonical}
 use Rattle.graph.specs.Graph.{Graph}
+use Rattle.holdings.specs.Holdings.{IsFor, image_of}
 use Rattle.sides.specs.Reading.{IsTextOf, IsImageOf, IsReplayed, AreCommits}
 use Rattle.sides.proofs.PartsRead.{side_read, ends_there, has_text, is_its_text, has_image, is_its_image, are_its_commits}
 use Rattle.sides.proofs.reading.read_side.Goals as goal
@@ -39,21 +40,23 @@ returns-in-Ended-clause-read c n has =
     let text = c.in-Some.text.now in
     let graph = c.in-Some-2.graph in
     let part = c.in-Some-counted_at.image.now in
-    let image = c.in-Some-3.holdings in
+    let old = c.in-Some-3.holdings in
     let new = c.take_commits.new.holdings in
     let start = 14 + length text + 4 + length part in
     let end = c.in-Ended.end in
     let both : IsTextOf text graph × (c.in-Some-2.own.items ≡ canonical graph) = rw c.in-Some-2.is at c.in_ok-graph.ensures in
     let is_text = both.0 in
-    let is_image : IsImageOf graph part image = rw c.in-Some-3.is at c.in_ok-holdings.ensures.image in
-    let there : IsReplayed graph image new (take (length bytes - start) (drop start bytes)) end = rw c.in-Ended.is at c.in_ok-end.ensures.commits in
-    let replayed : IsReplayed graph image new (drop start bytes) end = subst (λ (journal : List ℕ). IsReplayed graph image new journal end) (take_rest bytes start) there in
-    let numbered : AllByRecursion HasPutNumber new.items = rw c.in-Ended.is at c.in_ok-end.ensures.numbered in
+    let is_image : IsImageOf graph part (image_of old) = rw c.in-Some-3.is at c.in_ok-holdings.ensures.image in
+    let for_graph : IsFor graph old = rw c.in-Some-3.is at c.in_ok-holdings.ensures.collections in
+    let there : IsReplayed graph old new (take (length bytes - start) (drop start bytes)) end = rw c.in-Ended.is at c.in_ok-end.ensures.commits in
+    let replayed : IsReplayed graph old new (drop start bytes) end = subst (λ (journal : List ℕ). IsReplayed graph old new journal end) (take_rest bytes start) there in
+    let numbered : AllByRecursion HasPutNumber (image_of new).items = rw c.in-Ended.is at c.in_ok-end.ensures.numbered in
     record {
-      is_side = side_read bytes n has c.if-bytes-ne-FORMAT.false text part c.in-Some.ensures c.in-Some-counted_at.ensures graph image new end is_text is_image replayed;
-      ends = ends_there bytes n has c.if-bytes-ne-FORMAT.false text part c.in-Some.ensures c.in-Some-counted_at.ensures graph image new end is_text is_image replayed;
+      is_side = side_read bytes n has c.if-bytes-ne-FORMAT.false text part c.in-Some.ensures c.in-Some-counted_at.ensures graph old new end is_text is_image replayed;
+      ends = ends_there bytes n has c.if-bytes-ne-FORMAT.false text part c.in-Some.ensures c.in-Some-counted_at.ensures graph old new end is_text is_image replayed;
       text = both.1;
       numbered = numbered;
+      collections = replayed.counts ∙ for_graph;
     }
 
 pub returns-in-Broken-clause-nothing : goal.returns-in-Broken-clause-nothing
@@ -62,7 +65,7 @@ returns-in-Broken-clause-nothing c place is g n E X side =
     let text = c.in-Some.text.now in
     let graph = c.in-Some-2.graph in
     let part = c.in-Some-counted_at.image.now in
-    let image = c.in-Some-3.holdings in
+    let image = image_of c.in-Some-3.holdings in
     let start = 14 + length text + 4 + length part in
     let both : IsTextOf text graph × (c.in-Some-2.own.items ≡ canonical graph) = rw c.in-Some-2.is at c.in_ok-graph.ensures in
     let is_text = both.0 in

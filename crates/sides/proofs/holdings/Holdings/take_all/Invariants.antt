@@ -1,5 +1,0 @@
-use Rattle.sides.proofs.TakenEvents.{EventsTaken}
-use Rattle.sides.proofs.holdings.Holdings.take_all.Given as goal
-
-abbrev pub invariant-loop-event : goal.invariant-loop-event
-invariant-loop-event l = EventsTaken l.graph l.events l.event-index l.fn.self l.self
