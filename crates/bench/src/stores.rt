@@ -80,7 +80,7 @@ fn open(rt: &HostRuntime) -> Result<(usize, f64), Error> {
 // How many items an opened store holds.
 fn items_of<D: Disk + Drop>(opened: Result<Recovered<D>, Refused<D>>) -> Result<usize, VaultError> {
     match opened {
-        Ok(recovered) => Ok(recovered.image.items.as_slice().len()),
+        Ok(recovered) => Ok(recovered.holdings.item_count()),
         Err(refused) => Err(refused.error),
     }
 }

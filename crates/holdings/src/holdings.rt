@@ -38,7 +38,7 @@ impl Model for Holdings {
 }
 
 impl Holdings {
-    ghost use Rattle.std.specs.Prelude.{◌≡◌, ◌<◌, ◌↔◌, false, IfOk, IsTrue, None, OnErr, Some, is_some, map};
+    ghost use Rattle.std.specs.Prelude.{◌≡◌, ◌-◌, ◌^◌, ◌<◌, ◌↔◌, false, IfOk, IsTrue, None, OnErr, Some, is_some, length, map, min};
     ghost use Rattle.std.specs.FinMap.{entries, get};
     ghost use Rattle.items.specs.Held.{address_at, place};
     ghost use Rattle.instances.specs.Known.{inst_place, tag_place};
@@ -69,6 +69,13 @@ impl Holdings {
         ensures { result ≡ map (λ entry. (address_at entry.0, entry.1)) (entries self.now.items) }
     {
         self.items.walk()
+    }
+
+    /// The number of items, or the greatest `usize` if there are more.
+    pub fn item_count(&self) -> usize
+        ensures { result ≡ min (length (entries self.now.items)) (2 ^ 64 - 1) }
+    {
+        self.items.count()
     }
 
     /// The tags, in their order, each with whether the environment put it.

@@ -13,14 +13,16 @@ pub(crate) const HALF: usize = 32;
 /// Some entries of a map, in the order of their keys. There is room for `PAGE` from the beginning.
 #[derive(Drop)]
 pub(crate) struct Page<V> {
+    // The first key, or the empty one if there is none: here, so that a search among pages reads one line of memory of each.
+    first: Key,
     entries: Vec<(Key, V)>,
 }
 
 impl<V> Model for Page<V> {
-    ghost use Rattle.std.specs.Prelude.{◌≤◌, List, length};
+    ghost use Rattle.std.specs.Prelude.{◌≡◌, ◌≤◌, List, length};
     ghost use Rattle.std.specs.Vec.{vec_capacity};
     ghost use Rattle.maps.specs.declared.page.TheConstants.{PAGE};
-    ghost use Rattle.maps.specs.Paged.{Entry};
+    ghost use Rattle.maps.specs.Paged.{Entry, first_key};
     ghost use Rattle.maps.specs.Codes.{page_code};
 
     ghost Value = { List (Entry V) };
@@ -29,7 +31,7 @@ impl<V> Model for Page<V> {
 
     ghost view = { λ p. p.entries.items };
 
-    ghost invariant = { λ p. (length p.entries.items ≤ PAGE) × (PAGE ≤ vec_capacity p.entries) };
+    ghost invariant = { λ p. (length p.entries.items ≤ PAGE) × (PAGE ≤ vec_capacity p.entries) × (p.first ≡ first_key p.entries.items) };
 }
 
 impl<V: Copy> Page<V> {
@@ -46,6 +48,7 @@ impl<V: Copy> Page<V> {
         ensures { IfOk result (λ page. page ≡ []) }
     {
         Ok(Page {
+            first: Key::new(&[]),
             entries: Vec::with_capacity(alloc, PAGE)?,
         })
     }
@@ -80,7 +83,7 @@ impl<V: Copy> Page<V> {
         ensures cost { steps.new ≤ steps.old + 1 }
         ensures more { steps.old ≤ steps.new }
     {
-        matches!(steps.compare(key, &self.entries[0].0), Ordering::Less)
+        matches!(steps.compare(key, &self.first), Ordering::Less)
     }
 
     /// Whether all keys are less than this one.
@@ -120,6 +123,9 @@ impl<V: Copy> Page<V> {
         requires { place < length self.old }
         ensures { self.new ≡ set self.old place (key, value) }
     {
+        if place == 0 {
+            self.first = key;
+        }
         self.entries[place] = (key, value);
     }
 
@@ -129,6 +135,9 @@ impl<V: Copy> Page<V> {
         requires room { length self.old < PAGE }
         ensures { self.new ≡ add self.old place (key, value) }
     {
+        if place == 0 {
+            self.first = key;
+        }
         let _added = self.entries.insert(place, (key, value));
     }
 
@@ -157,6 +166,7 @@ impl<V: Copy> Page<V> {
         ensures lower { length self.new ≡ HALF }
         ensures upper { length upper.new ≡ HALF }
     {
+        upper.first = self.entries[HALF].0;
         let _copied = upper.entries.extend_from_slice(&self.entries[HALF..]);
         self.entries.truncate(HALF);
     }

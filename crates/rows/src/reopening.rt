@@ -3,6 +3,7 @@ ghost use Rattle.std.specs.Prelude.{◌≡◌, IfOk};
 ghost use Rattle.terms.specs.Facts.{Fact};
 ghost use Rattle.machine.specs.Machine.{facts};
 
+use holdings::{Holdings, images_of_maps};
 use machine::Machine;
 use std::alloc::{AllocError, Global};
 use std::sync::Arc;
@@ -13,7 +14,9 @@ pub(crate) fn reopened(alloc: Global, machine: &Machine) -> Result<Machine, Allo
     ensures { IfOk result (λ opened. (fact : Fact) → facts opened fact ≡ facts machine.now fact) }
 {
     machine.is_kept();
+    images_of_maps();
     let image = machine.image(alloc)?;
     let graph = Arc::clone(machine.graph())?;
-    Machine::of_image(alloc, graph, &image)
+    let holdings = Holdings::of_image(alloc, &graph, &image)?;
+    Machine::of_holdings(alloc, graph, holdings)
 }

@@ -232,10 +232,10 @@ fn opened(alloc: Global, world: &mut World) -> Result<Result<u64, VaultError>, A
             let Recovered {
                 vault,
                 graph: _,
-                image,
+                holdings,
             } = recovered;
             let generation = vault.generation();
-            match spelled(alloc, &image) {
+            match listed(alloc, &holdings) {
                 Ok(image) => {
                     *world = World::Open(Live { vault, image });
                     Ok(Ok(generation))
@@ -248,6 +248,14 @@ fn opened(alloc: Global, world: &mut World) -> Result<Result<u64, VaultError>, A
         }
         Err(refused) => Ok(Err(put_back(world, refused))),
     }
+}
+
+// The bytes that spell the image of what is held; none if one of its lists is longer than a `u32` can count.
+fn listed(alloc: Global, holdings: &Holdings) -> Result<Vec<u8>, AllocError>
+    requires { AllByRecursion HasPutNumber (image_of holdings.now).items }
+{
+    let image = holdings.image(alloc)?;
+    spelled(alloc, &image)
 }
 
 // The bytes that spell an image; none if one of its lists is longer than a `u32` can count.

@@ -4,7 +4,9 @@
 #![tactic(auto)]
 
 ghost use Rattle.std.specs.Prelude.{IfOk};
-ghost use Rattle.codec.specs.Image.{IsListed};
+ghost use Rattle.std.specs.List.{AllByRecursion};
+ghost use Rattle.codec.specs.Spelling.{HasPutNumber};
+ghost use Rattle.holdings.specs.Holdings.{image_of};
 
 mod files;
 mod filling;
@@ -36,7 +38,7 @@ fn main(rt: HostRuntime) -> Result<(), Error> {
 
 // The store on the files, opened.
 fn opened(rt: &HostRuntime) -> Result<Recovered<FileDisk>, Error>
-    ensures { IfOk result (λ recovered. IsListed recovered.image) }
+    ensures { IfOk result (λ recovered. AllByRecursion HasPutNumber (image_of recovered.holdings).items) }
 {
     let disk = FileDisk::open(rt.alloc(), rt, ".")?;
     match open(rt.alloc(), disk) {
@@ -50,8 +52,9 @@ fn turn_over(rt: &HostRuntime) -> Result<(), Error> {
     let Recovered {
         mut vault,
         graph: _,
-        image,
+        holdings,
     } = opened(rt)?;
+    let image = holdings.image(rt.alloc())?;
     let generation = vault.turn(&image)?;
     println!(rt; "turned, generation {generation}")?;
     Ok(())
@@ -60,26 +63,21 @@ fn turn_over(rt: &HostRuntime) -> Result<(), Error> {
 // Prints what the store holds, in the order of its names.
 fn tell(rt: &HostRuntime, store: &Recovered<FileDisk>) -> Result<(), Error> {
     println!(rt; "opened, generation {}", store.vault.generation())?;
-    for (address, value, _) in store.image.items.as_slice() {
+    for (address, (value, _)) in store.holdings.items() {
         println!(rt;
             "item {} {:?} = {value}",
             address.collection.0,
             address.key.components()
         )?;
     }
-    for (name, mark) in store.image.tags.as_slice() {
+    for ((number, key), mark) in store.holdings.tags() {
         println!(rt;
-            "tag {} {:?}, of the environment: {mark}",
-            name.collection.0,
-            name.key.components()
+            "tag {number} {:?}, of the environment: {mark}",
+            key.components()
         )?;
     }
-    for instance in store.image.done.as_slice() {
-        println!(rt;
-            "done {} {:?}",
-            instance.collection.0,
-            instance.key.components()
-        )?;
+    for ((number, key), ()) in store.holdings.done() {
+        println!(rt; "done {number} {:?}", key.components())?;
     }
     Ok(())
 }
