@@ -4,6 +4,7 @@ use Rattle.disk.specs.declared.side.Side.{Side}
 use Rattle.disk.specs.File.{File}
 use Rattle.disk.specs.Time.{Contents, HasCauses, HasErred}
 use Rattle.codec.specs.Image.{environment_in, facts_in}
+use Rattle.holdings.specs.Holdings.{image_of}
 use Rattle.vault.specs.declared.opening.Recovered.{Recovered}
 use Rattle.vault.specs.declared.refused.Refused.{Refused}
 use Rattle.vault.specs.declared.error.VaultError.{VaultError}
@@ -16,10 +17,10 @@ use Rattle.commit.specs.Opened.{Finds, IsCoreOf, disk_of}
 use Rattle.commit.proofs.Taken.{holds_alike}
 
 -- the files stand for what the core has
-pub finds : {D : Type 0} (files : D → Side → File) (disk : D) (recovered : Recovered D) (c : Core D) → IsCoreOf recovered c → Holds files recovered.vault recovered.graph (environment_in recovered.image) (facts_in recovered.image)
+pub finds : {D : Type 0} (files : D → Side → File) (disk : D) (recovered : Recovered D) (c : Core D) → IsCoreOf recovered c → Holds files recovered.vault recovered.graph (environment_in (image_of recovered.holdings)) (facts_in (image_of recovered.holdings))
     → ((side : Side) → (files recovered.vault.disk side).content ≡ (files disk side).content) → Finds files disk c
 finds files disk recovered c is holds reads =
-    let here = holds_alike files recovered.vault recovered.graph (graph c) (environment_in recovered.image) (environment c) (facts_in recovered.image) (facts c) is.graph
+    let here = holds_alike files recovered.vault recovered.graph (graph c) (environment_in (image_of recovered.holdings)) (environment c) (facts_in (image_of recovered.holdings)) (facts c) is.graph
     (λ fact. sym (is.lists.environment fact)) (λ fact. sym (is.lists.facts fact)) holds
     in
     let same : here.contents ≡ contents_of (files disk) = λ i side. (ap (λ (file : File). file.content) (sym (here.rests side)) ∙ reads side) i in
@@ -54,7 +55,7 @@ causes {D} failures refusals old new recovered told T = record {
     apart is = cc
 
 -- the same for either result
-pub finds_if_ok : {D : Type 0} (files : D → Side → File) (disk : D) (recovered : Recovered D) (result : Result (Core D) (Refused D)) → IfOk result (IsCoreOf recovered) → Holds files recovered.vault recovered.graph (environment_in recovered.image) (facts_in recovered.image)
+pub finds_if_ok : {D : Type 0} (files : D → Side → File) (disk : D) (recovered : Recovered D) (result : Result (Core D) (Refused D)) → IfOk result (IsCoreOf recovered) → Holds files recovered.vault recovered.graph (environment_in (image_of recovered.holdings)) (facts_in (image_of recovered.holdings))
     → ((side : Side) → (files recovered.vault.disk side).content ≡ (files disk side).content) → IfOk result (Finds files disk)
 finds_if_ok files disk recovered (Ok core) is holds reads = finds files disk recovered core is holds reads
 finds_if_ok files disk recovered (Err refused) is holds reads = tt

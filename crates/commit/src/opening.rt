@@ -1,14 +1,17 @@
 ghost use Rattle.std.specs.Prelude.{IfOk};
-ghost use Rattle.codec.specs.Image.{IsListed, environment_in, facts_in};
+ghost use Rattle.std.specs.List.{AllByRecursion};
+ghost use Rattle.codec.specs.Image.{environment_in, facts_in};
+ghost use Rattle.codec.specs.Spelling.{HasPutNumber};
 ghost use Rattle.graph.specs.Fits.{FitsState};
+ghost use Rattle.holdings.specs.Holdings.{IsFor, image_of};
 ghost use Rattle.machine.specs.Restored.{Restores};
 
 use crate::Core;
 use crate::commit_core::FIRST_ALLOWANCE;
 use crate::events::Events;
-use codec::Image;
 use disk::Disk;
 use graph::Graph;
+use holdings::Holdings;
 use machine::Machine;
 use std::alloc::{AllocError, Global};
 use std::sync::Arc;
@@ -37,9 +40,9 @@ impl<D: Disk> Core<D> {
 
     // The core of a store that was read.
     fn recovered(alloc: Global, recovered: Recovered<D>) -> Result<Core<D>, Refused<D>>
-        requires sound { IsSound recovered.graph recovered.image recovered.vault.generation recovered.vault.journal.end recovered.vault.text.items }
+        requires sound { IsSound recovered.graph recovered.holdings recovered.vault.generation recovered.vault.journal.end recovered.vault.text.items }
         requires working { recovered.vault.halted ≡ false }
-        requires holds { IsTrue D.is_honest → Holds D.files recovered.vault recovered.graph (environment_in recovered.image) (facts_in recovered.image) }
+        requires holds { IsTrue D.is_honest → Holds D.files recovered.vault recovered.graph (environment_in (image_of recovered.holdings)) (facts_in (image_of recovered.holdings)) }
         ensures opened { IfOk result IsOpened }
         ensures lists { IfOk result (IsCoreOf recovered) }
         ensures disk { disk_of result ≡ recovered.vault.disk }
@@ -49,9 +52,9 @@ impl<D: Disk> Core<D> {
         let Recovered {
             vault,
             graph,
-            image,
+            holdings,
         } = recovered;
-        match restored(alloc, graph, &image) {
+        match restored(alloc, graph, holdings) {
             Ok(machine) => {
                 machine.are_counted();
                 Ok(Core {
@@ -70,12 +73,13 @@ impl<D: Disk> Core<D> {
     }
 }
 
-// The state in memory of a store of this graph, with what this image lists.
-fn restored(alloc: Global, graph: Graph, image: &Image) -> Result<Machine, AllocError>
-    requires fits { FitsState graph (environment_in image.now) (facts_in image.now) }
-    requires listed { IsListed image.now }
-    ensures { IfOk result (Restores graph image.now) }
+// The state in memory of a store of this graph, which takes over what was read.
+fn restored(alloc: Global, graph: Graph, holdings: Holdings) -> Result<Machine, AllocError>
+    requires fits { FitsState graph (environment_in (image_of holdings)) (facts_in (image_of holdings)) }
+    requires numbered { AllByRecursion HasPutNumber (image_of holdings).items }
+    requires collections { IsFor graph holdings }
+    ensures { IfOk result (Restores graph (image_of holdings)) }
 {
     let graph = Arc::new(alloc, graph)?;
-    Machine::of_image(alloc, graph, image)
+    Machine::of_holdings(alloc, graph, holdings)
 }

@@ -10,7 +10,8 @@ use Rattle.terms.specs.Sets.{OneFact}
 use Rattle.graph.specs.Fits.{addresses, IsIn, IsTwiceIn, AreNew}
 use Rattle.items.specs.Held.{Held, item_at}
 use Rattle.machine.specs.declared.memory.Memory.{Memory}
-use Rattle.machine.specs.Memory.{is_item, facts_of}
+use Rattle.holdings.specs.ImageLaws.{is_item}
+use Rattle.machine.specs.Memory.{facts_of}
 use Rattle.machine.specs.Legal.{Conflicts}
 use Rattle.machine.specs.Absence.{AreAllAbsent, IsOneThere}
 use Rattle.machine.proofs.Coming.{is_itself}

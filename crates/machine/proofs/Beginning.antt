@@ -21,7 +21,8 @@ use Rattle.instances.specs.declared.state.State.{State}
 use Rattle.instances.specs.declared.state.State.TheVariants.{Waiting}
 use Rattle.instances.specs.Known.{Known, fresh, fresh_step, prescriber_in, prescriber_at, state_at, state_in, tag_place}
 use Rattle.machine.specs.declared.memory.Memory.{Memory}
-use Rattle.machine.specs.Memory.{is_done, is_item, facts_of, environment_of, prescriber_of, waits_at, IsOf}
+use Rattle.holdings.specs.ImageLaws.{is_item}
+use Rattle.machine.specs.Memory.{is_done, facts_of, environment_of, prescriber_of, waits_at, IsOf}
 use Rattle.machine.specs.Creation.{HoldsNothing}
 
 -- no items, for this number of collections

@@ -24,7 +24,8 @@ use Rattle.instances.specs.declared.state.State.{State}
 use Rattle.instances.specs.declared.state.State.TheVariants.{Ready, Running, Waiting, Done}
 use Rattle.instances.specs.Known.{mark_of, state_at}
 use Rattle.machine.specs.declared.memory.Memory.{Memory}
-use Rattle.machine.specs.Memory.{is_item, is_done, is_fault, facts_of, environment_of, waits_at, AreListed, MovesOn}
+use Rattle.holdings.specs.ImageLaws.{is_fault, is_item}
+use Rattle.machine.specs.Memory.{is_done, facts_of, environment_of, waits_at, AreListed, MovesOn}
 use Rattle.machine.specs.Waking.{Wakes}
 use Rattle.machine.specs.Coming.{Grows, given_by}
 

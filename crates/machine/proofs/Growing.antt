@@ -18,7 +18,8 @@ use Rattle.instances.specs.declared.state.State.{State}
 use Rattle.instances.specs.declared.state.State.TheVariants.{Ready, Running, Waiting, Done}
 use Rattle.instances.specs.Known.{state_at}
 use Rattle.machine.specs.declared.memory.Memory.{Memory}
-use Rattle.machine.specs.Memory.{is_item, facts_of, environment_of, AreListed, MovesOn}
+use Rattle.holdings.specs.ImageLaws.{is_item}
+use Rattle.machine.specs.Memory.{facts_of, environment_of, AreListed, MovesOn}
 use Rattle.machine.specs.Coming.{AreFree, CanTake, CanTakeAll, Grows, IsFree, fact_of}
 use Rattle.machine.proofs.Coming.{or_false, is_itself, itself_number, the_item}
 use Rattle.machine.proofs.Tagging.{unmoved}

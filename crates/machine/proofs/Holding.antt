@@ -24,7 +24,8 @@ use Rattle.machine.specs.Counts.{AreItemsOf, AreSoMany, AreCountsOf}
 use Rattle.machine.specs.declared.counts.Counts.{Counts}
 use Rattle.machine.specs.declared.memory.Memory.{Memory}
 use Rattle.machine.specs.Meaning.{items}
-use Rattle.machine.specs.Memory.{is_done, is_item, facts_of, IsOf}
+use Rattle.holdings.specs.ImageLaws.{is_item}
+use Rattle.machine.specs.Memory.{is_done, facts_of, IsOf}
 use Rattle.machine.proofs.Coming.{is_itself, item_is_there, itself_number, same_number, the_item}
 use Rattle.machine.proofs.Imaged.{state_done}
 use Rattle.machine.proofs.InPlaceOrder.{told_of, value_of, its_found, its_rise, named, names_rise}

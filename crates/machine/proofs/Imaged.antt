@@ -1,132 +1,29 @@
 -- What a store holds is what its lists say, and these rise.
-use Rattle.std.proofs.Common.{◌≡◌, ◌∙◌, ap, sym, refl, subst, ℤ, T, Bool, true, false, cond, ◌&&◌, ◌||◌, List, [], ◌∷◌, map, Option, Some, None, is_some}
+use Rattle.std.proofs.Common.{◌≡◌, ◌∙◌, ap, sym, refl, true, List, [], ◌∷◌, ◌++◌, map, Option, Some, None}
 use Rattle.std.proofs.lemmas.Bool.{false≢true}
-use Rattle.std.specs.List.{flat_map, list_any, AllByRecursion}
+use Rattle.std.specs.List.{list_any, AllByRecursion}
 use Rattle.std.specs.List.Sorted.{IsStrictlySortedBy}
-use Rattle.std.specs.Option.{unwrap_or}
-use Rattle.std.specs.Ordering.{is_lt, is_eq, eq_by_cmp}
-use Rattle.std.specs.Cmp.{IsTotalOrder, Equal-is, eq_by_cmp_equiv}
-use Rattle.std.specs.FinMap.{entries, entries_sorted, find, get-entries, is_sorted}
-use Rattle.std.specs.FinMap.Entries.{below_all}
-use Rattle.terms.specs.declared.name.Addr.{Addr}
-use Rattle.terms.specs.declared.name.Tag.{Tag}
+use Rattle.std.specs.Ordering.{eq_by_cmp}
 use Rattle.terms.specs.declared.name.Inst.{Inst}
 use Rattle.terms.specs.declared.producer.Producer.{Producer}
 use Rattle.terms.specs.declared.producer.Producer.TheVariants.{Env, By}
-use Rattle.terms.specs.Name.{inst_cmp, tag_cmp}
+use Rattle.terms.specs.Name.{inst_cmp}
 use Rattle.terms.specs.Facts.{Fact, tag, item, done, bad}
 use Rattle.terms.specs.Sets.{among, OneFact, AmongBoth}
 use Rattle.codec.specs.declared.image.Image.{Image}
-use Rattle.codec.specs.Entries.{Item, MarkedTag, item_cmp, marked_cmp, Rises}
-use Rattle.codec.specs.Image.{Lists, IsListed, environment_tag, environment_in, facts_in}
-use Rattle.codec.specs.Spelling.{HasPutNumber}
-use Rattle.maps.specs.Numbered.{Place, place_cmp}
-use Rattle.maps.specs.PlaceOrder.{places_total, same_places}
-use Rattle.items.specs.Held.{place}
+use Rattle.codec.specs.Entries.{Item, Rises}
+use Rattle.codec.specs.Image.{Lists, IsListed, environment_in, facts_in, fault_facts}
+use Rattle.codec.specs.Spelling.{HasPutNumber, IsNumbered}
 use Rattle.instances.specs.declared.state.State.{State}
 use Rattle.instances.specs.declared.state.State.TheVariants.{Ready, Running, Waiting, Done}
-use Rattle.instances.specs.Known.{state_at, tag_at, tag_place}
+use Rattle.instances.specs.Known.{state_at}
 use Rattle.instances.specs.Listed.{AreTheDone}
 use Rattle.graph.specs.Graph.{Graph}
+use Rattle.holdings.specs.ImageLaws.{ImagesTell, TellsOf, TellsRest, is_fault}
 use Rattle.machine.specs.declared.memory.Memory.{Memory}
-use Rattle.machine.specs.Imaging.{items_of, items_in, tags_of, tags_in}
-use Rattle.machine.specs.Memory.{is_done, is_fault, is_item, facts_of, environment_of, IsOf}
-use Rattle.machine.proofs.Coming.{or_false}
-use Rattle.machine.proofs.ImageFacts.{item_fact, tag_fact, facts_tag, facts_item, facts_done, facts_bad, given_tag, given_own, given_by, given_done, given_bad}
-use Rattle.machine.proofs.InPlaceOrder.{first, second, less}
-use Rattle.machine.proofs.Sets.{same_truth, the_first, behind_first}
-
-abbrev Entry : Type 0
-Entry = ℤ × Producer
-
--- a place below all others is not among them
-not_among : {X : Type 0} (k : Place) (es : List (Place × X)) → T (below_all place_cmp k es) → find place_cmp k es ≡ None
-not_among k [] below = refl
-not_among k (e ∷ es) below =
-    ap (λ o. cond (is_eq o) (Some e.1) (find place_cmp k es)) (less (place_cmp k e.0) (first _ _ below)) ∙ not_among k es (second (is_lt (place_cmp k e.0)) _ below)
-
--- after the entry of this place there is no other one
-only_here : {X : Type 0} (k : Place) (e : Place × X) (es : List (Place × X)) → T (is_sorted place_cmp (e ∷ es)) → eq_by_cmp place_cmp k e.0 ≡ true → find place_cmp k es ≡ None
-only_here k e es sorted is =
-    ap (λ (q : Place). find place_cmp q es) (same_places k e.0 ((Equal-is (place_cmp k e.0)).0 is)) ∙ not_among e.0 es (first _ _ sorted)
-
-turned : (at k : Place) → eq_by_cmp place_cmp at k ≡ eq_by_cmp place_cmp k at
-turned at k = (eq_by_cmp_equiv places_total).symm at k
-
--- ---- items
-
-item_either : (b : Bool) (x : Entry) (rest : Option Entry) (v : ℤ) (p : Producer) → (b ≡ true → rest ≡ None) → ((b && is_item (Some x) v p) || is_item rest v p) ≡ is_item (cond b (Some x) rest) v p
-item_either true x rest v p none = ap (λ o. is_item (Some x) v p || is_item o v p) (none refl) ∙ or_false _
-item_either false x rest v p none = refl
-
-item_found : (es : List (Place × Entry)) → T (is_sorted place_cmp es) → (a : Addr) (v : ℤ) (p : Producer) → among (map item_fact (items_of es)) (item a v p) ≡ is_item (find place_cmp (place a) es) v p
-item_found [] sorted a v p = refl
-item_found (e ∷ es) sorted a v p =
-    let test = is_item (Some e.1) v p in
-    ap (λ b. (b && test) || among (map item_fact (items_of es)) (item a v p)) (turned e.0 (place a))
-    ∙ ap (λ b. (eq_by_cmp place_cmp (place a) e.0 && test) || b) (item_found es (second (below_all place_cmp e.0 es) _ sorted) a v p)
-    ∙ item_either (eq_by_cmp place_cmp (place a) e.0) e.1 (find place_cmp (place a) es) v p (only_here (place a) e es sorted)
-
-items_rise : (es : List (Place × Entry)) → T (is_sorted place_cmp es) → Rises item_cmp (items_of es)
-items_rise [] sorted = tt
-items_rise (e ∷ []) sorted = tt
-items_rise (e ∷ f ∷ es) sorted = (
-  less (place_cmp e.0 f.0) (first _ (below_all place_cmp e.0 es) (first (below_all place_cmp e.0 (f ∷ es)) _ sorted)),
-  items_rise (f ∷ es) (second (below_all place_cmp e.0 (f ∷ es)) _ sorted),
-)
-
--- ---- tags
-
-some_either : (b mark : Bool) (rest : Option Bool) → (b || is_some rest) ≡ is_some (cond b (Some mark) rest)
-some_either true mark rest = refl
-some_either false mark rest = refl
-
-tag_found : (es : List (Place × Bool)) (name : Tag) → among (map tag_fact (tags_of es)) (tag name) ≡ is_some (find place_cmp (tag_place name) es)
-tag_found [] name = refl
-tag_found (e ∷ es) name =
-    ap (λ b. b || among (map tag_fact (tags_of es)) (tag name)) (turned e.0 (tag_place name))
-    ∙ ap (λ b. eq_by_cmp place_cmp (tag_place name) e.0 || b) (tag_found es name) ∙ some_either (eq_by_cmp place_cmp (tag_place name) e.0) e.1 (find place_cmp (tag_place name) es)
-
--- one tag says that the environment put another exactly if they are equal and the first is marked
-pub mark_told : (there : Tag) (mark : Bool) (name : Tag) → among (environment_tag (there, mark)) (tag name) ≡ (is_eq (tag_cmp there name) && mark)
-mark_told there true name = at (is_eq (tag_cmp there name))
-  where
-    at : (b : Bool) → (b || false) ≡ (b && true)
-    at true = refl
-    at false = refl
-mark_told there false name = at (is_eq (tag_cmp there name))
-  where
-    at : (b : Bool) → false ≡ (b && false)
-    at true = refl
-    at false = refl
-
-mark_either : (b mark : Bool) (rest : Option Bool) → (b ≡ true → rest ≡ None) → ((b && mark) || unwrap_or rest false) ≡ unwrap_or (cond b (Some mark) rest) false
-mark_either true mark rest none = ap (λ (o : Option Bool). mark || unwrap_or o false) (none refl) ∙ or_false mark
-mark_either false mark rest none = refl
-
-mark_found : AmongBoth → (es : List (Place × Bool)) → T (is_sorted place_cmp es) → (name : Tag) → among (flat_map environment_tag (tags_of es)) (tag name) ≡ unwrap_or (find place_cmp (tag_place name) es) false
-mark_found both [] sorted name = refl
-mark_found both (e ∷ es) sorted name =
-    let rest = among (flat_map environment_tag (tags_of es)) (tag name) in
-    both (environment_tag (tag_at e.0, e.1)) (flat_map environment_tag (tags_of es)) (tag name)
-    ∙ ap (λ b. b || rest) (mark_told (tag_at e.0) e.1 name ∙ ap (λ b. b && e.1) (turned e.0 (tag_place name)))
-    ∙ ap (λ b. (eq_by_cmp place_cmp (tag_place name) e.0 && e.1) || b) (mark_found both es (second (below_all place_cmp e.0 es) _ sorted) name)
-    ∙ mark_either (eq_by_cmp place_cmp (tag_place name) e.0) e.1 (find place_cmp (tag_place name) es) (only_here (tag_place name) e es sorted)
-
-tags_rise : (es : List (Place × Bool)) → T (is_sorted place_cmp es) → Rises marked_cmp (tags_of es)
-tags_rise [] sorted = tt
-tags_rise (e ∷ []) sorted = tt
-tags_rise (e ∷ f ∷ es) sorted = (
-  less (place_cmp e.0 f.0) (first _ (below_all place_cmp e.0 es) (first (below_all place_cmp e.0 (f ∷ es)) _ sorted)),
-  tags_rise (f ∷ es) (second (below_all place_cmp e.0 (f ∷ es)) _ sorted),
-)
-
--- ---- done instances
-
-pub done_listed : IsTotalOrder inst_cmp → (list : List Inst) (i : Inst) → among (map done list) (done i) ≡ list_any (eq_by_cmp inst_cmp i) list
-done_listed total [] i = refl
-done_listed total (x ∷ xs) i =
-    ap (λ b. b || among (map done xs) (done i)) ((eq_by_cmp_equiv total).symm x i) ∙ ap (λ b. eq_by_cmp inst_cmp i x || b) (done_listed total xs i)
+use Rattle.machine.specs.Imaging.{items_in, tags_in}
+use Rattle.machine.specs.Memory.{is_done, facts_of, environment_of, IsOf}
+use Rattle.machine.proofs.Sets.{same_truth, the_first, behind_first, in_one, in_two}
 
 pub state_done : (o : Option State) → is_done o ≡ true → o ≡ Some Done
 state_done None is = absurd (false≢true is)
@@ -141,52 +38,49 @@ done_rise [] rises = tt
 done_rise (x ∷ []) rises = tt
 done_rise (x ∷ y ∷ list) rises = (rises.0.0, done_rise (y ∷ list) rises.1)
 
--- ---- all of them
-
-module _ (told : OneFact) (both : AmongBoth) (total : IsTotalOrder inst_cmp) (g : Graph) (m : Memory) (image : Image) (fault : image.fault ≡ m.fault)
+module _ (told : OneFact) (both : AmongBoth) (maps : ImagesTell) (rest : (image : Image) → TellsRest image) (g : Graph) (m : Memory) (image : Image) (fault : image.fault ≡ m.fault)
     (items : image.items ≡ items_in m.items) (tags : image.tags ≡ tags_in m.instances) (ended : AreTheDone m.instances image.done) where
-  listed_item : (a : Addr) (v : ℤ) (p : Producer) → among (map item_fact image.items) (item a v p) ≡ facts_of m (item a v p)
-  listed_item a v p =
-      ap (λ (list : List Item). among (map item_fact list) (item a v p)) items ∙ item_found (entries m.items.items.items) (entries_sorted m.items.items.items) a v p
-      ∙ ap (λ (o : Option Entry). is_item o v p) (sym (get-entries m.items.items.items (place a)))
+  tells : TellsOf image m.items.items.items m.instances.tags.items
+  tells = maps image m.items.items.items m.instances.tags.items items tags
 
   facts : (fact : Fact) → facts_in image fact ≡ facts_of m fact
-  facts (tag name) =
-      facts_tag both image name ∙ ap (λ (list : List MarkedTag). among (map tag_fact list) (tag name)) tags ∙ tag_found (entries m.instances.tags.items) name
-      ∙ ap is_some (sym (get-entries m.instances.tags.items (tag_place name)))
-  facts (item a v p) = facts_item both image a v p ∙ listed_item a v p
+  facts (tag name) = tells.of_tags name
+  facts (item a v p) = tells.of_items a v p
   facts (done i) =
-      facts_done both image i ∙ done_listed total image.done i
+      (rest image).of_done i
       ∙ same_truth (list_any (eq_by_cmp inst_cmp i) image.done) (is_done (state_at m.instances i)) (λ is. ap is_done ((ended.each i).0 is)) (λ is. (ended.each i).1 (state_done (state_at m.instances i) is))
-  facts (bad i kind) = facts_bad both image i kind ∙ ap (λ f. is_fault f i kind) fault
+  facts (bad i kind) = (rest image).of_fault i kind ∙ ap (λ f. is_fault f i kind) fault
 
   given : (fact : Fact) → environment_in image fact ≡ environment_of m fact
-  given (tag name) =
-      given_tag both image name ∙ ap (λ (list : List MarkedTag). among (flat_map environment_tag list) (tag name)) tags
-      ∙ mark_found both (entries m.instances.tags.items) (entries_sorted m.instances.tags.items) name ∙ ap (λ o. unwrap_or o false) (sym (get-entries m.instances.tags.items (tag_place name)))
-  given (item a v Env) = given_own both image a v ∙ listed_item a v Env
-  given (item a v (By i n)) = given_by both image a v i n
-  given (done i) = given_done both image i
-  given (bad i kind) = given_bad both image i kind
+  given (tag name) = tells.given_tags name
+  given (item a v Env) = tells.given_items a v
+  given (item a v (By i n)) = (rest image).given_by a v i n
+  given (done i) = (rest image).given_done i
+  given (bad i kind) = (rest image).given_fault i kind
 
   pub lists_all : Lists image (environment_of m) (facts_of m)
   lists_all = record { facts = facts; environment = given }
 
-  each_numbered : (list : List Item) → ((a : Addr) (v : ℤ) (p : Producer) → among (map item_fact list) (item a v p) ≡ true → HasPutNumber (a, v, p)) → AllByRecursion HasPutNumber list
-  each_numbered [] known = tt
-  each_numbered (it ∷ list) known = (
-    known it.0 it.1 it.2 (the_first told (item_fact it) (map item_fact list)),
-    each_numbered list (λ a v p there. known a v p (behind_first told (item_fact it) (map item_fact list) (item a v p) there)),
-  )
+  -- an item that the image lists is a fact of it
+  abbrev item_fact : Item → Fact
+  item_fact it = item it.0 it.1 it.2
 
-  numbered : IsOf g m → (a : Addr) (v : ℤ) (p : Producer) → among (map item_fact image.items) (item a v p) ≡ true → HasPutNumber (a, v, p)
-  numbered is a v Env there = tt
-  numbered is a v (By i n) there = is.numbered a v i n (sym (listed_item a v (By i n)) ∙ there)
+  is_fact_of : (fact : Fact) → among (map item_fact image.items) fact ≡ true → facts_in image fact ≡ true
+  is_fact_of fact there =
+      let before = fault_facts image.fault ++ map item_fact image.items in
+      let marked = map (λ one. tag one.0) image.tags in
+      in_one both (before ++ marked) (map done image.done) fact (in_one both before marked fact (in_two both (fault_facts image.fault) (map item_fact image.items) fact there))
+
+  each_numbered : (list : List Item) → ((fact : Fact) → among (map item_fact list) fact ≡ true → facts_in image fact ≡ true) → IsOf g m → AllByRecursion HasPutNumber list
+  each_numbered [] known is = tt
+  each_numbered (it ∷ list) known is = (
+    numbered it.2 (sym (facts (item_fact it)) ∙ known (item_fact it) (the_first told (item_fact it) (map item_fact list))),
+    each_numbered list (λ fact there. known fact (behind_first told (item_fact it) (map item_fact list) fact there)) is,
+  )
+    where
+      numbered : (p : Producer) → facts_of m (item it.0 it.1 p) ≡ true → IsNumbered p
+      numbered Env there = tt
+      numbered (By i n) there = is.numbered it.0 it.1 i n there
 
   pub all_listed : IsOf g m → IsListed image
-  all_listed is = record {
-    items_rise = subst (λ (list : List Item). Rises item_cmp list) (sym items) (items_rise (entries m.items.items.items) (entries_sorted m.items.items.items));
-    tags_rise = subst (λ (list : List MarkedTag). Rises marked_cmp list) (sym tags) (tags_rise (entries m.instances.tags.items) (entries_sorted m.instances.tags.items));
-    done_rise = done_rise image.done ended.rises;
-    numbered = each_numbered image.items (numbered is);
-  }
+  all_listed is = record { items_rise = tells.items_rise; tags_rise = tells.tags_rise; done_rise = done_rise image.done ended.rises; numbered = each_numbered image.items is_fact_of is }

@@ -16,7 +16,6 @@ pub mod GroupSpent
 pub mod Growing
 pub mod Grown
 pub mod Holding
-pub mod ImageFacts
 pub mod Imaged
 pub mod InPlaceOrder
 pub mod InTurn
@@ -36,8 +35,6 @@ pub mod Putting
 pub mod Quiet
 pub mod Reached
 pub mod Restored
-pub mod RestoredItems
-pub mod RestoredTags
 pub mod Roomier
 pub mod Rows
 pub mod Sets

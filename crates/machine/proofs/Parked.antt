@@ -19,7 +19,8 @@ use Rattle.instances.specs.declared.state.State.TheVariants.{Ready, Running, Wai
 use Rattle.instances.specs.Known.{MovesOne, state_at}
 use Rattle.machine.specs.declared.memory.Memory.{Memory}
 use Rattle.machine.specs.Legal.{Needs}
-use Rattle.machine.specs.Memory.{is_fault, facts_of, waits_at, AreListed, IsOf}
+use Rattle.holdings.specs.ImageLaws.{is_fault}
+use Rattle.machine.specs.Memory.{facts_of, waits_at, AreListed, IsOf}
 use Rattle.machine.proofs.Coming.{or_false}
 use Rattle.machine.proofs.Woken.{one_instance, itself}
 use Rattle.machine.proofs.Moved.{by_instance, facts_stay, environment_stays}

@@ -25,7 +25,8 @@ use Rattle.instances.specs.Known.{Known, mark_of, tag_place, state_at, prescribe
 use Rattle.instances.specs.Known as instances
 use Rattle.machine.specs.declared.memory.Memory.{Memory}
 use Rattle.machine.specs.Legal.{IsLegal}
-use Rattle.machine.specs.Memory.{is_item, is_done, is_fault, waits_at, facts_of, environment_of, AreListed, IsOf}
+use Rattle.holdings.specs.ImageLaws.{is_fault, is_item}
+use Rattle.machine.specs.Memory.{is_done, waits_at, facts_of, environment_of, AreListed, IsOf}
 use Rattle.machine.specs.Room.{GivesRoom, OnlyMakesRoom}
 use Rattle.machine.proofs.Worked.{same_is_of}
 

@@ -23,7 +23,8 @@ use Rattle.instances.specs.declared.state.State.{State}
 use Rattle.instances.specs.declared.state.State.TheVariants.{Ready, Running, Waiting, Done}
 use Rattle.instances.specs.Known.{Prescribes, mark_of, state_at, tag_place, is_prescribed_by, room_for}
 use Rattle.machine.specs.declared.memory.Memory.{Memory}
-use Rattle.machine.specs.Memory.{is_item, is_done, is_fault, facts_of, environment_of, waits_at, AreListed, MovesOn}
+use Rattle.holdings.specs.ImageLaws.{is_fault, is_item}
+use Rattle.machine.specs.Memory.{is_done, facts_of, environment_of, waits_at, AreListed, MovesOn}
 use Rattle.machine.specs.Coming.{Grows, IsNewTo, given_by}
 use Rattle.machine.proofs.Coming.{or_false, same_number, itself_number, still_waits}
 

@@ -20,7 +20,8 @@ use Rattle.graph.specs.FitLaws.{StateKeeps}
 use Rattle.machine.specs.declared.memory.Memory.{Memory}
 use Rattle.machine.specs.Legal.{IsLegal}
 use Rattle.machine.specs.StateLaws.{NeedsStays}
-use Rattle.machine.specs.Memory.{is_item, facts_of, environment_of, IsOf, Comes}
+use Rattle.holdings.specs.ImageLaws.{is_item}
+use Rattle.machine.specs.Memory.{facts_of, environment_of, IsOf, Comes}
 use Rattle.machine.proofs.Fit.{event_fits}
 
 either : {A : Type 0} (a b : Bool) → (a || b) ≡ true → (a ≡ true → A) → (b ≡ true → A) → A

@@ -19,7 +19,8 @@ use Rattle.instances.specs.declared.state.State.TheVariants.{Ready, Running, Wai
 use Rattle.instances.specs.Known.{state_at}
 use Rattle.machine.specs.declared.memory.Memory.{Memory}
 use Rattle.machine.specs.Machine.{Ends, EndsAs, GoesOn, HasItem, Takes, item_room, puts_of, tag_room}
-use Rattle.machine.specs.Memory.{is_item, facts_of, Comes, MovesOn}
+use Rattle.holdings.specs.ImageLaws.{is_item}
+use Rattle.machine.specs.Memory.{facts_of, Comes, MovesOn}
 use Rattle.machine.proofs.Coming.{item_is_there}
 use Rattle.machine.proofs.Promised.{ended}
 use Rattle.machine.proofs.Sets.{or_left, or_right}

@@ -24,7 +24,8 @@ use Rattle.instances.specs.Listed.{AreTheWaiting}
 use Rattle.instances.specs.There.{AreThereTogether}
 use Rattle.machine.specs.declared.memory.Memory.{Memory}
 use Rattle.machine.specs.Legal.{IsQuiet, IsBlocked}
-use Rattle.machine.specs.Memory.{is_done, is_fault, facts_of, IsOf}
+use Rattle.holdings.specs.ImageLaws.{is_fault}
+use Rattle.machine.specs.Memory.{is_done, facts_of, IsOf}
 use Rattle.machine.specs.Status.{AreBlocked, NoneIsActive}
 use Rattle.machine.proofs.Unfinished.{by_graph}
 

@@ -24,7 +24,8 @@ use Rattle.instances.specs.declared.state.State.TheVariants.{Ready, Running, Wai
 use Rattle.instances.specs.Known.{Known, MovesOne, mark_of, state_at, prescriber_at}
 use Rattle.machine.specs.declared.memory.Memory.{Memory}
 use Rattle.machine.specs.Legal.{Needs}
-use Rattle.machine.specs.Memory.{is_item, is_done, is_fault, waits_at, facts_of, environment_of, AreListed, IsOf, MovesOn, Comes}
+use Rattle.holdings.specs.ImageLaws.{is_fault, is_item}
+use Rattle.machine.specs.Memory.{is_done, waits_at, facts_of, environment_of, AreListed, IsOf, MovesOn, Comes}
 use Rattle.machine.specs.Coming.{Grows}
 use Rattle.machine.specs.Machine.{Moves}
 use Rattle.machine.proofs.Coming.{or_false, still_waits}

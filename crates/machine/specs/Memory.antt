@@ -1,16 +1,10 @@
 -- What a store holds in memory, as sets of facts, and what each change does to them.
-use Rattle.std.specs.Prelude.{◌≡◌, ◌⊎◌, ℕ, ℤ, ◌<◌, Bool, true, false, ◌&&◌, ◌==◌, length, slice_get, Option, Some, None, IsSome, is_some}
+use Rattle.std.specs.Prelude.{◌≡◌, ◌⊎◌, ℕ, ℤ, ◌<◌, Bool, true, false, length, slice_get, Option, Some, None, IsSome, is_some}
 use Rattle.std.specs.Option.{option_map, unwrap_or}
-use Rattle.std.specs.Ordering.{is_eq, int_eq}
 use Rattle.terms.specs.declared.name.Addr.{Addr}
 use Rattle.terms.specs.declared.name.Inst.{Inst}
-use Rattle.terms.specs.declared.fault.FaultKind.{FaultKind}
-use Rattle.terms.specs.declared.producer.Producer.{Producer}
 use Rattle.terms.specs.declared.producer.Producer.TheVariants.{Env, By}
 use Rattle.terms.specs.declared.put.TheConstants.{MOST_PUTS}
-use Rattle.terms.specs.Fault.{fault_number}
-use Rattle.terms.specs.Name.{inst_cmp}
-use Rattle.terms.specs.Put.{producer_cmp}
 use Rattle.terms.specs.Same.{is_same}
 use Rattle.terms.specs.declared.event.Event.{Event}
 use Rattle.terms.specs.Facts.{Fact, tag, item, done, bad, event_facts, environment_facts}
@@ -22,15 +16,11 @@ use Rattle.items.specs.Once.{IsOnceEach, is_one_of}
 use Rattle.instances.specs.declared.state.State.{State}
 use Rattle.instances.specs.declared.state.State.TheVariants.{Ready, Running, Waiting, Done}
 use Rattle.instances.specs.Known.{mark_of, state_at, prescriber_at}
+use Rattle.holdings.specs.ImageLaws.{is_fault, is_item}
 use Rattle.machine.specs.declared.memory.Memory.{Memory}
 use Rattle.machine.specs.Legal.{Needs}
 
 -- ---- the facts
-
--- it is an item of this value by this producer
-abbrev pub is_item : Option (ℤ × Producer) → ℤ → Producer → Bool
-is_item None value by = false
-is_item (Some there) value by = int_eq there.0 value && is_eq (producer_cmp there.1 by)
 
 abbrev pub is_done : Option State → Bool
 is_done None = false
@@ -38,11 +28,6 @@ is_done (Some Ready) = false
 is_done (Some Running) = false
 is_done (Some (Waiting address)) = false
 is_done (Some Done) = true
-
--- it is the fault of this instance, of this kind
-abbrev pub is_fault : Option (Inst × FaultKind) → Inst → FaultKind → Bool
-is_fault None instance kind = false
-is_fault (Some there) instance kind = is_eq (inst_cmp there.0 instance) && (fault_number there.1 == fault_number kind)
 
 -- all facts of the store
 abbrev pub facts_of : Memory → Facts

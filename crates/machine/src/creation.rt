@@ -1,4 +1,5 @@
-ghost use Rattle.std.specs.Prelude.{◌≡◌, IfOk, map};
+ghost use Rattle.std.specs.Prelude.{◌≡◌, ◌≤◌, ◌^◌, IfOk, length, map};
+ghost use Rattle.graph.specs.Graph.{IsGraph};
 
 use crate::Machine;
 use crate::memory::Memory;
@@ -57,8 +58,10 @@ impl Memory {
 }
 
 // The tag collection that prescribes each step, by the numbers of the steps.
-fn prescribers_of(alloc: Global, graph: &Graph) -> Result<Vec<TagCollection>, AllocError>
-    ensures { IfOk result (λ prescribers. map (λ tag. tag.0) prescribers.items ≡ map (λ step. step.prescriber) graph.now.steps) }
+pub(crate) fn prescribers_of(alloc: Global, graph: &Graph) -> Result<Vec<TagCollection>, AllocError>
+    ensures graph { IsGraph graph.now }
+    ensures few { IfOk result (λ prescribers. length prescribers.items ≤ 2 ^ 16) }
+    ensures by_step { IfOk result (λ prescribers. map (λ tag. tag.0) prescribers.items ≡ map (λ step. step.prescriber) graph.now.steps) }
 {
     limits();
     let count = graph.step_count();

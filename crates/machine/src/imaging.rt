@@ -3,10 +3,11 @@ ghost use Rattle.machine.specs.Imaging.{items_in, tags_in};
 
 use crate::Machine;
 use codec::{Image, Instances as DoneInstances, Items as ListedItems, Tags};
+use holdings::images_of_maps;
 use instances::Instances;
 use items::Items;
 use std::alloc::{AllocError, Global};
-use terms::{Addr, Producer, Tag, facts_are_told_apart, orders_are_total};
+use terms::{Addr, Producer, Tag, facts_are_told_apart};
 
 impl Machine {
     ghost use Rattle.std.specs.Prelude.{IfOk};
@@ -19,7 +20,7 @@ impl Machine {
         ensures listed { IfOk result IsListed }
     {
         facts_are_told_apart();
-        orders_are_total();
+        images_of_maps();
         let items = listed_items(&self.memory.items, alloc)?;
         let tags = listed_tags(&self.memory.instances, alloc)?;
         let done = self.memory.instances.done(alloc)?;

@@ -6,7 +6,8 @@
 //! Contracts see a `Machine` as its graph and what it holds: the sets `facts` and `environment`, and the state of each
 //! instance. It checks whether an event is legal (`may_put_item`, `may_end`), makes room (`make_room`), and takes the event
 //! (`take_item`, `take_end`); `is_kept` states its invariant. `look_at_ends` says how far several ends come together,
-//! and `take_ends` takes them; `look_at_puts` and `take_puts` do so for puts of the environment. `image` lists what it holds, and `of_image` restores it from such a list.
+//! and `take_ends` takes them; `look_at_puts` and `take_puts` do so for puts of the environment. `image` lists what it holds, and `of_holdings`
+//! takes over what was read.
 #![tactic(auto)]
 
 mod absence;

@@ -3,7 +3,7 @@ use Rattle.std.proofs.lemmas.Iterator.{items_from_collect, YieldsList-from_map}
 use Rattle.std.proofs.lemmas.Iterator.Consumers.{YieldsList-at, YieldsList-from_first}
 use Rattle.std.specs.FinMap.{entries}
 use Rattle.items.specs.Held.{address_at}
-use Rattle.machine.specs.Imaging.{as_listed}
+use Rattle.holdings.specs.Listing.{as_listed}
 use Rattle.machine.proofs.imaging.listed_items.Goals as goal
 
 pub returns : goal.returns

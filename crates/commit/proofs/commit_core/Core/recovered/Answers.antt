@@ -2,6 +2,7 @@ use Rattle.std.proofs.Common.{sym, subst, [], refl}
 use Rattle.graph.specs.Graph.{Graph}
 use Rattle.graph.specs.Fits.{IsPrescribed}
 use Rattle.codec.specs.Image.{environment_in, facts_in}
+use Rattle.holdings.specs.Holdings.{image_of}
 use Rattle.machine.specs.Machine.{environment as environment_of, facts as facts_of}
 use Rattle.commit.proofs.Allowed.{of_opened}
 use Rattle.commit.proofs.Taken.{holds_alike, kept}
@@ -14,7 +15,7 @@ invariant_of-result g c =
       λ _. refl,
       λ honest.
           kept g.D.Disk.files g.D.Disk.moment g.D.Disk.left_at (g.met.D.Disk.at_now honest) (c.stores_go_on.ensures.held_leaves honest) recovered.vault m [] [] 1000000000
-          (holds_alike g.D.Disk.files recovered.vault recovered.graph m.graph (environment_in recovered.image) (environment_of m) (facts_in recovered.image) (facts_of m) c.in-Ok.ensures.graph
+          (holds_alike g.D.Disk.files recovered.vault recovered.graph m.graph (environment_in (image_of recovered.holdings)) (environment_of m) (facts_in (image_of recovered.holdings)) (facts_of m) c.in-Ok.ensures.graph
           (λ fact. sym (c.in-Ok.ensures.lists.environment fact)) (λ fact. sym (c.in-Ok.ensures.lists.facts fact)) (c.requires.holds honest)),
       of_opened m 1000000000 c.are_counted.ensures c.in-Ok.ensures.instances,
     )

@@ -1,6 +1,6 @@
 use Rattle.std.proofs.Common.{◌∙◌, ap, sym}
 use Rattle.terms.specs.Facts.{bad}
-use Rattle.machine.specs.Memory.{is_fault}
+use Rattle.holdings.specs.ImageLaws.{is_fault}
 use Rattle.machine.specs.Machine.{Machine}
 use Rattle.machine.proofs.machine.Machine.is_working.Goals as goal
 

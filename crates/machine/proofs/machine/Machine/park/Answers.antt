@@ -6,7 +6,8 @@ use Rattle.items.specs.Once.{is_one_of}
 use Rattle.instances.specs.declared.state.State.TheVariants.{Ready, Running}
 use Rattle.machine.specs.declared.memory.Memory.{Memory}
 use Rattle.machine.specs.Legal.{Needs}
-use Rattle.machine.specs.Memory.{is_item, waits_at}
+use Rattle.holdings.specs.ImageLaws.{is_item}
+use Rattle.machine.specs.Memory.{waits_at}
 use Rattle.machine.specs.Machine.{LooksAgain, Machine, Moves, facts, state_of}
 use Rattle.machine.proofs.Worked.{moved_is_of, moves_of}
 use Rattle.machine.proofs.Parked.{no_item, parked_is_of, parked_moves}

@@ -1,7 +1,7 @@
 use Rattle.std.proofs.Common.{◌≡◌, ◌∙◌, sym, subst, true, rules}
 use Rattle.items.specs.Held.{item_at}
 use Rattle.machine.specs.Machine.{Machine}
-use Rattle.machine.specs.Memory.{is_item}
+use Rattle.holdings.specs.ImageLaws.{is_item}
 use Rattle.machine.proofs.Coming.{item_is_there}
 use Rattle.machine.proofs.machine.Machine.value_at.Goals as goal
 
