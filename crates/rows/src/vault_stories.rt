@@ -4,7 +4,8 @@
 //! `length SIDE`, `read SIDE PLACE LENGTH`, `has SIDE BYTES`, `crash BYTES | BYTES`, `leave CHOICE`, a crash that leaves
 //! each touched byte as it was `synced`, as it was `written`, or as this number, `calls`, and those of `journals`.
 //! `fail NUMBER`: the call of the disk with this number, counted from now, fails. Calls of a store: `create NAME`,
-//! `open`, `facts`, `append BYTES` of a payload, and `turn`, which writes the image that the last `open` gave.
+//! `open`, `facts`, `append BYTES` of a payload, and `turn LENGTH`, which writes the image that the last `open` gave through a buffer of
+//! this length, or of 4,096 bytes.
 use crate::stories::World;
 use crate::vaults;
 use cases::Names;
@@ -31,7 +32,8 @@ impl World for Store {
             "open" => vaults::open_store(alloc, self, told),
             "facts" => vaults::tell_facts(alloc, self, told),
             "append" => vaults::append_commit(alloc, names, self, rest, told),
-            "turn" => vaults::turn_over(alloc, self, told),
+            "turn" if rest.is_empty() => vaults::turn_over(alloc, self, 4096, told),
+            "turn" => turn(alloc, self, rest, told),
             "fail" if rest == "$" => vaults::fail(alloc, self, number, told),
             "fail" => vaults::fail(alloc, self, rest, told),
             _ => vaults::on_disk(alloc, names, self, word, rest, told),
@@ -50,5 +52,18 @@ fn create(
     match names.bytes(name) {
         Some(text) => vaults::create_store(alloc, world, text, told),
         None => told.push_str("no such name"),
+    }
+}
+
+// Turns the store over through a buffer of this length.
+fn turn(
+    alloc: Global,
+    world: &mut Store,
+    length: &str,
+    told: &mut String,
+) -> Result<(), AllocError> {
+    match length.parse::<usize>() {
+        Ok(length) if length > 0 => vaults::turn_over(alloc, world, length, told),
+        _ => told.push_str("no such length"),
     }
 }

@@ -1,9 +1,10 @@
 //! The calls of a store.
-ghost use Rattle.std.specs.Prelude.{◌≡◌, ◌≤◌, true, false, length, IfOk};
+ghost use Rattle.std.specs.Prelude.{◌≡◌, ◌<◌, ◌≤◌, true, false, length, IfOk};
 ghost use Rattle.std.specs.List.{AllByRecursion};
 ghost use Rattle.codec.specs.declared.payload.TheConstants.{MOST_EVENTS};
 ghost use Rattle.std.proofs.Props.{props};
-ghost use Rattle.codec.specs.Spelling.{HasFewPuts};
+ghost use Rattle.codec.specs.Spelling.{HasFewPuts, HasPutNumber};
+ghost use Rattle.holdings.specs.Holdings.{image_of};
 ghost use Rattle.codec.specs.Image.{IsListed};
 ghost use Rattle.disk.specs.MemDisk.{files_of};
 ghost use Rattle.sides.specs.Reading.{IsCanonical};
@@ -13,9 +14,10 @@ use crate::bytes::bytes_of;
 use crate::disks;
 use crate::telling::tell_image;
 use cases::Names;
-use codec::{Image, decode_image, decode_payload, encode_image};
+use codec::{Image, ImageBytes, decode_image, decode_payload, encode_image};
 use disk::MemDisk;
 use graph::{canonical, parse};
+use holdings::Holdings;
 use std::alloc::{AllocError, Global};
 use std::mem;
 use terms::{Event, MAX_COMPONENTS};
@@ -99,13 +101,12 @@ impl Live {
         }
     }
 
-    // The result of a turnover, if the bytes of the image can be read again.
-    fn turned(self, alloc: Global) -> (Live, Option<Result<u64, VaultError>>) {
+    // The result of a turnover through a buffer.
+    fn turned(self, buffer: &mut [u8]) -> (Live, Result<u64, VaultError>)
+        requires { 0 < length buffer.old }
+    {
         let Live { mut vault, image } = self;
-        let answer = match decode_image(alloc, &image, MAX_COMPONENTS) {
-            Ok(listed) => Some(vault.turn(&listed)),
-            Err(_) => None,
-        };
+        let answer = vault.turn_by(ImageBytes::new(&image), buffer);
         (Live { vault, image }, answer)
     }
 
@@ -334,16 +335,19 @@ fn append(alloc: Global, world: &mut World, commit: &[Event]) -> Option<Answer>
     }
 }
 
-/// Turns the store over, and writes its generation.
+/// Turns the store over through a buffer of this length, and writes its generation.
 pub(crate) fn turn_over(
     alloc: Global,
     world: &mut World,
+    length: usize,
     told: &mut String,
-) -> Result<(), AllocError> {
-    match turn(alloc, world) {
+) -> Result<(), AllocError>
+    requires { 0 < length }
+{
+    let mut buffer = vec![in alloc; 0; length]?;
+    match turn(alloc, world, &mut buffer) {
         Turned::To(generation) => write!(told, "turned to generation {generation}"),
         Turned::Refused(answer) => tell_answer(answer, "", told),
-        Turned::NoImage => told.push_str("no image"),
         Turned::NotOpen => told.push_str("not open"),
     }
 }
@@ -353,19 +357,18 @@ pub(crate) fn turn_over(
 enum Turned {
     To(u64),
     Refused(Answer),
-    // The bytes of the image cannot be read again.
-    NoImage,
     NotOpen,
 }
 
-fn turn(alloc: Global, world: &mut World) -> Turned {
+fn turn(alloc: Global, world: &mut World, buffer: &mut [u8]) -> Turned
+    requires { 0 < length buffer.old }
+{
     match world.taken(alloc).into_store() {
         Ok(live) => {
-            let (live, answer) = live.turned(alloc);
+            let (live, answer) = live.turned(buffer);
             let turned = match answer {
-                Some(Ok(generation)) => Turned::To(generation),
-                Some(Err(error)) => Turned::Refused(live.answer(Some(error))),
-                None => Turned::NoImage,
+                Ok(generation) => Turned::To(generation),
+                Err(error) => Turned::Refused(live.answer(Some(error))),
             };
             *world = World::Open(live);
             turned

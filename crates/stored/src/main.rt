@@ -5,6 +5,7 @@
 
 ghost use Rattle.std.specs.Prelude.{IfOk};
 ghost use Rattle.std.specs.List.{AllByRecursion};
+ghost use Rattle.codec.specs.Image.{IsListed};
 ghost use Rattle.codec.specs.Spelling.{HasPutNumber};
 ghost use Rattle.holdings.specs.Holdings.{image_of};
 
@@ -12,9 +13,11 @@ mod files;
 mod filling;
 
 use anyhow::Error;
+use codec::{Image, ImageBytes, encode_image};
 use disk::FileDisk;
 use files::tell_calls;
 use filling::{fill, make};
+use std::alloc::Global;
 use std::io::Print;
 use vault::{Recovered, VaultError, open};
 
@@ -54,10 +57,28 @@ fn turn_over(rt: &HostRuntime) -> Result<(), Error> {
         graph: _,
         holdings,
     } = opened(rt)?;
-    let image = holdings.image(rt.alloc())?;
-    let generation = vault.turn(&image)?;
+    let bytes = spelled(rt.alloc(), &holdings.image(rt.alloc())?)?;
+    let generation = vault.turn_by(ImageBytes::new(&bytes), &mut [0; 4096])?;
     println!(rt; "turned, generation {generation}")?;
     Ok(())
+}
+
+// The bytes that spell an image.
+fn spelled(alloc: Global, image: &Image) -> Result<Vec<u8>, Error>
+    requires { IsListed image.now }
+{
+    let longest = image
+        .items
+        .as_slice()
+        .len()
+        .max(image.tags.as_slice().len())
+        .max(image.done.as_slice().len());
+    if longest > u32::MAX as usize {
+        return Err(VaultError::Full.into());
+    }
+    let mut bytes = Vec::new(alloc);
+    encode_image(&mut bytes, image)?;
+    Ok(bytes)
 }
 
 // Prints what the store holds, in the order of its names.
