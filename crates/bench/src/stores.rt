@@ -2,6 +2,7 @@
 use crate::readings::seconds_between;
 use anyhow::{Error, bail};
 use codec::{decode_image, encode_event};
+use commit::Core;
 use disk::{Disk, DiskError, FileDisk, Side};
 use sides::spell_side;
 use std::alloc::{AllocError, Global};
@@ -9,13 +10,12 @@ use std::fs;
 use std::io::Print;
 use std::time::Instant;
 use terms::{Addr, Event, ItemCollection, Key, MAX_COMPONENTS};
-use vault::{Recovered, Refused, VaultError};
 
 // A graph in which the environment may put items, and that has no steps. The text is canonical.
 const GRAPH: &str = "[cell: i];\nenv -> [cell];\n[cell] -> env;\n";
 
 /// Makes a store of `count` records in the folder that it is run in, and one of as many items in its image, and prints
-/// the milliseconds that it takes to open each, and to read its live file. It makes none in a folder whose file A or B
+/// the milliseconds that it takes to open each with its state in memory, to read its live file, and to turn it over. It makes none in a folder whose file A or B
 /// is not empty.
 pub(crate) fn measure(rt: &HostRuntime, count: u32) -> Result<(), Error> {
     if !is_free(rt)? {
@@ -43,11 +43,13 @@ fn is_empty(disk: &mut FileDisk) -> Result<bool, DiskError> {
 fn opened(rt: &HostRuntime, told: &str, bytes: Vec<u8>) -> Result<(), Error> {
     write(rt, bytes)?;
     let (count, reading) = read(rt)?;
-    let (items, opening) = open(rt)?;
+    let times = open(rt)?;
     println!(rt;
-        "{told}: {items} items, {count} bytes, opened in {:.1} ms, read in {:.1} ms",
-        opening * 1e3,
-        reading * 1e3
+        "{told}: {} items, {count} bytes, opened in {:.1} ms, read in {:.1} ms, turned over in {:.1} ms",
+        times.items,
+        times.opening * 1e3,
+        reading * 1e3,
+        times.turning * 1e3
     )?;
     Ok(())
 }
@@ -69,20 +71,37 @@ fn read(rt: &HostRuntime) -> Result<(usize, f64), Error> {
     Ok((count, seconds_between(start, end)?))
 }
 
-// How many items the store has, and the seconds that it takes to open it.
-fn open(rt: &HostRuntime) -> Result<(usize, f64), Error> {
-    let disk = FileDisk::open(rt.alloc(), rt, ".")?;
-    let start = Instant::now(rt);
-    let items = items_of(vault::open(rt.alloc(), disk))?;
-    Ok((items, seconds_between(start, Instant::now(rt))?))
+// What it took to open a store, and to turn it over.
+#[derive(Clone, Copy)]
+struct Times {
+    items: usize,
+    opening: f64,
+    turning: f64,
 }
 
-// How many items an opened store holds.
-fn items_of<D: Disk + Drop>(opened: Result<Recovered<D>, Refused<D>>) -> Result<usize, VaultError> {
-    match opened {
-        Ok(recovered) => Ok(recovered.holdings.item_count()),
-        Err(refused) => Err(refused.error),
+// Opens the store, with its state in memory, and turns it over.
+fn open(rt: &HostRuntime) -> Result<Times, Error> {
+    let disk = FileDisk::open(rt.alloc(), rt, ".")?;
+    let start = Instant::now(rt);
+    match Core::open(rt.alloc(), disk) {
+        Ok(core) => turned(rt, core, seconds_between(start, Instant::now(rt))?),
+        Err(refused) => Err(refused.error.into()),
     }
+}
+
+// Turns over a store that was opened in so many seconds.
+fn turned(rt: &HostRuntime, core: Core<FileDisk>, opening: f64) -> Result<Times, Error> {
+    let mut core = core;
+    let items = core.counts().items;
+    let start = Instant::now(rt);
+    let turned = core.turn(rt.alloc());
+    let turning = seconds_between(start, Instant::now(rt))?;
+    turned?;
+    Ok(Times {
+        items,
+        opening,
+        turning,
+    })
 }
 
 // A side with this image and no records.

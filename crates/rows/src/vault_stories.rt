@@ -33,6 +33,7 @@ impl World for Store {
             "facts" => vaults::tell_facts(alloc, self, told),
             "append" => vaults::append_commit(alloc, names, self, rest, told),
             "turn" if rest.is_empty() => vaults::turn_over(alloc, self, 4096, told),
+            "turn" if rest == "$" => turn(alloc, self, number, told),
             "turn" => turn(alloc, self, rest, told),
             "fail" if rest == "$" => vaults::fail(alloc, self, number, told),
             "fail" => vaults::fail(alloc, self, rest, told),
