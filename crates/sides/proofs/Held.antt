@@ -9,7 +9,6 @@ use Rattle.std.specs.Ordering.{eq_by_cmp, int_eq, is_eq}
 use Rattle.terms.specs.declared.name.Addr.{Addr}
 use Rattle.terms.specs.declared.name.Tag.{Tag}
 use Rattle.terms.specs.declared.name.Inst.{Inst}
-use Rattle.terms.specs.declared.fault.FaultKind.{FaultKind}
 use Rattle.terms.specs.declared.producer.Producer.{Producer}
 use Rattle.terms.specs.declared.producer.Producer.TheVariants.{Env, By}
 use Rattle.terms.specs.Facts.{Fact, tag, item, done, bad}
@@ -23,8 +22,8 @@ use Rattle.maps.specs.Numbered.{Place, place_cmp}
 use Rattle.maps.specs.PlaceOrder.{places_total, same_places}
 use Rattle.items.specs.Held.{place}
 use Rattle.instances.specs.Known.{inst_place, tag_place}
-use Rattle.holdings.specs.Holdings.{Holdings, image_of, with_item, with_tag, with_done, with_fault}
-use Rattle.holdings.specs.ImageLaws.{ImagesTell, DoneTell, TellsRest, is_item, is_fault}
+use Rattle.holdings.specs.Holdings.{Holdings, image_of, with_item, with_tag, with_done}
+use Rattle.holdings.specs.ImageLaws.{ImagesTell, DoneTell, TellsRest, is_item}
 use Rattle.sides.specs.Growth.{Grows}
 use Rattle.sides.proofs.Entries.{each_item, same_value}
 use Rattle.sides.proofs.Grown.{held_already, unchanged}
@@ -153,7 +152,7 @@ module _ (both : AmongBoth) (maps : ImagesTell) (ends : DoneTell) (rest : (image
       pub tag_grows : (mark : Bool) → Grows (environment_tag (name, mark)) (tag name ∷ []) h (with_tag h name mark)
       tag_grows mark = grows (with_tag h name mark) (tag_says mark) (tag_gives mark) refl
 
-    pub done_grows : (instance : Inst) → Grows [] (done instance ∷ []) h (with_done h instance)
+    done_grows : (instance : Inst) → Grows [] (done instance ∷ []) h (with_done h instance)
     done_grows instance = grows (with_done h instance) says (λ fact. or_false _) refl
       where
         says : (fact : Fact) → said (with_done h instance) fact ≡ (said h fact || among (done instance ∷ []) fact)
@@ -170,15 +169,6 @@ module _ (both : AmongBoth) (maps : ImagesTell) (ends : DoneTell) (rest : (image
     end_grows told instance new false absent ended there =
         subst (Grows [] (done instance ∷ []) h) (sym (there refl))
         (held_grows told (done instance) (facts_said maps ends rest h (done instance) ∙ there_already (get h.done (inst_place instance)) false absent refl))
-
-    pub fault_grows : (instance : Inst) (kind : FaultKind) → h.fault ≡ None → Grows [] (bad instance kind ∷ []) h (with_fault h (Some (instance, kind)))
-    fault_grows instance kind none = grows (with_fault h (Some (instance, kind))) says (λ fact. or_false _) refl
-      where
-        says : (fact : Fact) → said (with_fault h (Some (instance, kind))) fact ≡ (said h fact || among (bad instance kind ∷ []) fact)
-        says (tag name) = or_false _
-        says (item b w q) = or_false _
-        says (done other) = or_false _
-        says (bad other cause) = or_false _ ∙ ap (λ o. is_fault o other cause || among (bad instance kind ∷ []) (bad other cause)) (sym none)
 
 -- ---- the numbers of puts
 

@@ -37,9 +37,9 @@ fn puts_fit(holdings: &Holdings, graph: &Graph) -> bool
 fn fault_fits(holdings: &Holdings, graph: &Graph) -> bool
     ensures { IsTrue result ↔ FaultFits graph.now (facts_in (image_of holdings.now)) holdings.now.fault }
 {
-    match &holdings.fault() {
+    match holdings.fault() {
         Some((instance, _)) => {
-            instance_fits(holdings, graph, instance) && !is_done(holdings, instance)
+            instance_fits(holdings, graph, &instance) && !is_done(holdings, &instance)
         }
         None => true,
     }
