@@ -4,7 +4,7 @@ ghost use Rattle.instances.specs.Known.{AllCanTake, AllGrown, AllHaveRoom, fresh
 use crate::restored::restored_steps;
 use crate::step::Step;
 use crate::step_instances::StepInstances;
-use crate::{InstanceWalk, State, TagWalk, Task, listing};
+use crate::{DoneWalk, InstanceWalk, State, TagWalk, Task, listing};
 use maps::{CollectionMap, KeyWalk};
 use std::alloc::{AllocError, Global};
 use std::marker::Model;
@@ -115,6 +115,13 @@ impl Instances {
         ensures { IfOk result (λ list. AreTheDone self.now list.items) }
     {
         listing::done(self.walk(), alloc)
+    }
+
+    /// The instances that are done, by step and then by key, one after another.
+    pub fn done_walk(&self) -> DoneWalk<'_>
+        ensures { AreTheDone self.now result }
+    {
+        DoneWalk { walk: self.walk() }
     }
 
     /// The number of further tags of the collection that there is room for, with all instances that they prescribe.
