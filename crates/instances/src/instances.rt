@@ -40,7 +40,7 @@ impl Instances {
     ghost use Rattle.terms.specs.declared.name.Inst.{Inst as Instance};
     ghost use Rattle.instances.specs.AllInstances.{all_instances};
     ghost use Rattle.instances.specs.Restored.{IsRestored};
-    ghost use Rattle.instances.specs.Listed.{AreTheWaiting, AreTheDone, CountsAll, CountsDone};
+    ghost use Rattle.instances.specs.Listed.{AreTheWaiting, AreTheDone, CountsAll, CountsDone, all_done};
     ghost use Rattle.instances.specs.Known.{fresh, mark_of, tag_at, room_for, state_at, total, MovesOne, NoneIsActive, OnlyMakesRoom, Prescribes};
 
     /// No tags and no instances, for this number of tag collections, with one step for each of the `prescribers`.
@@ -119,7 +119,8 @@ impl Instances {
 
     /// The instances that are done, by step and then by key, one after another.
     pub fn done_walk(&self) -> DoneWalk<'_>
-        ensures { AreTheDone self.now result }
+        ensures walk { result ≡ all_done self.now }
+        ensures done { AreTheDone self.now result }
     {
         DoneWalk { walk: self.walk() }
     }
