@@ -19,6 +19,7 @@ pub trait ImageSource {
 }
 
 /// An image whose bytes are in memory.
+#[derive(Drop)]
 pub struct ImageBytes<'a> {
     left: &'a [u8],
 }
@@ -50,6 +51,7 @@ impl<'a> ImageSource for ImageBytes<'a> {
 }
 
 /// The bytes of one source, and then those of another.
+#[derive(Drop)]
 pub struct Chain<A: ImageSource, B: ImageSource> {
     first: A,
     second: B,

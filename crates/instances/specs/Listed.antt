@@ -1,6 +1,6 @@
 -- The lists that are made from all instances: of those that wait, and of those that are done.
 use Rattle.std.specs.Prelude.{◌≡◌, ◌↔◌, ◌-◌, ◌^◌, ℕ, T, true, List, length, min, Option, Some, None, is_some}
-use Rattle.std.specs.List.{list_any}
+use Rattle.std.specs.List.{filter_map, list_any}
 use Rattle.std.specs.List.Sorted.{IsStrictlySortedBy}
 use Rattle.std.specs.Ordering.{eq_by_cmp}
 use Rattle.std.specs.FinMap.{find, is_sorted}
@@ -9,6 +9,7 @@ use Rattle.terms.specs.declared.name.Addr.{Addr}
 use Rattle.terms.specs.declared.name.Inst.{Inst}
 use Rattle.instances.specs.declared.state.State.{State}
 use Rattle.instances.specs.declared.state.State.TheVariants.{Ready, Running, Waiting, Done}
+use Rattle.instances.specs.AllInstances.{all_instances}
 use Rattle.instances.specs.Known.{Known, state_at}
 
 -- the instances that wait, each with its address, in order
@@ -48,3 +49,7 @@ if_done instance Ready = None
 if_done instance Running = None
 if_done instance (Waiting address) = None
 if_done instance Done = Some instance
+
+-- those of all instances that are done
+abbrev pub all_done : Known → List Inst
+all_done known = filter_map (λ entry. if_done entry.0 entry.1) (all_instances known)

@@ -4,7 +4,7 @@ ghost use Rattle.instances.specs.Known.{AllCanTake, AllGrown, AllHaveRoom, fresh
 use crate::restored::restored_steps;
 use crate::step::Step;
 use crate::step_instances::StepInstances;
-use crate::{InstanceWalk, State, TagWalk, Task, listing};
+use crate::{DoneWalk, InstanceWalk, State, TagWalk, Task, listing};
 use maps::{CollectionMap, KeyWalk};
 use std::alloc::{AllocError, Global};
 use std::marker::Model;
@@ -40,7 +40,7 @@ impl Instances {
     ghost use Rattle.terms.specs.declared.name.Inst.{Inst as Instance};
     ghost use Rattle.instances.specs.AllInstances.{all_instances};
     ghost use Rattle.instances.specs.Restored.{IsRestored};
-    ghost use Rattle.instances.specs.Listed.{AreTheWaiting, AreTheDone, CountsAll, CountsDone};
+    ghost use Rattle.instances.specs.Listed.{AreTheWaiting, AreTheDone, CountsAll, CountsDone, all_done};
     ghost use Rattle.instances.specs.Known.{fresh, mark_of, tag_at, room_for, state_at, total, MovesOne, NoneIsActive, OnlyMakesRoom, Prescribes};
 
     /// No tags and no instances, for this number of tag collections, with one step for each of the `prescribers`.
@@ -115,6 +115,14 @@ impl Instances {
         ensures { IfOk result (λ list. AreTheDone self.now list.items) }
     {
         listing::done(self.walk(), alloc)
+    }
+
+    /// The instances that are done, by step and then by key, one after another.
+    pub fn done_walk(&self) -> DoneWalk<'_>
+        ensures walk { result ≡ all_done self.now }
+        ensures done { AreTheDone self.now result }
+    {
+        DoneWalk { walk: self.walk() }
     }
 
     /// The number of further tags of the collection that there is room for, with all instances that they prescribe.

@@ -6,10 +6,11 @@
 //!
 //! The crate above relies on `prescribe`, which adds exactly the instances of a new tag; on `claim`; and on `finish`,
 //! `park`, `release` and `wake`, each of which moves one instance and changes nothing else. `restored` takes over the tags
-//! of a store that was closed before, with the instances that they prescribe; and `walk` gives all instances with their
-//! states.
+//! of a store that was closed before, with the instances that they prescribe; `walk` gives all instances with their
+//! states, and `done_walk` those that are done.
 #![tactic(auto)]
 
+mod done_walk;
 mod ended;
 mod instance_walk;
 mod instances;
@@ -24,6 +25,7 @@ mod tag_walk;
 mod task;
 mod tasks;
 
+pub use done_walk::DoneWalk;
 pub use instance_walk::InstanceWalk;
 pub use instances::Instances;
 pub use running::runs_are_counted;

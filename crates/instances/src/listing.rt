@@ -35,8 +35,8 @@ fn waiting_entry(inst: Inst, state: State) -> Option<(Inst, Addr)>
     }
 }
 
-// An instance that is done.
-fn done_entry(inst: Inst, state: State) -> Option<Inst>
+/// An instance that is done.
+pub(crate) fn done_entry(inst: Inst, state: State) -> Option<Inst>
     ensures { result ≡ if_done inst state }
 {
     match state {

@@ -27,6 +27,7 @@ pub mod Moved
 pub mod NewTogether
 pub mod OnceOnly
 pub mod Parked
+mod Pieces
 pub mod Promised
 pub mod PutFacts
 pub mod PutsInTurn

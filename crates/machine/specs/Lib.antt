@@ -30,3 +30,4 @@ pub mod Taking
 pub mod Tally
 pub mod Together
 pub mod Waking
+pub mod Walks

@@ -1,8 +1,12 @@
 ghost use Rattle.std.specs.Prelude.{◌≡◌, IfOk};
 ghost use Rattle.machine.specs.Imaging.{items_in, tags_in};
 
-use crate::Machine;
-use codec::{Image, Instances as DoneInstances, Items as ListedItems, Tags};
+use crate::elements::{Elements, Front};
+use crate::spelling::ItemsLeft;
+use crate::{ImageWalk, Machine};
+use codec::{
+    Image, Instances as DoneInstances, Items as ListedItems, MOST_BYTES, Tags, encode_fault,
+};
 use holdings::images_of_maps;
 use instances::Instances;
 use items::Items;
@@ -13,6 +17,7 @@ impl Machine {
     ghost use Rattle.std.specs.Prelude.{IfOk};
     ghost use Rattle.codec.specs.Image.{IsListed, Lists};
     ghost use Rattle.machine.specs.Machine.{environment, facts};
+    ghost use Rattle.machine.specs.Imaging.{SpellsAll};
 
     /// The image that lists what the store holds, sorted.
     pub fn image(&self, alloc: Global) -> Result<Image, AllocError>
@@ -30,6 +35,39 @@ impl Machine {
             tags: Tags::new(tags),
             done: DoneInstances::new(done),
         })
+    }
+
+    /// The bytes of the image that lists what the store holds, sorted, piece by piece. It goes along all that is held once, to know how
+    /// many bytes there are; it lists nothing, and keeps the bytes of one element of each list. Memory for these may be refused; so may an image
+    /// with 2^32 items, tags or instances, which has no spelling.
+    pub fn image_source(&self, alloc: Global) -> Result<ImageWalk<'_>, AllocError>
+        ensures { IfOk result (λ walk. SpellsAll self.now walk) }
+    {
+        facts_are_told_apart();
+        images_of_maps();
+        let mut fault = Vec::with_capacity(alloc, MOST_BYTES)?;
+        encode_fault(&mut fault, &self.memory.fault)?;
+        let items = Front::new(alloc, &mut self.items_left(), fault)?;
+        let first = Vec::with_capacity(alloc, MOST_BYTES)?;
+        let tags = Front::new(alloc, &mut self.memory.instances.tags(), first)?;
+        let first = Vec::with_capacity(alloc, MOST_BYTES)?;
+        let done = Front::new(alloc, &mut self.memory.instances.done_walk(), first)?;
+        Ok(ImageWalk::new(
+            Elements::new(self.items_left(), items),
+            Elements::new(self.memory.instances.tags(), tags),
+            Elements::new(self.memory.instances.done_walk(), done),
+        ))
+    }
+
+    // A walk along the items.
+    fn items_left(&self) -> ItemsLeft<'_>
+        ensures { result ≡ items_in self.now.memory.items }
+    {
+        facts_are_told_apart();
+        images_of_maps();
+        ItemsLeft {
+            walk: self.memory.items.walk(),
+        }
     }
 }
 

@@ -6,14 +6,15 @@
 //! Contracts see a `Machine` as its graph and what it holds: the sets `facts` and `environment`, and the state of each
 //! instance. It checks whether an event is legal (`may_put_item`, `may_end`), makes room (`make_room`), and takes the event
 //! (`take_item`, `take_end`); `is_kept` states its invariant. `look_at_ends` says how far several ends come together,
-//! and `take_ends` takes them; `look_at_puts` and `take_puts` do so for puts of the environment. `image` lists what it holds, and `of_holdings`
-//! takes over what was read.
+//! and `take_ends` takes them; `look_at_puts` and `take_puts` do so for puts of the environment. `image` lists what it holds, `image_source`
+//! spells that piece by piece, and `of_holdings` takes over what was read.
 #![tactic(auto)]
 
 mod absence;
 mod counts;
 mod creation;
 mod distinct;
+mod elements;
 mod end;
 mod ends;
 mod events;
@@ -21,6 +22,7 @@ mod examples;
 mod group;
 mod group_taking;
 mod growth;
+mod image_walk;
 mod imaging;
 mod items_of;
 mod keeping;
@@ -34,6 +36,7 @@ mod reads;
 mod refusal;
 mod restoring;
 mod results;
+mod spelling;
 mod states;
 mod status;
 mod taking;
@@ -50,6 +53,7 @@ pub use examples::{
     tag_is_repeated, two_ends_meet,
 };
 pub use group::Ended;
+pub use image_walk::ImageWalk;
 pub use items_of::ItemsOf;
 pub use keeping::given_are_of_graph;
 pub use laws::{
