@@ -10,6 +10,10 @@ use Rattle.disk.specs.Moments.{begun, goes_on, joined, other_before}
 use Rattle.vault.specs.Turned.{IsShut, RestsShut, KeepsGate, HasAfterGate}
 use Rattle.vault.proofs.GatesBytes.{gate_left, rest_keeps, cut_keeps, write_keeps, sync_keeps, written_on}
 
+-- calls one after another that leave the other file as it was
+pub stays_on : (side : Side) (old mid new : Side → File) → OtherStays side old mid → OtherStays side mid new → OtherStays side old new
+stays_on side old mid new first second other differs = second other differs ∙ first other differs
+
 -- the gate of this file is there, and not open
 abbrev pub StaysShut : Side → (Side → File) → Contents → Type 0
 StaysShut side before c = IsShut (c side) × OtherMayBe side before c
@@ -66,7 +70,7 @@ module _ {D : Type 0} (files : D → Side → File) (moment : D → ℕ) (left_a
 
       module _ (piece rest : List ℕ) (new : D) (stays : OtherStays side (files mid) (files new)) (time : Elapses (moment mid) (moment new) (left_at mid) (left_at new)) where
         others : OtherStays side (files old) (files new)
-        others each differs = stays each differs ∙ so_far.other each differs
+        others = stays_on side (files old) (files mid) (files new) so_far.other stays
 
         -- at each moment of one more write
         pub piece_moments : (T : Type 0) (result : Result T DiskError)
