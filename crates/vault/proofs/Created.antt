@@ -66,7 +66,7 @@ module _ (text old new : List ℕ) (image : Image) (is : image ≡ empty) (gate 
 
 module _ (begins : BeginsSide) (g : Graph) (text : List ℕ) (canonical_text : text ≡ canonical g) (reads : Reads text g) where
   abbrev side_of : List ℕ
-  side_of = new_side 1 (canonical g) empty
+  side_of = new_side 1 (canonical g) (image_bytes empty)
 
   begun : (side : IsSide side_of g 1 nothing nothing) × (end_of side ≡ length (1 ∷ behind_gate FORMAT 1 (canonical g) (image_bytes empty) []))
   begun = begins g 1 empty (omega arith) (subst (λ (t : List ℕ). Reads t g) canonical_text reads) empty_is_image empty_is_short (nothing_fits g)
@@ -75,7 +75,7 @@ module _ (begins : BeginsSide) (g : Graph) (text : List ℕ) (canonical_text : t
   written = pick side_of (0 ∷ [])
 
   -- the two files of a new store hold nothing
-  module _ {D : Type 0} (files : D → Side → File) (vault : Vault D) (a : files vault.disk A ≡ at_rest (new_side 1 text empty)) (b : files vault.disk B ≡ at_rest (0 ∷ []))
+  module _ {D : Type 0} (files : D → Side → File) (vault : Vault D) (a : files vault.disk A ≡ at_rest (new_side 1 text (image_bytes empty))) (b : files vault.disk B ≡ at_rest (0 ∷ []))
       (generation : vault.generation ≡ 1) (side : vault.journal.side ≡ A) (ends : vault.journal.end ≡ length (1 ∷ behind_gate FORMAT 1 text (image_bytes empty) [])) (kept : vault.text.items ≡ text) where
     abbrev IsFound : Side → ℕ → Type 0
     IsFound here number = (is_live : IsLive written here number g nothing nothing) × (vault.journal.end ≡ end_of is_live.is_side)
@@ -89,7 +89,7 @@ module _ (begins : BeginsSide) (g : Graph) (text : List ℕ) (canonical_text : t
         ))
 
     rests : (each : Side) → files vault.disk each ≡ at_rest (written each)
-    rests A = a ∙ ap (λ (t : List ℕ). at_rest (new_side 1 t empty)) canonical_text
+    rests A = a ∙ ap (λ (t : List ℕ). at_rest (new_side 1 t (image_bytes empty))) canonical_text
     rests B = b
 
     pub holds_nothing : Holds files vault g nothing nothing

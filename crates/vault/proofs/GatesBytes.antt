@@ -1,14 +1,14 @@
 -- What a crash leaves of a gate, as lists of bytes.
-use Rattle.std.proofs.Common.{◌≡◌, ◌≢◌, inl, inr, ◌⊎◌, ℕ, ◌+◌, rules, Bool, true, false, ◌&&◌, List, [], ◌∷◌, ◌++◌, length, drop, refl, sym, ap, subst, ◌∙◌, arith, Some}
-use Rattle.std.specs.Prelude.{Result, Ok, Err, slice_get, nat_lt, nat_le}
-use Rattle.std.proofs.lemmas.List.{drop_all}
+use Rattle.std.proofs.Common.{◌≡◌, ◌≢◌, inl, inr, ◌⊎◌, ℕ, ◌+◌, ◌≤◌, Bool, true, false, ◌&&◌, List, [], ◌∷◌, ◌++◌, length, take, drop, refl, sym, ap, subst, ◌∙◌, arith, append-nil, Some}
+use Rattle.std.specs.Prelude.{◌||◌, Result, Ok, Err, slice_get, nat_lt, nat_le}
+use Rattle.std.proofs.lemmas.List.{take_all, drop_all}
 use Rattle.std.proofs.lemmas.Bool.{cases_eq}
 use Rattle.std.proofs.lemmas.Bool.Decides.{nat_tests}
 use Rattle.disk.specs.declared.error.DiskError.{DiskError}
 use Rattle.disk.specs.declared.error.DiskError.TheVariants.{Device, NoMemory}
-use Rattle.disk.specs.File.{Durable, File, MayLeave, Changes, WriteLeaves, at_rest, overwritten, touching, write_touches, cut, cut_touches}
+use Rattle.disk.specs.File.{Durable, File, MayLeave, Changes, Syncs, WriteLeaves, at_rest, settled, overwritten, written, touching, write_touches, cut, cut_touches}
 use Rattle.sides.specs.Side.{IsOpen}
-use Rattle.vault.specs.Turned.{IsShut, IsUnshut, MayShut, MayTurn}
+use Rattle.vault.specs.Turned.{IsShut, IsUnshut, KeepsGate, HasAfterGate, MayShut, MayTurn}
 
 -- bytes that begin with another gate are not open
 pub not_open : (bytes : List ℕ) → IsShut bytes → IsOpen bytes → ⊥
@@ -49,43 +49,77 @@ opening_leaves gate rest old bytes left =
 pub closed_over : (old : List ℕ) → IsShut (overwritten old 0 (0 ∷ []))
 closed_over old = record { gate = 0; closed = omega arith; rest = drop 1 old; spelled = refl }
 
--- bytes written after a gate alone
-pub written_behind : (gate : ℕ) (bytes : List ℕ) → overwritten (gate ∷ []) 1 bytes ≡ gate ∷ bytes
-written_behind gate bytes = ap (λ (l : List ℕ). gate ∷ (bytes ++ l)) (drop_all (1 + length bytes) (gate ∷ []) (omega arith)) ∙ search rules
-
 -- ---- while bytes are written after the gate
 
--- bytes with the same first byte begin with a gate that is not open either
-pub kept_shut : (content bytes : List ℕ) → IsShut content → slice_get bytes 0 ≡ slice_get content 0 → IsShut bytes
-kept_shut content [] shut same =
-    let first : Some shut.gate ≡ slice_get content 0 = ap (λ (l : List ℕ). slice_get l 0) (sym shut.spelled) in
-    absurd cc
-kept_shut content (gate ∷ rest) shut same =
-    let first : Some shut.gate ≡ slice_get content 0 = ap (λ (l : List ℕ). slice_get l 0) (sym shut.spelled) in
-    record { gate = gate; closed = λ one. shut.closed cc; rest = rest; spelled = refl }
+-- what a crash leaves begins with the gate
+pub gate_left : (gate : ℕ) (durable : Durable) → gate ≢ 1 → KeepsGate gate durable → (bytes : List ℕ) → MayLeave durable bytes → IsShut bytes
+gate_left gate durable closed keeps bytes left = begins bytes (left.agrees.elsewhere 0 keeps.untouched ∙ keeps.synced)
+  where
+    begins : (bytes : List ℕ) → slice_get bytes 0 ≡ Some gate → IsShut bytes
+    begins [] is = absurd cc
+    begins (first ∷ rest) is = record { gate = first; closed = λ one. closed cc; rest = rest; spelled = refl }
 
--- after the cut that leaves the gate alone
-pub cut_leaves : (T : Type 0) (result : Result T DiskError) (content : List ℕ) (new : File) → Changes (cut 1) (cut_touches 1) result (at_rest content) new
-    → (bytes : List ℕ) → MayLeave new.durable bytes → slice_get bytes 0 ≡ slice_get content 0
-cut_leaves T (Ok _) content new changes bytes left =
-    let it = subst (λ (f : File). MayLeave f.durable bytes) changes left in it.agrees.elsewhere 0 refl
-cut_leaves T (Err Device) content new changes bytes left =
-    let it = subst (λ (d : Durable). MayLeave d bytes) changes.durable left in it.agrees.elsewhere 0 refl
-cut_leaves T (Err NoMemory) content new changes bytes left =
-    let it = subst (λ (d : Durable). MayLeave d bytes) changes.fails.durable left in it.agrees.elsewhere 0 (untouched (changes.touched 0) refl)
+-- the gate of a file at rest is on the disk
+pub rest_keeps : (gate : ℕ) (rest : List ℕ) → KeepsGate gate (settled (gate ∷ rest))
+rest_keeps gate rest = record { synced = refl; untouched = refl }
+
+-- it stays there, whatever is touched after it
+touched_keeps : (gate : ℕ) (durable : Durable) (touches : ℕ → Bool) → KeepsGate gate durable → touches 0 ≡ false → KeepsGate gate (touching touches durable)
+touched_keeps gate durable touches keeps after = record { synced = keeps.synced; untouched = ap (λ (b : Bool). b || touches 0) keeps.untouched ∙ after }
+
+-- a write after the gate does not touch it
+write_after : (gate : ℕ) (durable : Durable) → KeepsGate gate durable → (at count : ℕ) → 1 ≤ at → write_touches durable at count 0 ≡ false
+write_after gate durable keeps at count after =
+    neither (nat_le at 0) (nat_lt 0 (at + count)) (nat_lt (length durable.synced) (at + count)) (nat_le (length durable.synced) 0) (grind (arith, nat_tests)) (there durable.synced keeps.synced)
+  where
+    there : (synced : List ℕ) → slice_get synced 0 ≡ Some gate → nat_le (length synced) 0 ≡ false
+    there [] is = absurd cc
+    there (first ∷ rest) is = let long : 1 ≤ length (first ∷ rest) = omega arith in grind (arith, nat_tests)
+
+    neither : (a b c d : Bool) → a ≡ false → d ≡ false → ((a && b) || (c && d)) ≡ false
+    neither true b c d is last = absurd cc
+    neither false b true d is last = last
+    neither false b false d is last = refl
+
+-- nor does a write or a cut that failed, or was done
+change_keeps : (T : Type 0) (result : Result T DiskError) (done : File → File) (touches : ℕ → Bool) (gate : ℕ) (old new : File) → KeepsGate gate old.durable → touches 0 ≡ false
+    → (done old).durable ≡ touching touches old.durable → Changes done touches result old new → KeepsGate gate new.durable
+change_keeps T (Ok _) done touches gate old new keeps after is changes =
+    subst (KeepsGate gate) (sym (ap (λ (f : File). f.durable) changes ∙ is)) (touched_keeps gate old.durable touches keeps after)
+change_keeps T (Err Device) done touches gate old new keeps after is changes = subst (KeepsGate gate) (sym changes.durable) (touched_keeps gate old.durable touches keeps after)
+change_keeps T (Err NoMemory) done touches gate old new keeps after is changes =
+    subst (KeepsGate gate) (sym changes.fails.durable) (touched_keeps gate old.durable changes.touched keeps (untouched (changes.touched 0) refl))
   where
     untouched : (b : Bool) → changes.touched 0 ≡ b → b ≡ false
     untouched true is = let within = changes.within 0 is in cc
     untouched false is = refl
 
--- after the cut, and a write after the gate
-pub write_leaves : (content : List ℕ) (count : ℕ) → IsShut content
-    → (bytes : List ℕ) → let durable = (cut 1 (at_rest content)).durable in MayLeave (touching (write_touches durable 1 count) durable) bytes → slice_get bytes 0 ≡ slice_get content 0
-write_leaves content count shut bytes left = left.agrees.elsewhere 0 (untouched (nat_lt (length content) (1 + count)) (nat_le (length content) 0) none)
-  where
-    none : nat_le (length content) 0 ≡ false
-    none = let long = ap length shut.spelled in grind (arith, nat_tests)
+pub cut_keeps : (T : Type 0) (result : Result T DiskError) (gate : ℕ) (old new : File) → KeepsGate gate old.durable → Changes (cut 1) (cut_touches 1) result old new → KeepsGate gate new.durable
+cut_keeps T result gate old new keeps changes = change_keeps T result (cut 1) (cut_touches 1) gate old new keeps refl refl changes
 
-    untouched : (a b : Bool) → b ≡ false → (a && b) ≡ false
-    untouched true b is = is
-    untouched false b is = refl
+pub write_keeps : (T : Type 0) (result : Result T DiskError) (gate : ℕ) (old new : File) → KeepsGate gate old.durable → (at : ℕ) (bytes : List ℕ) → 1 ≤ at
+    → Changes (written at bytes) (write_touches old.durable at (length bytes)) result old new → KeepsGate gate new.durable
+write_keeps T result gate old new keeps at bytes after changes =
+    change_keeps T result (written at bytes) (write_touches old.durable at (length bytes)) gate old new keeps (write_after gate old.durable keeps at (length bytes) after) refl changes
+
+pub sync_keeps : (T : Type 0) (result : Result T DiskError) (gate : ℕ) (rest : List ℕ) (old new : File) → old.content ≡ gate ∷ rest → KeepsGate gate old.durable → Syncs result old new → KeepsGate gate new.durable
+sync_keeps T (Ok _) gate rest old new is keeps syncs = subst (λ (f : File). KeepsGate gate f.durable) (sym (syncs ∙ ap at_rest is)) (rest_keeps gate rest)
+sync_keeps T (Err _) gate rest old new is keeps syncs = subst (λ (f : File). KeepsGate gate f.durable) (sym syncs) keeps
+
+-- a cut leaves the gate alone, with no bytes after it
+pub cut_to_gate : (content : List ℕ) → IsShut content → HasAfterGate (cut 1 (at_rest content)) []
+cut_to_gate content shut = subst (λ (l : List ℕ). HasAfterGate (cut 1 (at_rest l)) []) (sym shut.spelled)
+    (record { gate = shut.gate; closed = shut.closed; content = refl; keeps = touched_keeps shut.gate (settled (shut.gate ∷ shut.rest)) (cut_touches 1) (rest_keeps shut.gate shut.rest) refl })
+
+-- a write at the end adds its bytes
+written_at_end : (old bytes : List ℕ) (at : ℕ) → at ≡ length old → overwritten old at bytes ≡ old ++ bytes
+written_at_end old bytes at is =
+    ap (λ (l : List ℕ). take at old ++ bytes ++ l) (drop_all (at + length bytes) old (omega (arith, is))) ∙ append-nil (take at old ++ bytes) ∙ ap (λ (l : List ℕ). l ++ bytes) (take_all at old (omega (arith, is)))
+
+pub written_on : (file : File) (bytes more : List ℕ) (at : ℕ) → at ≡ 1 + length bytes → HasAfterGate file bytes → HasAfterGate (written at more file) (bytes ++ more)
+written_on file bytes more at is has = record {
+  gate = has.gate;
+  closed = has.closed;
+  content = ap (λ (l : List ℕ). overwritten l at more) has.content ∙ written_at_end (has.gate ∷ bytes) more at (omega (arith, is));
+  keeps = touched_keeps has.gate file.durable (write_touches file.durable at (length more)) has.keeps (write_after has.gate file.durable has.keeps at (length more) (omega (arith, is)));
+}

@@ -1,14 +1,14 @@
 -- What a crash leaves at each moment while a side is written anew.
-use Rattle.std.proofs.Common.{◌≡◌, ◌≢◌, inl, inr, ℕ, List, [], ◌∷◌, sym, ap, subst, ◌∙◌}
-use Rattle.std.specs.Prelude.{◌↔◌, Result}
+use Rattle.std.proofs.Common.{◌≡◌, ◌≢◌, inl, inr, ℕ, List, [], ◌∷◌, subst}
+use Rattle.std.specs.Prelude.{◌↔◌}
 use Rattle.disk.specs.declared.side.Side.{Side}
-use Rattle.disk.specs.declared.error.DiskError.{DiskError}
-use Rattle.disk.specs.File.{File, MayLeave, Changes, WriteLeaves, at_rest, touching, write_touches, cut, cut_touches}
+use Rattle.disk.specs.File.{File, MayLeave, WriteLeaves}
 use Rattle.disk.specs.Time.{Contents, MayLeaveNow, OtherStays, OtherMayBe, Elapses, LeavesOnly}
 use Rattle.disk.specs.Moments.{begun, goes_on, weakened, joined, other_before}
 use Rattle.disk.specs.Settled.{settled_only}
-use Rattle.vault.specs.Turned.{IsShut, IsUnshut, Rests, RestsShut, MayShut, MayTurn}
-use Rattle.vault.proofs.GatesBytes.{kept_shut, cut_leaves, write_leaves, closing_leaves, opening_leaves}
+use Rattle.vault.specs.Turned.{IsUnshut, Rests, MayShut, MayTurn}
+use Rattle.vault.proofs.GatesBytes.{closing_leaves, opening_leaves}
+use Rattle.vault.proofs.PiecesMoments.{StaysShut}
 
 module _ {D : Type 0} (files : D → Side → File) (moment : D → ℕ) (left_at : D → ℕ → Contents → Type 0)
     (at_now : (disk : D) (c : Contents) → left_at disk (moment disk) c ↔ MayLeaveNow (files disk) c) where
@@ -45,37 +45,6 @@ module _ {D : Type 0} (files : D → Side → File) (moment : D → ℕ) (left_a
         joined moment left_at old mid new _ _ _ (unwritten_moments old mid rests looked) wrote (λ c left. left)
         (λ c left. (closing_leaves (files old side).content (c side) unshut there left.0, other_before side (files old) (files mid) (λ other differs. same other) c left.1))
 
-    -- ---- the bytes after it
-
-    abbrev pub StaysShut : (Side → File) → Contents → Type 0
-    StaysShut before c = IsShut (c side) × OtherMayBe side before c
-
-    module _ (old : D) (shut : RestsShut (files old side)) where
-      shut_now : (c : Contents) → MayLeaveNow (files old) c → StaysShut (files old) c
-      shut_now c left =
-          let same = settled_only (files old side).content (c side) (subst (λ (f : File). MayLeave f.durable (c side)) shut.0 (left side)) in
-          (subst IsShut (sym same) shut.1, λ other differs. left other)
-
-      module _ (mid : D) (stays : OtherStays side (files old) (files mid)) (time : Elapses (moment old) (moment mid) (left_at old) (left_at mid)) where
-        pub cut_moments : (T : Type 0) (result : Result T DiskError) → Changes (cut 1) (cut_touches 1) result (files old side) (files mid side) → LeavesOnly moment left_at old mid (StaysShut (files old))
-        cut_moments T result changes =
-            goes_on moment left_at old old mid (StaysShut (files old)) (begun moment left_at old (StaysShut (files old)) (λ c left. shut_now c ((at_now old c).0 left))) time
-            (λ c left. let now = (at_now mid c).0 left in (
-              kept_shut (files old side).content (c side) shut.1 (cut_leaves T result (files old side).content (files mid side) (subst (λ (f : File). Changes (cut 1) (cut_touches 1) result f (files mid side)) shut.0 changes) (c side) (now side)),
-              other_before side (files old) (files mid) stays c (λ other differs. now other),
-            ))
-
-        pub behind_moments : (new : D) (count : ℕ) → files mid side ≡ cut 1 (files old side) → LeavesOnly moment left_at old mid (StaysShut (files old))
-            → LeavesOnly moment left_at mid new (λ c. MayLeave (touching (write_touches (files mid side).durable 1 count) (files mid side).durable) (c side) × OtherMayBe side (files mid) c)
-            → LeavesOnly moment left_at old new (StaysShut (files old))
-        behind_moments new count is first wrote =
-            let was : files mid side ≡ cut 1 (at_rest (files old side).content) = is ∙ ap (cut 1) shut.0 in
-            joined moment left_at old mid new _ _ _ first wrote (λ c left. left)
-            (λ c left. (
-              kept_shut (files old side).content (c side) shut.1 (write_leaves (files old side).content count shut.1 (c side) (subst (λ (f : File). MayLeave (touching (write_touches f.durable 1 count) f.durable) (c side)) was left.0)),
-              other_before side (files old) (files mid) stays c left.1,
-            ))
-
     -- ---- the whole of it
 
     module _ (old : D) (behind : List ℕ) where
@@ -87,7 +56,7 @@ module _ {D : Type 0} (files : D → Side → File) (moment : D → ℕ) (left_a
         closed_moments first = weakened moment left_at old closed _ _ first (λ c left. (inl left.0, left.1))
 
         pub written_moments : (wrote : D) → LeavesOnly moment left_at old closed (λ c. MayShut (files old side).content (c side) × OtherMayBe side (files old) c)
-            → LeavesOnly moment left_at closed wrote (StaysShut (files closed)) → LeavesOnly moment left_at old wrote Turns
+            → LeavesOnly moment left_at closed wrote (StaysShut side (files closed)) → LeavesOnly moment left_at old wrote Turns
         written_moments wrote first second =
             joined moment left_at old closed wrote _ _ _ (closed_moments first) second (λ c left. left) (λ c left. (inl (inr left.0), other_before side (files old) (files closed) stays c left.1))
 

@@ -3,6 +3,7 @@ pub mod BegunMoments
 mod Created
 mod ErredCalls
 mod FirstBytes
+mod Framing
 mod GatesBytes
 mod GatesMoments
 mod GoesOn
@@ -12,6 +13,7 @@ mod OpenedCalls
 mod OpenedErrors
 mod OpenedHeads
 mod OpenedSides
+mod PiecesMoments
 mod Ready
 mod TurnedLengths
 mod TurnedSides

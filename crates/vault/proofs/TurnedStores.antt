@@ -8,20 +8,17 @@ use Rattle.disk.specs.Time.{Contents, MayLeaveNow, OtherStays, OtherMayBe, Leave
 use Rattle.disk.specs.Moments.{begun, weakened}
 use Rattle.disk.specs.Settled.{settled_only}
 use Rattle.terms.specs.Sets.{Facts}
-use Rattle.codec.specs.declared.image.Image.{Image}
-use Rattle.codec.specs.Spelling.{IsImage, image_bytes}
-use Rattle.codec.specs.Image.{Lists}
 use Rattle.graph.specs.Graph.{Graph}
 use Rattle.graph.specs.Canonical.{canonical}
 use Rattle.graph.specs.FitLaws.{StateAsSet}
 use Rattle.sides.specs.Side.{IsSide, StandsWithGeneration, behind_gate, end_of}
 use Rattle.sides.specs.SideLaws.{SideAsSet, SideFits, BeginsSide}
 use Rattle.vault.specs.declared.vault.Vault.{Vault}
+use Rattle.vault.specs.Calls.{SpellsFacts}
 use Rattle.vault.specs.Stands.{IsBehind, Stands, other_side}
 use Rattle.vault.specs.Store.{Holds, new_side}
 use Rattle.vault.specs.Turned.{Rests, MayTurn}
 use Rattle.vault.proofs.TurnedSides.{not_other, behind_next, behind_other, turned_side, passing}
-use Rattle.terms.specs.declared.key.TheConstants.{MAX_COMPONENTS}
 use Rattle.sides.specs.declared.gate.TheConstants.{FORMAT}
 
 module _ {D : Type 0} (files : D → Side → File) where
@@ -64,36 +61,36 @@ module _ {D : Type 0} (files : D → Side → File) where
         (subst (λ (s : Side). LiveAs s vault.generation (contents s)) is_live own))
 
   module _ (as_set : SideAsSet) (fits : SideFits) (begins : BeginsSide) (state_as_set : StateAsSet) (stands : StandsWithGeneration)
-      (old : Vault D) (g : Graph) (E X : Facts) (image : Image) (holds : Holds files old g E X) (lists : Lists image E X) (is_image : IsImage MAX_COMPONENTS image) (short : length (image_bytes image) < 2 ^ 32)
+      (old : Vault D) (g : Graph) (E X : Facts) (bytes : List ℕ) (holds : Holds files old g E X) (spells : SpellsFacts bytes E X) (short : length bytes < 2 ^ 32)
       (small : old.generation + 1 < 2 ^ 64) where
     -- while its other side is written
     pub turning_moments : (moment : D → ℕ) (left_at : D → ℕ → Contents → Type 0) (new : D) (side : Side) → side ≡ other_side old.journal.side
-        → (behind : List ℕ) → behind ≡ behind_gate FORMAT (old.generation + 1) old.text.items (image_bytes image) (0 ∷ [])
+        → (behind : List ℕ) → behind ≡ behind_gate FORMAT (old.generation + 1) old.text.items bytes (0 ∷ [])
         → LeavesOnly moment left_at old.disk new (λ c. MayTurn (files old.disk side).content (1 ∷ behind) (c side) × OtherMayBe side (files old.disk) c)
         → LeavesOnly moment left_at old.disk new (λ c. Stands c g E X)
     turning_moments moment left_at new side is_other behind is leaves =
         let live = old.journal.side in
         let other = other_side live in
         weakened moment left_at old.disk new _ _ (subst (λ (s : Side). LeavesOnly moment left_at old.disk new (λ c. MayTurn (files old.disk s).content (1 ∷ behind) (c s) × OtherMayBe s (files old.disk) c)) is_other leaves) (λ c left.
-        passing as_set fits begins state_as_set stands g E X image lists is_image short holds.contents live old.generation small holds.is_live c
+        passing as_set fits begins state_as_set stands g E X bytes spells short holds.contents live old.generation small holds.is_live c
         (settled_only (holds.contents live) (c live) (subst (λ (f : File). MayLeave f.durable (c live)) (holds.rests live) (left.1 live (not_other live))))
-        (subst (λ (bytes : List ℕ). MayTurn bytes (new_side (old.generation + 1) (canonical g) image) (c other)) (ap (λ (f : File). f.content) (holds.rests other))
-        (subst (λ (bytes : List ℕ). MayTurn (files old.disk other).content bytes (c other))
-        (ap (λ (l : List ℕ). 1 ∷ l) is ∙ ap (λ (l : List ℕ). new_side (old.generation + 1) l image) holds.text) left.0)))
+        (subst (λ (was : List ℕ). MayTurn was (new_side (old.generation + 1) (canonical g) bytes) (c other)) (ap (λ (f : File). f.content) (holds.rests other))
+        (subst (λ (l : List ℕ). MayTurn (files old.disk other).content l (c other))
+        (ap (λ (l : List ℕ). 1 ∷ l) is ∙ ap (λ (l : List ℕ). new_side (old.generation + 1) l bytes) holds.text) left.0)))
 
     -- and after it was written
-    pub turned_holds : (new : Vault D) → new.journal.side ≡ other_side old.journal.side → files new.disk new.journal.side ≡ at_rest (new_side (old.generation + 1) old.text.items image)
+    pub turned_holds : (new : Vault D) → new.journal.side ≡ other_side old.journal.side → files new.disk new.journal.side ≡ at_rest (new_side (old.generation + 1) old.text.items bytes)
         → OtherStays new.journal.side (files old.disk) (files new.disk) → new.generation ≡ old.generation + 1
-        → new.journal.end ≡ length (1 ∷ behind_gate FORMAT (old.generation + 1) old.text.items (image_bytes image) []) → new.text.items ≡ old.text.items → Holds files new g E X
+        → new.journal.end ≡ length (1 ∷ behind_gate FORMAT (old.generation + 1) old.text.items bytes []) → new.text.items ≡ old.text.items → Holds files new g E X
     turned_holds new side written others generation end text =
         let live = old.journal.side in
         let kept : contents live ≡ holds.contents live = ap (λ (f : File). f.content) (others live (subst (λ (s : Side). live ≢ s) (sym side) (not_other live)) ∙ holds.rests live) in
         let old_side : IsSide (contents live) g old.generation E X = subst (λ (l : List ℕ). IsSide l g old.generation E X) (sym kept) holds.is_live.is_side in
-        let turned = turned_side as_set fits begins state_as_set stands g E X image lists is_image short (contents live) old.generation small old_side in
-        holds_by new g E X contents rests (text ∙ holds.text) (other_side live) side (old.generation + 1) generation (new_side (old.generation + 1) (canonical g) image)
-        (ap contents (sym side) ∙ ap (λ (f : File). f.content) written ∙ ap (λ (l : List ℕ). new_side (old.generation + 1) l image) holds.text) turned.0
+        let turned = turned_side as_set fits begins state_as_set stands g E X bytes spells short (contents live) old.generation small old_side in
+        holds_by new g E X contents rests (text ∙ holds.text) (other_side live) side (old.generation + 1) generation (new_side (old.generation + 1) (canonical g) bytes)
+        (ap contents (sym side) ∙ ap (λ (f : File). f.content) written ∙ ap (λ (l : List ℕ). new_side (old.generation + 1) l bytes) holds.text) turned.0
         (behind_other contents live (old.generation + 1) (behind_next stands (contents live) g old.generation E X old_side))
-        (end ∙ ap (λ (l : List ℕ). length (1 ∷ behind_gate FORMAT (old.generation + 1) l (image_bytes image) [])) holds.text ∙ sym turned.1)
+        (end ∙ ap (λ (l : List ℕ). length (1 ∷ behind_gate FORMAT (old.generation + 1) l bytes [])) holds.text ∙ sym turned.1)
       where
         contents : Contents
         contents each = (files new.disk each).content

@@ -22,7 +22,7 @@ use Rattle.vault.specs.Store.{Holds, IsSame, IsReady, new_side, empty, nothing}
 
 -- ---- calls of a vault
 
--- an error that `append` and `turn` may return
+-- an error that `append` and `turn_by` may return
 abbrev pub IsOfCall : VaultError → Type 0
 IsOfCall error = (error ≡ Device) ⊎ (error ≡ NoMemory) ⊎ (error ≡ Full) ⊎ (error ≡ Halted)
 

@@ -1,6 +1,6 @@
 -- What a file is while its side is written anew.
-use Rattle.std.specs.Prelude.{◌≡◌, ◌≢◌, ◌⊎◌, ℕ, List, [], ◌∷◌}
-use Rattle.disk.specs.File.{File, at_rest}
+use Rattle.std.specs.Prelude.{◌≡◌, ◌≢◌, ◌⊎◌, ℕ, false, List, [], ◌∷◌, Some, slice_get}
+use Rattle.disk.specs.File.{Durable, File, at_rest}
 use Rattle.sides.specs.Side.{IsOpen}
 
 -- the bytes begin with a gate that is not open
@@ -21,6 +21,18 @@ Rests file = file ≡ at_rest file.content
 -- all of it is on the disk, and it begins with a gate that is not open
 abbrev pub RestsShut : File → Type 0
 RestsShut file = Rests file × IsShut file.content
+
+-- a crash leaves bytes that begin with this gate: it is on the disk, and no write or cut has touched it since
+pub record KeepsGate (gate : ℕ) (durable : Durable) : Type 0 where
+  pub synced : slice_get durable.synced 0 ≡ Some gate
+  pub untouched : durable.touched 0 ≡ false
+
+-- reads give these bytes after a gate that is not open, and a crash leaves that gate; of the bytes nothing is said
+pub record HasAfterGate (file : File) (bytes : List ℕ) : Type 0 where
+  pub gate : ℕ
+  pub closed : gate ≢ 1
+  pub content : file.content ≡ gate ∷ bytes
+  pub keeps : KeepsGate gate file.durable
 
 -- after a gate that is not open it has these bytes, and all of it is on the disk
 abbrev pub HasBehindGate : File → List ℕ → Type 0

@@ -76,7 +76,7 @@ struct Made {
 // Writes a store without facts on two empty files.
 fn write_store<D: Disk>(alloc: Global, disk: &mut D, text: &[u8]) -> Result<Made, VaultError>
     requires { length text.now < 2 ^ 32 }
-    ensures a { IsTrue D.is_honest → OnOk result (D.files disk.new A ≡ at_rest (new_side 1 text.now empty)) }
+    ensures a { IsTrue D.is_honest → OnOk result (D.files disk.new A ≡ at_rest (new_side 1 text.now (image_bytes empty))) }
     ensures b { IsTrue D.is_honest → OnOk result (D.files disk.new B ≡ at_rest (0 ∷ [])) }
     ensures side { IfOk result (λ made. made.journal.side ≡ A) }
     ensures end { IfOk result (λ made. made.journal.end ≡ length (1 ∷ behind_gate FORMAT 1 text.now (image_bytes empty) [])) }

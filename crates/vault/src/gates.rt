@@ -1,8 +1,8 @@
-ghost use Rattle.std.specs.Prelude.{◌≡◌, ◌≢◌, ◌∷◌, [], IsTrue, IfOk, OnOk, MatchBool};
+ghost use Rattle.std.specs.Prelude.{◌≡◌, ◌≢◌, ◌<◌, ◌∷◌, [], length, IsTrue, IfOk, OnOk, MatchBool};
 ghost use Rattle.disk.specs.File.{at_rest};
 ghost use Rattle.disk.specs.Time.{OtherStays, OtherMayBe, LeavesOnly, MayLeaveNow, HasCause, CountsRefusal};
 ghost use Rattle.vault.specs.Stands.{other_side};
-ghost use Rattle.vault.specs.Turned.{IsShut, IsUnshut, Rests, RestsShut, HasBehindGate, MayShut, MayTurn};
+ghost use Rattle.vault.specs.Turned.{IsShut, IsUnshut, Rests, RestsShut, HasAfterGate, HasBehindGate, MayShut, MayTurn};
 
 use codec::ImageSource;
 use disk::{Disk, DiskError, Side, write_synced};
@@ -59,23 +59,36 @@ fn write_behind<D: Disk, S: ImageSource + Drop>(
     disk.sync(side)
 }
 
-// Writes the bytes of a source at the end of a file that has a gate alone, piece by piece, as the buffer has room.
+// Writes the bytes of a source at the end of a file that has a gate alone, piece by piece, as the buffer has room. At each moment
+// that gate is there, and not open.
 fn write_pieces<D: Disk, S: ImageSource + Drop>(
     disk: &mut D,
     side: Side,
     behind: S,
     buffer: &mut [u8],
 ) -> Result<(), DiskError>
+    requires shut { IsTrue D.is_honest → HasAfterGate (D.files disk.old side) [] }
+    requires room { 0 < length buffer.old }
+    ensures written { IsTrue D.is_honest → OnOk result (HasAfterGate (D.files disk.new side) (S.left behind)) }
+    ensures other { IsTrue D.is_honest → OtherStays side (D.files disk.old) (D.files disk.new) }
+    ensures any_moment { IsTrue D.is_honest → LeavesOnly D.moment D.left_at disk.old disk.new (λ contents. IsShut (contents side) × OtherMayBe side (D.files disk.old) contents) }
+    ensures cause { HasCause (D.failures disk.old) (D.failures disk.new) result }
+    ensures refused { CountsRefusal (D.refusals disk.old) (D.refusals disk.new) result }
 {
     let mut behind = behind;
-    let mut at = 1;
+    let mut at = 1u64;
     loop {
         let count = behind.piece(buffer);
         if count == 0 {
             return Ok(());
         }
         disk.write_at(side, at, &buffer[..count])?;
-        at += count as u64;
+        let Some(next) = at.checked_add(count as u64) else {
+            // No file of an honest disk is so long.
+            disk.len(side)?;
+            return Ok(());
+        };
+        at = next;
     }
 }
 

@@ -1,7 +1,7 @@
 //! The two files of a store: creation, appends, turnovers and openings.
 //!
 //! The files stand for a graph and a set of facts (`Stands` of `specs/Stands.antt`), which a vault holds (`Holds` of
-//! `specs/Store.antt`). The layer above uses `create`, `open`, `Vault::append`, `Vault::append_all` and `Vault::turn`: what each
+//! `specs/Store.antt`). The layer above uses `create`, `open`, `Vault::append`, `Vault::append_all` and `Vault::turn_by`: what each
 //! leaves at each moment, and after `Ok`.
 #![tactic(auto)]
 
@@ -9,6 +9,7 @@ mod append;
 mod creation;
 mod error;
 mod found;
+mod framed;
 mod gates;
 mod heads;
 mod history;

@@ -12,10 +12,11 @@ ghost use Rattle.vault.specs.Store.{Holds, HasGates, IsReady, IsLast, IsTooLong}
 ghost use Rattle.vault.specs.declared.error.VaultError.TheVariants.{Full};
 ghost use Rattle.sides.specs.declared.gate.TheConstants.{FORMAT};
 
+use crate::framed::Framed;
 use crate::gates::{other, write_side};
 use crate::{Vault, VaultError};
 use byteorder::{ByteOrder, LittleEndian};
-use codec::{Chain, ImageBytes, ImageSource};
+use codec::ImageSource;
 use disk::Disk;
 use graph::fitting;
 use journal::LIMIT;
@@ -75,10 +76,21 @@ impl<D: Disk> Vault<D> {
         sides_go_on();
         let head = head_of(generation, self.text.len() as u32);
         let count = count_of(source.length() as u32);
-        let image = Chain::new(source, ImageBytes::new(&[CLOSED]));
-        let counted = Chain::new(ImageBytes::new(&count), image);
-        let texted = Chain::new(ImageBytes::new(&self.text), counted);
-        let behind = Chain::new(ImageBytes::new(&head), texted);
+        let image = Framed {
+            before: &count,
+            inside: source,
+            after: &[CLOSED],
+        };
+        let counted = Framed {
+            before: &self.text,
+            inside: image,
+            after: &[],
+        };
+        let behind = Framed {
+            before: &head,
+            inside: counted,
+            after: &[],
+        };
         match write_side(&mut self.disk, side, behind, buffer) {
             Ok(()) => {
                 self.journal.side = side;

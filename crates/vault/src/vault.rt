@@ -6,7 +6,7 @@ use journal::Journal;
 /// An open store on two files.
 ///
 /// Its files alone say what it holds; the fields say where the next record goes. A vault halts exactly if a call of the disk
-/// returns an error in `append` or `turn`, and stays halted until its disk is opened again.
+/// returns an error in `append` or `turn_by`, and stays halted until its disk is opened again.
 pub struct Vault<D: Disk> {
     pub(crate) disk: D,
     // The journal of the live side.
@@ -19,7 +19,7 @@ pub struct Vault<D: Disk> {
     pub(crate) halted: bool,
     // Up to where zeros are known to lie behind the journal; 0 if it is not known. No clause rests on it.
     pub(crate) laid: u64,
-    // Holds a commit while it is appended, and a side while it is written.
+    // Holds a commit while it is appended.
     pub(crate) buffer: Vec<u8>,
 }
 
