@@ -1,11 +1,12 @@
 -- The whole of what a turnover of a core promises, from what its vault's turnover promises.
-use Rattle.std.proofs.Common.{◌≡◌, ◌∙◌, ◌⊎◌, ◌+◌, ap, refl, inl, inr, ℕ, true, false, List, [], Result, Ok, Err}
+use Rattle.std.proofs.Common.{◌≡◌, ◌∙◌, ◌⊎◌, ◌+◌, ap, refl, subst, inl, inr, ℕ, true, false, List, [], Result, Ok, Err}
 use Rattle.disk.specs.declared.side.Side.{Side}
 use Rattle.disk.specs.File.{File, at_rest}
 use Rattle.disk.specs.Time.{Contents, HasCauses}
 use Rattle.terms.specs.declared.event.Event.{Event}
 use Rattle.codec.specs.declared.image.Image.{Image}
 use Rattle.codec.specs.Image.{IsListed, Lists}
+use Rattle.codec.specs.Spelling.{image_bytes}
 use Rattle.machine.specs.Machine.{Machine, environment as environment_of, facts as facts_of}
 use Rattle.vault.specs.declared.vault.Vault.{Vault}
 use Rattle.vault.specs.declared.error.VaultError.{VaultError}
@@ -64,18 +65,18 @@ module _
 
     -- why the vault says that it is full
     abbrev IsCause : Type 0
-    IsCause = IsLast v.generation ⊎ IsTooLong (v.generation + 1) v.text.items image
+    IsCause = IsLast v.generation ⊎ IsTooLong (v.generation + 1) v.text.items (image_bytes image)
 
     cause_of : IsLast v.generation ⊎ ((each : Image) → IsImageOf old each → IsTooLongWith old each) → IsCause
     cause_of (inl last) = inl last
     cause_of (inr long) = inr (long image (listed, lists))
 
-    turned : (generation : ℕ) → calls.TurnsOver v w image (Ok generation) → (honest → calls.WritesSide files v w image (Ok generation)) → calls.IsFullWhere {T = ℕ} v.halted IsCause (Ok generation)
+    turned : (generation : ℕ) → calls.TurnsOver v w (image_bytes image) (Ok generation) → (honest → calls.WritesSide files v w (image_bytes image) (Ok generation)) → calls.IsFullWhere {T = ℕ} v.halted IsCause (Ok generation)
         → calls.Halts {T = ℕ} failures refusals v w (Ok generation) → (honest → IsKept files old) → doubt ≡ [] → (honest → LeavesWhileTurning files moment left_at old new) → TurnsAs files moment left_at failures refusals honest old new (Ok generation)
     turned generation over writes full halting kept settled moments = record {
       ok = record { greater = over.side.0; live = (over.side.1, over.side.2); working = over.working; machine = refl; allowance = refl; latest = refl };
       ends = (image, (listed, lists), over.end);
-      written = λ on. (image, (listed, lists), (writes on).written ∙ ap (λ (text : List ℕ). at_rest (new_side generation text image)) ((kept on).holds working).text);
+      written = λ on. (image, (listed, lists), (writes on).written ∙ ap (λ (text : List ℕ). at_rest (new_side generation text (image_bytes image))) ((kept on).holds working).text);
       live = λ on. (writes on).live;
       err = tt;
       refused = tt;
@@ -118,7 +119,7 @@ module _
         none (inr (inr (inl is))) = cc
         none (inr (inr (inr is))) = cc
 
-    refused : (error : VaultError) → (honest → calls.WritesSide files v w image (Err error)) → calls.IsFullWhere {T = ℕ} v.halted IsCause (Err error) → calls.Halts {T = ℕ} failures refusals v w (Err error) → (honest → LeavesWhileTurning files moment left_at old new)
+    refused : (error : VaultError) → (honest → calls.WritesSide files v w (image_bytes image) (Err error)) → calls.IsFullWhere {T = ℕ} v.halted IsCause (Err error) → calls.Halts {T = ℕ} failures refusals v w (Err error) → (honest → LeavesWhileTurning files moment left_at old new)
         → TurnsAs files moment left_at failures refusals honest old new (Err (Store error))
     refused error writes full halting moments = record {
       ok = tt;
@@ -139,11 +140,18 @@ module _
       moments = λ on _. moments on;
     }
 
-    -- both together
-    pub either : (result : Result ℕ VaultError) → calls.TurnsOver v w image result → (honest → calls.WritesSide files v w image result) → calls.IsFullWhere v.halted IsCause result → calls.Halts failures refusals v w result
+    -- both together, for bytes that spell the image
+    pub either : (bytes : List ℕ) → bytes ≡ image_bytes image → (result : Result ℕ VaultError) → calls.TurnsOver v w bytes result → (honest → calls.WritesSide files v w bytes result)
+        → calls.IsFullWhere v.halted (IsLast v.generation ⊎ IsTooLong (v.generation + 1) v.text.items bytes) result → calls.Halts failures refusals v w result
         → (honest → IsKept files old) → doubt ≡ [] → (honest → LeavesWhileTurning files moment left_at old new) → TurnsAs files moment left_at failures refusals honest old new (answer_of result)
-    either (Ok generation) over writes full halting kept settled moments = turned generation over writes full halting kept settled moments
-    either (Err error) over writes full halting kept settled moments = refused error writes full halting moments
+    either bytes spelled result over writes full halting kept settled moments =
+        by_image result (subst (λ (spelling : List ℕ). calls.TurnsOver v w spelling result) spelled over) (λ on. subst (λ (spelling : List ℕ). calls.WritesSide files v w spelling result) spelled (writes on))
+        (subst (λ (spelling : List ℕ). calls.IsFullWhere v.halted (IsLast v.generation ⊎ IsTooLong (v.generation + 1) v.text.items spelling) result) spelled full) halting kept settled moments
+      where
+        by_image : (result : Result ℕ VaultError) → calls.TurnsOver v w (image_bytes image) result → (honest → calls.WritesSide files v w (image_bytes image) result) → calls.IsFullWhere v.halted IsCause result → calls.Halts failures refusals v w result
+            → (honest → IsKept files old) → doubt ≡ [] → (honest → LeavesWhileTurning files moment left_at old new) → TurnsAs files moment left_at failures refusals honest old new (answer_of result)
+        by_image (Ok generation) over writes full halting kept settled moments = turned generation over writes full halting kept settled moments
+        by_image (Err error) over writes full halting kept settled moments = refused error writes full halting moments
 
 memory_halts : Store NoMemory ≡ Store Halted → ⊥
 memory_halts is = cc
