@@ -39,12 +39,12 @@ module _ {D : Type 0} (files : D → Side → File) (moment : D → ℕ) (left_a
     -- a file whose gate stays on the disk
     gate_begun : (old : D) (gate : ℕ) → gate ≢ 1 → KeepsGate gate (files old side).durable → LeavesOnly moment left_at old old (StaysShut side (files old))
     gate_begun old gate closed keeps = begun moment left_at old (StaysShut side (files old)) (λ c left. let now = (at_now old c).0 left in
-      (gate_left gate (files old side).durable closed keeps (c side) (now side), λ other differs. now other))
+        (gate_left gate (files old side).durable closed keeps (c side) (now side), λ other differs. now other))
 
     gate_goes_on : (old mid new : D) (gate : ℕ) → gate ≢ 1 → KeepsGate gate (files new side).durable → OtherStays side (files old) (files new) → LeavesOnly moment left_at old mid (StaysShut side (files old))
         → Elapses (moment mid) (moment new) (left_at mid) (left_at new) → LeavesOnly moment left_at old new (StaysShut side (files old))
     gate_goes_on old mid new gate closed keeps stays first time = goes_on moment left_at old mid new (StaysShut side (files old)) first time (λ c left. let now = (at_now new c).0 left in
-      (gate_left gate (files new side).durable closed keeps (c side) (now side), other_before side (files old) (files new) stays c (λ other differs. now other)))
+        (gate_left gate (files new side).durable closed keeps (c side) (now side), other_before side (files old) (files new) stays c (λ other differs. now other)))
 
     -- the cut to the gate
     pub cut_moments : (old mid : D) → RestsShut (files old side) → OtherStays side (files old) (files mid) → Elapses (moment old) (moment mid) (left_at old) (left_at mid)

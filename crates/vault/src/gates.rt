@@ -1,4 +1,4 @@
-ghost use Rattle.std.specs.Prelude.{◌≡◌, ◌≢◌, ◌<◌, ◌∷◌, [], length, IsTrue, IfOk, OnOk, MatchBool};
+ghost use Rattle.std.specs.Prelude.{◌≡◌, ◌≢◌, ◌<◌, ◌^◌, ◌∷◌, [], length, IsTrue, IfOk, OnOk, MatchBool};
 ghost use Rattle.disk.specs.File.{at_rest};
 ghost use Rattle.disk.specs.Time.{OtherStays, OtherMayBe, LeavesOnly, MayLeaveNow, HasCause, CountsRefusal};
 ghost use Rattle.vault.specs.Stands.{other_side};
@@ -27,6 +27,7 @@ pub(crate) fn write_side<D: Disk, S: ImageSource + Drop>(
 ) -> Result<(), DiskError>
     requires rests { IsTrue D.is_honest → Rests (D.files disk.old side) }
     requires room { 0 < length buffer.old }
+    requires few { length (S.left behind) < 2 ^ 63 }
     ensures written { IsTrue D.is_honest → OnOk result (D.files disk.new side ≡ at_rest (1 ∷ S.left behind)) }
     ensures other { IsTrue D.is_honest → OtherStays side (D.files disk.old) (D.files disk.new) }
     ensures any_moment { IsTrue D.is_honest → (D.files disk.old side).content ≢ [] → LeavesOnly D.moment D.left_at disk.old disk.new
@@ -48,6 +49,7 @@ fn write_behind<D: Disk, S: ImageSource + Drop>(
 ) -> Result<(), DiskError>
     requires shut { IsTrue D.is_honest → RestsShut (D.files disk.old side) }
     requires room { 0 < length buffer.old }
+    requires few { length (S.left behind) < 2 ^ 63 }
     ensures written { IsTrue D.is_honest → OnOk result (HasBehindGate (D.files disk.new side) (S.left behind)) }
     ensures other { IsTrue D.is_honest → OtherStays side (D.files disk.old) (D.files disk.new) }
     ensures any_moment { IsTrue D.is_honest → LeavesOnly D.moment D.left_at disk.old disk.new (λ contents. IsShut (contents side) × OtherMayBe side (D.files disk.old) contents) }
@@ -69,6 +71,7 @@ fn write_pieces<D: Disk, S: ImageSource + Drop>(
 ) -> Result<(), DiskError>
     requires shut { IsTrue D.is_honest → HasAfterGate (D.files disk.old side) [] }
     requires room { 0 < length buffer.old }
+    requires few { length (S.left behind) < 2 ^ 63 }
     ensures written { IsTrue D.is_honest → OnOk result (HasAfterGate (D.files disk.new side) (S.left behind)) }
     ensures other { IsTrue D.is_honest → OtherStays side (D.files disk.old) (D.files disk.new) }
     ensures any_moment { IsTrue D.is_honest → LeavesOnly D.moment D.left_at disk.old disk.new (λ contents. IsShut (contents side) × OtherMayBe side (D.files disk.old) contents) }
@@ -83,12 +86,7 @@ fn write_pieces<D: Disk, S: ImageSource + Drop>(
             return Ok(());
         }
         disk.write_at(side, at, &buffer[..count])?;
-        let Some(next) = at.checked_add(count as u64) else {
-            // No file of an honest disk is so long.
-            disk.len(side)?;
-            return Ok(());
-        };
-        at = next;
+        at += count as u64;
     }
 }
 
