@@ -1,5 +1,5 @@
 -- What a crash leaves at each moment while bytes are written after a gate, piece by piece.
-use Rattle.std.proofs.Common.{◌≡◌, ◌≢◌, inl, inr, ℕ, ◌+◌, List, [], ◌∷◌, ◌++◌, length, length-append, append_assoc, refl, sym, ap, subst, ◌∙◌, arith}
+use Rattle.std.proofs.Common.{◌≡◌, ◌≢◌, inl, inr, ℕ, ◌+◌, List, [], ◌++◌, length, length-append, append_assoc, refl, sym, ap, subst, ◌∙◌, arith}
 use Rattle.std.proofs.lemmas.Bool.{cases_lt}
 use Rattle.std.specs.Prelude.{◌↔◌, Result, Ok}
 use Rattle.disk.specs.declared.side.Side.{Side}
@@ -39,12 +39,12 @@ module _ {D : Type 0} (files : D → Side → File) (moment : D → ℕ) (left_a
     -- a file whose gate stays on the disk
     gate_begun : (old : D) (gate : ℕ) → gate ≢ 1 → KeepsGate gate (files old side).durable → LeavesOnly moment left_at old old (StaysShut side (files old))
     gate_begun old gate closed keeps = begun moment left_at old (StaysShut side (files old)) (λ c left. let now = (at_now old c).0 left in
-      (gate_left gate (files old side).durable closed keeps (c side) (now side), λ other differs. now other))
+        (gate_left gate (files old side).durable closed keeps (c side) (now side), λ other differs. now other))
 
     gate_goes_on : (old mid new : D) (gate : ℕ) → gate ≢ 1 → KeepsGate gate (files new side).durable → OtherStays side (files old) (files new) → LeavesOnly moment left_at old mid (StaysShut side (files old))
         → Elapses (moment mid) (moment new) (left_at mid) (left_at new) → LeavesOnly moment left_at old new (StaysShut side (files old))
     gate_goes_on old mid new gate closed keeps stays first time = goes_on moment left_at old mid new (StaysShut side (files old)) first time (λ c left. let now = (at_now new c).0 left in
-      (gate_left gate (files new side).durable closed keeps (c side) (now side), other_before side (files old) (files new) stays c (λ other differs. now other)))
+        (gate_left gate (files new side).durable closed keeps (c side) (now side), other_before side (files old) (files new) stays c (λ other differs. now other)))
 
     -- the cut to the gate
     pub cut_moments : (old mid : D) → RestsShut (files old side) → OtherStays side (files old) (files mid) → Elapses (moment old) (moment mid) (left_at old) (left_at mid)
@@ -64,10 +64,6 @@ module _ {D : Type 0} (files : D → Side → File) (moment : D → ℕ) (left_a
     }
 
     module _ (whole left : List ℕ) (place : ℕ) (old mid : D) (so_far : SoFar whole left place old mid) where
-      -- the place is the end of the file
-      pub place_at_end : place ≡ length (files mid side).content
-      place_at_end = omega (arith, so_far.place_is, ap length so_far.has.content)
-
       module _ (piece rest : List ℕ) (new : D) (stays : OtherStays side (files mid) (files new)) (time : Elapses (moment mid) (moment new) (left_at mid) (left_at new)) where
         others : OtherStays side (files old) (files new)
         others = stays_on side (files old) (files mid) (files new) so_far.other stays

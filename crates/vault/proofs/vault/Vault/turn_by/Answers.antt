@@ -102,7 +102,7 @@ returns-in-Ok-clause-full g c =
     let text = c.args.self.now.text.items in
     let long : c.len.result ≡ length text = omega (arith, c.len.ensures, c.deref.ensures.len, ap length c.deref.ensures.value) in
     let it = fits (c.args.self.now.generation + 1) text image c.in-Some.end c.len.result c.length.result c.in-Some.ensures long c.length.ensures in
-    record { why = search rules; told = λ working cause. absurd (elim cause [ | inl last ↦ omega (arith, c.if-self-2.false, last) | inr too_long ↦ it.below too_long ]) }
+    record { why = search rules; told = λ working cause. absurd (elim cause [ inl last ↦ omega (arith, c.if-self-2.false, last) | inr too_long ↦ it.below too_long ]) }
 
 pub returns-in-Err-clause-full : goal.returns-in-Err-clause-full
 returns-in-Err-clause-full g c =
@@ -110,4 +110,4 @@ returns-in-Err-clause-full g c =
     let text = c.args.self.now.text.items in
     let long : c.len.result ≡ length text = omega (arith, c.len.ensures, c.deref.ensures.len, ap length c.deref.ensures.value) in
     let it = fits (c.args.self.now.generation + 1) text image c.in-Some.end c.len.result c.length.result c.in-Some.ensures long c.length.ensures in
-    record { why = search rules; told = λ working cause. absurd (elim cause [ | inl last ↦ omega (arith, c.if-self-2.false, last) | inr too_long ↦ it.below too_long ]) }
+    record { why = search rules; told = λ working cause. absurd (elim cause [ inl last ↦ omega (arith, c.if-self-2.false, last) | inr too_long ↦ it.below too_long ]) }
