@@ -106,11 +106,6 @@ pub sync_keeps : (T : Type 0) (result : Result T DiskError) (gate : ℕ) (rest :
 sync_keeps T (Ok _) gate rest old new is keeps syncs = subst (λ (f : File). KeepsGate gate f.durable) (sym (syncs ∙ ap at_rest is)) (rest_keeps gate rest)
 sync_keeps T (Err _) gate rest old new is keeps syncs = subst (λ (f : File). KeepsGate gate f.durable) (sym syncs) keeps
 
--- a cut leaves the gate alone, with no bytes after it
-pub cut_to_gate : (content : List ℕ) → IsShut content → HasAfterGate (cut 1 (at_rest content)) []
-cut_to_gate content shut = subst (λ (l : List ℕ). HasAfterGate (cut 1 (at_rest l)) []) (sym shut.spelled)
-    (record { gate = shut.gate; closed = shut.closed; content = refl; keeps = touched_keeps shut.gate (settled (shut.gate ∷ shut.rest)) (cut_touches 1) (rest_keeps shut.gate shut.rest) refl })
-
 -- a write at the end adds its bytes
 written_at_end : (old bytes : List ℕ) (at : ℕ) → at ≡ length old → overwritten old at bytes ≡ old ++ bytes
 written_at_end old bytes at is =

@@ -1,5 +1,5 @@
 -- What a crash leaves at each moment while bytes are written after a gate, piece by piece.
-use Rattle.std.proofs.Common.{◌≡◌, ◌≢◌, inl, inr, ℕ, ◌+◌, List, [], ◌∷◌, ◌++◌, length, length-append, append_assoc, refl, sym, ap, subst, ◌∙◌, arith}
+use Rattle.std.proofs.Common.{◌≡◌, ◌≢◌, inl, inr, ℕ, ◌+◌, List, [], ◌++◌, length, length-append, append_assoc, refl, sym, ap, subst, ◌∙◌, arith}
 use Rattle.std.proofs.lemmas.Bool.{cases_lt}
 use Rattle.std.specs.Prelude.{◌↔◌, Result, Ok}
 use Rattle.disk.specs.declared.side.Side.{Side}
@@ -64,10 +64,6 @@ module _ {D : Type 0} (files : D → Side → File) (moment : D → ℕ) (left_a
     }
 
     module _ (whole left : List ℕ) (place : ℕ) (old mid : D) (so_far : SoFar whole left place old mid) where
-      -- the place is the end of the file
-      pub place_at_end : place ≡ length (files mid side).content
-      place_at_end = omega (arith, so_far.place_is, ap length so_far.has.content)
-
       module _ (piece rest : List ℕ) (new : D) (stays : OtherStays side (files mid) (files new)) (time : Elapses (moment mid) (moment new) (left_at mid) (left_at new)) where
         others : OtherStays side (files old) (files new)
         others = stays_on side (files old) (files mid) (files new) so_far.other stays

@@ -1,14 +1,15 @@
 ghost use Rattle.std.specs.Prelude.{◌≡◌, ◌≢◌, ◌<◌, ◌≤◌, ◌+◌, ◌++◌, ◌⊎◌, ◌^◌, ℕ, [], ◌∷◌, false, length, IsTrue, OnOk, IsErrOf, MatchOption};
 ghost use Rattle.byteorder.specs.Endian.{little_bytes};
-ghost use Rattle.disk.specs.Time.{LeavesOnly};
+ghost use Rattle.disk.specs.File.{at_rest};
+ghost use Rattle.disk.specs.Time.{OtherStays, OtherMayBe, LeavesOnly, HasCause, CountsRefusal};
 ghost use Rattle.terms.specs.Sets.{Facts};
 ghost use Rattle.graph.specs.Graph.{Graph};
 ghost use Rattle.journal.specs.declared.journal.TheConstants.{LIMIT};
-ghost use Rattle.sides.specs.Side.{behind_gate};
 ghost use Rattle.vault.specs.Calls.{Halts, SpellsFacts, TurnsOver, WritesSide, IsFullWhere};
 ghost use Rattle.vault.specs.Stands.{Stands, other_side};
 ghost use Rattle.vault.specs.Opened.{contents_of};
-ghost use Rattle.vault.specs.Store.{Holds, HasGates, IsReady, IsLast, IsTooLong};
+ghost use Rattle.vault.specs.Store.{Holds, HasGates, IsReady, IsLast, IsTooLong, new_side};
+ghost use Rattle.vault.specs.Turned.{Rests, MayTurn};
 ghost use Rattle.vault.specs.declared.error.VaultError.TheVariants.{Full};
 ghost use Rattle.sides.specs.declared.gate.TheConstants.{FORMAT};
 
@@ -17,7 +18,7 @@ use crate::gates::{other, write_side};
 use crate::{Vault, VaultError};
 use byteorder::{ByteOrder, LittleEndian};
 use codec::ImageSource;
-use disk::Disk;
+use disk::{Disk, DiskError, Side};
 use graph::fitting;
 use journal::LIMIT;
 use sides::{FORMAT, one_meaning_of_a_side, sides_go_on};
@@ -74,24 +75,7 @@ impl<D: Disk> Vault<D> {
         fitting();
         one_meaning_of_a_side();
         sides_go_on();
-        let head = head_of(generation, self.text.len() as u32);
-        let count = count_of(source.length() as u32);
-        let image = Framed {
-            before: &count,
-            inside: source,
-            after: &[CLOSED],
-        };
-        let counted = Framed {
-            before: &self.text,
-            inside: image,
-            after: &[],
-        };
-        let behind = Framed {
-            before: &head,
-            inside: counted,
-            after: &[],
-        };
-        match write_side(&mut self.disk, side, behind, buffer) {
+        match write_next(&mut self.disk, side, generation, &self.text, source, buffer) {
             Ok(()) => {
                 self.journal.side = side;
                 self.journal.end = end;
@@ -105,6 +89,46 @@ impl<D: Disk> Vault<D> {
             }
         }
     }
+}
+
+// Writes the side of a generation anew, with this text, the image that the source gives, and no record.
+fn write_next<D: Disk, S: ImageSource + Drop>(
+    disk: &mut D,
+    side: Side,
+    generation: u64,
+    text: &[u8],
+    image: S,
+    buffer: &mut [u8],
+) -> Result<(), DiskError>
+    requires rests { IsTrue D.is_honest → Rests (D.files disk.old side) }
+    requires room { 0 < length buffer.old }
+    requires text { length text.now < 2 ^ 32 }
+    requires image { length (S.left image) < 2 ^ 32 }
+    ensures written { IsTrue D.is_honest → OnOk result (D.files disk.new side ≡ at_rest (new_side generation text.now (S.left image))) }
+    ensures other { IsTrue D.is_honest → OtherStays side (D.files disk.old) (D.files disk.new) }
+    ensures any_moment { IsTrue D.is_honest → (D.files disk.old side).content ≢ [] → LeavesOnly D.moment D.left_at disk.old disk.new
+        (λ contents. MayTurn (D.files disk.old side).content (new_side generation text.now (S.left image)) (contents side) × OtherMayBe side (D.files disk.old) contents) }
+    ensures cause { HasCause (D.failures disk.old) (D.failures disk.new) result }
+    ensures refused { CountsRefusal (D.refusals disk.old) (D.refusals disk.new) result }
+{
+    let head = head_of(generation, text.len() as u32);
+    let count = count_of(image.length() as u32);
+    let last = Framed {
+        before: &count,
+        inside: image,
+        after: &[CLOSED],
+    };
+    let texted = Framed {
+        before: text,
+        inside: last,
+        after: &[],
+    };
+    let behind = Framed {
+        before: &head,
+        inside: texted,
+        after: &[],
+    };
+    write_side(disk, side, behind, buffer)
 }
 
 // Where the journal begins, and ends, of a side without records whose text and image have so many bytes; none if it would not lie below

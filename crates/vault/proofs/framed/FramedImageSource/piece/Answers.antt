@@ -1,4 +1,4 @@
-use Rattle.std.proofs.Common.{◌≡◌, ◌-◌, ◌≤◌, ◌+◌, ℕ, List, [], length, take, drop, arith}
+use Rattle.std.proofs.Common.{◌≡◌, ◌-◌, [], length, take, drop, arith}
 use Rattle.std.proofs.lemmas.Bool.Decides.{nat_tests}
 use Rattle.codec.proofs.Chained.{none_left}
 use Rattle.vault.proofs.Framing.{copied, before_last, with_last}
