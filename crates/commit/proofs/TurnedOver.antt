@@ -159,18 +159,20 @@ memory_halts is = cc
 memory_device : Store NoMemory ≡ Store Device → ⊥
 memory_device is = cc
 
--- memory for the image was refused
-pub unlisted : {D : Type 0} (files : D → Side → File) (moment : D → ℕ) (left_at : D → ℕ → Contents → Type 0) (failures refusals : D → ℕ) (honest : Type 0) (old : Core D) → is_halted old ≡ false → (honest → LeavesWhileTurning files moment left_at old old)
-    → TurnsAs files moment left_at failures refusals honest old old (Err (Store NoMemory))
-unlisted files moment left_at failures refusals honest old working moments = record {
-  ok = tt;
-  ends = tt;
-  written = λ _. tt;
-  live = λ _. refl;
-  err = record { stays = record { graph = refl; facts = λ _. refl; environment = λ _. refl; allowance = refl; latest = refl }; states = λ _. refl };
-  refused = working;
-  full = λ _ cause. inr refl;
-  halts = unhalted {T = ℕ} failures refusals old old (Store NoMemory) working refl refl memory_halts memory_device;
-  doubt = refl;
-  moments = λ on _. moments on;
-}
+-- memory was refused first, so the core is as it was
+pub unlisted : {D : Type 0} (files : D → Side → File) (moment : D → ℕ) (left_at : D → ℕ → Contents → Type 0) (failures refusals : D → ℕ) (honest : Type 0) (old now : Core D) → old ≡ now → is_halted old ≡ false
+    → (honest → LeavesWhileTurning files moment left_at old old) → TurnsAs files moment left_at failures refusals honest now now (Err (Store NoMemory))
+unlisted {D} files moment left_at failures refusals honest old now same working moments =
+    subst (λ (core : Core D). TurnsAs files moment left_at failures refusals honest core core (Err (Store NoMemory))) same
+    (record {
+      ok = tt;
+      ends = tt;
+      written = λ _. tt;
+      live = λ _. refl;
+      err = record { stays = record { graph = refl; facts = λ _. refl; environment = λ _. refl; allowance = refl; latest = refl }; states = λ _. refl };
+      refused = working;
+      full = λ _ cause. inr refl;
+      halts = unhalted {T = ℕ} failures refusals old old (Store NoMemory) working refl refl memory_halts memory_device;
+      doubt = refl;
+      moments = λ on _. moments on;
+    })

@@ -28,7 +28,9 @@ impl<D: Disk> Core<D> {
         let Ok(mut buffer) = vec![in alloc; 0; PIECE] else {
             return Err(CoreError::Store(VaultError::NoMemory));
         };
-        match self.vault.turn_by(source, &mut buffer) {
+        let turned = self.vault.turn_by(source, &mut buffer);
+        drop(buffer);
+        match turned {
             Ok(generation) => Ok(generation),
             Err(error) => Err(CoreError::Store(error)),
         }
