@@ -94,9 +94,11 @@ fn turned(rt: &HostRuntime, core: Core<FileDisk>, opening: f64) -> Result<Times,
     let mut core = core;
     let items = core.counts().items;
     let start = Instant::now(rt);
-    let turned = core.turn(rt.alloc());
+    let is_turned = core.turn(rt.alloc()).is_ok();
     let turning = seconds_between(start, Instant::now(rt))?;
-    turned?;
+    if !is_turned {
+        bail!("the store was not turned over");
+    }
     Ok(Times {
         items,
         opening,
