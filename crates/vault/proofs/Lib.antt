@@ -3,7 +3,6 @@ pub mod BegunMoments
 mod Created
 mod ErredCalls
 mod FirstBytes
-mod Framing
 mod GatesBytes
 mod GatesMoments
 mod GoesOn

@@ -1,5 +1,5 @@
 -- The bytes of a side that a turnover writes, and how many they are.
-use Rattle.std.proofs.Common.{◌≡◌, ◌∙◌, ap, sym, ℕ, ◌+◌, ◌-◌, ◌<◌, ◌^◌, min, List, [], ◌∷◌, ◌++◌, length, arith, length-append, append_assoc, append-nil}
+use Rattle.std.proofs.Common.{◌≡◌, ◌∙◌, ap, sym, ℕ, ◌+◌, ◌-◌, ◌<◌, ◌^◌, min, List, [], ◌∷◌, ◌++◌, length, arith, length-append, append_assoc}
 use Rattle.byteorder.specs.Endian.{little_bytes}
 use Rattle.journal.specs.declared.journal.TheConstants.{LIMIT}
 use Rattle.sides.specs.Side.{behind_gate, counted}
@@ -31,11 +31,9 @@ fits generation text image end long short sum is_long is_short =
     }
 
 -- behind its gate it is a head, the text, the number of the image's bytes, the image, and a closed gate
-pub side_framed : (generation : ℕ) (text image head count : List ℕ) (short : ℕ) → head ≡ FORMAT ∷ little_bytes 8 generation ++ little_bytes 4 (length text)
-    → count ≡ little_bytes 4 short → short ≡ length image → head ++ (text ++ (count ++ image ++ 0 ∷ []) ++ []) ++ [] ≡ behind_gate FORMAT generation text image (0 ∷ [])
-side_framed generation text image head count short is_head is_count is_short =
-    append-nil (head ++ (text ++ (count ++ image ++ 0 ∷ []) ++ []))
-    ∙ ap (λ (l : List ℕ). head ++ l) (append-nil (text ++ (count ++ image ++ 0 ∷ [])))
-    ∙ ap (λ (l : List ℕ). l ++ (text ++ (count ++ image ++ 0 ∷ []))) is_head
-    ∙ ap (λ (l : List ℕ). (FORMAT ∷ little_bytes 8 generation ++ little_bytes 4 (length text)) ++ (text ++ (l ++ image ++ 0 ∷ []))) (is_count ∙ ap (little_bytes 4) is_short)
+pub side_chained : (generation : ℕ) (text image head count : List ℕ) (short : ℕ) → head ≡ FORMAT ∷ little_bytes 8 generation ++ little_bytes 4 (length text)
+    → count ≡ little_bytes 4 short → short ≡ length image → head ++ (text ++ (count ++ (image ++ 0 ∷ []))) ≡ behind_gate FORMAT generation text image (0 ∷ [])
+side_chained generation text image head count short is_head is_count is_short =
+    ap (λ (l : List ℕ). l ++ (text ++ (count ++ (image ++ 0 ∷ [])))) is_head
+    ∙ ap (λ (l : List ℕ). (FORMAT ∷ little_bytes 8 generation ++ little_bytes 4 (length text)) ++ (text ++ (l ++ (image ++ 0 ∷ [])))) (is_count ∙ ap (little_bytes 4) is_short)
     ∙ ap (λ (l : List ℕ). (FORMAT ∷ little_bytes 8 generation ++ little_bytes 4 (length text)) ++ l) (sym (append_assoc text (counted image) (0 ∷ [])))

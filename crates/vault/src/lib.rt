@@ -9,7 +9,6 @@ mod append;
 mod creation;
 mod error;
 mod found;
-mod framed;
 mod gates;
 mod heads;
 mod history;

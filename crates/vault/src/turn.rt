@@ -13,11 +13,10 @@ ghost use Rattle.vault.specs.Turned.{Rests, MayTurn};
 ghost use Rattle.vault.specs.declared.error.VaultError.TheVariants.{Full};
 ghost use Rattle.sides.specs.declared.gate.TheConstants.{FORMAT};
 
-use crate::framed::Framed;
 use crate::gates::{other, write_side};
 use crate::{Vault, VaultError};
 use byteorder::{ByteOrder, LittleEndian};
-use codec::ImageSource;
+use codec::{Chain, ImageBytes, ImageSource};
 use disk::{Disk, DiskError, Side};
 use graph::fitting;
 use journal::LIMIT;
@@ -113,25 +112,14 @@ fn write_next<D: Disk, S: ImageSource + Drop>(
 {
     let head = head_of(generation, text.len() as u32);
     let count = count_of(image.length() as u32);
-    let last = Framed {
-        before: &count,
-        inside: image,
-        after: &[CLOSED],
-    };
-    let texted = Framed {
-        before: text,
-        inside: last,
-        after: &[],
-    };
-    let behind = Framed {
-        before: &head,
-        inside: texted,
-        after: &[],
-    };
+    let closed = Chain::new(image, ImageBytes::new(&[CLOSED]));
+    let counted = Chain::new(ImageBytes::new(&count), closed);
+    let texted = Chain::new(ImageBytes::new(text), counted);
+    let behind = Chain::new(ImageBytes::new(&head), texted);
     write_side(disk, side, behind, buffer)
 }
 
-// Where the journal begins, and ends, of a side without records whose text and image have so many bytes; none if it would not lie below
+// Where the journal begins, and ends, of a side without records, by the lengths of its text and its image; none if it would not lie below
 // the limit.
 fn end_of(text: usize, image: u64) -> Option<u64>
     ensures { MatchOption result (LIMIT ≤ 18 + text + image) (λ end. (end ≡ 18 + text + image) × (end < LIMIT)) }
