@@ -89,7 +89,7 @@ fn open(rt: &HostRuntime) -> Result<Times, Error> {
     }
 }
 
-// Turns over a store that was opened in so many seconds.
+// Turns over a store whose opening took `opening` seconds.
 fn turned(rt: &HostRuntime, core: Core<FileDisk>, opening: f64) -> Result<Times, Error> {
     let mut core = core;
     let items = core.counts().items;

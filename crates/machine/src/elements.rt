@@ -128,7 +128,7 @@ struct Measure {
 }
 
 impl Measure {
-    // One more element, with so many bytes, if there are not too many then.
+    // One more element, of this number of bytes, if there are not too many then.
     fn with(self, bytes: usize) -> Option<Measure>
         ensures { IfSome result (λ more. (more.count ≡ self.count + 1) × (more.count < 2 ^ 32) × (more.length ≡ self.length + bytes)) }
     {

@@ -105,7 +105,7 @@ fn is_within(graph: &Graph, image: &Image) -> bool
         && done_within(image.done.as_slice(), graph.step_count())
 }
 
-// Whether the collection of each item is one of so many.
+// Whether the collection of each item has a number below `count`.
 fn items_within(items: &[(Addr, i64, Producer)], count: usize) -> bool
     ensures { IsTrue result ↔ AllByRecursion (λ it. it.0.collection.0 < count) items.now }
 {
@@ -117,7 +117,7 @@ fn items_within(items: &[(Addr, i64, Producer)], count: usize) -> bool
     true
 }
 
-// Whether the collection of each tag is one of so many.
+// Whether the collection of each tag has a number below `count`.
 fn tags_within(tags: &[(Tag, bool)], count: usize) -> bool
     ensures { IsTrue result ↔ AllByRecursion (λ marked. marked.0.collection.0 < count) tags.now }
 {
@@ -129,7 +129,7 @@ fn tags_within(tags: &[(Tag, bool)], count: usize) -> bool
     true
 }
 
-// Whether the step of each instance is one of so many.
+// Whether the step of each instance has a number below `count`.
 fn done_within(instances: &[Inst], count: usize) -> bool
     ensures { IsTrue result ↔ AllByRecursion (λ instance. instance.collection.0 < count) instances.now }
 {
