@@ -13,7 +13,7 @@ use disk::{Disk, DiskError, FileDisk, MemDisk};
 use pool::{AlwaysGo, Crew, Driver, Probe};
 use progress::{Cleared, Telling};
 use std::fs::File;
-use std::io::{Eprint, IsTerminal, LineWriter, Read, Write};
+use std::io::{BufWriter, Eprint, IsTerminal, Read, Write};
 use std::marker::Sync;
 use std::process::ExitCode;
 use std::sync::Wait;
@@ -104,7 +104,7 @@ fn pointed<D: Disk + Send + Drop, R: Read, H: Handles>(
     requires { IsInRange command.now }
 {
     let workers = command.workers();
-    let Ok(mut out) = LineWriter::new(rt.alloc(), rt.stdout()) else {
+    let Ok(mut out) = BufWriter::new(rt.alloc(), rt.stdout()) else {
         return refused(rt, "no memory");
     };
     if !rt.stderr().is_terminal() {

@@ -10,7 +10,6 @@ pub mod ImageLaws
 pub mod ListLaws
 pub mod NumberLaws
 pub mod Numbers
-pub mod Rising
 pub mod Roomy
 pub mod Several
 pub mod WholeLaws

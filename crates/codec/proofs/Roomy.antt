@@ -1,6 +1,6 @@
 -- What calls take of the room of a vector.
 use Rattle.std.proofs.Common.{◌≡◌, ◌+◌, ◌*◌, ◌≤◌, ◌++◌, ap, ℕ, ℤ, List, [], ◌∷◌, length, arith, length-append}
-use Rattle.std.specs.Prelude.{Result, vec_capacity}
+use Rattle.std.specs.Prelude.{Result}
 use Rattle.std.specs.Global.{Vec}
 use Rattle.std.specs.List.{flat_map}
 use Rattle.codec.specs.Room.{TakesRoom}

@@ -3,6 +3,7 @@ pub mod Commits
 pub mod Entries
 pub mod Image
 pub mod Laws
+pub mod Lists
 pub mod Reading
 pub mod Room
 pub mod Spelling

@@ -14,7 +14,7 @@ use crate::reader::Reader;
 use terms::{Addr, Inst, Producer, Put, Tag, addr_order, inst_order, tag_order};
 
 /// An element of a list in bytes.
-pub(crate) trait Element: Copy {
+pub trait Element: Copy {
     /// The element that bytes are read as, if a key may have this many components, and the bytes after it.
     ghost reading: { ℕ → List ℕ → Result (Self × List ℕ) CodecError };
 
@@ -32,7 +32,7 @@ pub(crate) trait Element: Copy {
 }
 
 /// An element of a list that is in strictly rising order.
-pub(crate) trait Ranked: Element {
+pub trait Ranked: Element {
     ghost cmp: { Self → Self → Ordering };
 
     /// Whether it may follow `before`.

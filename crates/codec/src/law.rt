@@ -1,7 +1,9 @@
-ghost use Rattle.std.specs.Prelude.{◌≤◌};
+ghost use Rattle.std.specs.Prelude.{◌≡◌, ◌≤◌, Ok};
 ghost use Rattle.terms.specs.declared.key.TheConstants.{MAX_COMPONENTS};
 ghost use Rattle.codec.specs.Commits.{IsCommit, commit_bytes, SpellsCommit, GroupOfOneSpellsNone};
+ghost use Rattle.codec.specs.Image.{IsInOrder};
 ghost use Rattle.codec.specs.Laws.{ReadsBack, SpellsOne, BeginsNoOther};
+ghost use Rattle.codec.specs.declared.image.Image.{Image};
 ghost use Rattle.codec.specs.Reading.{decoded_event, decoded_payload, decoded_image};
 ghost use Rattle.codec.specs.Spelling.{IsEvent, event_bytes, SpellsEvent, IsImage, image_bytes, SpellsImage};
 
@@ -22,7 +24,15 @@ pub fn spellings_of_images(most: usize)
     ensures begins { BeginsNoOther (IsImage most) image_bytes }
 {}
 
-/// The same for commits, which payloads spell. A group of one event spells no commit.
+/// The image that these bytes are read as is the one that they spell, and it can be spelled again.
+pub fn image_is_spelled(bytes: &[u8], most: usize)
+    requires { most ≤ MAX_COMPONENTS }
+    ensures { (image : Image) → decoded_image most bytes.now ≡ Ok image → SpellsImage most bytes.now image × IsInOrder image }
+{
+    let _ = bytes;
+}
+
+/// The laws of spellings for commits, which payloads spell. A group of one event spells no commit.
 pub fn spellings_of_commits(most: usize)
     requires { most ≤ MAX_COMPONENTS }
     ensures back { ReadsBack (IsCommit most) commit_bytes (decoded_payload most) }

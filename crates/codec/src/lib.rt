@@ -3,7 +3,7 @@
 //! The model is `decoded_event`, `decoded_payload` and `decoded_image`: what bytes are read as from the left, a value or the first
 //! fault. A payload is a commit: the bytes of one event, or a group of several. `encode_event`, `encode_payload` and
 //! `encode_image` append the one spelling of a value. `decode_event`, `decode_payload` and `decode_image` return a value exactly
-//! when the bytes are its spelling. The crates above rely on these six functions.
+//! when the bytes are its spelling. `read_fault` and `ListReader` read an image element by element. The crates above rely on these.
 #![tactic(auto)]
 
 mod decode;
@@ -12,6 +12,7 @@ mod elements;
 mod encode;
 mod error;
 mod image;
+mod image_reader;
 mod law;
 mod lists;
 mod payload;
@@ -27,6 +28,7 @@ pub use elements::{
 pub use encode::{encode_event, encode_image, encode_payload};
 pub use error::CodecError;
 pub use image::{Image, Instances, Items, Tags};
-pub use law::{spellings_of_commits, spellings_of_events, spellings_of_images};
+pub use image_reader::{ListReader, read_fault};
+pub use law::{image_is_spelled, spellings_of_commits, spellings_of_events, spellings_of_images};
 pub use payload::MOST_EVENTS;
 pub use source::{Chain, ImageBytes, ImageSource};

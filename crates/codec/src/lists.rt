@@ -1,19 +1,20 @@
 ghost use Rattle.std.specs.Prelude.{◌≡◌, ◌≤◌, ◌*◌, [], length, IfOk, vec_capacity};
 ghost use Rattle.terms.specs.declared.key.TheConstants.{MAX_COMPONENTS};
 ghost use Rattle.codec.specs.Answers.{items_in, ReadsOrRefused};
-ghost use Rattle.codec.specs.Reading.{several, comes_after, list};
+ghost use Rattle.codec.specs.Reading.{several, list};
 
 use crate::CodecError;
 use crate::element::{Element, Ranked};
+use crate::image_reader::ListReader;
 use crate::reader::Reader;
 use std::alloc::{AllocError, Global};
 
-// Room for `count` elements, but for no more than the bytes that are left could spell.
-fn room<T: Element>(alloc: Global, reader: &Reader<'_>, count: u32) -> Result<Vec<T>, AllocError>
+// Room for `count` elements, but for no more than so many bytes could spell.
+fn room<T: Element>(alloc: Global, bytes: usize, count: u32) -> Result<Vec<T>, AllocError>
     ensures empty { IfOk result (λ elements. elements.items ≡ []) }
-    ensures spelled { IfOk result (λ elements. T.LEAST * vec_capacity elements ≤ length reader.now.rest.now) }
+    ensures spelled { IfOk result (λ elements. T.LEAST * vec_capacity elements ≤ bytes) }
 {
-    let most = reader.rest.len() / T::LEAST;
+    let most = bytes / T::LEAST;
     Vec::with_capacity(alloc, most.min(count as usize))
 }
 
@@ -27,7 +28,7 @@ pub(crate) fn several<T: Element>(
     requires { most ≤ MAX_COMPONENTS }
     ensures { ReadsOrRefused reader.new.rest.now (items_in result) (several count (T.reading most) reader.old.rest.now) }
 {
-    let mut elements = room(alloc, reader, count)?;
+    let mut elements = room(alloc, reader.rest.len(), count)?;
     for _ in 0..count {
         elements.push(T::read(reader, most)?)?;
     }
@@ -43,26 +44,11 @@ pub(crate) fn rising<T: Ranked>(
     requires { most ≤ MAX_COMPONENTS }
     ensures { ReadsOrRefused reader.new.rest.now (items_in result) (list T.cmp (T.reading most) reader.old.rest.now) }
 {
-    let count = reader.count()?;
-    let mut elements = room(alloc, reader, count)?;
-    let mut before = None;
-    for _ in 0..count {
-        let element = T::read(reader, most)?;
-        if !may_follow(before, element) {
-            return Err(CodecError::Order);
-        }
+    let mut list = ListReader::new(reader.rest, most)?;
+    let mut elements = room(alloc, reader.rest.len(), list.left())?;
+    while let Some(element) = list.next()? {
         elements.push(element)?;
-        before = Some(element);
     }
+    reader.rest = list.rest();
     Ok(elements)
-}
-
-// Whether an element may follow the one before it, if there is one.
-fn may_follow<T: Ranked>(before: Option<T>, element: T) -> bool
-    ensures { result ≡ comes_after T.cmp before element }
-{
-    match before {
-        None => true,
-        Some(before) => element.comes_after(&before),
-    }
 }

@@ -16,7 +16,7 @@ use terms::{
 /// A method returns the field at the front, and moves past it. After an error, read nothing more. `most` is the greatest number of
 /// components that a key may have.
 #[derive(Drop)]
-pub(crate) struct Reader<'a> {
+pub struct Reader<'a> {
     /// The bytes that are not read yet.
     pub(crate) rest: &'a [u8],
 }

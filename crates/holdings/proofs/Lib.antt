@@ -1,4 +1,6 @@
 pub mod ImageFacts
+pub mod ImageParts
 pub mod Listed
 pub mod Pushed
+pub mod ReadLists
 pub mod Within

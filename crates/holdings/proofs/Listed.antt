@@ -7,25 +7,25 @@ use Rattle.std.specs.List.{flat_map, list_any}
 use Rattle.std.specs.Option.{unwrap_or}
 use Rattle.std.specs.Ordering.{is_lt, is_eq, eq_by_cmp}
 use Rattle.std.specs.Cmp.{IsTotalOrder, Equal-is, eq_by_cmp_equiv}
-use Rattle.std.specs.FinMap.{FinMap, entries, entries_sorted, find, get, get-entries, is_sorted}
+use Rattle.std.specs.FinMap.{entries, entries_sorted, find, get, get-entries, is_sorted}
 use Rattle.std.specs.FinMap.Entries.{below_all}
 use Rattle.terms.specs.declared.name.Addr.{Addr}
 use Rattle.terms.specs.declared.name.Tag.{Tag}
 use Rattle.terms.specs.declared.name.Inst.{Inst}
 use Rattle.terms.specs.declared.producer.Producer.{Producer}
-use Rattle.terms.specs.declared.producer.Producer.TheVariants.{Env, By}
+use Rattle.terms.specs.declared.producer.Producer.TheVariants.{Env}
 use Rattle.terms.specs.Name.{inst_cmp, tag_cmp}
-use Rattle.terms.specs.Facts.{tag, item, done, bad}
+use Rattle.terms.specs.Facts.{tag, item, done}
 use Rattle.terms.specs.Sets.{among, AmongBoth}
 use Rattle.codec.specs.declared.image.Image.{Image}
 use Rattle.codec.specs.Entries.{Item, MarkedTag, item_cmp, marked_cmp, Rises}
-use Rattle.codec.specs.Image.{environment_tag, environment_in, facts_in}
+use Rattle.codec.specs.Image.{environment_tag}
 use Rattle.maps.specs.Numbered.{Place, place_cmp}
 use Rattle.maps.specs.PlaceOrder.{places_total, same_places}
 use Rattle.items.specs.Held.{place}
 use Rattle.instances.specs.Known.{inst_place, tag_at, tag_place}
-use Rattle.holdings.specs.Listing.{items_of, tags_of, insts_of, inst_at}
-use Rattle.holdings.specs.ImageLaws.{DoneTell, ImagesTell, TellsOf, TellsDone, TellsRest, is_fault, is_item}
+use Rattle.holdings.specs.Listing.{items_of, tags_of, insts_of}
+use Rattle.holdings.specs.ImageLaws.{DoneTell, ImagesTell, TellsRest, is_item}
 use Rattle.holdings.proofs.ImageFacts.{or_false, item_fact, tag_fact, facts_tag, facts_item, facts_done, facts_bad, given_tag, given_own, given_by, given_done, given_bad}
 
 abbrev Entry : Type 0

@@ -1,11 +1,10 @@
--- A list in rising order whose elements are put into a finite map, one after another.
-use Rattle.std.proofs.Common.{◌≡◌, ◌∙◌, ap, sym, refl, subst, ℕ, suc, ◌<◌, T, Bool, true, false, cond, ◌&&◌, List, [], ◌∷◌, ◌++◌, map, length, take, drop, get_or, Option, Some, None, append_assoc}
-use Rattle.std.proofs.lemmas.List.{map-append, take-append-drop}
-use Rattle.std.proofs.Math.Seq.{take-suc, take-length}
+-- A list whose elements are put into a finite map, one after another.
+use Rattle.std.proofs.Common.{◌≡◌, ◌∙◌, ap, sym, refl, subst, T, Bool, true, false, cond, ◌&&◌, List, [], ◌∷◌, ◌++◌, map, Some, None}
+use Rattle.std.proofs.lemmas.List.{map-append}
 use Rattle.std.specs.declared.cmp.Ordering.{Ordering}
 use Rattle.std.specs.declared.cmp.Ordering.TheVariants.{Less, Equal, Greater}
 use Rattle.std.specs.Ordering.{is_lt, is_eq}
-use Rattle.std.specs.FinMap.{FinMap, empty, entries, entries_sorted, find, from_entries, from_entries_push, get, get-entries, get-from_entries, insert, is_sorted}
+use Rattle.std.specs.FinMap.{FinMap, entries, entries_sorted, find, from_entries, from_entries_push, get, get-entries, get-from_entries, insert, is_sorted, same_map}
 use Rattle.std.specs.FinMap.Entries.{below_all, same_entries}
 use Rattle.terms.specs.declared.name.Inst.{Inst}
 use Rattle.terms.specs.Name.{inst_cmp}
@@ -49,41 +48,50 @@ module _ {E X : Type 0} (cmp : E → E → Ordering) (entry : E → Place × X) 
       same_entries place_cmp places_total same_places (entries (from_entries {R = place_cmp} (map entry xs))) (map entry xs) (entries_sorted (from_entries {R = place_cmp} (map entry xs))) (in_order xs rises)
       (λ q. sym (get-entries (from_entries {R = place_cmp} (map entry xs)) q) ∙ get-from_entries places_total (map entry xs) q)
 
-  not_before : (x : E) (xs ys : List E) → T (is_sorted place_cmp (map entry (xs ++ x ∷ ys))) → find place_cmp (entry x).0 (map entry xs) ≡ None
-  not_before x [] ys sorted = refl
-  not_before x (e ∷ xs) ys sorted =
-      ap (λ r. cond (is_eq r) (Some (entry e).1) (find place_cmp (entry x).0 (map entry xs))) (apart e xs (first _ _ sorted))
-      ∙ not_before x xs ys (second (below_all place_cmp (entry e).0 (map entry (xs ++ x ∷ ys))) _ sorted)
+-- an entry whose key is there already changes nothing
+module _ {X : Type 0} (k : Place) (v : X) where
+  among_others : (es : List (Place × X)) (q : Place) → is_eq (place_cmp q k) ≡ false → find place_cmp q (es ++ (k, v) ∷ []) ≡ find place_cmp q es
+  among_others [] q other = rw other refl
+  among_others (e ∷ es) q other = ap (cond (is_eq (place_cmp q e.0)) (Some e.1)) (among_others es q other)
+
+  found_before : (es : List (Place × X)) → (find place_cmp k es ≡ None → ⊥) → find place_cmp k (es ++ (k, v) ∷ []) ≡ find place_cmp k es
+  found_before [] there = absurd (there refl)
+  found_before (e ∷ es) there = by_first (is_eq (place_cmp k e.0)) (found_before es) there
     where
-      later : (e : E) (zs : List E) → T (below_all place_cmp (entry e).0 (map entry (zs ++ x ∷ ys))) → place_cmp (entry e).0 (entry x).0 ≡ Less
-      later e [] below = less _ (first _ _ below)
-      later e (z ∷ zs) below = later e zs (second (is_lt (place_cmp (entry e).0 (entry z).0)) _ below)
+      by_first : (tie : Bool) → ((find place_cmp k es ≡ None → ⊥) → find place_cmp k (es ++ (k, v) ∷ []) ≡ find place_cmp k es) → (cond tie (Some e.1) (find place_cmp k es) ≡ None → ⊥)
+          → cond tie (Some e.1) (find place_cmp k (es ++ (k, v) ∷ [])) ≡ cond tie (Some e.1) (find place_cmp k es)
+      by_first true later there = refl
+      by_first false later there = later there
 
-      apart : (e : E) (zs : List E) → T (below_all place_cmp (entry e).0 (map entry (zs ++ x ∷ ys))) → place_cmp (entry x).0 (entry e).0 ≡ Greater
-      apart e zs below = places_total.antisymm (entry x).0 (entry e).0 ∙ ap turn (later e zs below)
-        where
-          turn : Ordering → Ordering
-          turn Less = Greater
-          turn Equal = Equal
-          turn Greater = Less
+  same_finds : (es : List (Place × X)) → (find place_cmp k es ≡ None → ⊥) → (q : Place) → find place_cmp q es ≡ find place_cmp q (es ++ (k, v) ∷ [])
+  same_finds es there q = by_tie (place_cmp q k) refl
+    where
+      by_tie : (r : Ordering) → place_cmp q k ≡ r → find place_cmp q es ≡ find place_cmp q (es ++ (k, v) ∷ [])
+      by_tie Less is = sym (among_others es q (ap is_eq is))
+      by_tie Equal is = sym (ap (λ p. find place_cmp p (es ++ (k, v) ∷ [])) (same_places q k is) ∙ found_before es there ∙ ap (λ p. find place_cmp p es) (sym (same_places q k is)))
+      by_tie Greater is = sym (among_others es q (ap is_eq is))
 
-  module _ (xs : List E) (rises : Rises cmp xs) (n : ℕ) (here : E) (within : n < length xs) (is : here ≡ get_or xs n here) where
-    up_to : take (suc n) xs ≡ take n xs ++ here ∷ []
-    up_to = take-suc xs n here within ∙ ap (λ x. take n xs ++ x ∷ []) (sym is)
+module _ {E X : Type 0} (entry : E → Place × X) (front : List E) (x : E) where
+  abbrev held : FinMap place_cmp X
+  held = from_entries (map entry front)
 
-    split : xs ≡ take n xs ++ here ∷ drop (suc n) xs
-    split = sym (take-append-drop (suc n) xs) ∙ ap (λ front. front ++ drop (suc n) xs) up_to ∙ append_assoc (take n xs) (here ∷ []) (drop (suc n) xs)
+  one_more : map entry front ++ entry x ∷ [] ≡ map entry (front ++ x ∷ [])
+  one_more = sym (map-append entry front (x ∷ []))
 
-    -- the next element is not among those before it
-    pub is_new : get (from_entries {R = place_cmp} (map entry (take n xs))) (entry here).0 ≡ None
-    is_new =
-        get-from_entries places_total (map entry (take n xs)) (entry here).0
-        ∙ not_before here (take n xs) (drop (suc n) xs) (subst (λ list. T (is_sorted place_cmp (map entry list))) split (in_order xs rises))
+  -- an element whose name is new is put
+  pub put_new : get held (entry x).0 ≡ None → insert held (entry x).0 (entry x).1 ≡ from_entries (map entry (front ++ x ∷ []))
+  put_new none =
+      sym (from_entries_push places_total same_places (map entry front) (entry x).0 (entry x).1 (sym (get-from_entries places_total (map entry front) (entry x).0) ∙ none))
+      ∙ ap (λ es. from_entries es) one_more
 
-    pub one_more : insert (from_entries {R = place_cmp} (map entry (take n xs))) (entry here).0 (entry here).1 ≡ from_entries (map entry (take (suc n) xs))
-    one_more =
-        sym (from_entries_push places_total same_places (map entry (take n xs)) (entry here).0 (entry here).1 (sym (get-from_entries places_total (map entry (take n xs)) (entry here).0) ∙ is_new))
-        ∙ ap (λ es. from_entries es) (sym (map-append entry (take n xs) (here ∷ [])) ∙ ap (map entry) (sym up_to))
+  -- another one is there
+  pub put_again : (get held (entry x).0 ≡ None → ⊥) → held ≡ from_entries (map entry (front ++ x ∷ []))
+  put_again there =
+      same_map places_total same_places held (from_entries (map entry front ++ entry x ∷ []))
+      (λ q. get-from_entries places_total (map entry front) q
+      ∙ same_finds (entry x).0 (entry x).1 (map entry front) (λ none. there (get-from_entries places_total (map entry front) (entry x).0 ∙ none)) q
+      ∙ sym (get-from_entries places_total (map entry front ++ entry x ∷ []) q))
+      ∙ ap (λ es. from_entries es) one_more
 
 -- ---- the lists of an image
 

@@ -1,14 +1,9 @@
 -- An image whose facts fit a graph names only collections and steps of it.
-use Rattle.std.proofs.Common.{◌≡◌, ◌∙◌, ap, Bool, true, false, ◌||◌, List, [], ◌∷◌, ◌++◌, map, refl}
+use Rattle.std.proofs.Common.{◌≡◌, ◌∙◌, Bool, true, false, ◌||◌, List, [], ◌∷◌, map, refl}
 use Rattle.std.proofs.lemmas.Option.{slice_get_within}
 use Rattle.std.specs.List.{AllByRecursion}
 use Rattle.terms.specs.Facts.{Fact, done}
 use Rattle.terms.specs.Sets.{is_fact, among, OneFact, AmongBoth}
-use Rattle.codec.specs.declared.image.Image.{Image}
-use Rattle.codec.specs.Image.{environment_in, facts_in}
-use Rattle.graph.specs.Graph.{Graph}
-use Rattle.graph.specs.Fits.{FitsState}
-use Rattle.holdings.specs.Holdings.{AreWithin}
 use Rattle.holdings.specs.ImageLaws.{FittingIsWithin}
 use Rattle.holdings.proofs.ImageFacts.{item_fact, tag_fact, facts_tag, facts_item, facts_done}
 

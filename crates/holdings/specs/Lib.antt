@@ -1,3 +1,4 @@
 pub mod Holdings
 pub mod ImageLaws
 pub mod Listing
+pub mod Reading

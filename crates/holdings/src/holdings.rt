@@ -1,4 +1,4 @@
-use crate::Parts;
+use crate::{Hints, Parts};
 use graph::Graph;
 use items::{Items, PutError};
 use maps::{CollectionMap, InsertError, Walk};
@@ -93,17 +93,23 @@ impl Holdings {
     }
 
     /// Whether the tag is held.
-    pub fn has_tag(&self, name: &Tag) -> bool
+    pub fn has_tag(&self, name: &Tag, hints: &mut Hints) -> bool
         ensures { result ≡ is_some (get self.now.tags (tag_place name.now)) }
     {
-        self.tags.get(name.collection.0, name.key).is_some()
+        let there = self
+            .tags
+            .get_near(name.collection.0, name.key, &mut hints.tags);
+        there.is_some()
     }
 
     /// Whether the instance is done.
-    pub fn is_done(&self, instance: &Inst) -> bool
+    pub fn is_done(&self, instance: &Inst, hints: &mut Hints) -> bool
         ensures { result ≡ is_some (get self.now.done (inst_place instance.now)) }
     {
-        self.done.get(instance.collection.0, instance.key).is_some()
+        let there = self
+            .done
+            .get_near(instance.collection.0, instance.key, &mut hints.done);
+        there.is_some()
     }
 
     /// Puts an item at its address, if none is there, and returns whether none was. An error changes nothing.

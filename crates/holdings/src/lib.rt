@@ -5,11 +5,14 @@
 //! `image_of` of `specs/Holdings.antt` is the image that lists it.
 #![tactic(auto)]
 
+mod hints;
 mod holdings;
 mod imaging;
 mod law;
 mod parts;
+mod reading;
 
+pub use hints::Hints;
 pub use holdings::Holdings;
 pub use law::images_of_maps;
 pub use parts::Parts;

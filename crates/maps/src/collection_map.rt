@@ -1,7 +1,7 @@
 ghost use Rattle.std.specs.Prelude.{◌≡◌, IfOk, replicate};
 ghost use Rattle.maps.specs.Keyed.{none};
 
-use crate::{InsertError, KeyMap, KeyWalk, Steps, Walk};
+use crate::{Hint, InsertError, KeyMap, KeyWalk, Steps, Walk};
 use std::alloc::{AllocError, Global};
 use std::marker::Model;
 use terms::Key;
@@ -48,6 +48,13 @@ impl<V: Copy> CollectionMap<V> {
         ensures { result ≡ get self.now.items (number, key) }
     {
         self.collections.get(number as usize)?.get(key)
+    }
+
+    /// The same as `get`. It looks first where the hint says, and leaves there where the key is, or would be.
+    pub fn get_near(&self, number: u16, key: Key, hint: &mut Hint) -> Option<V>
+        ensures { result ≡ get self.now.items (number, key) }
+    {
+        self.collections.get(number as usize)?.get_near(key, hint)
     }
 
     /// The value at the place, if there is one. It compares keys by `Steps::compare` alone; if the collection has a number

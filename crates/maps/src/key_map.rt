@@ -1,5 +1,5 @@
 use crate::pages::{Found, Pages};
-use crate::{InsertError, KeyWalk, Steps};
+use crate::{Hint, InsertError, KeyWalk, Steps};
 use std::alloc::{AllocError, Global};
 use std::marker::Model;
 use terms::Key;
@@ -44,6 +44,13 @@ impl<V: Copy> KeyMap<V> {
         ensures { result ≡ get self.now.items key }
     {
         self.pages.value(self.pages.search(key))
+    }
+
+    /// The same as `get`. It looks first where the hint says, and leaves there where the key is, or would be.
+    pub fn get_near(&self, key: Key, hint: &mut Hint) -> Option<V>
+        ensures { result ≡ get self.now.items key }
+    {
+        self.pages.value(self.pages.find_near(&key, hint))
     }
 
     /// The value of the key, if it has one. It compares keys by `Steps::compare` alone; if the map has a number of entries

@@ -9,6 +9,7 @@
 
 mod collection_map;
 mod error;
+mod hint;
 mod key_map;
 mod key_walk;
 mod page;
@@ -18,6 +19,7 @@ mod walk;
 
 pub use collection_map::CollectionMap;
 pub use error::InsertError;
+pub use hint::Hint;
 pub use key_map::KeyMap;
 pub use key_walk::KeyWalk;
 pub use steps::Steps;

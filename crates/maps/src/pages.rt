@@ -5,7 +5,7 @@ ghost use Rattle.std.specs.Vec.{vec_capacity};
 ghost use Rattle.maps.specs.PagesKept.{IsEnough};
 
 use crate::page::{HALF, PAGE, Page};
-use crate::{KeyWalk, Steps};
+use crate::{Hint, KeyWalk, Steps};
 use std::alloc::{AllocError, Global};
 use std::marker::Model;
 use terms::Key;
@@ -50,11 +50,12 @@ impl<V> Model for Pages<V> {
 }
 
 impl<V: Copy> Pages<V> {
-    ghost use Rattle.std.specs.Prelude.{◌≡◌, ◌+◌, ◌*◌, ◌/◌, ◌^◌, ◌<◌, ◌≤◌, ℕ, ℤ, List, [], T, OnErr, OnOk, length, get_or};
+    ghost use Rattle.std.specs.Prelude.{◌≡◌, ◌+◌, ◌*◌, ◌/◌, ◌^◌, ◌<◌, ◌≤◌, ℕ, ℤ, List, [], T, IsTrue, OnErr, OnOk, length, get_or};
+    ghost use Rattle.std.specs.Ordering.{is_lt};
     ghost use Rattle.std.specs.FinMap.{find, is_sorted, put};
     ghost use Rattle.terms.specs.Key.{key_cmp};
     ghost use Rattle.maps.specs.declared.page.TheConstants.{PAGE};
-    ghost use Rattle.maps.specs.Paged.{GoesBehind, AreLess, GoesInto, IsFound, IsInPage, IsPageFor, all_of, last_page, page_at};
+    ghost use Rattle.maps.specs.Paged.{GoesBehind, AreLess, GoesInto, IsFound, IsInPage, IsPageFor, all_of, first_key, last_page, page_at};
 
     /// No entries, and no room.
     pub fn new(alloc: Global) -> Self
@@ -144,6 +145,56 @@ impl<V: Copy> Pages<V> {
         self.find(&key, &mut Steps::new())
     }
 
+    /// The same. It looks first in the page that the hint gives and in the one after it, and gives back the page of the key.
+    pub fn find_near(&self, key: &Key, hint: &mut Hint) -> Found
+        ensures found { IsFound self.now.pages key.now result }
+        ensures sorted { T (is_sorted key_cmp (all_of self.now.pages)) }
+    {
+        if self.pages.is_empty() {
+            return Found::Behind;
+        }
+        let mut steps = Steps::new();
+        let page = self.page_near(hint.page, key, &mut steps);
+        hint.page = page;
+        self.search_page(page, key, &mut steps)
+    }
+
+    // The page in which the key is, if it is in one. It looks at these two pages before it searches.
+    fn page_near(&self, page: usize, key: &Key, steps: &mut Steps) -> usize
+        requires { 0 < length self.now.pages }
+        ensures { IsPageFor self.now.pages key.now result }
+    {
+        if self.is_page_for(page, key, steps) {
+            return page;
+        }
+        let next = page.saturating_add(1);
+        if self.is_page_for(next, key, steps) {
+            return next;
+        }
+        self.page_for(key, steps)
+    }
+
+    // Whether there is this page, and the key is in it if it is in one.
+    fn is_page_for(&self, page: usize, key: &Key, steps: &mut Steps) -> bool
+        ensures { IsTrue result → IsPageFor self.now.pages key.now page }
+    {
+        let count = self.pages.len();
+        if count <= page || (page > 0 && self.begins_after(page, key, steps)) {
+            return false;
+        }
+        page + 1 == count || self.begins_after(page + 1, key, steps)
+    }
+
+    // Whether the first key of a page is greater than this one.
+    fn begins_after(&self, page: usize, key: &Key, steps: &mut Steps) -> bool
+        requires { page < length self.now.pages }
+        ensures tells { result ≡ is_lt (key_cmp key.now (first_key (page_at self.now.pages page))) }
+        ensures cost { steps.new ≤ steps.old + 1 }
+        ensures more { steps.old ≤ steps.new }
+    {
+        self.pages[page].begins_after(key, steps)
+    }
+
     // Where a key would go that is greater than all others.
     fn end(&self) -> Found
         requires { 0 < length self.now.pages }
@@ -181,7 +232,7 @@ impl<V: Copy> Pages<V> {
         let mut high = self.pages.len();
         while high - low > 1 {
             let middle = low + (high - low) / 2;
-            if self.pages[middle].begins_after(key, steps) {
+            if self.begins_after(middle, key, steps) {
                 high = middle;
             } else {
                 low = middle;

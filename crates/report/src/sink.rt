@@ -8,7 +8,7 @@ use thiserror::Error;
 #[error("cannot write")]
 pub struct SinkFailed;
 
-/// What text is written to. It tells whether it has failed.
+/// What text is written to. It tells whether it has failed. It may hold back what `write_fmt` wrote; `send` holds nothing back.
 pub trait Sink {
     ghost use Rattle.std.specs.Prelude.{Bool, List, Option, ℕ, IfSome, OnOk};
     ghost use Rattle.std.specs.Borrow.{GName};
@@ -26,6 +26,14 @@ pub trait Sink {
 
     /// Writes a text.
     fn write_fmt<T: Display>(&mut self, text: T) -> Result<(), SinkFailed>
+    where
+        Self: Sized,
+        T: Drop,
+        ensures written { OnOk result (IfSome (T.output text) (Appends (contents self.old) (contents self.new))) }
+        ensures fails { TellsFailure target has_failed self.old self.new result };
+
+    /// Writes a text, and all that was held back before it.
+    fn send<T: Display>(&mut self, text: T) -> Result<(), SinkFailed>
     where
         Self: Sized,
         T: Drop,
@@ -54,6 +62,20 @@ impl<'a, W: Write> Sink for WriterSink<'a, W> {
         T: Drop,
     {
         match self.out.write_fmt(text) {
+            Ok(()) => Ok(()),
+            Err(_) => {
+                self.failed = true;
+                Err(SinkFailed)
+            }
+        }
+    }
+
+    fn send<T: Display>(&mut self, text: T) -> Result<(), SinkFailed>
+    where
+        T: Drop,
+    {
+        self.write_fmt(text)?;
+        match self.out.flush() {
             Ok(()) => Ok(()),
             Err(_) => {
                 self.failed = true;

@@ -151,8 +151,13 @@ fn take(
 }
 
 fn reopen(alloc: Global, machine: &mut Machine, out: &mut String) -> Result<(), AllocError> {
-    *machine = reopened(alloc, machine)?;
-    out.push_str("ok\n")
+    match reopened(alloc, machine)? {
+        Some(opened) => {
+            *machine = opened;
+            out.push_str("ok\n")
+        }
+        None => out.push_str("not opened\n"),
+    }
 }
 
 // Lets ready instances run until none is ready, or there is a fault.

@@ -14,7 +14,7 @@ use crate::bytes::bytes_of;
 use crate::disks;
 use crate::telling::tell_image;
 use cases::Names;
-use codec::{Image, ImageBytes, decode_image, decode_payload, encode_image};
+use codec::{Image, ImageBytes, decode_image, decode_payload};
 use disk::MemDisk;
 use graph::{canonical, parse};
 use holdings::Holdings;
@@ -256,24 +256,8 @@ fn listed(alloc: Global, holdings: &Holdings) -> Result<Vec<u8>, AllocError>
     requires { AllByRecursion HasPutNumber (image_of holdings.now).items }
 {
     let image = holdings.image(alloc)?;
-    spelled(alloc, &image)
-}
-
-// The bytes that spell an image; none if one of its lists is longer than a `u32` can count.
-fn spelled(alloc: Global, image: &Image) -> Result<Vec<u8>, AllocError>
-    requires { IsListed image.now }
-{
-    let longest = image
-        .items
-        .as_slice()
-        .len()
-        .max(image.tags.as_slice().len())
-        .max(image.done.as_slice().len());
-    let mut bytes = Vec::new(alloc);
-    if longest <= u32::MAX as usize {
-        encode_image(&mut bytes, image)?;
-    }
-    Ok(bytes)
+    let bytes = spelled(alloc, &image)?;
+    Ok(bytes.unwrap_or(Vec::new(alloc)))
 }
 
 /// Writes what the store held when it was opened.

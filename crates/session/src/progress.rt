@@ -190,7 +190,7 @@ impl<'a> Progress<'a> {
         ensures tells { self.old.failed ≡ false → TellsReply O.target O.has_failed O.contents graph.now command reply.now out.old out.new self.old.ending self.new.ending self.new.failed }
     {
         let named = NamedReply { graph, reply };
-        match out.write_fmt(named) {
+        match out.send(named) {
             Ok(()) => self.ending = self.ending.with_reply(command, reply),
             Err(_) => self.failed = true,
         }

@@ -83,13 +83,6 @@ module _ (bytes : List ℕ) (n : ℕ) (has : HasGeneration bytes n) (format : ge
           ap (λ (start : ℕ). start + end) (sym (starts n text part) ∙ (λ i. length (1 ∷ behind_gate FORMAT n (sym is_text.1 i) (is_image.0.1 i) [])))
           ∙ ap (λ (more : ℕ). length (1 ∷ behind_gate FORMAT n (canonical g) (image_bytes (image_of old)) []) + more) replayed.ends
 
--- bytes that spell an image which fits spell the one that is held; if it does not fit, they spell none that does
-pub image_read : SpellsOne (SpellsImage MAX_COMPONENTS) → (g : Graph) (bytes : List ℕ) (image : Image) → SpellsImage MAX_COMPONENTS bytes image → (found : Option Holdings)
-    → MatchOption found (FitsState g (environment_in image) (facts_in image) → ⊥) (λ held. (image_of held ≡ image) × FitsState g (environment_in image) (facts_in image))
-    → MatchOption found ((other : Image) → IsImageOf g bytes other → ⊥) (λ held. IsImageOf g bytes (image_of held))
-image_read one g bytes image spelled None misfit = λ other is. misfit (subst (λ (i : Image). FitsState g (environment_in i) (facts_in i)) (one bytes other image is.0 spelled) is.1)
-image_read one g bytes image spelled (Some held) fits = subst (IsImageOf g bytes) (sym fits.0) (spelled, fits.1)
-
 -- ---- what a side has there
 
 module _ (bytes : List ℕ) (h : Graph) (n : ℕ) (E X : Facts) (side : IsSide bytes h n E X) where

@@ -7,7 +7,7 @@ ghost use Rattle.holdings.specs.Holdings.{image_of};
 ghost use Rattle.sides.specs.Looks.{ItemFits, TagFits, InstanceFits, FaultFits, InstancesFit, PutsFit};
 
 use graph::Graph;
-use holdings::{Holdings, images_of_maps};
+use holdings::{Hints, Holdings, images_of_maps};
 use terms::{Addr, Inst, Producer, StepCollection, Tag, TagCollection, facts_are_told_apart};
 
 /// Whether what is held fits a graph.
@@ -39,7 +39,8 @@ fn fault_fits(holdings: &Holdings, graph: &Graph) -> bool
 {
     match holdings.fault() {
         Some((instance, _)) => {
-            instance_fits(holdings, graph, &instance) && !is_done(holdings, &instance)
+            let hints = &mut Hints::new();
+            instance_fits(holdings, graph, &instance, hints) && !is_done(holdings, &instance, hints)
         }
         None => true,
     }
@@ -49,8 +50,9 @@ fn fault_fits(holdings: &Holdings, graph: &Graph) -> bool
 fn items_fit(holdings: &Holdings, graph: &Graph) -> bool
     ensures { IsTrue result ↔ AllByRecursion (λ it. ItemFits graph.now (facts_in (image_of holdings.now)) it.0 it.2) (image_of holdings.now).items }
 {
+    let mut hints = Hints::new();
     for (address, (_, producer)) in holdings.items() {
-        if !item_fits(holdings, graph, &address, &producer) {
+        if !item_fits(holdings, graph, &address, &producer, &mut hints) {
             return false;
         }
     }
@@ -74,9 +76,10 @@ fn tags_fit(holdings: &Holdings, graph: &Graph) -> bool
 fn done_fit(holdings: &Holdings, graph: &Graph) -> bool
     ensures { IsTrue result ↔ AllByRecursion (InstanceFits graph.now (facts_in (image_of holdings.now))) (image_of holdings.now).done }
 {
+    let mut hints = Hints::new();
     for ((number, key), ()) in holdings.done() {
         let collection = StepCollection(number);
-        if !instance_fits(holdings, graph, &Inst { collection, key }) {
+        if !instance_fits(holdings, graph, &Inst { collection, key }, &mut hints) {
             return false;
         }
     }
@@ -84,12 +87,20 @@ fn done_fit(holdings: &Holdings, graph: &Graph) -> bool
 }
 
 // Whether the environment may put the item, if it did; else whether the address is of the graph and the producer is done.
-fn item_fits(holdings: &Holdings, graph: &Graph, address: &Addr, producer: &Producer) -> bool
+fn item_fits(
+    holdings: &Holdings,
+    graph: &Graph,
+    address: &Addr,
+    producer: &Producer,
+    hints: &mut Hints,
+) -> bool
     ensures { IsTrue result ↔ ItemFits graph.now (facts_in (image_of holdings.now)) address.now producer.now }
 {
     match producer {
         Producer::Env => graph.environment_puts_item(address),
-        Producer::By(instance, _) => graph.is_address(address) && is_done(holdings, instance),
+        Producer::By(instance, _) => {
+            graph.is_address(address) && is_done(holdings, instance, hints)
+        }
     }
 }
 
@@ -105,14 +116,19 @@ fn tag_fits(graph: &Graph, name: &Tag, mark: bool) -> bool
 }
 
 // Whether the instance is of the graph and prescribed.
-fn instance_fits(holdings: &Holdings, graph: &Graph, instance: &Inst) -> bool
+fn instance_fits(holdings: &Holdings, graph: &Graph, instance: &Inst, hints: &mut Hints) -> bool
     ensures { IsTrue result ↔ InstanceFits graph.now (facts_in (image_of holdings.now)) instance.now }
 {
-    graph.is_instance(instance) && is_prescribed(holdings, graph, instance)
+    graph.is_instance(instance) && is_prescribed(holdings, graph, instance, hints)
 }
 
 // Whether a tag that is held prescribes the instance.
-pub(crate) fn is_prescribed(holdings: &Holdings, graph: &Graph, instance: &Inst) -> bool
+pub(crate) fn is_prescribed(
+    holdings: &Holdings,
+    graph: &Graph,
+    instance: &Inst,
+    hints: &mut Hints,
+) -> bool
     ensures { IsTrue result ↔ IsPrescribed graph.now (facts_in (image_of holdings.now)) instance.now }
 {
     match graph.prescriber(instance.collection) {
@@ -122,23 +138,24 @@ pub(crate) fn is_prescribed(holdings: &Holdings, graph: &Graph, instance: &Inst)
                 collection,
                 key: instance.key,
             },
+            hints,
         ),
         None => false,
     }
 }
 
 // Whether the tag is held.
-fn has_tag(holdings: &Holdings, name: &Tag) -> bool
+fn has_tag(holdings: &Holdings, name: &Tag, hints: &mut Hints) -> bool
     ensures { result ≡ facts_in (image_of holdings.now) (tag name.now) }
 {
     images_of_maps();
-    holdings.has_tag(name)
+    holdings.has_tag(name, hints)
 }
 
 // Whether the instance is done.
-pub(crate) fn is_done(holdings: &Holdings, instance: &Inst) -> bool
+pub(crate) fn is_done(holdings: &Holdings, instance: &Inst, hints: &mut Hints) -> bool
     ensures { result ≡ facts_in (image_of holdings.now) (done instance.now) }
 {
     images_of_maps();
-    holdings.is_done(instance)
+    holdings.is_done(instance, hints)
 }

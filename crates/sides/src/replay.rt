@@ -7,7 +7,7 @@ ghost use Rattle.sides.specs.Replaying.{IsTaken, IsRefused, Replays, IsNumbered,
 use crate::taking::take_all;
 use codec::{CodecError, decode_payload, spellings_of_commits};
 use graph::{Graph, fitting};
-use holdings::Holdings;
+use holdings::{Hints, Holdings};
 use journal::{begins_closed, first_payload, record_length, records_lead};
 use std::alloc::{AllocError, Global};
 use terms::{Event, MAX_COMPONENTS, facts_are_told_apart, facts_go_on};
@@ -40,9 +40,10 @@ pub(crate) fn take_commits(
     spellings_of_commits(MAX_COMPONENTS);
     records_lead();
     let mut commit = Vec::new(alloc);
+    let mut hints = Hints::new();
     let mut end = 0;
     while let Some(payload) = first_payload(&journal[end..]) {
-        if !take_commit(alloc, graph, holdings, &mut commit, payload)? {
+        if !take_commit(alloc, graph, holdings, &mut commit, payload, &mut hints)? {
             return Ok(Replay::Broken(end));
         }
         end += record_length(payload) as usize;
@@ -61,6 +62,7 @@ fn take_commit(
     holdings: &mut Holdings,
     commit: &mut Vec<Event>,
     payload: &[u8],
+    hints: &mut Hints,
 ) -> Result<bool, AllocError>
     requires numbered { AllByRecursion HasPutNumber (image_of holdings.old).items }
     requires collections { IsFor graph.now holdings.old }
@@ -70,7 +72,7 @@ fn take_commit(
 {
     spellings_of_commits(MAX_COMPONENTS);
     match decode_payload(alloc, payload, MAX_COMPONENTS, commit) {
-        Ok(()) => Ok(take_all(holdings, graph, commit)?),
+        Ok(()) => Ok(take_all(holdings, graph, commit, hints)?),
         Err(CodecError::NoMemory) => Err(AllocError),
         Err(_) => Ok(false),
     }

@@ -10,7 +10,7 @@ ghost use Rattle.sides.specs.Growth.{Grows, IsGrownBy, PutFits};
 
 use crate::fitting::{is_done, is_prescribed};
 use graph::{Graph, fitting};
-use holdings::{Holdings, images_of_maps};
+use holdings::{Hints, Holdings, images_of_maps};
 use std::alloc::AllocError;
 use terms::{Addr, Event, FaultKind, Inst, Producer, Put, Tag, facts_are_told_apart, facts_go_on};
 
@@ -20,6 +20,7 @@ pub(crate) fn take_all(
     holdings: &mut Holdings,
     graph: &Graph,
     events: &[Event],
+    hints: &mut Hints,
 ) -> Result<bool, AllocError>
     requires few { AllByRecursion HasFewPuts events.now }
     requires collections { IsFor graph.now holdings.old }
@@ -31,7 +32,7 @@ pub(crate) fn take_all(
     facts_go_on();
     fitting();
     for event in events {
-        if !take(holdings, graph, event)? {
+        if !take(holdings, graph, event, hints)? {
             return Ok(false);
         }
     }
@@ -40,7 +41,12 @@ pub(crate) fn take_all(
 
 /// Takes an event if it fits what is held, and returns whether it fits. If it does not, or memory is refused, what is
 /// held afterwards is unspecified.
-fn take(holdings: &mut Holdings, graph: &Graph, event: &Event) -> Result<bool, AllocError>
+fn take(
+    holdings: &mut Holdings,
+    graph: &Graph,
+    event: &Event,
+    hints: &mut Hints,
+) -> Result<bool, AllocError>
     requires few { HasFewPuts event.now }
     requires collections { IsFor graph.now holdings.old }
     ensures fits { IfOk result (λ taken. IsTrue taken ↔ Fits graph.now (facts_in (image_of holdings.old)) event.now) }
@@ -55,8 +61,14 @@ fn take(holdings: &mut Holdings, graph: &Graph, event: &Event) -> Result<bool, A
     match event {
         Event::EnvItem(address, value) => Ok(take_item(holdings, graph, address, *value)?),
         Event::EnvTag(name) => Ok(take_tag(holdings, graph, name)?),
-        Event::Done(instance, puts) => Ok(take_end(holdings, graph, instance, puts.as_slice())?),
-        Event::Stopped(instance, kind) => Ok(take_fault(holdings, graph, instance, *kind)),
+        Event::Done(instance, puts) => Ok(take_end(
+            holdings,
+            graph,
+            instance,
+            puts.as_slice(),
+            hints,
+        )?),
+        Event::Stopped(instance, kind) => Ok(take_fault(holdings, graph, instance, *kind, hints)),
     }
 }
 
@@ -97,6 +109,7 @@ fn take_end(
     graph: &Graph,
     instance: &Inst,
     puts: &[Put],
+    hints: &mut Hints,
 ) -> Result<bool, AllocError>
     requires few { length puts.now ≤ MOST_PUTS }
     requires collections { IsFor graph.now holdings.old }
@@ -106,7 +119,7 @@ fn take_end(
 {
     facts_are_told_apart();
     images_of_maps();
-    if !may_end(holdings, graph, instance) {
+    if !may_end(holdings, graph, instance, hints) {
         return Ok(false);
     }
     if !take_puts(holdings, graph, instance, puts)? {
@@ -117,7 +130,13 @@ fn take_end(
 }
 
 /// Takes the fault of an instance, if it may end; none is at fault before.
-fn take_fault(holdings: &mut Holdings, graph: &Graph, instance: &Inst, kind: FaultKind) -> bool
+fn take_fault(
+    holdings: &mut Holdings,
+    graph: &Graph,
+    instance: &Inst,
+    kind: FaultKind,
+    hints: &mut Hints,
+) -> bool
     requires { holdings.old.fault ≡ None }
     ensures fits { IsTrue result ↔ MayEnd graph.now (facts_in (image_of holdings.old)) instance.now }
     ensures grown { IsTrue result → Grows [] (bad instance.now kind ∷ []) holdings.old holdings.new }
@@ -125,7 +144,7 @@ fn take_fault(holdings: &mut Holdings, graph: &Graph, instance: &Inst, kind: Fau
 {
     facts_are_told_apart();
     images_of_maps();
-    if may_end(holdings, graph, instance) {
+    if may_end(holdings, graph, instance, hints) {
         holdings.stop(Some((*instance, kind)));
         return true;
     }
@@ -133,12 +152,12 @@ fn take_fault(holdings: &mut Holdings, graph: &Graph, instance: &Inst, kind: Fau
 }
 
 /// Whether the instance can be ended: it is of the graph, prescribed by a tag that is held, and not done.
-fn may_end(holdings: &Holdings, graph: &Graph, instance: &Inst) -> bool
+fn may_end(holdings: &Holdings, graph: &Graph, instance: &Inst, hints: &mut Hints) -> bool
     ensures { IsTrue result ↔ MayEnd graph.now (facts_in (image_of holdings.now)) instance.now }
 {
     graph.is_instance(instance)
-        && is_prescribed(holdings, graph, instance)
-        && !is_done(holdings, instance)
+        && is_prescribed(holdings, graph, instance, hints)
+        && !is_done(holdings, instance, hints)
 }
 
 /// Takes the puts of an instance in turn, the first of them with the number 0.

@@ -2,7 +2,6 @@ pub mod Components
 pub mod Equals
 pub mod ListedPuts
 pub mod Numbered
-pub mod Places
 pub mod Stated
 pub mod Told
 pub mod TwoKinds

@@ -40,12 +40,16 @@ impl Key {
         requires { length components.now ≤ MAX_COMPONENTS }
         ensures { result ≡ components.now }
     {
-        let mut places = [0; MAX_COMPONENTS];
-        let count = components.len();
-        places[..count].copy_from_slice(components);
+        let places = match *components {
+            [] => [0, 0, 0, 0],
+            [one] => [one, 0, 0, 0],
+            [one, two] => [one, two, 0, 0],
+            [one, two, three] => [one, two, three, 0],
+            [one, two, three, four, ..] => [one, two, three, four],
+        };
         Key {
             components: places,
-            count,
+            count: components.len(),
         }
     }
 

@@ -1,9 +1,9 @@
-use Rattle.codec.specs.Reading.{rising}
-use Rattle.codec.proofs.Rising.{IsSoFar}
+use Rattle.std.proofs.Common.{◌≡◌}
+use Rattle.codec.specs.Lists.{in_front}
 use Rattle.codec.proofs.lists.rising.Given as goal
 
-abbrev pub invariant-loop : goal.invariant-loop
-invariant-loop g l =
-    let reading = g.T.Element.reading l.most in
-    let cmp = g.T.Ranked.cmp in
-    IsSoFar cmp reading l.elements.items l.before l.count l.counter l.reader.rest.now (rising cmp reading l.initial.before l.count l.initial.reader.rest.now)
+abbrev pub invariant-loop-elements : goal.invariant-loop-elements
+invariant-loop-elements g l = in_front l.elements.items l.list.read ≡ l.initial.list.read
+
+abbrev pub decreases-loop-elements : goal.decreases-loop-elements
+decreases-loop-elements g l = l.list.left

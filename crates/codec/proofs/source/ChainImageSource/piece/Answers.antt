@@ -1,4 +1,4 @@
-use Rattle.std.proofs.Common.{◌≡◌, length, arith}
+use Rattle.std.proofs.Common.{arith}
 use Rattle.codec.proofs.Chained.{chained, none_left}
 use Rattle.codec.proofs.source.ChainImageSource.piece.Goals as goal
 

@@ -1,18 +1,23 @@
-use Rattle.holdings.proofs.Pushed.{done_back, items_back, tags_back}
+use Rattle.std.proofs.Common.{◌≡◌, ◌∙◌, ap, Ok, inl, inr}
+use Rattle.terms.specs.declared.key.TheConstants.{MAX_COMPONENTS}
+use Rattle.codec.specs.Reading.{decoded_image}
+use Rattle.holdings.specs.Holdings.{image_of}
 use Rattle.holdings.proofs.holdings.Holdings.of_image.Goals as goal
 
-pub put_items-requires-clause-within : goal.put_items-requires-clause-within
-put_items-requires-clause-within c = rw (c.as_slice.ensures, c.in_ok-holdings.ensures) c.requires.within.items
+pub returns-in-Ok-clause-image : goal.returns-in-Ok-clause-image
+returns-in-Ok-clause-image c =
+    let read : decoded_image MAX_COMPONENTS c.args.bytes.now ≡ Ok (image_of c.in-Ok.holdings) = c.in-Ok.ensures.image in
+    (c.image_is_spelled.ensures (image_of c.in-Ok.holdings) read).0
 
-pub put_tags-requires-clause-within : goal.put_tags-requires-clause-within
-put_tags-requires-clause-within c = rw (c.as_slice-2.ensures, c.in_ok-put_items.ensures, c.in_ok-holdings.ensures) c.requires.within.tags
+pub returns-in-Ok-clause-numbered : goal.returns-in-Ok-clause-numbered
+returns-in-Ok-clause-numbered c = (c.image_is_spelled.ensures (image_of c.in-Ok.holdings) c.in-Ok.ensures.image).1.listed.numbered
 
-pub end_all-requires-clause-within : goal.end_all-requires-clause-within
-end_all-requires-clause-within c = rw (c.as_slice-3.ensures, c.in_ok-put_tags.ensures, c.in_ok-put_items.ensures, c.in_ok-holdings.ensures) c.requires.within.done
-
-pub returns-clause-image : goal.returns-clause-image
-returns-clause-image c =
-    let image = c.args.image.now in
-    let listed = c.requires.listed in
-    rw (c.stop.ensures, c.in_ok-end_all.ensures, c.in_ok-put_tags.ensures, c.in_ok-put_items.ensures, c.as_slice.ensures, c.as_slice-2.ensures, c.as_slice-3.ensures)
-    (λ i. record { fault = image.fault; items = items_back image.items listed.items_rise i; tags = tags_back image.tags listed.tags_rise i; done = done_back image.done listed.done_rise i })
+pub returns-in_default : goal.returns-in_default
+returns-in_default c = record {
+  image = λ image spells within. elim c.in-Err.ensures.none [
+    | inl refused ↦ c.in_default.not-NoMemory refused
+    | inr none ↦ none image (ap (decoded_image MAX_COMPONENTS) spells.1 ∙ c.spellings_of_images.ensures.back.spelled image spells.0) within
+  ];
+  numbered = tt;
+  graph = tt;
+}

@@ -1,0 +1,17 @@
+-- Reading what is held from the bytes of an image, list by list.
+use Rattle.std.specs.Prelude.{◌≡◌, ◌⊎◌, ℕ, List, Ok}
+use Rattle.std.specs.List.{AllByRecursion}
+use Rattle.codec.specs.Lists.{ListRead}
+use Rattle.codec.specs.declared.error.CodecError.{CodecError}
+use Rattle.codec.specs.declared.error.CodecError.TheVariants.{NoMemory}
+use Rattle.holdings.specs.Holdings.{Holdings}
+
+-- the whole list was read, up to these bytes, and its elements are held
+pub record ListIsHeld {X : Type 0} (with : List X → Holdings) (read : ListRead X) (new : Holdings) (rest : List ℕ) : Type 0 where
+  pub elements : List X
+  pub read_whole : read ≡ Ok (elements, rest)
+  pub held : new ≡ with elements
+
+-- memory was refused, or no list is read of which each element may be held
+abbrev pub NoneIsHeld : {X : Type 0} → (X → Type 0) → ListRead X → CodecError → Type 0
+NoneIsHeld {X} May read error = (error ≡ NoMemory) ⊎ ((elements : List X) (rest : List ℕ) → read ≡ Ok (elements, rest) → AllByRecursion May elements → ⊥)

@@ -1,0 +1,18 @@
+use maps::Hint;
+
+/// About where a tag and a done instance were looked up last: the next ones are looked up there first.
+#[derive(Clone, Copy, Debug)]
+pub struct Hints {
+    pub(crate) tags: Hint,
+    pub(crate) done: Hint,
+}
+
+impl Hints {
+    /// Nothing was looked up yet.
+    pub fn new() -> Self {
+        Hints {
+            tags: Hint::new(),
+            done: Hint::new(),
+        }
+    }
+}
