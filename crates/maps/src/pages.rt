@@ -31,6 +31,8 @@ pub(crate) struct Pages<V> {
     spare: Vec<Page<V>>,
     count: usize,
     room: usize,
+    // The page of the last change, in which a search looks first. Any number will do.
+    near: usize,
     alloc: Global,
 }
 
@@ -66,6 +68,7 @@ impl<V: Copy> Pages<V> {
             spare: Vec::new(alloc),
             count: 0,
             room: 0,
+            near: 0,
             alloc,
         }
     }
@@ -131,7 +134,8 @@ impl<V: Copy> Pages<V> {
         self.search_page(page, key, steps)
     }
 
-    /// The same; if the key is greater than all others, that takes one comparison.
+    /// The same. If the key is greater than all others, that takes one comparison; if it is in the page of the last change or in the one
+    /// after it, no search among the pages.
     pub fn search(&self, key: Key) -> Found
         ensures { IsFound self.now.pages key result }
     {
@@ -142,7 +146,7 @@ impl<V: Copy> Pages<V> {
         if self.pages[count - 1].ends_before(key) {
             return self.end();
         }
-        self.find(&key, &mut Steps::new())
+        self.find_near(&key, &mut Hint { page: self.near })
     }
 
     /// The same. It looks first in the page that the hint gives and in the one after it, and gives back the page of the key.
@@ -248,6 +252,7 @@ impl<V: Copy> Pages<V> {
         ensures room { self.new.room ≡ self.old.room }
     {
         self.pages[page].set(place, key, value);
+        self.near = page;
     }
 
     /// Adds an entry into a page, at the place where its key goes.
@@ -257,6 +262,7 @@ impl<V: Copy> Pages<V> {
         ensures entries { all_of self.new.pages ≡ put key_cmp key value (all_of self.old.pages) }
         ensures room { self.new.room + 1 ≡ self.old.room }
     {
+        self.near = page;
         if self.pages[page].len() < PAGE {
             self.add_to_page(page, place, key, value);
         } else {
