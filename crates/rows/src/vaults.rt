@@ -5,16 +5,16 @@ ghost use Rattle.codec.specs.declared.payload.TheConstants.{MOST_EVENTS};
 ghost use Rattle.std.proofs.Props.{props};
 ghost use Rattle.codec.specs.Spelling.{HasFewPuts, HasPutNumber};
 ghost use Rattle.holdings.specs.Holdings.{image_of};
-ghost use Rattle.codec.specs.Image.{IsListed};
 ghost use Rattle.disk.specs.MemDisk.{files_of};
 ghost use Rattle.sides.specs.Reading.{IsCanonical};
 ghost use Rattle.vault.specs.Store.{IsReady};
 
 use crate::bytes::bytes_of;
 use crate::disks;
+use crate::reopening::spelled;
 use crate::telling::tell_image;
 use cases::Names;
-use codec::{Image, ImageBytes, decode_image, decode_payload};
+use codec::{ImageBytes, decode_image, decode_payload};
 use disk::MemDisk;
 use graph::{canonical, parse};
 use holdings::Holdings;
