@@ -12,4 +12,5 @@ pub mod NumberLaws
 pub mod Numbers
 pub mod Roomy
 pub mod Several
+pub mod Unread
 pub mod WholeLaws

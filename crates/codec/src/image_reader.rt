@@ -23,7 +23,8 @@ pub fn read_fault(
     Ok((fault, reader.rest))
 }
 
-/// A list of an image, in strictly rising order, that is read element by element from the left. It does not allocate.
+/// A list of an image, in strictly rising order, that is read element by element from the left: of items `(Addr, i64, Producer)`, of tags
+/// with their marks `(Tag, bool)`, or of instances `Inst`. It does not allocate.
 #[derive(Drop)]
 pub struct ListReader<'a, T: Ranked> {
     reader: Reader<'a>,
@@ -38,13 +39,12 @@ pub struct ListReader<'a, T: Ranked> {
 impl<'a, T: Ranked> Model for ListReader<'a, T> {
     ghost use Rattle.std.specs.Prelude.{◌≤◌};
     ghost use Rattle.terms.specs.declared.key.TheConstants.{MAX_COMPONENTS};
-    ghost use Rattle.codec.specs.Lists.{Unread};
-    ghost use Rattle.codec.specs.Reading.{rising};
+    ghost use Rattle.codec.specs.Lists.{Unread, unread};
 
     // What is still to be read.
     ghost Value = { Unread T };
 
-    ghost view = { λ l. record { left = l.left; read = rising T.cmp (T.reading l.most) l.before l.left l.reader.rest.now } };
+    ghost view = { λ l. unread T.cmp (T.reading l.most) l.before l.left l.reader.rest.now };
 
     ghost invariant = { λ l. l.most ≤ MAX_COMPONENTS };
 }
@@ -52,13 +52,13 @@ impl<'a, T: Ranked> Model for ListReader<'a, T> {
 impl<'a, T: Ranked> ListReader<'a, T> {
     ghost use Rattle.std.specs.Prelude.{◌≡◌, ◌≤◌, IfOk, IfErr, Err};
     ghost use Rattle.terms.specs.declared.key.TheConstants.{MAX_COMPONENTS};
-    ghost use Rattle.codec.specs.Lists.{AreAfter, HandsOut};
+    ghost use Rattle.codec.specs.Lists.{AreAfter, HandsOut, read_of};
     ghost use Rattle.codec.specs.Reading.{list};
 
     /// The list with which these bytes begin, of which the number of its elements is read. A key has `most` components at most.
     pub fn new(bytes: &'a [u8], most: usize) -> Result<Self, CodecError>
         requires { most ≤ MAX_COMPONENTS }
-        ensures read { IfOk result (λ l. l.read ≡ list T.cmp (T.reading most) bytes.now) }
+        ensures read { IfOk result (λ l. read_of l ≡ list T.cmp (T.reading most) bytes.now) }
         ensures fault { IfErr result (λ error. list T.cmp (T.reading most) bytes.now ≡ Err error) }
     {
         let mut reader = Reader { rest: bytes };
@@ -87,10 +87,8 @@ impl<'a, T: Ranked> ListReader<'a, T> {
         Ok(Some(element))
     }
 
-    /// The number of elements that are not read yet.
-    pub fn left(&self) -> u32
-        ensures { result ≡ self.now.left }
-    {
+    // The number of elements that are not read yet, if there is no fault.
+    pub(crate) fn left(&self) -> u32 {
         self.left
     }
 

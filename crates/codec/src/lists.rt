@@ -1,4 +1,4 @@
-ghost use Rattle.std.specs.Prelude.{◌≡◌, ◌≤◌, ◌*◌, [], length, IfOk, vec_capacity};
+ghost use Rattle.std.specs.Prelude.{◌≡◌, ◌≤◌, ◌*◌, [], IfOk, vec_capacity};
 ghost use Rattle.terms.specs.declared.key.TheConstants.{MAX_COMPONENTS};
 ghost use Rattle.codec.specs.Answers.{items_in, ReadsOrRefused};
 ghost use Rattle.codec.specs.Reading.{several, list};
@@ -9,7 +9,7 @@ use crate::image_reader::ListReader;
 use crate::reader::Reader;
 use std::alloc::{AllocError, Global};
 
-// Room for `count` elements, but for no more than so many bytes could spell.
+// Room for `count` elements, but for no more than `bytes` bytes could spell.
 fn room<T: Element>(alloc: Global, bytes: usize, count: u32) -> Result<Vec<T>, AllocError>
     ensures empty { IfOk result (λ elements. elements.items ≡ []) }
     ensures spelled { IfOk result (λ elements. T.LEAST * vec_capacity elements ≤ bytes) }

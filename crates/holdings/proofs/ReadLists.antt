@@ -1,5 +1,6 @@
 -- Lists that are read element by element: what is held so far, and what refutes a whole list.
-use Rattle.std.proofs.Common.{◌≡◌, ◌∙◌, ap, sym, subst, refl, ℕ, Bool, true, false, List, [], ◌∷◌, ◌++◌, map, Ok, Err, None}
+use Rattle.std.proofs.Common.{◌≡◌, ◌∙◌, ap, sym, subst, refl, ℕ, Bool, true, false, List, [], ◌∷◌, ◌++◌, append_assoc, map, Result, Ok, Err, None}
+use Rattle.std.proofs.lemmas.List.{append-nil}
 use Rattle.std.proofs.lemmas.Bool.{false≢true}
 use Rattle.std.specs.Prelude.{◌↔◌, IsTrue}
 use Rattle.std.specs.List.{AllByRecursion}
@@ -7,35 +8,60 @@ use Rattle.std.specs.FinMap.{FinMap, from_entries, get, insert}
 use Rattle.terms.specs.declared.name.Inst.{Inst}
 use Rattle.codec.specs.declared.error.CodecError.{CodecError}
 use Rattle.codec.specs.Entries.{Item, MarkedTag}
-use Rattle.codec.specs.Lists.{ListRead, in_front}
+use Rattle.codec.specs.Lists.{ListRead, Unread, led_by, read_of, with_end}
 use Rattle.maps.specs.Numbered.{Place, place_cmp}
 use Rattle.items.specs.Held.{place}
 use Rattle.instances.specs.Known.{inst_place, tag_place}
 use Rattle.holdings.specs.Holdings.{Holdings, done_entry, item_entry, tag_entry, with_done, with_ended, with_item, with_items, with_tag, with_tags}
 use Rattle.holdings.proofs.Pushed.{put_again, put_new}
 
--- ---- no list is read that may be held
+-- ---- what a list is read as
 
-abbrev elements_of : {X : Type 0} → ListRead X → List X
-elements_of (Ok read) = read.0
-elements_of (Err error) = []
+abbrev elements_or : {X : Type 0} → List X → ListRead X → List X
+elements_or others (Ok read) = read.0
+elements_or others (Err error) = others
 
-module _ {X : Type 0} (May : X → Type 0) (front : List X) (initial : ListRead X) (elements : List X) (rest : List ℕ) (whole : initial ≡ Ok (elements, rest)) where
-  -- a fault comes
-  pub none_after_fault : (error : CodecError) (old : ListRead X) → in_front front old ≡ initial → old ≡ Err error → ⊥
-  none_after_fault error old so_far is = absurd (let both : in_front front (Err error) ≡ Ok (elements, rest) = sym (ap (in_front front) is) ∙ so_far ∙ whole in cc)
+-- a list that is read whole has all of its elements
+pub are_all : {X : Type 0} (list : Unread X) (elements : List X) (rest : List ℕ) → read_of list ≡ Ok (elements, rest) → list.elements ≡ elements
+are_all list elements rest is = by_end list.ends is
+  where
+    by_end : (ends : Result (List ℕ) CodecError) → with_end list.elements ends ≡ Ok (elements, rest) → list.elements ≡ elements
+    by_end (Ok more) same = ap (elements_or elements) same
+    by_end (Err error) same = absurd (cc)
 
-  -- an element may not be held
-  pub none_with : (x : X) (old new : ListRead X) → in_front front old ≡ initial → in_front front old ≡ in_front (front ++ x ∷ []) new → (May x → ⊥) → AllByRecursion May elements → ⊥
-  none_with x old new so_far next not each = by_read new (sym next ∙ so_far ∙ whole)
-    where
-      among : (front more : List X) → AllByRecursion May ((front ++ x ∷ []) ++ more) → May x
-      among [] more each = each.0
-      among (y ∷ front) more each = among front more each.1
+-- and no fault
+pub no_fault : {X : Type 0} (list : Unread X) (elements : List X) (rest : List ℕ) (error : CodecError) → read_of list ≡ Ok (elements, rest) → list.ends ≡ Err error → ⊥
+no_fault list elements rest error is stops = absurd (let both : with_end list.elements (Err error) ≡ Ok (elements, rest) = sym (ap (with_end list.elements) stops) ∙ is in cc)
 
-      by_read : (read : ListRead X) → in_front (front ++ x ∷ []) read ≡ Ok (elements, rest) → ⊥
-      by_read (Ok read) is = not (among front read.0 (subst (AllByRecursion May) (sym (ap elements_of is)) each))
-      by_read (Err error) is = absurd (cc)
+-- one of them may not be held
+pub not_all : {X : Type 0} (May : X → Type 0) (list : Unread X) (front : List X) (x : X) (more elements : List X) (rest : List ℕ) → list.elements ≡ front ++ x ∷ more → (May x → ⊥) → read_of list ≡ Ok (elements, rest)
+    → AllByRecursion May elements → ⊥
+not_all {X = X} May list front x more elements rest are not is each = not (among front (subst (AllByRecursion May) (sym (are_all list elements rest is) ∙ are) each))
+  where
+    among : (front : List X) → AllByRecursion May (front ++ x ∷ more) → May x
+    among [] each = each.0
+    among (y ∷ front) each = among front each.1
+
+-- each of one more may be held
+pub and_each : {X : Type 0} (May : X → Type 0) (front : List X) (x : X) → AllByRecursion May front → May x → AllByRecursion May (front ++ x ∷ [])
+and_each May [] x each may = (may, tt)
+and_each May (y ∷ front) x each may = (each.0, and_each May front x each.1 may)
+
+-- the next one is handed out
+pub one_further : {X : Type 0} (first old new : Unread X) (front : List X) (x : X) → first.elements ≡ front ++ old.elements → first.ends ≡ old.ends → old ≡ led_by x new
+    → (first.elements ≡ (front ++ x ∷ []) ++ new.elements) × (first.ends ≡ new.ends)
+one_further first old new front x are ends next = (
+  are ∙ ap (λ list. front ++ list.elements) next ∙ sym (append_assoc front (x ∷ []) new.elements),
+  ends ∙ ap (λ list. list.ends) next,
+)
+
+-- none is left
+pub read_all : {X : Type 0} (first list : Unread X) (front : List X) (rest after : List ℕ) (read : ListRead X) → read_of first ≡ read → first.elements ≡ front ++ list.elements → first.ends ≡ list.ends
+    → list ≡ record { elements = []; ends = Ok rest } → after ≡ rest → read ≡ Ok (front, after)
+read_all {X = X} first list front rest after read is are ends none there =
+    sym is
+    ∙ (λ i. with_end ((are ∙ ap (λ (list : Unread X). front ++ list.elements) none ∙ append-nil front) i) ((ends ∙ ap (λ (list : Unread X). list.ends) none) i))
+    ∙ ap (λ (bytes : List ℕ). Ok (front, bytes)) (sym there)
 
 -- ---- one more is held
 

@@ -6,10 +6,11 @@ use Rattle.codec.specs.declared.error.CodecError.{CodecError}
 use Rattle.codec.specs.declared.error.CodecError.TheVariants.{NoMemory}
 use Rattle.holdings.specs.Holdings.{Holdings}
 
--- the whole list was read, up to these bytes, and its elements are held
-pub record ListIsHeld {X : Type 0} (with : List X → Holdings) (read : ListRead X) (new : Holdings) (rest : List ℕ) : Type 0 where
+-- the whole list was read, up to these bytes; each of its elements may be held, and all are
+pub record ListIsHeld {X : Type 0} (May : X → Type 0) (with : List X → Holdings) (read : ListRead X) (new : Holdings) (rest : List ℕ) : Type 0 where
   pub elements : List X
   pub read_whole : read ≡ Ok (elements, rest)
+  pub each : AllByRecursion May elements
   pub held : new ≡ with elements
 
 -- memory was refused, or no list is read of which each element may be held

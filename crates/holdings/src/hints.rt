@@ -1,6 +1,6 @@
 use maps::Hint;
 
-/// About where a tag and a done instance were looked up last: the next ones are looked up there first.
+/// Roughly where the last tag and the last done instance were looked up. The next ones are looked up there first.
 #[derive(Clone, Copy, Debug)]
 pub struct Hints {
     pub(crate) tags: Hint,

@@ -1,6 +1,4 @@
 //! What an image lists, read from its bytes into the maps.
-ghost use Rattle.std.specs.Prelude.{◌≡◌};
-
 use crate::Holdings;
 use codec::{CodecError, ListReader, image_is_spelled, read_fault, spellings_of_images};
 use graph::Graph;
@@ -23,9 +21,10 @@ impl Holdings {
     ghost use Rattle.holdings.specs.Holdings.{AreWithin, IsFor, image_of, with_ended, with_fault, with_items, with_tags};
     ghost use Rattle.holdings.specs.Reading.{ListIsHeld, NoneIsHeld};
 
-    /// What the image that these bytes spell lists, if there is one and each of its names is of a collection or a step of the graph.
+    /// What the image that these bytes spell lists. It returns `None` if they spell no image, or if a name of it is of no collection or step of the
+    /// graph. An error says that memory was refused.
     pub fn of_image(alloc: Global, graph: &Graph, bytes: &[u8]) -> Result<Option<Self>, AllocError>
-        ensures image { IfOk result (λ found. MatchOption found ((image : Image) → SpellsImage MAX_COMPONENTS bytes.now image → AreWithin graph.now image → ⊥) (λ h. SpellsImage MAX_COMPONENTS bytes.now (image_of h))) }
+        ensures image { IfOk result (λ found. MatchOption found ((image : Image) → SpellsImage MAX_COMPONENTS bytes.now image → AreWithin graph.now image → ⊥) (λ h. SpellsImage MAX_COMPONENTS bytes.now (image_of h) × AreWithin graph.now (image_of h))) }
         ensures numbered { IfOk result (λ found. IfSome found (λ h. AllByRecursion HasPutNumber (image_of h).items)) }
         ensures graph { IfOk result (λ found. IfSome found (IsFor graph.now)) }
     {
@@ -44,6 +43,7 @@ impl Holdings {
     fn read(alloc: Global, graph: &Graph, bytes: &[u8]) -> Result<Self, CodecError>
         ensures image { IfOk result (λ h. decoded_image MAX_COMPONENTS bytes.now ≡ Ok (image_of h)) }
         ensures graph { IfOk result (IsFor graph.now) }
+        ensures within { IfOk result (λ h. AreWithin graph.now (image_of h)) }
         ensures none { IfErr result (λ error. (error ≡ NoMemory) ⊎ ((image : Image) → decoded_image MAX_COMPONENTS bytes.now ≡ Ok image → AreWithin graph.now image → ⊥)) }
     {
         image_is_spelled(bytes, MAX_COMPONENTS);
@@ -74,9 +74,9 @@ impl Holdings {
 
     // Reads the list of items with which these bytes begin, where none is held, and returns the bytes after it. There are `count` collections.
     fn read_items<'a>(&mut self, count: usize, bytes: &'a [u8]) -> Result<&'a [u8], CodecError>
-        requires none { self.old.items ≡ empty }
+        requires empty { self.old.items ≡ empty }
         requires counted { count ≡ self.old.counts.items }
-        ensures held { IfOk result (λ rest. ListIsHeld (with_items self.old) (list item_cmp (item MAX_COMPONENTS) bytes.now) self.new rest.now) }
+        ensures held { IfOk result (λ rest. ListIsHeld (λ it. it.0.collection.0 < count) (with_items self.old) (list item_cmp (item MAX_COMPONENTS) bytes.now) self.new rest.now) }
         ensures none { IfErr result (NoneIsHeld (λ it. it.0.collection.0 < count) (list item_cmp (item MAX_COMPONENTS) bytes.now)) }
     {
         let mut list = ListReader::<(Addr, i64, Producer)>::new(bytes, MAX_COMPONENTS)?;
@@ -91,9 +91,9 @@ impl Holdings {
 
     // Reads the list of tags, where none is held.
     fn read_tags<'a>(&mut self, count: usize, bytes: &'a [u8]) -> Result<&'a [u8], CodecError>
-        requires none { self.old.tags ≡ empty }
+        requires empty { self.old.tags ≡ empty }
         requires counted { count ≡ self.old.counts.tags }
-        ensures held { IfOk result (λ rest. ListIsHeld (with_tags self.old) (list marked_cmp (marked MAX_COMPONENTS) bytes.now) self.new rest.now) }
+        ensures held { IfOk result (λ rest. ListIsHeld (λ marked. marked.0.collection.0 < count) (with_tags self.old) (list marked_cmp (marked MAX_COMPONENTS) bytes.now) self.new rest.now) }
         ensures none { IfErr result (NoneIsHeld (λ marked. marked.0.collection.0 < count) (list marked_cmp (marked MAX_COMPONENTS) bytes.now)) }
     {
         let mut list = ListReader::<(Tag, bool)>::new(bytes, MAX_COMPONENTS)?;
@@ -108,9 +108,9 @@ impl Holdings {
 
     // Reads the list of done instances, where none is done. There are `count` steps.
     fn read_done<'a>(&mut self, count: usize, bytes: &'a [u8]) -> Result<&'a [u8], CodecError>
-        requires none { self.old.done ≡ empty }
+        requires empty { self.old.done ≡ empty }
         requires counted { count ≡ self.old.counts.steps }
-        ensures held { IfOk result (λ rest. ListIsHeld (with_ended self.old) (list inst_cmp (instance MAX_COMPONENTS) bytes.now) self.new rest.now) }
+        ensures held { IfOk result (λ rest. ListIsHeld (λ instance. instance.collection.0 < count) (with_ended self.old) (list inst_cmp (instance MAX_COMPONENTS) bytes.now) self.new rest.now) }
         ensures none { IfErr result (NoneIsHeld (λ instance. instance.collection.0 < count) (list inst_cmp (instance MAX_COMPONENTS) bytes.now)) }
     {
         let mut list = ListReader::<Inst>::new(bytes, MAX_COMPONENTS)?;

@@ -50,7 +50,7 @@ impl<V: Copy> CollectionMap<V> {
         self.collections.get(number as usize)?.get(key)
     }
 
-    /// The same as `get`. It looks first where the hint says, and leaves there where the key is, or would be.
+    /// The same as `get`. It looks first where the hint says, and sets the hint to where the key is or would be.
     pub fn get_near(&self, number: u16, key: Key, hint: &mut Hint) -> Option<V>
         ensures { result ≡ get self.now.items (number, key) }
     {

@@ -1,4 +1,4 @@
-/// About where a key was looked up last. The next look-up looks there first, so keys that come about in order take few comparisons. It
+/// Roughly where a key was looked up last. The next look-up looks there first, so keys that come roughly in order take few comparisons. It
 /// changes no result.
 #[derive(Clone, Copy, Debug)]
 pub struct Hint {
@@ -7,7 +7,7 @@ pub struct Hint {
 }
 
 impl Hint {
-    /// The first entries of a map.
+    /// Points at the first entries of a map.
     pub fn new() -> Self {
         Hint { page: 0 }
     }

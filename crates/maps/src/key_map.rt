@@ -4,8 +4,9 @@ use std::alloc::{AllocError, Global};
 use std::marker::Model;
 use terms::Key;
 
-/// A map from keys to values, in the order of its keys, with room for more. A look-up is a binary search. So is the search of
-/// an insertion, wherever its key goes, and it moves few entries; for a key greater than all others it takes one comparison.
+/// A map from keys to values, in the order of its keys, with room for more. A look-up is a binary search, which begins
+/// near the last change. So is the search of an insertion, wherever its key goes, and it moves few entries; for a key greater than all
+/// others it takes one comparison.
 #[derive(Drop)]
 pub struct KeyMap<V> {
     pages: Pages<V>,
@@ -46,7 +47,7 @@ impl<V: Copy> KeyMap<V> {
         self.pages.value(self.pages.search(key))
     }
 
-    /// The same as `get`. It looks first where the hint says, and leaves there where the key is, or would be.
+    /// The same as `get`. It looks first where the hint says, and sets the hint to where the key is or would be.
     pub fn get_near(&self, key: Key, hint: &mut Hint) -> Option<V>
         ensures { result ≡ get self.now.items key }
     {

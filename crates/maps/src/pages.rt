@@ -149,10 +149,10 @@ impl<V: Copy> Pages<V> {
         self.find_near(&key, &mut Hint { page: self.near })
     }
 
-    /// The same. It looks first in the page that the hint gives and in the one after it, and gives back the page of the key.
+    /// The same. It looks first in the page that the hint gives and in the one after it, and sets the hint to the page where the key is or
+    /// would be.
     pub fn find_near(&self, key: &Key, hint: &mut Hint) -> Found
-        ensures found { IsFound self.now.pages key.now result }
-        ensures sorted { T (is_sorted key_cmp (all_of self.now.pages)) }
+        ensures { IsFound self.now.pages key.now result }
     {
         if self.pages.is_empty() {
             return Found::Behind;
@@ -310,6 +310,7 @@ impl<V: Copy> Pages<V> {
         if let Some(spare) = self.spare.pop() {
             let mut page = spare;
             page.insert(0, key, value);
+            self.near = self.pages.len();
             self.pages.push_reserved(page);
             self.count += 1;
             self.room -= 1;

@@ -7,7 +7,7 @@ use Rattle.holdings.proofs.holdings.Holdings.of_image.Goals as goal
 pub returns-in-Ok-clause-image : goal.returns-in-Ok-clause-image
 returns-in-Ok-clause-image c =
     let read : decoded_image MAX_COMPONENTS c.args.bytes.now ≡ Ok (image_of c.in-Ok.holdings) = c.in-Ok.ensures.image in
-    (c.image_is_spelled.ensures (image_of c.in-Ok.holdings) read).0
+    ((c.image_is_spelled.ensures (image_of c.in-Ok.holdings) read).0, c.in-Ok.ensures.within)
 
 pub returns-in-Ok-clause-numbered : goal.returns-in-Ok-clause-numbered
 returns-in-Ok-clause-numbered c = (c.image_is_spelled.ensures (image_of c.in-Ok.holdings) c.in-Ok.ensures.image).1.listed.numbered

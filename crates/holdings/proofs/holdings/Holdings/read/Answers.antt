@@ -5,7 +5,7 @@ use Rattle.std.specs.List.{AllByRecursion}
 use Rattle.terms.specs.declared.key.TheConstants.{MAX_COMPONENTS}
 use Rattle.codec.specs.declared.image.Image.{Image}
 use Rattle.codec.specs.Reading.{decoded_image}
-use Rattle.holdings.specs.Holdings.{image_of}
+use Rattle.holdings.specs.Holdings.{AreWithin, image_of}
 use Rattle.holdings.proofs.ImageParts.{behind_items, behind_tags, from_fault, is_none, no_done, no_items, no_tags, read_whole}
 use Rattle.holdings.proofs.Pushed.{done_back, items_back, tags_back}
 use Rattle.holdings.proofs.holdings.Holdings.read.Goals as goal
@@ -49,8 +49,9 @@ returns-in_err-rest-4-clause-none c =
           (subst (λ n. AllByRecursion (λ instance. instance.collection.0 < n) image.done) (sym c.step_count.ensures.count) within.done))
     ])
 
-pub returns-clause-image : goal.returns-clause-image
-returns-clause-image c =
+-- what was read is an image, which is held
+read_and_held : (c : goal.Else-not-is_empty) → (image : Image) × (decoded_image MAX_COMPONENTS c.args.bytes.now ≡ Ok image) × (image_of c.read_done.new.self ≡ image) × AreWithin c.args.graph.now image
+read_and_held c =
     let fault = c.in_ok-rest.ensures.held in
     let items = c.in_ok-rest-2.ensures.held in
     let tags = c.in_ok-rest-3.ensures.held in
@@ -64,5 +65,19 @@ returns-clause-image c =
     let listed = (c.image_is_spelled.ensures image read).1.listed in
     let holds : image_of c.read_done.new.self ≡ image =
     rw (done.held, tags.held, items.held, fault.2)
-    (λ i. record { fault = fault.0; items = items_back items.elements listed.items_rise i; tags = tags_back tags.elements listed.tags_rise i; done = done_back done.elements listed.done_rise i }) in
-    read ∙ ap (λ (one : Image). Ok one) (sym holds)
+    (λ i. record { fault = fault.0; items = items_back items.elements listed.items_rise i; tags = tags_back tags.elements listed.tags_rise i; done = done_back done.elements listed.done_rise i }) in (
+      image,
+      read,
+      holds,
+      record {
+        items = subst (λ n. AllByRecursion (λ it. it.0.collection.0 < n) items.elements) c.item_count.ensures.count items.each;
+        tags = subst (λ n. AllByRecursion (λ marked. marked.0.collection.0 < n) tags.elements) c.tag_count.ensures.count tags.each;
+        done = subst (λ n. AllByRecursion (λ instance. instance.collection.0 < n) done.elements) c.step_count.ensures.count done.each;
+      },
+    )
+
+pub returns-clause-image : goal.returns-clause-image
+returns-clause-image c = let both = read_and_held c in both.1 ∙ ap (λ (one : Image). Ok one) (sym both.2)
+
+pub returns-clause-within : goal.returns-clause-within
+returns-clause-within c = let both = read_and_held c in subst (AreWithin c.args.graph.now) (sym both.2) both.3
