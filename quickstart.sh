@@ -1,17 +1,26 @@
 #!/bin/sh
 # Builds the program, makes a store of an example in a directory of its own, runs a script on it, prints the report, turns the store over, and runs again.
-# Every crate of the program is proved before. With --unproved none is: the example is shown on a disk in memory.
+# Every crate of the program is proved before. With --unproved none is: the example, or the graph and the script that are given, is shown on a disk in memory.
 set -eu
-cd "$(dirname "$0")"
-example=$PWD/examples/fibonacci
-
 case "$#:${1:-}" in
 0: | 1:--unproved) ;;
+3:--unproved)
+    for file in "$2" "$3"; do
+        if [ ! -r "$file" ]; then
+            echo "quickstart: cannot read $file" >&2
+            exit 2
+        fi
+    done
+    graph=$(realpath "$2")
+    script=$(realpath "$3")
+    ;;
 *)
-    echo "usage: ./quickstart.sh [--unproved]" >&2
+    echo "usage: ./quickstart.sh [--unproved [GRAPH SCRIPT]]" >&2
     exit 2
     ;;
 esac
+cd "$(dirname "$0")"
+example=$PWD/examples/fibonacci
 if ! command -v rt >/dev/null; then
     echo "quickstart: the toolchain's command rt is not on the path; README.md says which toolchain it is" >&2
     exit 1
@@ -21,7 +30,7 @@ log=$(mktemp)
 if [ "${1:-}" = --unproved ]; then
     echo "Nothing is proved here: the program is compiled, which takes a minute or two, and run on a disk in memory."
     cd crates/program
-    rt try --data example/graph="$example/graph" --data example/script="$example/script" -- --show=example 2>"$log" || {
+    rt try --data example/graph="${graph:-$example/graph}" --data example/script="${script:-$example/script}" -- --show=example 2>"$log" || {
         echo "quickstart: the example did not run; see $log" >&2
         exit 1
     }

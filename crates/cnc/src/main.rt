@@ -104,10 +104,10 @@ fn pointed<D: Disk + Send + Drop, R: Read, H: Handles>(
     requires { IsInRange command.now }
 {
     let workers = command.workers();
-    let Ok(mut out) = BufWriter::new(rt.alloc(), rt.stdout()) else {
-        return refused(rt, "no memory");
-    };
     if !rt.stderr().is_terminal() {
+        let Ok(mut out) = BufWriter::new(rt.alloc(), rt.stdout()) else {
+            return refused(rt, "no memory");
+        };
         let driver = Driver::Crew(Crew::new(threads, workers, AlwaysGo));
         return done(rt, command, disk, input, &mut out, &driver).0;
     }
@@ -115,7 +115,9 @@ fn pointed<D: Disk + Send + Drop, R: Read, H: Handles>(
     let telling = Telling::new(threads, workers, &shown);
     let driver = Driver::Crew(Crew::new(threads, workers, telling));
     let mut input = Kept::new(rt.alloc(), input);
-    let mut out = Cleared::new(threads, out, &shown);
+    let Ok(mut out) = BufWriter::new(rt.alloc(), Cleared::new(threads, rt.stdout(), &shown)) else {
+        return refused(rt, "no memory");
+    };
     let (status, place) = done(rt, command, disk, &mut input, &mut out, &driver);
     if let Some(place) = place {
         input.point(rt, place);

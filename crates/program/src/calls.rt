@@ -16,6 +16,7 @@ pub(crate) enum Streams {
     Work,
     InputFails,
     OutputFails,
+    OutputHeld,
 }
 
 // A reader and a writer that return an error from each call.
@@ -35,6 +36,20 @@ impl Write for Failing {
 
     fn flush(&mut self) -> io::Result<()> {
         Ok(())
+    }
+}
+
+// A writer that holds back what it is given, and returns an error where it should write it.
+#[derive(Drop)]
+struct Holding;
+
+impl Write for Holding {
+    fn write(&mut self, buf: &[u8]) -> io::Result<usize> {
+        Ok(buf.len())
+    }
+
+    fn flush(&mut self) -> io::Result<()> {
+        Err(io::Error::from(io::ErrorKind::StorageFull))
     }
 }
 
@@ -127,6 +142,15 @@ fn obeyed<R: Threads + Wait + Sync>(
             disk,
             &mut input,
             &mut Failing,
+            &mut err,
+            driver,
+        ),
+        Streams::OutputHeld => obey(
+            alloc,
+            command,
+            disk,
+            &mut input,
+            &mut Holding,
             &mut err,
             driver,
         ),

@@ -6,6 +6,7 @@
 //!   The result is what the program wrote, then after `! ` what it wrote on its error output, and a line with its status
 //!   if that is not 0
 //! - `full WORDS`: the same, but each write of the output fails
+//! - `held WORDS`: the same, but the output takes all that is written, and cannot be flushed
 //! - `unreadable WORDS`: the same, but each read of the input fails
 //! - `alone LIMIT`: the script that stands below, on the store that is on the disk, with this limit for each run, by a
 //!   session that has no threads. The result is what it wrote, and after `! ` why it did not come to its end
@@ -64,6 +65,7 @@ impl<'a, R: Threads + Wait + Sync> Commands<'a, R> {
             "alone" => self.alone(alloc, rest, input),
             "cnc" => self.call(alloc, command, input, calls::Streams::Work),
             "full" => self.call(alloc, command, input, calls::Streams::OutputFails),
+            "held" => self.call(alloc, command, input, calls::Streams::OutputHeld),
             "unreadable" => self.call(alloc, command, input, calls::Streams::InputFails),
             _ => self.on_disk(alloc, word, rest),
         }

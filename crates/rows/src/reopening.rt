@@ -13,8 +13,8 @@ use std::alloc::{AllocError, Global};
 use std::sync::Arc;
 use terms::MAX_COMPONENTS;
 
-/// Spells what a store holds as an image, and makes a store from its bytes, as an opening does; none if a list of the image is longer than a `u32`
-/// can count. The new store has the same facts, and the instances that waited are ready.
+/// Spells what a store holds as an image, and makes a store from its bytes, as an opening does; none if the image has no spelling, or is not
+/// read back. The new store has the same facts, and the instances that waited are ready.
 pub(crate) fn reopened(alloc: Global, machine: &Machine) -> Result<Option<Machine>, AllocError>
     ensures { IfOk result (λ found. IfSome found (λ opened. (fact : Fact) → facts opened fact ≡ facts machine.now fact)) }
 {
