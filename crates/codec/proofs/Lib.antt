@@ -6,6 +6,7 @@ pub mod CommitLaws
 pub mod Encodable
 pub mod EventLaws
 pub mod FieldLaws
+pub mod Filled
 pub mod ImageLaws
 pub mod ListLaws
 pub mod NumberLaws

@@ -19,7 +19,7 @@ pub takes_less : {T E : Type 0} (count most : ℕ) (old new : Vec ℕ) (result :
 takes_less count most old new result less took = record { capacity = took.capacity; fits = λ enough. took.fits (omega (arith, enough, less)) }
 
 -- each component has eight bytes
-components_long : (key : List ℤ) → length (flat_map value_bytes key) ≡ 8 * length key
+pub components_long : (key : List ℤ) → length (flat_map value_bytes key) ≡ 8 * length key
 components_long [] = omega arith
 components_long (x ∷ key) = omega (arith, length-append (value_bytes x) (flat_map value_bytes key), components_long key)
 

@@ -1,6 +1,7 @@
 pub mod Answers
 pub mod Commits
 pub mod Entries
+pub mod Filling
 pub mod Image
 pub mod Laws
 pub mod Lists

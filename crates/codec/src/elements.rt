@@ -1,17 +1,19 @@
-//! The spelling of an image, element by element. Each call appends to `out`; after an error it may have appended a part. It allocates nothing
-//! if there is room.
+//! The spelling of an image, element by element. `encode_fault` and `encode_count` append to `out`; after an error they may have appended a part.
+//! They allocate nothing if there is room. The other calls write over bytes that are there.
 ghost use Rattle.std.specs.Prelude.{◌≡◌, ◌≤◌, ◌++◌, length, OnOk};
 ghost use Rattle.byteorder.specs.Endian.{little_bytes};
 ghost use Rattle.terms.specs.declared.key.TheConstants.{MAX_COMPONENTS};
+ghost use Rattle.codec.specs.Filling.{FillsFront};
 ghost use Rattle.codec.specs.Room.{TakesRoom};
 ghost use Rattle.codec.specs.declared.elements.TheConstants.{MOST_BYTES};
-ghost use Rattle.codec.specs.Spelling.{HasPutNumber, IsFault, IsInstance, IsItem, IsMarked, fault_bytes, inst_bytes, item_bytes, marked_bytes, producer_bytes};
+ghost use Rattle.codec.specs.Spelling.{IsFault, fault_bytes, inst_bytes, item_bytes, marked_bytes, producer_bytes};
 
-use crate::writing::{write_count, write_fault, write_instance, write_item, write_marked};
+use crate::filling::{fill_instance, fill_item, fill_marked};
+use crate::writing::{write_count, write_fault};
 use std::alloc::AllocError;
 use terms::{Addr, FaultKind, Inst, Key, Producer, Tag};
 
-/// The greatest number of bytes that one of these calls appends.
+/// The greatest number of bytes that one of these calls writes.
 pub const MOST_BYTES: usize = 96;
 
 /// The instance at fault, or that there is none.
@@ -32,36 +34,32 @@ pub fn encode_count(out: &mut Vec<u8>, count: u32) -> Result<(), AllocError>
     write_count(out, count)
 }
 
-/// An item, whose put has a number that a put may have.
-pub fn encode_item(out: &mut Vec<u8>, item: &(Addr, i64, Producer)) -> Result<(), AllocError>
-    requires { HasPutNumber item.now }
-    ensures spelled { OnOk result (out.new.items ≡ out.old.items ++ item_bytes item.now) }
-    ensures in_range { OnOk result (IsItem MAX_COMPONENTS item.now) }
-    ensures room { TakesRoom MOST_BYTES out.old out.new result }
+/// Writes an item to the front of `out`, and returns the number of its bytes.
+pub fn spell_item(out: &mut [u8], item: &(Addr, i64, Producer)) -> usize
+    requires { MOST_BYTES ≤ length out.old }
+    ensures { FillsFront (item_bytes item.now) out.old out.new result }
 {
     is_short(&item.0.key);
     producer_is_short(&item.2);
-    write_item(out, item)
+    fill_item(out, 0, item)
 }
 
-/// A tag, with whether the environment put it.
-pub fn encode_tag(out: &mut Vec<u8>, tag: &(Tag, bool)) -> Result<(), AllocError>
-    ensures spelled { OnOk result (out.new.items ≡ out.old.items ++ marked_bytes tag.now) }
-    ensures in_range { OnOk result (IsMarked MAX_COMPONENTS tag.now) }
-    ensures room { TakesRoom MOST_BYTES out.old out.new result }
+/// Writes a tag, with whether the environment put it, to the front of `out`, and returns the number of its bytes.
+pub fn spell_tag(out: &mut [u8], tag: &(Tag, bool)) -> usize
+    requires { MOST_BYTES ≤ length out.old }
+    ensures { FillsFront (marked_bytes tag.now) out.old out.new result }
 {
     is_short(&tag.0.key);
-    write_marked(out, tag)
+    fill_marked(out, 0, tag)
 }
 
-/// An instance that is done.
-pub fn encode_instance(out: &mut Vec<u8>, instance: &Inst) -> Result<(), AllocError>
-    ensures spelled { OnOk result (out.new.items ≡ out.old.items ++ inst_bytes instance.now) }
-    ensures in_range { OnOk result (IsInstance MAX_COMPONENTS instance.now) }
-    ensures room { TakesRoom MOST_BYTES out.old out.new result }
+/// Writes an instance that is done to the front of `out`, and returns the number of its bytes.
+pub fn spell_instance(out: &mut [u8], instance: &Inst) -> usize
+    requires { MOST_BYTES ≤ length out.old }
+    ensures { FillsFront (inst_bytes instance.now) out.old out.new result }
 {
     is_short(&instance.key);
-    write_instance(out, instance)
+    fill_instance(out, 0, instance)
 }
 
 // A law: a key has few components.

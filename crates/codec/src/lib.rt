@@ -11,9 +11,11 @@ mod element;
 mod elements;
 mod encode;
 mod error;
+mod filling;
 mod image;
 mod image_reader;
 mod law;
+mod lengths;
 mod lists;
 mod payload;
 mod reader;
@@ -22,13 +24,12 @@ mod spelled;
 mod writing;
 
 pub use decode::{decode_event, decode_image, decode_payload};
-pub use elements::{
-    MOST_BYTES, encode_count, encode_fault, encode_instance, encode_item, encode_tag,
-};
-pub use encode::{encode_event, encode_image, encode_payload};
+pub use elements::{MOST_BYTES, encode_count, encode_fault, spell_instance, spell_item, spell_tag};
+pub use encode::{encode_done, encode_event, encode_group_head, encode_image, encode_payload};
 pub use error::CodecError;
 pub use image::{Image, Instances, Items, Tags};
 pub use image_reader::{ListReader, read_fault};
 pub use law::{image_is_spelled, spellings_of_commits, spellings_of_events, spellings_of_images};
+pub use lengths::{instance_length, item_length, tag_length};
 pub use payload::MOST_EVENTS;
 pub use source::{Chain, ImageBytes, ImageSource};

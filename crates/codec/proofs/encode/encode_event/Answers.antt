@@ -9,6 +9,3 @@ returns-in_ok-write_address-in-EnvItem-clause-spelled c = search (rules, IfOk-eq
 
 pub returns-in_ok-write_address-in-EnvItem-clause-kept : goal.returns-in_ok-write_address-in-EnvItem-clause-kept
 returns-in_ok-write_address-in-EnvItem-clause-kept c = search (rules, kept_in_front)
-
-pub returns-in_ok-write_instance-in-Done-clause-kept : goal.returns-in_ok-write_instance-in-Done-clause-kept
-returns-in_ok-write_instance-in-Done-clause-kept c = search (rules, kept_in_front)
