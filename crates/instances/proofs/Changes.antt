@@ -1,5 +1,5 @@
 -- The ways in which an instance moves from one state to another.
-use Rattle.std.proofs.Common.{◌≡◌, ◌∙◌, ap, sym, refl, subst, ℕ, ◌+◌, ◌-◌, ◌<◌, ◌≤◌, min, ℤ, Bool, true, false, cond, List, [], ◌∷◌, ◌++◌, length, Option, Some, None, is_some, Result, Ok, Err, OnOk, is_ok, arith}
+use Rattle.std.proofs.Common.{◌≡◌, ◌∙◌, ap, sym, refl, subst, ℕ, ◌+◌, ◌-◌, ◌<◌, ◌≤◌, min, ℤ, Bool, true, false, cond, List, [], ◌∷◌, ◌++◌, length, Option, Some, None, is_some, Result, Ok, Err, OnOk, OnErr, is_ok, arith}
 use Rattle.std.specs.Ordering.{eq_by_cmp}
 use Rattle.std.specs.FinMap.{FinMap, entries, get, insert}
 use Rattle.std.specs.List.Sorted.{IsPermutation}
@@ -159,3 +159,17 @@ module _ (old new : Keyed State) (capacity : ℕ) (now : OfStep) (key : List ℤ
 pub when_ok : {T E P : Type 0} (r : Result T E) → OnOk r P → true ≡ is_ok r → P
 when_ok (Ok done) holds ok = holds
 when_ok (Err error) holds ok = absurd (cc)
+
+-- what follows from what each outcome says
+pub if_ok : {T E P Q : Type 0} (r : Result T E) → (P → Q) → OnOk r P → OnOk r Q
+if_ok (Ok done) follows holds = follows holds
+if_ok (Err error) follows holds = tt
+
+pub if_err : {T E P Q : Type 0} (r : Result T E) → (P → Q) → OnErr r P → OnErr r Q
+if_err (Ok done) follows holds = tt
+if_err (Err error) follows holds = follows holds
+
+-- either way the instance moved to some state
+pub moves_somewhere : {T E : Type 0} (r : Result T E) (old new : OfStep) (key : List ℤ) (one two : State) → OnOk r (Moves old new key one) → OnErr r (Moves old new key two) → (to : State) × Moves old new key to
+moves_somewhere (Ok done) old new key one two ok refused = (one, ok)
+moves_somewhere (Err error) old new key one two ok refused = (two, refused)

@@ -3,6 +3,7 @@ mod Below
 mod Changes
 mod Counted
 mod Growing
+mod Joining
 mod Kept
 mod Lengths
 mod Moved

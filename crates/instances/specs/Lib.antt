@@ -8,4 +8,5 @@ pub mod OfStep
 pub mod Restored
 pub mod RestoredSteps
 pub mod Running
+pub mod Standings
 pub mod There

@@ -1,6 +1,6 @@
 use crate::State;
+use crate::state_walk::StateWalk;
 use crate::step::Step;
-use maps::KeyWalk;
 use std::marker::Model;
 use terms::{Inst, StepCollection};
 
@@ -9,7 +9,7 @@ use terms::{Inst, StepCollection};
 pub struct InstanceWalk<'a> {
     // What is left of the step with this number, and the steps after it.
     pub(crate) number: u16,
-    pub(crate) entries: KeyWalk<'a, State>,
+    pub(crate) entries: StateWalk<'a>,
     pub(crate) steps: &'a [Step],
 }
 

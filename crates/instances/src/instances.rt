@@ -2,10 +2,11 @@ ghost use Rattle.std.specs.Prelude.{◌≡◌, ◌<◌, ◌≤◌, ◌^◌, ℕ,
 ghost use Rattle.instances.specs.Known.{AllCanTake, AllGrown, AllHaveRoom, fresh_step, least, with_instance};
 
 use crate::restored::restored_steps;
+use crate::state_walk::StateWalk;
 use crate::step::Step;
 use crate::step_instances::StepInstances;
 use crate::{DoneWalk, InstanceWalk, State, TagWalk, Task, listing};
-use maps::{CollectionMap, KeyWalk};
+use maps::CollectionMap;
 use std::alloc::{AllocError, Global};
 use std::marker::Model;
 use terms::{Addr, Inst, StepCollection, Tag, TagCollection};
@@ -96,7 +97,7 @@ impl Instances {
             },
             None => InstanceWalk {
                 number: 0,
-                entries: KeyWalk::none(),
+                entries: StateWalk::none(),
                 steps: &[],
             },
         }
@@ -283,15 +284,16 @@ impl Instances {
             .finish(inst.key);
     }
 
-    /// Lets the instance of a task wait at an address.
-    pub fn park(&mut self, task: Task, addr: Addr)
+    /// Lets the instance of a task wait at an address. If memory is refused, the instance is ready.
+    pub fn park(&mut self, task: Task, addr: Addr) -> Result<(), AllocError>
         requires { state_at self.old task ≡ Some Running }
-        ensures { MovesOne self.old self.new task (Waiting addr) }
+        ensures ok { OnOk result (MovesOne self.old self.new task (Waiting addr)) }
+        ensures refused { OnErr result (MovesOne self.old self.new task Ready) }
     {
         let inst = task.into_inst();
         self.steps[inst.collection.0 as usize]
             .instances
-            .park(inst.key, addr);
+            .park_or_release(inst.key, addr)
     }
 
     /// Gives the instance of a task back.

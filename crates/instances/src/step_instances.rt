@@ -2,17 +2,19 @@ ghost use Rattle.std.specs.Prelude.{◌≡◌};
 ghost use Rattle.instances.specs.OfStep.{is_done as is_done_state, is_waiting as is_waiting_state};
 
 use crate::State;
-use maps::{KeyMap, KeyWalk};
+use crate::standing::Standing;
+use crate::state_walk::StateWalk;
+use crate::states::States;
 use std::alloc::{AllocError, Global};
 use std::collections::VecDeque;
 use std::marker::Model;
 use terms::{Addr, Key};
 
-/// The instances of one step, each with its state. No later change of an instance needs memory: its room is there from
-/// the moment when it was added.
+/// The instances of one step, each with its state. No later change of an instance needs memory, except that it begins to wait: its other room is
+/// there from the moment when it was added.
 #[derive(Drop)]
 pub(crate) struct StepInstances {
-    states: KeyMap<State>,
+    states: States,
     // The keys of the ready instances, with room for all instances. A new one goes to the end of the queue, and one
     // that already ran goes to its front. So they run in about the order in which they came, whether they had to wait
     // or not. No promise is made about that order.
@@ -47,7 +49,7 @@ impl StepInstances {
         ensures { result ≡ record { states = empty; room = 0 } }
     {
         StepInstances {
-            states: KeyMap::new(alloc),
+            states: States::new(alloc),
             ready: VecDeque::new(alloc),
             running: 0,
         }
@@ -61,7 +63,7 @@ impl StepInstances {
     }
 
     /// The instances with their states, in the order of their keys.
-    pub(crate) fn walk(&self) -> KeyWalk<'_, State>
+    pub(crate) fn walk(&self) -> StateWalk<'_>
         ensures { result ≡ entries self.now.states }
     {
         self.states.walk()
@@ -150,9 +152,8 @@ impl StepInstances {
         requires room { 0 < self.old.room }
         ensures { AddsInstance self.old self.new key Ready }
     {
-        if self.states.insert(key, State::Ready).is_ok() {
-            self.ready.push_back_reserved(key);
-        }
+        self.states.add(key, false);
+        self.ready.push_back_reserved(key);
     }
 
     // Adds an instance that is done. Room for it among the ready ones is kept, as for all others.
@@ -161,7 +162,7 @@ impl StepInstances {
         requires room { 0 < self.old.room }
         ensures { AddsInstance self.old self.new key Done }
     {
-        let _added = self.states.insert(key, State::Done);
+        self.states.add(key, true);
     }
 
     /// Lets one of the ready instances run, by its number among them, and returns its key.
@@ -171,7 +172,7 @@ impl StepInstances {
         ensures claimed { IfSome result (λ key. (get self.old.states key ≡ Some Ready) × Moves self.old self.new key Running) }
     {
         let key = self.ready.swap_remove_front(at)?;
-        self.states.set(key, State::Running);
+        self.states.set(key, Standing::Running);
         self.running += 1;
         Some(key)
     }
@@ -181,17 +182,34 @@ impl StepInstances {
         requires { get self.old.states key ≡ Some Running }
         ensures { Moves self.old self.new key Done }
     {
-        self.states.set(key, State::Done);
+        self.states.set(key, Standing::Done);
         self.running -= 1;
     }
 
-    /// Lets an instance that runs wait at an address.
-    pub(crate) fn park(&mut self, key: Key, addr: Addr)
+    // Lets an instance that runs wait at an address. An error changes nothing.
+    fn park(&mut self, key: Key, addr: Addr) -> Result<(), AllocError>
         requires { get self.old.states key ≡ Some Running }
-        ensures { Moves self.old self.new key (Waiting addr) }
+        ensures ok { OnOk result (Moves self.old self.new key (Waiting addr)) }
+        ensures refused { OnErr result (self.new ≡ self.old) }
     {
-        self.states.set(key, State::Waiting(addr));
+        self.states.wait(key, addr)?;
         self.running -= 1;
+        Ok(())
+    }
+
+    /// Lets an instance that runs wait at an address. If memory is refused, it is given back.
+    pub(crate) fn park_or_release(&mut self, key: Key, addr: Addr) -> Result<(), AllocError>
+        requires { get self.old.states key ≡ Some Running }
+        ensures ok { OnOk result (Moves self.old self.new key (Waiting addr)) }
+        ensures refused { OnErr result (Moves self.old self.new key Ready) }
+    {
+        match self.park(key, addr) {
+            Ok(()) => Ok(()),
+            Err(error) => {
+                self.release(key);
+                Err(error)
+            }
+        }
     }
 
     /// Gives back an instance that runs.
@@ -199,7 +217,7 @@ impl StepInstances {
         requires { get self.old.states key ≡ Some Running }
         ensures { Moves self.old self.new key Ready }
     {
-        self.states.set(key, State::Ready);
+        self.states.set(key, Standing::Ready);
         self.ready.push_front_reserved(key);
         self.running -= 1;
     }
@@ -209,7 +227,7 @@ impl StepInstances {
         requires { IsWaiting (get self.old.states key) }
         ensures { Moves self.old self.new key Ready }
     {
-        self.states.set(key, State::Ready);
+        self.states.wake(key);
         self.ready.push_front_reserved(key);
     }
 }

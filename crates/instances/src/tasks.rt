@@ -19,7 +19,7 @@ impl Model for Tasks {
 }
 
 impl Tasks {
-    ghost use Rattle.std.specs.Prelude.{◌≡◌, ◌==◌, ◌++◌, ◌∷◌, [], IfErr, IfOk, MatchOption, OnOk, length, slice_get};
+    ghost use Rattle.std.specs.Prelude.{◌≡◌, ◌≤◌, ◌==◌, ◌++◌, ◌∷◌, [], IfErr, IfOk, MatchOption, OnErr, OnOk, drop, length, slice_get, take};
 
     /// No task yet, and room for `count` tasks at once.
     pub fn with_room(alloc: Global, count: usize) -> Result<Tasks, AllocError>
@@ -73,6 +73,16 @@ impl Tasks {
     {
         let inst = self.insts.pop_back()?;
         Some(Task { inst })
+    }
+
+    /// Takes out the tasks after the first `count`. If there is no memory, all of them stay.
+    pub fn split_off(&mut self, count: usize) -> Result<Tasks, AllocError>
+        requires { count ≤ length self.old }
+        ensures ok { IfOk result (λ others. (self.new ≡ take count self.old) × (others ≡ drop count self.old)) }
+        ensures err { OnErr result (self.new ≡ self.old) }
+    {
+        let insts = self.insts.split_off(count)?;
+        Ok(Tasks { insts })
     }
 
     /// Their number.

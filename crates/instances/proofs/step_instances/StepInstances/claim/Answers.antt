@@ -6,8 +6,8 @@ use Rattle.instances.specs.declared.state.State.TheVariants.{Running}
 use Rattle.instances.proofs.Changes.{is_one, starts, moves, seen_of}
 use Rattle.instances.proofs.step_instances.StepInstances.claim.Goals as goal
 
-pub set-requires : goal.set-requires
-set-requires c = ap is_some (is_one _ c.in_ok-key.key _ _ _ c.self.invariant _ c.in_ok-key.ensures.permutation)
+pub set-requires-clause-there : goal.set-requires-clause-there
+set-requires-clause-there c = ap is_some (is_one _ c.in_ok-key.key _ _ _ c.self.invariant _ c.in_ok-key.ensures.permutation)
 
 pub invariant_of-self-2 : goal.invariant_of-self-2
 invariant_of-self-2 c =

@@ -1,7 +1,9 @@
 use Rattle.std.proofs.Common.{◌∙◌, ◌-◌, ap, sym, subst, refl, is_some}
 use Rattle.std.specs.FinMap.{get}
 use Rattle.std.specs.VecDeque.{deque_capacity}
+use Rattle.maps.specs.Keyed.{Keyed}
 use Rattle.instances.specs.OfStep.{IsKept}
+use Rattle.instances.specs.declared.state.State.{State}
 use Rattle.instances.specs.declared.state.State.TheVariants.{Waiting}
 use Rattle.instances.proofs.Changes.{one_runs, stops, moves}
 use Rattle.instances.proofs.step_instances.StepInstances.park.Goals as goal
@@ -11,10 +13,14 @@ overflow_sub-self c = one_runs _ c.args.key _ _ _ c.self.invariant (ap (λ seen.
 
 pub invariant_of-self : goal.invariant_of-self
 invariant_of-self c =
-    subst (λ states. IsKept states c.self.inside.ready.items (c.self.inside.running - 1) (deque_capacity c.self.inside.ready)) (sym (ap (λ s. s.items) c.set.ensures))
+    subst (λ (s : Keyed State). IsKept s.items c.self.inside.ready.items c.self.inside.running (deque_capacity c.self.inside.ready)) (sym c.in_err-wait.ensures.refused) c.self.invariant
+
+pub invariant_of-self-2 : goal.invariant_of-self-2
+invariant_of-self-2 c =
+    subst (λ states. IsKept states c.self.inside.ready.items (c.self.inside.running - 1) (deque_capacity c.self.inside.ready)) (sym (ap (λ s. s.items) c.in_ok-wait.ensures.ok))
     (stops _ c.args.key _ _ _ c.self.invariant (Waiting c.args.addr) (ap (λ seen. get seen.states c.args.key) c.self.view_is ∙ c.requires) refl refl)
 
-pub returns : goal.returns
-returns c =
-    moves c.self.inside.states c.set.new.self (deque_capacity c.self.inside.ready) c.args.self.now c.args.key c.self.view_is (Waiting c.args.addr) c.self.inside.ready.items c.self.inside.running c.self.invariant
-    (ap is_some (ap (λ seen. get seen.states c.args.key) c.self.view_is ∙ c.requires)) c.set.ensures
+pub returns-clause-ok : goal.returns-clause-ok
+returns-clause-ok c =
+    moves c.self.inside.states c.wait.new.self (deque_capacity c.self.inside.ready) c.args.self.now c.args.key c.self.view_is (Waiting c.args.addr) c.self.inside.ready.items c.self.inside.running c.self.invariant
+    (ap is_some (ap (λ seen. get seen.states c.args.key) c.self.view_is ∙ c.requires)) c.in_ok-wait.ensures.ok

@@ -14,11 +14,11 @@ push_front_reserved-requires c =
 pub invariant_of-self : goal.invariant_of-self
 invariant_of-self c =
     let waits = subst (λ seen. IsWaiting (get seen.states c.args.key)) (sym c.self.view_is) c.requires in
-    rw (c.push_front_reserved.ensures.items, c.push_front_reserved.ensures.capacity, c.set.ensures) (wakes _ c.args.key _ _ _ c.self.invariant waits)
+    rw (c.push_front_reserved.ensures.items, c.push_front_reserved.ensures.capacity, c.wake.ensures) (wakes _ c.args.key _ _ _ c.self.invariant waits)
 
 pub returns : goal.returns
 returns c =
     let waits = subst (λ seen. IsWaiting (get seen.states c.args.key)) (sym c.self.view_is) c.requires in
-    subst (λ capacity. Moves c.args.self.now (seen_of c.set.new.self capacity) c.args.key Ready) (sym c.push_front_reserved.ensures.capacity)
-    (moves c.self.inside.states c.set.new.self (deque_capacity c.self.inside.ready) c.args.self.now c.args.key c.self.view_is Ready c.self.inside.ready.items c.self.inside.running c.self.invariant
-    (waits_not_ready (get c.self.inside.states.items c.args.key) waits).2 c.set.ensures)
+    subst (λ capacity. Moves c.args.self.now (seen_of c.wake.new.self capacity) c.args.key Ready) (sym c.push_front_reserved.ensures.capacity)
+    (moves c.self.inside.states c.wake.new.self (deque_capacity c.self.inside.ready) c.args.self.now c.args.key c.self.view_is Ready c.self.inside.ready.items c.self.inside.running c.self.invariant
+    (waits_not_ready (get c.self.inside.states.items c.args.key) waits).2 c.wake.ensures)
