@@ -5,8 +5,9 @@ use Rattle.std.proofs.lemmas.List.Elements.{All-append, All-cons, All-nil}
 use Rattle.std.proofs.lemmas.Bool.{cases_eq}
 use Rattle.byteorder.specs.Endian.{little_bytes}
 use Rattle.disk.specs.declared.side.Side.{Side}
-use Rattle.disk.specs.File.{File, WriteLeaves, overwritten}
-use Rattle.disk.specs.Time.{Contents, OtherStays, OtherMayBe, LeavesOnly}
+use Rattle.disk.specs.File.{File, MayLeave, WriteLeaves, at_rest, overwritten}
+use Rattle.disk.specs.Settled.{settled_only}
+use Rattle.disk.specs.Time.{Contents, MayLeaveNow, OtherStays, OtherMayBe, LeavesOnly}
 use Rattle.disk.specs.Moments.{joined, other_before}
 use Rattle.journal.specs.Records.{record_of, records, IsShort, StandsFor}
 use Rattle.journal.specs.Journal.{BeforeOrAfter}
@@ -188,10 +189,10 @@ module _ {D : Type 0} (moment : D → ℕ) (left_at : D → ℕ → Contents →
       (λ contents leaves. (crash_at_gate start content payloads end stands ends payload short ahead (contents side) leaves.0, other_before side before between stays contents leaves.1))
 
   -- the other file
-  pub other_moments : (P Q : Contents → Type 0) → LeavesOnly moment left_at old mid (λ contents. P contents × OtherMayBe side before contents)
-      → LeavesOnly moment left_at mid new (λ contents. Q contents × OtherMayBe side between contents) → LeavesOnly moment left_at old new (OtherMayBe side before)
-  other_moments P Q first second =
-      joined moment left_at old mid new _ _ _ first second (λ contents leaves. leaves.1) (λ contents leaves. other_before side before between stays contents leaves.1)
+  pub other_moments : (P : Contents → Type 0) → LeavesOnly moment left_at old mid (OtherMayBe side before)
+      → LeavesOnly moment left_at mid new (λ contents. P contents × OtherMayBe side between contents) → LeavesOnly moment left_at old new (OtherMayBe side before)
+  other_moments P first second =
+      joined moment left_at old mid new _ _ _ first second (λ contents leaves. leaves) (λ contents leaves. other_before side before between stays contents leaves.1)
 
 -- ---- the first gate of a journal
 
@@ -203,6 +204,23 @@ unwritten content at count le c is = record {
   length_stays = λ within. ap length is;
   back = λ within. ap (drop (at + count)) is;
 }
+
+-- bytes that are where they would be written
+pub there_already : (content : List ℕ) (at : ℕ) (bytes : List ℕ) → bytes ≡ take (length bytes) (drop at content) → overwritten content at bytes ≡ content
+there_already content at bytes is =
+    ap (λ (l : List ℕ). take at content ++ l ++ drop (at + length bytes) content) is
+    ∙ append_assoc (take at content) (take (length bytes) (drop at content)) (drop (at + length bytes) content)
+    ∙ ap (λ (l : List ℕ). take at content ++ (take (length bytes) (drop at content) ++ l)) (sym (drop-drop (length bytes) at content))
+    ∙ ap (λ (l : List ℕ). take at content ++ l) (take-append-drop (length bytes) (drop at content))
+    ∙ take-append-drop at content
+
+-- what a crash leaves of files that are only looked at, before bytes may be written to one of them
+module _ (side : Side) (files : Side → File) (content : List ℕ) (is : files side ≡ at_rest content) (at count : ℕ) (le : at ≤ length content) where
+  pub looked_at : (contents : Contents) → MayLeaveNow files contents → WriteLeaves content at count (contents side) × OtherMayBe side files contents
+  looked_at contents now = (
+    unwritten content at count le (contents side) (settled_only content (contents side) (subst (λ (f : File). MayLeave f.durable (contents side)) is (now side))),
+    λ other differs. now other,
+  )
 
 -- behind the first closed gate there is no payload yet
 pub stands_for_none : (content : List ℕ) (at : ℕ) → at ≤ length content → StandsFor (drop at (overwritten content at (0 ∷ []))) []

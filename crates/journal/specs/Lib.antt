@@ -2,4 +2,5 @@ pub mod Errors
 pub mod Journal
 pub mod Places
 pub mod Records
+pub mod Staged
 pub mod WholeRecords

@@ -1,8 +1,8 @@
 ghost use Rattle.std.specs.Prelude.{◌≡◌, ◌≢◌, ◌≤◌, ◌<◌, ◌+◌, ◌^◌, ◌↔◌, ◌⊎◌, [], ◌∷◌, ◌++◌, List, ℕ, length, take, drop, replicate, IsTrue, IfOk, OnOk, OnErr, IsErrOf, Err};
 ghost use Rattle.disk.specs.File.{WriteLeaves, at_rest, overwritten};
 ghost use Rattle.disk.specs.Time.{Contents, MayLeaveNow, OtherStays, OtherMayBe, LeavesOnly, KeepsAll, AtOnce, HasCauses};
-ghost use Rattle.byteorder.specs.Endian.{little_bytes};
 ghost use Rattle.journal.specs.Records.{record_of};
+ghost use Rattle.journal.specs.Staged.{ground_bytes};
 ghost use Rattle.journal.specs.declared.journal.TheConstants.{LIMIT};
 ghost use Rattle.journal.specs.declared.error.JournalError.{JournalError};
 ghost use Rattle.journal.specs.declared.error.JournalError.TheVariants.{Device, NoMemory, Damaged, Full};
@@ -10,10 +10,10 @@ ghost use Rattle.journal.specs.declared.error.AppendError.TheVariants.{Before, W
 ghost use Rattle.disk.specs.declared.error.DiskError.TheVariants as DiskError;
 
 use crate::records::HEAD;
-use crate::{AppendError, JournalError};
-use byteorder::{ByteOrder, LittleEndian};
+use crate::staging::{spell, stage};
+use crate::{AppendError, Ground, JournalError};
 use disk::{Disk, Side, write_synced};
-use std::alloc::{AllocError, Global};
+use std::alloc::Global;
 
 /// The position of the closed gate that ends a journal is below this limit.
 pub const LIMIT: u64 = 1 << 30;
@@ -27,6 +27,8 @@ pub struct Journal {
     pub end: u64,
     // Holds a record while it is written.
     buffer: Vec<u8>,
+    // Holds what lies where a record may have been laid ahead.
+    found: Vec<u8>,
 }
 
 impl Journal {
@@ -41,6 +43,7 @@ impl Journal {
             side,
             end,
             buffer: Vec::new(alloc),
+            found: Vec::new(alloc),
         }
     }
 
@@ -108,29 +111,34 @@ impl Journal {
         ensures damaged { (place : ℕ) → IsErrOf result (Damaged place) → ⊥ }
         ensures causes { HasCauses D.failures D.refusals Device NoMemory disk.old disk.new result }
     {
-        self.try_append(disk, payload, 0)?;
+        let nothing = Ground::Lay {
+            ahead: &[],
+            zeros: 0,
+        };
+        self.try_append(disk, payload, nothing)?;
         Ok(())
     }
 
-    /// `append`, with an error that says whether it came before any call of the disk; and with ground, which is this number of
-    /// zeros behind the closed gate that follows the record.
+    /// `append`, with an error that says whether it came before any call of the disk; and with ground, which says what may lie
+    /// behind the closed gate already, and what is laid behind the closed gate that follows the record.
     ///
-    /// Ground is written by the same write as the record. It means nothing to a reader, and the limit does not count it: the next
-    /// records go over it, so their syncs need not make the file longer. `NoMemory` is returned if there is no memory for the
-    /// record and its ground together.
+    /// What is laid is written by the same write as the record. It means nothing to a reader, and the limit does not count it. Zeros are laid
+    /// so that the next records go over them, and their syncs need not make the file longer; the bytes of the next records, so
+    /// that these open their gates alone. `NoMemory` is returned if there is no memory for the record and its ground together, or
+    /// for a second buffer to look at what lies there.
     ///
     /// After `Before` the next append may follow; after `Within` scan the file again first.
     pub fn try_append<D: Disk>(
         &mut self,
         disk: &mut D,
         payload: &[u8],
-        zeros: usize,
+        behind: Ground<'_>,
     ) -> Result<(), AppendError>
         requires { IsTrue D.is_honest → self.old.end < length (D.files disk.old self.old.side).content }
 
         ensures added { IsTrue D.is_honest → (start : ℕ) (payloads : List (List ℕ)) → IsAt self.old start (D.files disk.old self.old.side).content payloads
             → OnOk result (IsAt self.new start (D.files disk.new self.old.side).content (payloads ++ payload.now ∷ [])) }
-        ensures file { IsTrue D.is_honest → OnOk result (D.files disk.new self.old.side ≡ at_rest (overwritten (D.files disk.old self.old.side).content self.old.end (record_of payload.now ++ 0 ∷ replicate zeros 0))) }
+        ensures file { IsTrue D.is_honest → OnOk result (D.files disk.new self.old.side ≡ at_rest (overwritten (D.files disk.old self.old.side).content self.old.end (record_of payload.now ++ 0 ∷ ground_bytes behind.entry))) }
         ensures other { IsTrue D.is_honest → OtherStays self.old.side (D.files disk.old) (D.files disk.new) }
         ensures side { self.new.side ≡ self.old.side }
         ensures end { OnErr result (self.new.end ≡ self.old.end) }
@@ -150,8 +158,8 @@ impl Journal {
         if !fits(self.end, payload.len()) {
             return Err(AppendError::Before(JournalError::Full));
         }
-        spell(&mut self.buffer, payload, zeros)?;
-        write_synced(disk, self.side, self.end + 1, &self.buffer)?;
+        spell(&mut self.buffer, &mut self.found, payload, behind)?;
+        stage(disk, self.side, self.end + 1, &self.buffer, &mut self.found)?;
         write_synced(disk, self.side, self.end, &[1])?;
         self.end += (HEAD + payload.len()) as u64;
         Ok(())
@@ -164,21 +172,4 @@ fn fits(end: u64, count: usize) -> bool
 {
     let room = LIMIT.saturating_sub(end);
     (count as u64) < room && count as u64 + (HEAD as u64) < room
-}
-
-// Puts what follows the gate of a record into the buffer: the length, the payload, the closed gate of the next record, and
-// this number of zeros.
-fn spell(buffer: &mut Vec<u8>, payload: &[u8], zeros: usize) -> Result<(), AllocError>
-    requires { length payload.now < 2 ^ 32 }
-    ensures { OnOk result (buffer.new.items ≡ little_bytes 4 (length payload.now) ++ payload.now ++ 0 ∷ replicate zeros 0) }
-{
-    let most = (payload.len() + HEAD).saturating_add(zeros);
-    buffer.clear();
-    buffer.reserve(most)?;
-    let mut count = [0; 4];
-    LittleEndian::write_u32(&mut count, payload.len() as u32);
-    buffer.extend_from_slice(&count)?;
-    buffer.extend_from_slice(payload)?;
-    buffer.push(0)?;
-    buffer.resize(most, 0)
 }

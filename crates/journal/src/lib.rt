@@ -12,9 +12,11 @@ mod law;
 mod payloads;
 mod records;
 mod scan;
+mod staging;
 
 pub use error::{AppendError, JournalError};
 pub use journal::{Journal, LIMIT};
 pub use law::{one_meaning, records_lead};
 pub use payloads::Payloads;
 pub use records::{begins_closed, first_payload, record_length};
+pub use staging::{Ground, spell_ahead};

@@ -14,6 +14,7 @@ mod OpenedHeads
 mod OpenedSides
 mod PiecesMoments
 mod Ready
+pub mod Short
 mod TurnedLengths
 mod TurnedSides
 mod TurnedStores

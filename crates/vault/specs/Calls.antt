@@ -1,5 +1,5 @@
 -- What the calls of a vault promise: why they return an error and why a vault halts, what a refusal leaves, and what is written.
-use Rattle.std.specs.Prelude.{◌≡◌, ◌≢◌, ◌⊎◌, ◌↔◌, ◌≤◌, ◌+◌, ◌++◌, ◌∷◌, [], ℕ, Bool, List, length, replicate, true, false, Result, IfOk, OnOk, OnErr, IfErr, IsErrOf}
+use Rattle.std.specs.Prelude.{◌≡◌, ◌≢◌, ◌⊎◌, ◌↔◌, ◌≤◌, ◌<◌, ◌+◌, ◌*◌, ◌++◌, ◌∷◌, [], ℕ, Bool, List, length, replicate, true, false, Result, IfOk, OnOk, OnErr, IfErr, IsErrOf}
 use Rattle.disk.specs.declared.side.Side.{Side}
 use Rattle.disk.specs.declared.side.Side.TheVariants.{A, B}
 use Rattle.disk.specs.File.{File, at_rest, overwritten}
@@ -8,7 +8,7 @@ use Rattle.graph.specs.Graph.{Graph}
 use Rattle.graph.specs.Canonical.{canonical}
 use Rattle.graph.specs.Reads.{Reads}
 use Rattle.journal.specs.declared.journal.TheConstants.{LIMIT}
-use Rattle.vault.specs.declared.append.TheConstants.{FIRST_GROUND}
+use Rattle.vault.specs.declared.append.TheConstants.{FIRST_GROUND, GROUND}
 use Rattle.vault.specs.declared.vault.Vault.{Vault}
 use Rattle.vault.specs.declared.error.VaultError.{VaultError}
 use Rattle.vault.specs.declared.error.VaultError.TheVariants.{Device, NoMemory, Full, Halted, Exists}
@@ -52,15 +52,21 @@ pub record Appended {D T : Type 0} (old new : Vault D) (bytes : List ℕ) (resul
   pub generation : new.generation ≡ old.generation
   pub text : new.text ≡ old.text
 
--- the zeros laid behind the closed gate at `end` are none; or that gate does not lie below `FIRST_GROUND`, and they end within the limit
-abbrev pub LaysGround : ℕ → ℕ → Type 0
-LaysGround end zeros = (zeros ≡ 0) ⊎ ((FIRST_GROUND ≤ end) × (end + 1 + zeros ≤ LIMIT))
+-- what an append lays behind the closed gate at `end`: nothing; or these bytes and then zeros, which end within the limit; and zeros only where
+-- that gate does not lie below `FIRST_GROUND`
+abbrev pub LaysBehind : ℕ → List ℕ → List ℕ → Type 0
+LaysBehind end ahead behind = (behind ≡ []) ⊎ ((zeros : ℕ) × (behind ≡ ahead ++ replicate zeros 0) × (end + 1 + length behind ≤ LIMIT) × ((zeros ≡ 0) ⊎ (FIRST_GROUND ≤ end)))
 
--- What an append writes, on an honest disk: its record, a closed gate and the zeros behind it, over the gate that ended the journal of the
+-- zeros are not due behind a record of `count` bytes and the `ahead` bytes that are laid ahead of it: the gate that follows the record lies below `FIRST_GROUND`, or zeros
+-- are known to lie up to `laid`, or both are too long for many to follow, or the limit is reached
+abbrev pub AreNotDue : (end count ahead laid : ℕ) → Type 0
+AreNotDue end count ahead laid = (end + count < FIRST_GROUND) ⊎ (end + count + ahead < laid) ⊎ (GROUND < (count + ahead) * 8) ⊎ (LIMIT ≤ end + count + ahead + 1)
+
+-- What an append writes, on an honest disk: its record, a closed gate and what it lays behind it, over the gate that ended the journal of the
 -- live side. The other file stays as it was, whatever is returned; and if the vault is not halted, it is ready for the next call.
-pub record WritesRecord {D T : Type 0} (files : D → Side → File) (old new : Vault D) (bytes : List ℕ) (result : Result T VaultError) : Type 0 where
-  pub written : OnOk result ((zeros : ℕ) × LaysGround new.journal.end zeros
-      × (files new.disk old.journal.side ≡ at_rest (overwritten (files old.disk old.journal.side).content old.journal.end (bytes ++ 0 ∷ replicate zeros 0))))
+pub record WritesRecord {D T : Type 0} (files : D → Side → File) (old new : Vault D) (bytes ahead : List ℕ) (result : Result T VaultError) : Type 0 where
+  pub written : OnOk result ((behind : List ℕ) × LaysBehind new.journal.end ahead behind
+      × (files new.disk old.journal.side ≡ at_rest (overwritten (files old.disk old.journal.side).content old.journal.end (bytes ++ 0 ∷ behind))))
   pub other : OtherStays old.journal.side (files old.disk) (files new.disk)
   pub ready : new.halted ≡ false → IsReady files new
 

@@ -1,4 +1,5 @@
-ghost use Rattle.std.specs.Prelude.{◌≡◌, ◌≢◌, ◌≤◌, ◌<◌, ◌+◌, ◌*◌, ◌^◌, ◌⊎◌, ◌↔◌, [], ◌∷◌, false, length, IsTrue, OnOk};
+ghost use Rattle.std.specs.Prelude.{◌≡◌, ◌≢◌, ◌≤◌, ◌<◌, ◌+◌, ◌*◌, ◌^◌, ◌⊎◌, ◌↔◌, ◌++◌, [], ◌∷◌, ℕ, false, length, replicate, IsTrue, OnOk, IfErr};
+ghost use Rattle.byteorder.specs.Endian.{little_bytes};
 ghost use Rattle.disk.specs.Time.{LeavesOnly};
 ghost use Rattle.terms.specs.Facts.{facts, environment};
 ghost use Rattle.terms.specs.Sets.{Facts, with_facts};
@@ -7,11 +8,13 @@ ghost use Rattle.codec.specs.declared.payload.TheConstants.{MOST_EVENTS};
 ghost use Rattle.codec.specs.Commits.{commit_bytes};
 ghost use Rattle.codec.specs.Spelling.{HasFewPuts};
 ghost use Rattle.journal.specs.Records.{record_of};
+ghost use Rattle.journal.specs.Staged.{ground_bytes};
+ghost use Rattle.journal.specs.declared.staging.Ground.TheVariants.{Laid};
 ghost use Rattle.journal.specs.declared.error.JournalError.TheVariants as JournalError;
 ghost use Rattle.journal.specs.declared.journal.TheConstants.{LIMIT};
 ghost use Rattle.graph.specs.Graph.{Graph};
 ghost use Rattle.graph.specs.Fits.{Fits, FitAfter};
-ghost use Rattle.vault.specs.Calls.{Halts, Appended, LaysGround, WritesRecord, IsFullWhere};
+ghost use Rattle.vault.specs.Calls.{Halts, Appended, LaysBehind, AreNotDue, WritesRecord, IsFullWhere};
 ghost use Rattle.vault.specs.Opened.{contents_of};
 ghost use Rattle.vault.specs.Store.{Holds, HasGates, IsReady, StandsBeforeOrAfter};
 ghost use Rattle.vault.specs.declared.append.TheConstants.{FIRST_GROUND, GROUND};
@@ -21,16 +24,17 @@ use crate::{Vault, VaultError};
 use codec::encode_payload;
 use disk::Disk;
 use graph::fitting;
-use journal::{AppendError, JournalError, LIMIT, record_length};
+use journal::{AppendError, Ground, JournalError, LIMIT, record_length};
 use sides::sides_go_on;
 use std::array;
 use terms::Event;
 
-/// No ground, which is zeros behind the journal for its next records to be written over, is laid while the closed gate in front
-/// of it is below this position.
+/// An append lays no zeros, for the next records to be written over, while the closed gate that follows its record is below this
+/// position.
 pub const FIRST_GROUND: u64 = 65_536;
 
-// The number of zeros that are laid at once. A record longer than an eighth of it lays none, since few records would go over them.
+// The number of zeros that are laid at once. A record that is longer than an eighth of it, with what it lays ahead, lays none, since few
+// records would go over them.
 const GROUND: u64 = 65_536;
 
 impl<D: Disk> Vault<D> {
@@ -52,21 +56,25 @@ impl<D: Disk> Vault<D> {
             → LeavesOnly D.moment D.left_at self.old.disk self.new.disk HasGates }
 
         // What it writes, how it leaves the vault, and why it is refused.
-        ensures written { IsTrue D.is_honest → WritesRecord D.files self.old self.new (record_of (commit_bytes (event.now ∷ []))) result }
+        ensures written { IsTrue D.is_honest → WritesRecord D.files self.old self.new (record_of (commit_bytes (event.now ∷ []))) [] result }
         ensures appended { Appended self.old self.new (record_of (commit_bytes (event.now ∷ []))) result }
         ensures full { IsFullWhere self.old.halted (LIMIT ≤ self.old.journal.end + length (record_of (commit_bytes (event.now ∷ [])))) result }
         ensures halting { Halts D.failures D.refusals self.old self.new result }
     {
-        self.append_all(array::from_ref(event))
+        self.append_all(array::from_ref(event), &[])
     }
 
     /// Appends a commit of 1 to 64 events that fit, one after another, what the store holds. After `Ok` it is acknowledged: every crash leaves
-    /// all of it. Behind its record it may lay ground, from `FIRST_GROUND` on.
+    /// all of it.
+    ///
+    /// Behind the closed gate that follows its record it may lay `ahead`, which is what `spell_ahead` gives of the commits that are to follow:
+    /// the append of such a commit then opens its gate alone, with one sync in place of two. What lies there is looked at, never
+    /// believed, and stands for nothing until then. From `FIRST_GROUND` on it may lay zeros too.
     ///
     /// The vault halts exactly if a call of the disk returned an error; then the whole commit may be there or nothing of it.
     /// Every other error leaves the vault and its disk as they were: `Full`, `Halted`, and `NoMemory` if memory for the commit, or
-    /// for its record with the ground, is refused.
-    pub fn append_all(&mut self, commit: &[Event]) -> Result<(), VaultError>
+    /// for its record with what is laid behind it, is refused.
+    pub fn append_all(&mut self, commit: &[Event], ahead: &[u8]) -> Result<(), VaultError>
         requires some { 1 ≤ length commit.now }
         requires few { length commit.now ≤ MOST_EVENTS }
         requires puts { AllByRecursion HasFewPuts commit.now }
@@ -84,7 +92,7 @@ impl<D: Disk> Vault<D> {
             → LeavesOnly D.moment D.left_at self.old.disk self.new.disk HasGates }
 
         // What it writes, how it leaves the vault, and why it is refused.
-        ensures written { IsTrue D.is_honest → WritesRecord D.files self.old self.new (record_of (commit_bytes commit.now)) result }
+        ensures written { IsTrue D.is_honest → WritesRecord D.files self.old self.new (record_of (commit_bytes commit.now)) ahead.now result }
         ensures appended { Appended self.old self.new (record_of (commit_bytes commit.now)) result }
         ensures full { IsFullWhere self.old.halted (LIMIT ≤ self.old.journal.end + length (record_of (commit_bytes commit.now))) result }
         ensures halting { Halts D.failures D.refusals self.old self.new result }
@@ -96,38 +104,115 @@ impl<D: Disk> Vault<D> {
         }
         self.buffer.clear();
         encode_payload(&mut self.buffer, commit)?;
-        let zeros = zeros_behind(self.journal.end, record_length(&self.buffer), self.laid);
-        match self.journal.try_append(&mut self.disk, &self.buffer, zeros) {
+        let count = record_length(&self.buffer);
+        let behind = ground_behind(self.journal.end, count, ahead, self.laid, self.ahead_to);
+        match self
+            .journal
+            .try_append(&mut self.disk, &self.buffer, behind)
+        {
             Ok(()) => {
-                self.laid = laid_behind(self.laid, self.journal.end, zeros);
+                self.laid = zeros_to(self.laid, self.journal.end, behind);
+                self.ahead_to = records_to(self.ahead_to, self.journal.end, behind);
                 Ok(())
             }
-            Err(AppendError::Before(cause)) => Err(refusal(cause)),
+            Err(AppendError::Before(cause)) => {
+                self.ahead_to = 0;
+                Err(refusal(cause))
+            }
             Err(AppendError::Within(error)) => {
                 self.halted = true;
+                self.ahead_to = 0;
                 Err(error.into())
             }
         }
     }
 }
 
-// How many zeros a record of `count` bytes lays behind the closed gate that follows it. The journal ended at `end`, and zeros are
-// known to lie up to `laid`.
-fn zeros_behind(end: u64, count: u64, laid: u64) -> usize
-    ensures lays { LaysGround (end + count) result }
-    ensures most { result ≤ GROUND }
-    ensures none { (result ≡ 0) ↔ ((end + count < FIRST_GROUND) ⊎ (end + count < laid) ⊎ (GROUND < count * 8) ⊎ (LIMIT ≤ end + count + 1)) }
+/// Adds what `append_all` lays ahead for a commit: its record, all but the gate, and the closed gate after it. The buffer's bytes do not
+/// stay.
+///
+/// `NoMemory` is returned if memory is refused; then a part of it may have been added.
+pub fn spell_ahead(
+    ahead: &mut Vec<u8>,
+    buffer: &mut Vec<u8>,
+    commit: &[Event],
+) -> Result<(), VaultError>
+    requires some { 1 ≤ length commit.now }
+    requires few { length commit.now ≤ MOST_EVENTS }
+    requires puts { AllByRecursion HasFewPuts commit.now }
+    ensures added { OnOk result (ahead.new.items ≡ ahead.old.items ++ little_bytes 4 (length (commit_bytes commit.now)) ++ commit_bytes commit.now ++ 0 ∷ []) }
+    ensures error { IfErr result (λ error. error ≡ NoMemory) }
 {
-    let gate = end.saturating_add(count);
-    if gate < FIRST_GROUND || gate < laid || count > GROUND / 8 {
-        return 0;
-    }
-    LIMIT.saturating_sub(gate).saturating_sub(1).min(GROUND) as usize
+    buffer.clear();
+    encode_payload(buffer, commit)?;
+    journal::spell_ahead(ahead, buffer)?;
+    Ok(())
 }
 
-// Up to where zeros are known to lie, once this number of them was laid behind the closed gate at `end`.
+// What a record of `count` bytes finds and leaves behind its gates: it may have been laid ahead, while the journal ends below `ahead_to`; or it
+// lays `ahead`, if that ends within the limit, and zeros. The journal ended at `end`, and zeros are known to lie up to `laid`.
+fn ground_behind<'a>(end: u64, count: u64, ahead: &'a [u8], laid: u64, ahead_to: u64) -> Ground<'a>
+    ensures lays { LaysBehind (end + count) ahead.now (ground_bytes result) }
+    ensures laid { (result ≡ Laid) ↔ (end < ahead_to) }
+    ensures all { ahead_to ≤ end → end + count + length ahead.now < LIMIT → (zeros : ℕ) × (ground_bytes result ≡ ahead.now ++ replicate zeros 0) × ((zeros ≡ 0) ↔ AreNotDue end count (length ahead.now) laid) }
+{
+    if end < ahead_to {
+        return Ground::Laid;
+    }
+    let length = ahead.len() as u64;
+    if end.saturating_add(count).saturating_add(length) >= LIMIT {
+        return Ground::Lay {
+            ahead: &[],
+            zeros: 0,
+        };
+    }
+    let zeros = zeros_behind(end, count, length, laid);
+    Ground::Lay { ahead, zeros }
+}
+
+// How many zeros a record of `count` bytes lays behind what it lays ahead, `ahead` bytes behind the closed gate that follows it. The journal
+// ended at `end`, and zeros are known to lie up to `laid`.
+fn zeros_behind(end: u64, count: u64, ahead: u64, laid: u64) -> usize
+    ensures lays { (result ≡ 0) ⊎ ((FIRST_GROUND ≤ end + count) × (end + count + ahead + 1 + result ≤ LIMIT)) }
+    ensures most { result ≤ GROUND }
+    ensures none { (result ≡ 0) ↔ AreNotDue end count ahead laid }
+{
+    let gate = end.saturating_add(count);
+    let last = gate.saturating_add(ahead);
+    if gate < FIRST_GROUND || last < laid || count.saturating_add(ahead) > GROUND / 8 {
+        return 0;
+    }
+    LIMIT.saturating_sub(last).saturating_sub(1).min(GROUND) as usize
+}
+
+// Up to where zeros are known to lie, once this was laid behind the closed gate at `end`.
+fn zeros_to(laid: u64, end: u64, behind: Ground<'_>) -> u64
+    ensures finds { behind.entry ≡ Laid → result ≡ laid }
+    ensures lays { behind.entry ≢ Laid → (result ≡ laid) ⊎ (end ≤ result) }
+{
+    match behind {
+        Ground::Lay { ahead, zeros } => {
+            laid_behind(laid, end.saturating_add(ahead.len() as u64), zeros)
+        }
+        Ground::Laid => laid,
+    }
+}
+
+// Up to which closed gate records lie ahead, once this was laid behind the closed gate at `end`.
+fn records_to(ahead_to: u64, end: u64, behind: Ground<'_>) -> u64
+    ensures finds { behind.entry ≡ Laid → result ≡ ahead_to }
+    ensures lays { behind.entry ≢ Laid → end ≤ result }
+{
+    match behind {
+        Ground::Lay { ahead, zeros: _ } => end.saturating_add(ahead.len() as u64),
+        Ground::Laid => ahead_to,
+    }
+}
+
+// Up to where zeros are known to lie, once this number of them was laid behind a position.
 fn laid_behind(laid: u64, end: u64, zeros: usize) -> u64
     ensures none { zeros ≡ 0 → result ≡ laid }
+    ensures on { zeros ≢ 0 → end ≤ result }
     ensures some { zeros ≢ 0 → end + 1 + zeros < 2 ^ 64 → result ≡ end + 1 + zeros }
 {
     if zeros == 0 {

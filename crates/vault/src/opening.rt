@@ -73,6 +73,7 @@ pub fn open<D: Disk>(alloc: Global, disk: D) -> Result<Recovered<D>, Refused<D>>
                 text,
                 halted: false,
                 laid: 0,
+                ahead_to: 0,
                 buffer: Vec::new(alloc),
             };
             Ok(Recovered {

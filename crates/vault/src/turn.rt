@@ -80,10 +80,12 @@ impl<D: Disk> Vault<D> {
                 self.journal.end = end;
                 self.generation = generation;
                 self.laid = 0;
+                self.ahead_to = 0;
                 Ok(generation)
             }
             Err(error) => {
                 self.halted = true;
+                self.ahead_to = 0;
                 Err(error.into())
             }
         }

@@ -19,6 +19,9 @@ pub struct Vault<D: Disk> {
     pub(crate) halted: bool,
     // Up to where zeros are known to lie behind the journal; 0 if it is not known. No clause rests on it.
     pub(crate) laid: u64,
+    // Up to which closed gate records were laid ahead: while the journal ends below it, the next record may lie there already. 0 if none
+    // were. No clause rests on it.
+    pub(crate) ahead_to: u64,
     // Holds a commit while it is appended.
     pub(crate) buffer: Vec<u8>,
 }
@@ -33,6 +36,7 @@ impl<D: Disk + Drop> Drop for Vault<D> {
             text: _,
             halted: _,
             laid: _,
+            ahead_to: _,
             buffer: _,
         } = self;
     }
@@ -65,6 +69,7 @@ impl<D: Disk> Vault<D> {
             text: _,
             halted: _,
             laid: _,
+            ahead_to: _,
             buffer: _,
         } = self;
         disk

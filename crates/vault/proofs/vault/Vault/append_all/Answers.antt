@@ -1,10 +1,11 @@
-use Rattle.std.proofs.Common.{◌≡◌, refl, sym, ap, ◌∙◌, subst, ◌++◌, ◌∷◌, [], ◌+◌, length, replicate, List, ℕ}
+use Rattle.std.proofs.Common.{◌≡◌, refl, sym, ap, ◌∙◌, subst, ◌++◌, ◌∷◌, [], ◌+◌, length, List, ℕ}
 use Rattle.disk.specs.File.{at_rest, overwritten}
 use Rattle.disk.specs.Moments.{begun}
 use Rattle.codec.specs.Commits.{commit_bytes}
 use Rattle.journal.specs.Records.{record_of}
 use Rattle.journal.specs.Journal.{IsAt}
-use Rattle.vault.specs.Calls.{LaysGround}
+use Rattle.journal.specs.Staged.{ground_bytes}
+use Rattle.vault.specs.Calls.{LaysBehind}
 use Rattle.vault.proofs.Appended.{alone, start, payloads, is_at, is_at_file, stands_now, moments, holds_more}
 use Rattle.vault.proofs.FirstBytes.{gates_before, gates_appended}
 use Rattle.vault.proofs.Ready.{appended_is_ready}
@@ -92,18 +93,18 @@ returns-in-Err-Within-clause-gates g c honest gr E X holds gates =
 pub returns-in-Ok-clause-written : goal.returns-in-Ok-clause-written
 returns-in-Ok-clause-written g c honest =
     let vault = c.args.self.now in
-    let zeros = c.zeros_behind-zeros.result in
+    let behind = ground_bytes c.ground_behind-behind.result in
     let spelled = alone c.deref-2.result.now _ _ (commit_bytes c.args.commit.now) c.deref-2.ensures.value c.in_ok-encode_payload.ensures.spelled c.clear.ensures.items in
-    let counted : c.record_length.result ≡ length (record_of c.deref-2.result.now) = c.record_length.ensures ∙ ap (λ (p : List ℕ). length (record_of p)) (c.deref.ensures.value ∙ sym c.deref-2.ensures.value) in
-    let gate : vault.journal.end + c.record_length.result ≡ c.try_append.new.self.end = ap (λ (n : ℕ). vault.journal.end + n) counted ∙ sym c.in-Ok.ensures.moved in
+    let counted : c.record_length-count.result ≡ length (record_of c.deref-2.result.now) = c.record_length-count.ensures ∙ ap (λ (p : List ℕ). length (record_of p)) (c.deref.ensures.value ∙ sym c.deref-2.ensures.value) in
+    let gate : vault.journal.end + c.record_length-count.result ≡ c.try_append.new.self.end = ap (λ (n : ℕ). vault.journal.end + n) counted ∙ sym c.in-Ok.ensures.moved in
     let other = c.try_append.ensures.other honest in
     record {
       written = (
-        zeros,
-        subst (λ (end : ℕ). LaysGround end zeros) gate c.zeros_behind-zeros.ensures.lays,
+        behind,
+        subst (λ (end : ℕ). LaysBehind end c.args.ahead.now behind) gate c.ground_behind-behind.ensures.lays,
         c.in-Ok.ensures.file honest
-            ∙ ap (λ (p : List ℕ). at_rest (overwritten (g.D.Disk.files vault.disk vault.journal.side).content vault.journal.end (record_of p ++ 0 ∷ replicate zeros 0))) spelled,
+            ∙ ap (λ (p : List ℕ). at_rest (overwritten (g.D.Disk.files vault.disk vault.journal.side).content vault.journal.end (record_of p ++ 0 ∷ behind))) spelled,
       );
       other = other;
-      ready = λ working. appended_is_ready g.D.Disk.files vault _ c.deref-2.result.now (replicate zeros 0) (c.requires.store honest c.if-self.false) c.try_append.ensures.side c.in-Ok.ensures.moved (c.in-Ok.ensures.file honest) other;
+      ready = λ working. appended_is_ready g.D.Disk.files vault _ c.deref-2.result.now behind (c.requires.store honest c.if-self.false) c.try_append.ensures.side c.in-Ok.ensures.moved (c.in-Ok.ensures.file honest) other;
     }
