@@ -1,4 +1,5 @@
 pub mod Acknowledged
+mod Ahead
 pub mod Allowed
 pub mod Answered
 mod Batches
@@ -8,10 +9,12 @@ pub mod Ended
 pub mod Found
 pub mod GoingOn
 pub mod Idle
+pub mod ItemsSaid
 pub mod Joined
 pub mod Lists
 pub mod Making
 pub mod Moving
+pub mod Outcomes
 mod Putting
 pub mod PutsTogether
 pub mod Ran

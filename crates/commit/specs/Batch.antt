@@ -7,7 +7,9 @@ use Rattle.terms.specs.declared.name.Inst.{Inst}
 use Rattle.terms.specs.declared.event.Event.{Event}
 use Rattle.terms.specs.declared.event.Event.TheVariants as event
 use Rattle.terms.specs.Commits.{Commit}
-use Rattle.terms.specs.Sets.{Facts}
+use Rattle.terms.specs.Facts.{event_facts}
+use Rattle.terms.specs.Facts as stated
+use Rattle.terms.specs.Sets.{Facts, with_facts}
 use Rattle.graph.specs.Graph.{Graph}
 use Rattle.graph.specs.Fits.{HasNoFault}
 use Rattle.machine.specs.declared.group.Ended.{Ended}
@@ -33,6 +35,13 @@ abbrev pub HavePopped : Batch → Inst → Outcome → Option Batch → Type 0
 HavePopped batch task outcome None = (batch.tasks ≡ task ∷ []) × (batch.outcomes ≡ outcome ∷ [])
 HavePopped batch task outcome (Some others) = (batch.tasks ≡ others.tasks ++ task ∷ []) × (batch.outcomes ≡ others.outcomes ++ outcome ∷ [])
 
+-- a batch was divided: this many pairs are in the one in front, all that follow are in the one behind
+pub record IsDivided (batch : Batch) (count : ℕ) (front behind : Batch) : Type 0 where
+  pub tasks : front.tasks ++ behind.tasks ≡ batch.tasks
+  pub outcomes : front.outcomes ++ behind.outcomes ≡ batch.outcomes
+  pub many_tasks : length front.tasks ≡ count
+  pub many_outcomes : length front.outcomes ≡ count
+
 -- ---- what the outcomes say
 
 -- the end of an instance, as its body came to it: it is done, with what its body gave; or it is at fault, as its body is
@@ -49,14 +58,20 @@ ends_by (task ∷ tasks) (outcome ∷ outcomes) = end_said task outcome ∷ ends
 abbrev pub ends_said : Batch → List Event
 ends_said batch = ends_by batch.tasks batch.outcomes
 
--- each instance has the outcome at its place, over the items of the set
+-- each instance has the outcome at its place, over the items of the set and those that the outcomes before it put
 abbrev pub HaveOutcomes : Graph → Facts → List Inst → List Outcome → Type 0
 HaveOutcomes g X [] [] = ⊤
 HaveOutcomes g X [] (outcome ∷ outcomes) = ⊥
 HaveOutcomes g X (task ∷ tasks) [] = ⊥
-HaveOutcomes g X (task ∷ tasks) (outcome ∷ outcomes) = IsOutcomeIn g X task outcome × HaveOutcomes g X tasks outcomes
+HaveOutcomes g X (task ∷ tasks) (outcome ∷ outcomes) = IsOutcomeIn g X task outcome × HaveOutcomes g (with_facts X (event_facts (end_said task outcome))) tasks outcomes
 
--- what a finish of several requires: each instance runs here, none is listed twice, and each outcome is of its instance, over the items that are here
+-- the facts of the set, and those that a batch says, if there is one
+abbrev pub facts_with : Facts → Option Batch → Facts
+facts_with X None = X
+facts_with X (Some batch) = with_facts X (stated.facts (ends_said batch))
+
+-- What a finish of several requires: each instance runs here, none is listed twice, and each outcome is of its instance, over the items that are here and those that
+-- the outcomes before it put.
 pub record AreOutcomesOf {D : Type 0} (c : Core D) (batch : Batch) : Type 0 where
   pub running : AreRunning c.machine batch.tasks
   pub outcomes : HaveOutcomes (graph c) (facts c) batch.tasks batch.outcomes

@@ -1,3 +1,4 @@
+pub mod Ahead
 pub mod Batch
 pub mod Calls
 pub mod Came
@@ -8,6 +9,7 @@ pub mod Gets
 pub mod Kept
 pub mod Opened
 pub mod Outcome
+pub mod PutAs
 pub mod PutsAll
 pub mod Room
 pub mod Runs

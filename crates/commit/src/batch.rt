@@ -17,10 +17,10 @@ const FIRST_ROOM: usize = 8;
 ///
 /// A contract sees its instances and their outcomes, in the order in which they were added.
 pub struct Batch<'a> {
-    tasks: Tasks,
-    outcomes: Vec<Outcome<'a>>,
+    pub(crate) tasks: Tasks,
+    pub(crate) outcomes: Vec<Outcome<'a>>,
     // Empty, with room for an event for each outcome, so that the ends can be made without memory.
-    ends: Vec<Event>,
+    pub(crate) ends: Vec<Event>,
 }
 
 impl<'a> Model for Batch<'a> {
@@ -100,6 +100,7 @@ impl<'a> Batch<'a> {
         ensures count { result ≡ length self.now.tasks }
         ensures some { 1 ≤ result }
         ensures few { result ≤ MOST_TOGETHER }
+        ensures ends { result ≡ length (ends_said self.now) }
     {
         self.tasks.len()
     }

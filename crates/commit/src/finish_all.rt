@@ -29,20 +29,23 @@ impl<D: Disk> Core<D> {
     /// before it. The first one that is at fault, by its body or by a double put, ends the commit and stops the store; the instances after it are
     /// ready again. The answer says how far the commit goes.
     ///
+    /// `ahead` is laid behind the commit's record, so that the commits that are to follow find their records there: it is what
+    /// `Batch::spell_ahead` adds for them, or nothing. It is looked at, never believed.
+    ///
     /// Each outcome must be of its task's instance, of which none is there twice, and of the body of its step in this graph, and the items that
     /// it read must be items of this core. The causes of a refusal, in their order: `Halted`; a fault stopped the store; `Full`. If the
     /// ends are refused, all of the instances are ready.
-    pub fn finish_all(&mut self, batch: Batch<'_>) -> Result<Ended, CoreError>
+    pub fn finish_all(&mut self, batch: Batch<'_>, ahead: &[u8]) -> Result<Ended, CoreError>
         requires { AreOutcomesOf self.old batch }
         ensures { EndsAll D.files D.moment D.left_at D.failures D.refusals (IsTrue D.is_honest) self.old self.new batch.entry.tasks (ends_said batch.entry) result }
     {
         results_are_meant();
         let (tasks, ends) = batch.into_ends();
-        self.end_all(tasks, ends)
+        self.end_all(tasks, ends, ahead)
     }
 
-    // Commits these ends of the instances of the tasks.
-    fn end_all(&mut self, tasks: Tasks, ends: Vec<Event>) -> Result<Ended, CoreError>
+    // Commits these ends of the instances of the tasks, and lays `ahead` behind their record.
+    fn end_all(&mut self, tasks: Tasks, ends: Vec<Event>, ahead: &[u8]) -> Result<Ended, CoreError>
         requires here { AreEndsHere self.old.machine ends.items }
         requires ended { ended_by ends.items ≡ tasks }
         requires some { 1 ≤ length ends.items }
@@ -56,7 +59,7 @@ impl<D: Disk> Core<D> {
         let mut ends = ends;
         match self.make_ready_for_ends(&mut ends) {
             Ok(ended) => {
-                let answer = self.commit_ends(tasks, ends, ended);
+                let answer = self.commit_ends(tasks, ends, ended, ahead);
                 self.is_kept();
                 answer
             }
@@ -139,6 +142,7 @@ impl<D: Disk> Core<D> {
         tasks: Tasks,
         ends: Vec<Event>,
         ended: Ended,
+        ahead: &[u8],
     ) -> Result<Ended, CoreError>
         requires ended { AreEndedBy ends.items tasks }
         requires running { AreRunning self.old.machine tasks }
@@ -162,7 +166,7 @@ impl<D: Disk> Core<D> {
         stores_go_on::<D>();
         self.machine.is_kept();
         let count = ends.len() as u64;
-        match self.vault.append_all(&ends) {
+        match self.vault.append_all(&ends, ahead) {
             Ok(()) => {
                 let mut tasks = tasks;
                 self.machine.take_ends(&mut tasks, &ends);

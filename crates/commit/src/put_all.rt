@@ -88,7 +88,7 @@ impl<D: Disk> Core<D> {
         stores_go_on::<D>();
         self.machine.is_kept();
         let count = puts.len();
-        match self.vault.append_all(&puts) {
+        match self.vault.append_all(&puts, &[]) {
             Ok(()) => {
                 self.machine.take_puts(&puts);
                 keep_latest(&mut self.latest, puts);

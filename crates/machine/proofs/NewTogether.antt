@@ -16,7 +16,7 @@ use Rattle.instances.specs.There.{AreThereTogether}
 use Rattle.machine.specs.declared.group.Ended.{Ended}
 use Rattle.machine.specs.declared.memory.Memory.{Memory}
 use Rattle.machine.specs.Absence.{AreAllAbsent}
-use Rattle.machine.specs.Group.{AreEndsHere, EndsTogether, IsDone, MayEndAs, puts_of_all}
+use Rattle.machine.specs.Group.{AreEndsHere, EndsRunning, EndsTogether, IsDone, puts_of_all}
 use Rattle.machine.specs.Legal.{Conflicts}
 use Rattle.machine.specs.Machine.{Machine}
 use Rattle.machine.specs.Memory.{facts_of, IsOf}
@@ -59,7 +59,7 @@ done_next number (suc most) [] fewer within all = absurd (omega (arith, within))
 done_next zero (suc most) (first ∷ events) fewer within all = (first, events, refl, all.0)
 done_next (suc number) (suc most) (first ∷ events) fewer within all = done_next number most events (omega (arith, fewer)) (omega (arith, within)) all.1
 
-pub are_ends : (m : Machine) (events : List Event) → AllByRecursion (MayEndAs m) events → AllByRecursion IsEnd events
+pub are_ends : (m : Machine) (events : List Event) → AllByRecursion (EndsRunning m) events → AllByRecursion IsEnd events
 are_ends m [] each = tt
 are_ends m (EnvItem address value ∷ events) each = absurd each.0
 are_ends m (EnvTag name ∷ events) each = absurd each.0
@@ -70,14 +70,14 @@ module _ (told : OneFact) (nothing : PutsEndNothing) (g : Graph) (mem : Memory) 
   abbrev here : Machine
   here = record { graph = g; memory = mem }
 
-  may_come : (events : List Event) → AllByRecursion (MayEndAs here) events → AllByRecursion (MayCome g (facts_of mem)) events
+  may_come : (events : List Event) → AllByRecursion (EndsRunning here) events → AllByRecursion (MayCome g (facts_of mem)) events
   may_come [] each = tt
   may_come (EnvItem address value ∷ events) each = absurd each.0
   may_come (EnvTag name ∷ events) each = absurd each.0
   may_come (Done instance puts ∷ events) each =
-      let it = unfinished g mem is there instance each.0.0 in ((it.0, it.1, each.0.1), may_come events each.1)
+      let it = unfinished g mem is there instance each.0 in ((it.0, it.1), may_come events each.1)
   may_come (Stopped instance kind ∷ events) each =
-      let it = unfinished g mem is there instance each.0.0 in ((it.0, it.1, each.0.1), may_come events each.1)
+      let it = unfinished g mem is there instance each.0 in ((it.0, it.1), may_come events each.1)
 
   conflict_here : (puts : List Put) → IsOneNotNew mem.items puts → Conflicts (facts_of mem) puts
   conflict_here puts (inl there) = conflict_there told mem puts there
@@ -95,7 +95,7 @@ module _ (told : OneFact) (nothing : PutsEndNothing) (g : Graph) (mem : Memory) 
   pub as_they_say : (events : List Event) (ended : Ended) → ended.done ≤ length events → AllByRecursion IsDone (take ended.done events) → IsFaultNext ended.stopped (drop ended.done events)
       → AreAllNew mem.items (puts_of_all (take ended.done events)) → HasNoFault (facts_of mem) → AreEndsHere here events → EndsTogether g (facts_of mem) events ended
   as_they_say events ended within done next new working ends =
-      ends_together told nothing g (facts_of mem) events ended working (may_come events ends.each) ends.once within done (new_here (puts_of_all (take ended.done events)) new)
+      ends_together told nothing g (facts_of mem) events ended working (may_come events ends.each) ends.said ends.once within done (new_here (puts_of_all (take ended.done events)) new)
       (says_so ended.done ended.stopped events (drop ended.done events) refl next)
 
   -- those of the first few are, and with the next they are not
@@ -103,6 +103,6 @@ module _ (told : OneFact) (nothing : PutsEndNothing) (g : Graph) (mem : Memory) 
       → HasNoFault (facts_of mem) → AreEndsHere here events → EndsTogether g (facts_of mem) events (record { done = number; stopped = Some DoublePut })
   cut_short events most number within done fewer new working ends =
       let next = done_next number most events fewer within done in
-      ends_together told nothing g (facts_of mem) events (record { done = number; stopped = Some DoublePut }) working (may_come events ends.each) ends.once (omega (arith, within, fewer))
+      ends_together told nothing g (facts_of mem) events (record { done = number; stopped = Some DoublePut }) working (may_come events ends.each) ends.said ends.once (omega (arith, within, fewer))
       (fewer_done number most events (omega (arith, fewer)) done) (new_here (puts_of_all (take number events)) new.new)
       (subst (StopsSo (facts_of mem) number DoublePut events) (sym next.2) (inr (next.3, refl, conflict_here (puts_of_all (take (suc number) events)) new.next)))

@@ -1,5 +1,5 @@
 -- A running instance begins to wait, or a ready one runs.
-use Rattle.std.proofs.Common.{◌≡◌, ◌≢◌, ◌∙◌, ap, sym, refl, subst, inl, inr, ℕ, ◌<◌, ◌≤◌, Bool, true, false, cond, ◌||◌, [], ◌∷◌, ◌++◌, length, Option, Some, None, IsSome, IfSome, is_some, ℤ}
+use Rattle.std.proofs.Common.{◌≡◌, ◌≢◌, ◌∙◌, ap, sym, refl, subst, inl, inr, ℕ, ◌<◌, ◌≤◌, Bool, true, false, cond, ◌||◌, [], ◌∷◌, ◌++◌, length, Option, Some, None, IsSome, IfSome, is_some, ℤ, Result, Ok, Err, OnOk, OnErr}
 use Rattle.std.proofs.lemmas.Bool.{false≢true, cases_lt}
 use Rattle.std.proofs.lemmas.List.Folds.{list_any-append}
 use Rattle.std.specs.FinMap.{IsAntisymmetric}
@@ -27,6 +27,19 @@ use Rattle.machine.proofs.Moved.{by_instance, facts_stay, environment_stays}
 use Rattle.machine.specs.Machine.{Moves}
 use Rattle.graph.specs.Fits.{HasNoFault}
 use Rattle.machine.proofs.Worked.{moved_is_of, moves_of, same_is_of}
+
+-- what follows from what the outcomes say
+pub if_ok : {T E P Q : Type 0} (r : Result T E) → (P → Q) → OnOk r P → OnOk r Q
+if_ok (Ok done) follows holds = follows holds
+if_ok (Err error) follows holds = tt
+
+pub if_err : {T E P Q : Type 0} (r : Result T E) → (P → Q) → OnErr r P → OnErr r Q
+if_err (Ok done) follows holds = tt
+if_err (Err error) follows holds = follows holds
+
+pub either : {T E P Q R : Type 0} (r : Result T E) → OnOk r P → OnErr r Q → (P → R) → (Q → R) → R
+either (Ok done) ok refused one two = one ok
+either (Err error) ok refused one two = two refused
 
 pub no_item : (o : Option (ℤ × Producer)) → is_some o ≡ false → o ≡ None
 no_item None is = refl

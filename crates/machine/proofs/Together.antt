@@ -20,22 +20,22 @@ use Rattle.graph.specs.Graph.{Graph}
 use Rattle.graph.specs.Fits.{IsPrescribed, HasNoFault, AreNew}
 use Rattle.items.specs.Once.{IsOnceEach, is_one_of}
 use Rattle.machine.specs.declared.group.Ended.{Ended}
-use Rattle.machine.specs.Group.{EndsTogether, IsDone, StopsAt, StopsNext, ended_by, puts_of_all, stop_at}
+use Rattle.machine.specs.Group.{AreSaid, EndsTogether, IsDone, StopsAt, StopsNext, ended_by, puts_of_all, stop_at}
 use Rattle.machine.specs.Legal.{Conflicts}
-use Rattle.machine.specs.Meaning.{BodyFaults, BodyGives}
+use Rattle.machine.specs.Meaning.{BodyFaults}
 use Rattle.machine.specs.State.{AreLegalFrom}
 use Rattle.machine.specs.Together.{IsFault}
-use Rattle.machine.proofs.Grown.{faults_within, gives_within, prescribed_within}
+use Rattle.machine.proofs.Grown.{prescribed_within}
 use Rattle.machine.proofs.Joined.{in_first_list, in_one_list, in_second_list, twice_first_list, twice_in_one_list, twice_over_both, twice_second_list}
 use Rattle.machine.proofs.PutFacts.{item_is_put, put_has_item}
 use Rattle.machine.proofs.Sets.{Within, behind_first, not_both, or_left, or_right}
 
--- an instance that may end over these facts, as its body says
+-- an instance that may end over these facts
 abbrev pub MayCome : Graph → Facts → Event → Type 0
 MayCome g X (EnvItem address value) = ⊥
 MayCome g X (EnvTag name) = ⊥
-MayCome g X (Done instance puts) = IsPrescribed g X instance × (X (done instance) ≡ false) × BodyGives g X instance puts
-MayCome g X (Stopped instance kind) = IsPrescribed g X instance × (X (done instance) ≡ false) × BodyFaults g X instance kind
+MayCome g X (Done instance puts) = IsPrescribed g X instance × (X (done instance) ≡ false)
+MayCome g X (Stopped instance kind) = IsPrescribed g X instance × (X (done instance) ≡ false)
 
 -- the next of these events is this fault: it says so, or its puts and those of the first `n` conflict
 abbrev pub StopsSo : Facts → ℕ → FaultKind → List Event → List Event → Type 0
@@ -77,19 +77,19 @@ module _ (told : OneFact) (ends : PutsEndNothing) (g : Graph) where
     still_working working other kind =
         none_of_three (X (bad other kind)) false (among (put_facts instance 0 puts) (bad other kind)) (working other kind) refl ((ends instance 0 puts).1 other kind)
 
-    -- the others may end as before
+    -- the others may still end
     others_may_come : (events : List Event) → AllByRecursion (MayCome g X) events → is_one_of instance (ended_by events) ≡ false → AllByRecursion (MayCome g after) events
     others_may_come [] each apart = tt
     others_may_come (EnvItem address value ∷ events) each apart = absurd each.0
     others_may_come (EnvTag name ∷ events) each apart = absurd each.0
     others_may_come (Done other more ∷ events) each apart =
         let parts = neither (eq_by_cmp inst_cmp instance other) (is_one_of instance (ended_by events)) apart in (
-          (prescribed_within g X after stays other each.0.0, still_not_done other parts.0 each.0.1, gives_within g X after stays other more each.0.2),
+          (prescribed_within g X after stays other each.0.0, still_not_done other parts.0 each.0.1),
           others_may_come events each.1 parts.1,
         )
     others_may_come (Stopped other kind ∷ events) each apart =
         let parts = neither (eq_by_cmp inst_cmp instance other) (is_one_of instance (ended_by events)) apart in (
-          (prescribed_within g X after stays other each.0.0, still_not_done other parts.0 each.0.1, faults_within g X after stays other kind each.0.2),
+          (prescribed_within g X after stays other each.0.0, still_not_done other parts.0 each.0.1),
           others_may_come events each.1 parts.1,
         )
 
@@ -133,35 +133,35 @@ module _ (told : OneFact) (ends : PutsEndNothing) (g : Graph) where
 
   -- ---- one behind another
 
-  next_is_legal : (X : Facts) (stopped : Option FaultKind) (events : List Event) → HasNoFault X → AllByRecursion (MayCome g X) events → Stops X 0 stopped events → AreLegalFrom g X (stop_at stopped events)
-  next_is_legal X None events working each stops = tt
-  next_is_legal X (Some kind) [] working each stops = tt
-  next_is_legal X (Some kind) (EnvItem address value ∷ rest) working each stops = absurd each.0
-  next_is_legal X (Some kind) (EnvTag name ∷ rest) working each stops = absurd each.0
-  next_is_legal X (Some kind) (Done instance puts ∷ rest) working each (inl says) = absurd says
-  next_is_legal X (Some kind) (Done instance puts ∷ rest) working each (inr it) =
+  next_is_legal : (X : Facts) (stopped : Option FaultKind) (events : List Event) → HasNoFault X → AllByRecursion (MayCome g X) events → AreSaid g X events → Stops X 0 stopped events → AreLegalFrom g X (stop_at stopped events)
+  next_is_legal X None events working each said stops = tt
+  next_is_legal X (Some kind) [] working each said stops = tt
+  next_is_legal X (Some kind) (EnvItem address value ∷ rest) working each said stops = absurd each.0
+  next_is_legal X (Some kind) (EnvTag name ∷ rest) working each said stops = absurd each.0
+  next_is_legal X (Some kind) (Done instance puts ∷ rest) working each said (inl says) = absurd says
+  next_is_legal X (Some kind) (Done instance puts ∷ rest) working each said (inr it) =
       let conflict = subst (Conflicts X) (append-nil puts) it.2 in
-      (record { working = working; event_is_legal = (each.0.0, each.0.1, inr (it.1, (puts, each.0.2, conflict))) }, tt)
-  next_is_legal X (Some kind) (Stopped instance own ∷ rest) working each (inl says) =
-      (record { working = working; event_is_legal = (each.0.0, each.0.1, inl (subst (λ (k : FaultKind). BodyFaults g X instance k) (sym says) each.0.2)) }, tt)
-  next_is_legal X (Some kind) (Stopped instance own ∷ rest) working each (inr it) = absurd it.0
+      (record { working = working; event_is_legal = (each.0.0, each.0.1, inr (it.1, (puts, said.0, conflict))) }, tt)
+  next_is_legal X (Some kind) (Stopped instance own ∷ rest) working each said (inl says) =
+      (record { working = working; event_is_legal = (each.0.0, each.0.1, inl (subst (λ (k : FaultKind). BodyFaults g X instance k) (sym says) said.0)) }, tt)
+  next_is_legal X (Some kind) (Stopped instance own ∷ rest) working each said (inr it) = absurd it.0
 
-  pub legal_cut : (X : Facts) (n : ℕ) (stopped : Option FaultKind) (events : List Event) → HasNoFault X → AllByRecursion (MayCome g X) events → IsOnceEach (ended_by events)
+  pub legal_cut : (X : Facts) (n : ℕ) (stopped : Option FaultKind) (events : List Event) → HasNoFault X → AllByRecursion (MayCome g X) events → AreSaid g X events → IsOnceEach (ended_by events)
       → AllByRecursion IsDone (take n events) → AreNew X (puts_of_all (take n events)) → Stops X n stopped events → AreLegalFrom g X (take n events ++ stop_at stopped (drop n events))
-  legal_cut X zero stopped events working each once all new stops = next_is_legal X stopped events working each stops
-  legal_cut X (suc n) stopped [] working each once all new stops = next_is_legal X stopped [] working tt (at_end stopped stops)
+  legal_cut X zero stopped events working each said once all new stops = next_is_legal X stopped events working each said stops
+  legal_cut X (suc n) stopped [] working each said once all new stops = next_is_legal X stopped [] working tt tt (at_end stopped stops)
     where
       at_end : (s : Option FaultKind) → Stops X (suc n) s [] → Stops X 0 s []
       at_end None it = it
       at_end (Some kind) it = it
-  legal_cut X (suc n) stopped (EnvItem address value ∷ events) working each once all new stops = absurd each.0
-  legal_cut X (suc n) stopped (EnvTag name ∷ events) working each once all new stops = absurd each.0
-  legal_cut X (suc n) stopped (Stopped instance kind ∷ events) working each once all new stops = absurd all.0
-  legal_cut X (suc n) stopped (Done instance puts ∷ events) working each once all new stops =
+  legal_cut X (suc n) stopped (EnvItem address value ∷ events) working each said once all new stops = absurd each.0
+  legal_cut X (suc n) stopped (EnvTag name ∷ events) working each said once all new stops = absurd each.0
+  legal_cut X (suc n) stopped (Stopped instance kind ∷ events) working each said once all new stops = absurd all.0
+  legal_cut X (suc n) stopped (Done instance puts ∷ events) working each said once all new stops =
       let more = puts_of_all (take n events) in
       let first = first_are_new X instance puts more new in (
-        record { working = working; event_is_legal = (each.0.0, each.0.1, each.0.2, first) },
-        legal_cut (after X instance puts) n stopped events (still_working X instance puts working) (others_may_come X instance puts events each.1 once.0) once.1 all.1
+        record { working = working; event_is_legal = (each.0.0, each.0.1, said.0, first) },
+        legal_cut (after X instance puts) n stopped events (still_working X instance puts working) (others_may_come X instance puts events each.1 once.0) said.1 once.1 all.1
             (others_are_new X instance puts more new) (later stopped stops),
       )
     where
@@ -191,12 +191,12 @@ stops_at : (X : Facts) (n : ℕ) (stopped : Option FaultKind) (events : List Eve
 stops_at X n None events it = it
 stops_at X n (Some kind) events it = stops_next X n kind events (drop n events) it
 
-pub ends_together : OneFact → PutsEndNothing → (g : Graph) (X : Facts) (events : List Event) (ended : Ended) → HasNoFault X → AllByRecursion (MayCome g X) events → IsOnceEach (ended_by events)
+pub ends_together : OneFact → PutsEndNothing → (g : Graph) (X : Facts) (events : List Event) (ended : Ended) → HasNoFault X → AllByRecursion (MayCome g X) events → AreSaid g X events → IsOnceEach (ended_by events)
     → ended.done ≤ length events → AllByRecursion IsDone (take ended.done events) → AreNew X (puts_of_all (take ended.done events)) → Stops X ended.done ended.stopped events
     → EndsTogether g X events ended
-ends_together told ends g X events ended working each once within all new stops = record {
+ends_together told ends g X events ended working each said once within all new stops = record {
   within = within;
   done = all;
   stops = stops_at X ended.done ended.stopped events stops;
-  legal = legal_cut told ends g X ended.done ended.stopped events working each once all new stops;
+  legal = legal_cut told ends g X ended.done ended.stopped events working each said once all new stops;
 }

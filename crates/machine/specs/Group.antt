@@ -7,8 +7,8 @@ use Rattle.terms.specs.declared.fault.FaultKind.TheVariants.{DoublePut}
 use Rattle.terms.specs.declared.put.Put.{Put}
 use Rattle.terms.specs.declared.event.Event.{Event}
 use Rattle.terms.specs.declared.event.Event.TheVariants as event
-use Rattle.terms.specs.Facts.{Fact}
-use Rattle.terms.specs.Sets.{Facts}
+use Rattle.terms.specs.Facts.{Fact, event_facts}
+use Rattle.terms.specs.Sets.{Facts, with_facts}
 use Rattle.graph.specs.Graph.{Graph}
 use Rattle.items.specs.Once.{IsOnceEach}
 use Rattle.instances.specs.declared.state.State.TheVariants.{Ready, Running}
@@ -19,12 +19,24 @@ use Rattle.machine.specs.State.{AreLegalFrom}
 
 -- ---- the ends of a group, before they are looked at
 
--- the event ends an instance that runs here, as its body says over the items that are here
-abbrev pub MayEndAs : Machine → Event → Type 0
-MayEndAs m (event.EnvItem address value) = ⊥
-MayEndAs m (event.EnvTag name) = ⊥
-MayEndAs m (event.Done instance puts) = (state_of m instance ≡ Some Running) × BodyGives m.graph (facts m) instance puts
-MayEndAs m (event.Stopped instance kind) = (state_of m instance ≡ Some Running) × BodyFaults m.graph (facts m) instance kind
+-- the event ends an instance that runs here
+abbrev pub EndsRunning : Machine → Event → Type 0
+EndsRunning m (event.EnvItem address value) = ⊥
+EndsRunning m (event.EnvTag name) = ⊥
+EndsRunning m (event.Done instance puts) = state_of m instance ≡ Some Running
+EndsRunning m (event.Stopped instance kind) = state_of m instance ≡ Some Running
+
+-- the event ends its instance as the body says over these items
+abbrev pub IsSaid : Graph → Facts → Event → Type 0
+IsSaid g X (event.EnvItem address value) = ⊥
+IsSaid g X (event.EnvTag name) = ⊥
+IsSaid g X (event.Done instance puts) = BodyGives g X instance puts
+IsSaid g X (event.Stopped instance kind) = BodyFaults g X instance kind
+
+-- each event ends its instance as the body says over these items and those that the ends before it put
+abbrev pub AreSaid : Graph → Facts → List Event → Type 0
+AreSaid g X [] = ⊤
+AreSaid g X (event ∷ events) = IsSaid g X event × AreSaid g (with_facts X (event_facts event)) events
 
 -- the instances that the events end, in their order
 abbrev pub ended_by : List Event → List Inst
@@ -34,9 +46,10 @@ ended_by (event.EnvTag name ∷ events) = ended_by events
 ended_by (event.Done instance puts ∷ events) = instance ∷ ended_by events
 ended_by (event.Stopped instance kind ∷ events) = instance ∷ ended_by events
 
--- each ends an instance that runs here, and no two of them the same
+-- each ends an instance that runs here, no two of them the same, and as its body says over the items that are here and those that the ends before it put
 pub record AreEndsHere (m : Machine) (events : List Event) : Type 0 where
-  pub each : AllByRecursion (MayEndAs m) events
+  pub each : AllByRecursion (EndsRunning m) events
+  pub said : AreSaid m.graph (facts m) events
   pub once : IsOnceEach (ended_by events)
 
 -- each event ends the instance at its place; more instances may follow

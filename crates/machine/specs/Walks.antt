@@ -1,13 +1,18 @@
 -- Walks that spell what they go along, element by element.
-use Rattle.std.specs.Prelude.{◌≡◌, ◌≢◌, ◌<◌, ◌^◌, ℕ, suc, List, [], ◌++◌, length}
+use Rattle.std.specs.Prelude.{◌≡◌, ◌≢◌, ◌<◌, ◌^◌, ◌+◌, ℕ, suc, List, [], ◌++◌, length}
 use Rattle.byteorder.specs.Endian.{little_bytes}
 
 -- Such a walk has the bytes of the elements that are left, the number of these, and whether each of them has a spelling. It gave the
 -- bytes of its next element; none, if no element was left.
-pub record SpellsNext {S : Type 0} (rest : S → List ℕ) (count : S → ℕ) (InRange : S → Type 0) (old new : S) (bytes : List ℕ) : Type 0 where
+pub record SpellsNext {S : Type 0} (rest : S → List ℕ) (old new : S) (bytes : List ℕ) : Type 0 where
   pub gives : rest old ≡ bytes ++ rest new
-  pub none : bytes ≡ [] → (rest old ≡ []) × (count old ≡ 0) × InRange old
-  pub some : bytes ≢ [] → (count old ≡ suc (count new)) × (InRange new → InRange old)
+  pub none : bytes ≡ [] → rest old ≡ []
+
+-- it went past its next element, which has so many bytes; 0, if no element was left
+pub record MeasuresNext {S : Type 0} (rest : S → List ℕ) (count : S → ℕ) (InRange : S → Type 0) (old new : S) (size : ℕ) : Type 0 where
+  pub sized : length (rest old) ≡ size + length (rest new)
+  pub none : size ≡ 0 → (rest old ≡ []) × (count old ≡ 0) × InRange old
+  pub some : size ≢ 0 → (count old ≡ suc (count new)) × (InRange new → InRange old)
 
 -- what was found out along such a walk: how many elements there are, which all have a spelling, and how many bytes
 pub record IsMeasureOf {S : Type 0} (rest : S → List ℕ) (count : S → ℕ) (InRange : S → Type 0) (walk : S) (number size : ℕ) : Type 0 where

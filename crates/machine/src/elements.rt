@@ -4,7 +4,7 @@ ghost use Rattle.machine.specs.Walks.{IsFrontOf, IsMeasureOf};
 
 use crate::spelling::Spelling;
 use codec::{ImageSource, MOST_BYTES, encode_count};
-use std::alloc::{AllocError, Global};
+use std::alloc::AllocError;
 use std::marker::Model;
 
 /// The bytes of some elements, which are spelled one by one as the bytes are asked for, and bytes before them. It keeps the bytes of one
@@ -55,12 +55,36 @@ impl<W: Spelling> ImageSource for Elements<W> {
     }
 
     fn piece(&mut self, out: &mut [u8]) -> usize {
+        if self.given == self.pending.len() && MOST_BYTES <= out.len() {
+            let count = spelled(&mut self.walk, out);
+            self.left -= count as u64;
+            return count;
+        }
         let begin = next_bytes(&mut self.walk, &mut self.pending, self.given);
         let count = copied(&self.pending[begin..], out);
         self.given = begin + count;
         self.left -= count as u64;
         count
     }
+}
+
+// Spells elements one after another, until `out` may have no room for another, or none is left. Returns the number of the bytes.
+fn spelled<W: Spelling>(walk: &mut W, out: &mut [u8]) -> usize
+    requires { MOST ≤ length out.old }
+    ensures within { result ≤ length out.old }
+    ensures room { length out.new ≡ length out.old }
+    ensures gives { W.rest walk.old ≡ take result out.new ++ W.rest walk.new }
+    ensures none { result ≡ 0 → W.rest walk.old ≡ [] }
+{
+    let mut count = 0;
+    while MOST_BYTES <= out.len() - count {
+        let more = walk.spell_next(&mut out[count..]);
+        if more == 0 {
+            return count;
+        }
+        count += more;
+    }
+    count
 }
 
 // Where the bytes begin that were not given yet: among those that are pending, or at the front of the next element, which takes their
@@ -76,8 +100,10 @@ fn next_bytes<W: Spelling>(walk: &mut W, pending: &mut Vec<u8>, given: usize) ->
     if given < pending.len() {
         return given;
     }
+    let mut element = [0; MOST_BYTES];
+    let count = walk.spell_next(&mut element);
     pending.clear();
-    walk.spell_next(pending);
+    let _ = pending.extend_from_slice(&element[..count]);
     0
 }
 
@@ -101,18 +127,13 @@ pub(crate) struct Front {
 
 impl Front {
     /// For the elements that are left of a walk, which it goes along: the bytes in `first`, and the number of the elements.
-    pub(crate) fn new<W: Spelling>(
-        alloc: Global,
-        walk: &mut W,
-        first: Vec<u8>,
-    ) -> Result<Self, AllocError>
+    pub(crate) fn new<W: Spelling>(walk: &mut W, first: Vec<u8>) -> Result<Self, AllocError>
         requires { MOST ≤ vec_capacity first }
         ensures front { IfOk result (λ front. IsFrontOf W.rest W.count W.InRange walk.old first.items front.bytes.items front.length) }
         ensures room { IfOk result (λ front. MOST ≤ vec_capacity front.bytes) }
     {
         let mut bytes = first;
-        let mut scratch = Vec::with_capacity(alloc, MOST_BYTES)?;
-        let Measure { count, length } = measured(walk, &mut scratch)?;
+        let Measure { count, length } = measured(walk)?;
         encode_count(&mut bytes, count)?;
         let before = bytes.len() as u64;
         let length = length.checked_add(before).ok_or(AllocError)?;
@@ -139,9 +160,8 @@ impl Measure {
     }
 }
 
-// The number of the elements that are left of a walk, and of their bytes. It goes along them, and spells each in `scratch`.
-fn measured<W: Spelling>(walk: &mut W, scratch: &mut Vec<u8>) -> Result<Measure, AllocError>
-    requires { MOST ≤ vec_capacity scratch.old }
+// The number of the elements that are left of a walk, and of their bytes. It goes along them, and spells none.
+fn measured<W: Spelling>(walk: &mut W) -> Result<Measure, AllocError>
     ensures { IfOk result (λ measure. IsMeasureOf W.rest W.count W.InRange walk.old measure.count measure.length) }
 {
     let mut measure = Measure {
@@ -149,11 +169,10 @@ fn measured<W: Spelling>(walk: &mut W, scratch: &mut Vec<u8>) -> Result<Measure,
         length: 0,
     };
     loop {
-        scratch.clear();
-        walk.spell_next(scratch);
-        if scratch.is_empty() {
+        let size = walk.measure_next();
+        if size == 0 {
             return Ok(measure);
         }
-        measure = measure.with(scratch.len()).ok_or(AllocError)?;
+        measure = measure.with(size).ok_or(AllocError)?;
     }
 }

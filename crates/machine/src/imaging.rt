@@ -47,11 +47,11 @@ impl Machine {
         images_of_maps();
         let mut fault = Vec::with_capacity(alloc, MOST_BYTES)?;
         encode_fault(&mut fault, &self.memory.fault)?;
-        let items = Front::new(alloc, &mut self.items_left(), fault)?;
+        let items = Front::new(&mut self.items_left(), fault)?;
         let first = Vec::with_capacity(alloc, MOST_BYTES)?;
-        let tags = Front::new(alloc, &mut self.memory.instances.tags(), first)?;
+        let tags = Front::new(&mut self.memory.instances.tags(), first)?;
         let first = Vec::with_capacity(alloc, MOST_BYTES)?;
-        let done = Front::new(alloc, &mut self.memory.instances.done_walk(), first)?;
+        let done = Front::new(&mut self.memory.instances.done_walk(), first)?;
         Ok(ImageWalk::new(
             Elements::new(self.items_left(), items),
             Elements::new(self.memory.instances.tags(), tags),

@@ -2,8 +2,9 @@ ghost use Rattle.std.specs.Prelude.{◌≡◌};
 ghost use Rattle.machine.specs.Producers.{is_environment as by_environment};
 
 use crate::waking::wake_all;
-use instances::Instances;
+use instances::{Instances, Task};
 use items::Items;
+use std::alloc::AllocError;
 use terms::{Addr, FaultKind, Inst, Producer, Put, Tag, facts_are_told_apart, orders_are_total};
 
 /// What a store holds: its items, its tags with the instances that they prescribe, and the fault, if there is one.
@@ -15,13 +16,15 @@ pub(crate) struct Memory {
 }
 
 impl Memory {
-    ghost use Rattle.std.specs.Prelude.{◌≡◌, ◌<◌, ◌≤◌, [], ◌∷◌, length};
+    ghost use Rattle.std.specs.Prelude.{◌≡◌, ◌<◌, ◌≤◌, [], ◌∷◌, OnErr, OnOk, Some, false, length};
     ghost use Rattle.terms.specs.declared.put.TheConstants.{MOST_PUTS};
     ghost use Rattle.terms.specs.declared.put.Put.TheVariants.{Item, Tag as Name};
     ghost use Rattle.terms.specs.Facts.{item, tag as name, put_facts};
     ghost use Rattle.graph.specs.Fits.{IsAbsent};
-    ghost use Rattle.items.specs.Held.{IsOfCollection, room_for};
-    ghost use Rattle.instances.specs.Known.{room_for as tags_for};
+    ghost use Rattle.items.specs.Held.{IsOfCollection, room_for, waiters_at, with_waiter};
+    ghost use Rattle.items.specs.Once.{is_one_of};
+    ghost use Rattle.instances.specs.declared.state.State.TheVariants.{Ready, Running, Waiting};
+    ghost use Rattle.instances.specs.Known.{MovesOne, room_for as tags_for, state_at};
     ghost use Rattle.machine.specs.Memory.{AreListed, facts_of};
     ghost use Rattle.machine.specs.Coming.{CanTake, CanTakeAll, Grows, IsNewTo, fact_of, given_by};
 
@@ -66,6 +69,27 @@ impl Memory {
         let waiters = self.items.take_waiters(place);
         wake_all(&mut self.instances, &waiters);
         let _ = self.items.put(addr, value, producer);
+    }
+
+    /// Lets an instance that runs wait at an address, where it is listed. If memory is refused, it is ready.
+    pub(crate) fn park(&mut self, task: Task, addr: Addr) -> Result<(), AllocError>
+        requires running { state_at self.old.instances task ≡ Some Running }
+        requires unlisted { is_one_of task (waiters_at self.old.items addr) ≡ false }
+        ensures ok { OnOk result (MovesOne self.old.instances self.new.instances task (Waiting addr) × (self.new.items ≡ with_waiter self.old.items addr task)) }
+        ensures refused { OnErr result (MovesOne self.old.instances self.new.instances task Ready × (self.new.items ≡ self.old.items)) }
+        ensures fault { self.new.fault ≡ self.old.fault }
+    {
+        let inst = task.inst();
+        let waiter = inst;
+        let waited = addr;
+        self.instances.park(task, waited)?;
+        match self.items.wait_on(addr, waiter) {
+            Ok(()) => Ok(()),
+            Err(error) => {
+                self.instances.wake(inst);
+                Err(error)
+            }
+        }
     }
 
     // Puts a tag, if it is not there.

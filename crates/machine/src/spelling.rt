@@ -1,8 +1,8 @@
-ghost use Rattle.std.specs.Prelude.{◌≡◌, ◌≤◌, [], vec_capacity};
+ghost use Rattle.std.specs.Prelude.{◌≡◌, ◌≤◌, length, take};
 ghost use Rattle.codec.specs.declared.elements.TheConstants.{MOST_BYTES};
-ghost use Rattle.machine.specs.Walks.{SpellsNext};
+ghost use Rattle.machine.specs.Walks.{MeasuresNext, SpellsNext};
 
-use codec::{encode_instance, encode_item, encode_tag};
+use codec::{instance_length, item_length, spell_instance, spell_item, spell_tag, tag_length};
 use instances::{DoneWalk, TagWalk};
 use items::Walk;
 use std::marker::Model;
@@ -20,12 +20,16 @@ pub(crate) trait Spelling {
     /// Whether each of them has a spelling.
     ghost InRange: { Self → Type 0 };
 
-    /// Writes the bytes of the next element to `out`, which is empty and has room for them; none if no element is left.
-    fn spell_next(&mut self, out: &mut Vec<u8>)
-        requires empty { out.old.items ≡ [] }
-        requires room { MOST_BYTES ≤ vec_capacity out.old }
-        ensures room { vec_capacity out.old ≤ vec_capacity out.new }
-        ensures next { SpellsNext rest count InRange self.old self.new out.new.items };
+    /// Writes the bytes of the next element to the front of `out`, and returns how many; none if no element is left.
+    fn spell_next(&mut self, out: &mut [u8]) -> usize
+        requires { MOST_BYTES ≤ length out.old }
+        ensures within { result ≤ MOST_BYTES }
+        ensures room { length out.new ≡ length out.old }
+        ensures next { SpellsNext rest self.old self.new (take result out.new) };
+
+    /// Goes past the next element, and returns how many bytes it has; 0 if no element is left.
+    fn measure_next(&mut self) -> usize
+        ensures { MeasuresNext rest count InRange self.old self.new result };
 }
 
 /// The items that are left of a walk. The number of each put is one that a put may have.
@@ -60,9 +64,17 @@ impl<'a> Spelling for ItemsLeft<'a> {
 
     ghost InRange = { AllByRecursion (IsItem MAX_COMPONENTS) };
 
-    fn spell_next(&mut self, out: &mut Vec<u8>) {
-        if let Some((addr, (value, producer))) = self.walk.next() {
-            let _ = encode_item(out, &(addr, value, producer));
+    fn spell_next(&mut self, out: &mut [u8]) -> usize {
+        match self.walk.next() {
+            Some((addr, (value, producer))) => spell_item(out, &(addr, value, producer)),
+            None => 0,
+        }
+    }
+
+    fn measure_next(&mut self) -> usize {
+        match self.walk.next() {
+            Some((addr, (value, producer))) => item_length(&(addr, value, producer)),
+            None => 0,
         }
     }
 }
@@ -79,9 +91,17 @@ impl<'a> Spelling for TagWalk<'a> {
 
     ghost InRange = { AllByRecursion (IsMarked MAX_COMPONENTS) };
 
-    fn spell_next(&mut self, out: &mut Vec<u8>) {
-        if let Some(tag) = self.next() {
-            let _ = encode_tag(out, &tag);
+    fn spell_next(&mut self, out: &mut [u8]) -> usize {
+        match self.next() {
+            Some(tag) => spell_tag(out, &tag),
+            None => 0,
+        }
+    }
+
+    fn measure_next(&mut self) -> usize {
+        match self.next() {
+            Some(tag) => tag_length(&tag),
+            None => 0,
         }
     }
 }
@@ -98,9 +118,17 @@ impl<'a> Spelling for DoneWalk<'a> {
 
     ghost InRange = { AllByRecursion (IsInstance MAX_COMPONENTS) };
 
-    fn spell_next(&mut self, out: &mut Vec<u8>) {
-        if let Some(instance) = self.next() {
-            let _ = encode_instance(out, &instance);
+    fn spell_next(&mut self, out: &mut [u8]) -> usize {
+        match self.next() {
+            Some(instance) => spell_instance(out, &instance),
+            None => 0,
+        }
+    }
+
+    fn measure_next(&mut self) -> usize {
+        match self.next() {
+            Some(instance) => instance_length(&instance),
+            None => 0,
         }
     }
 }

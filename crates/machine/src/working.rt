@@ -42,17 +42,7 @@ impl Machine {
             self.memory.instances.release(task);
             return Ok(());
         }
-        let waited = addr;
-        match self.memory.items.wait_on(waited, task.inst()) {
-            Ok(()) => {
-                self.memory.instances.park(task, addr);
-                Ok(())
-            }
-            Err(error) => {
-                self.memory.instances.release(task);
-                Err(error)
-            }
-        }
+        self.memory.park(task, addr)
     }
 
     /// Gives the instance of a task back: it is ready.

@@ -1,10 +1,8 @@
-use Rattle.std.proofs.Common.{◌≡◌, ◌≤◌, ◌<◌, ◌+◌, ◌^◌, length, vec_capacity}
-use Rattle.codec.specs.declared.elements.TheConstants.{MOST_BYTES as MOST}
+use Rattle.std.proofs.Common.{◌≡◌, ◌<◌, ◌+◌, ◌^◌, length}
 use Rattle.machine.proofs.elements.measured.Given as goal
 
 abbrev pub invariant-loop-measure : goal.invariant-loop-measure
 invariant-loop-measure g l = record {
-  room : MOST ≤ vec_capacity l.scratch;
   counted : l.measure.count + g.W.Spelling.count l.walk ≡ g.W.Spelling.count l.fn.walk;
   few : l.measure.count < 2 ^ 32;
   sized : l.measure.length + length (g.W.Spelling.rest l.walk) ≡ length (g.W.Spelling.rest l.fn.walk);

@@ -1,4 +1,4 @@
-use Rattle.std.proofs.Common.{◌≡◌, ◌∙◌, ap, sym, subst, [], ◌++◌, length}
+use Rattle.std.proofs.Common.{◌∙◌, ap, sym, subst, ◌++◌, length}
 use Rattle.std.specs.List.{flat_map, AllByRecursion}
 use Rattle.terms.specs.declared.key.TheConstants.{MAX_COMPONENTS}
 use Rattle.codec.specs.Spelling.{IsItem, IsMarked, IsInstance, fault_bytes, item_bytes, marked_bytes, inst_bytes}

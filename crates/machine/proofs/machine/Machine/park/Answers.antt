@@ -1,8 +1,6 @@
 use Rattle.std.proofs.Common.{◌≡◌, ◌∙◌, Some, ap, sym, subst, refl, true, is_some, None, inl, inr}
 use Rattle.graph.specs.Fits.{IsAbsent}
-use Rattle.terms.specs.declared.name.Inst.{Inst}
-use Rattle.items.specs.Held.{item_at, waiters_at, with_waiter}
-use Rattle.items.specs.Once.{is_one_of}
+use Rattle.items.specs.Held.{item_at}
 use Rattle.instances.specs.declared.state.State.TheVariants.{Ready, Running}
 use Rattle.machine.specs.declared.memory.Memory.{Memory}
 use Rattle.machine.specs.Legal.{Needs}
@@ -10,7 +8,7 @@ use Rattle.holdings.specs.ImageLaws.{is_item}
 use Rattle.machine.specs.Memory.{waits_at}
 use Rattle.machine.specs.Machine.{LooksAgain, Machine, Moves, facts, state_of}
 use Rattle.machine.proofs.Worked.{moved_is_of, moves_of}
-use Rattle.machine.proofs.Parked.{no_item, parked_is_of, parked_moves}
+use Rattle.machine.proofs.Parked.{either, if_err, if_ok, no_item, parked_is_of, parked_moves}
 use Rattle.machine.proofs.TakenEvent.{absent_of, there_of}
 use Rattle.machine.proofs.machine.Machine.park.Goals as goal
 
@@ -34,58 +32,53 @@ returns-then-is_some-clause-ok c =
       moves_of c.orders_are_total.ensures.instances c.orders_are_total.ensures.instances_tie old new c.args.task Running Ready was c.release.ensures refl refl g refl,
     ))
 
-pub wait_on-requires : goal.wait_on-requires
-wait_on-requires c =
-    let old = c.self.inside.memory in
-    let was = subst (λ (m : Machine). state_of m c.args.task ≡ Some Running) (sym c.self.view_is) c.requires.running in
-    ap (λ (i : Inst). is_one_of i (waiters_at old.items c.args.addr)) c.inst.ensures
-    ∙ c.self.invariant.0.listed.listed c.args.task c.args.addr ∙ ap (waits_at c.args.addr) was
+pub park-requires-clause-running : goal.park-requires-clause-running
+park-requires-clause-running c = subst (λ (m : Machine). state_of m c.args.task ≡ Some Running) (sym c.self.view_is) c.requires.running
 
-pub invariant_of-self-in-Ok : goal.invariant_of-self-in-Ok
-invariant_of-self-in-Ok c =
+pub park-requires-clause-unlisted : goal.park-requires-clause-unlisted
+park-requires-clause-unlisted c =
+    let was = subst (λ (m : Machine). state_of m c.args.task ≡ Some Running) (sym c.self.view_is) c.requires.running in
+    c.self.invariant.0.listed.listed c.args.task c.args.addr ∙ ap (waits_at c.args.addr) was
+
+pub invariant_of-self-2 : goal.invariant_of-self-2
+invariant_of-self-2 c =
     let old = c.self.inside.memory in
     let g = c.self.inside.graph.value in
-    let new : Memory = record { items = c.wait_on.new.self; instances = c.park.new.self; fault = old.fault } in
+    let new = c.park.new.self in
+    let total = c.orders_are_total.ensures.instances in
+    let tie = c.orders_are_total.ensures.instances_tie in
     let was = subst (λ (m : Machine). state_of m c.args.task ≡ Some Running) (sym c.self.view_is) c.requires.running in
     let needs = subst (λ (m : Machine). IsAbsent (facts m) c.args.addr → Needs m.graph (facts m) c.args.task c.args.addr) (sym c.self.view_is) c.requires.needs in
     let none : item_at old.items c.args.addr ≡ None = sym c.get.ensures ∙ no_item c.get.result (sym c.if-is_some.ensures) in (
-      parked_is_of c.orders_are_total.ensures.instances c.orders_are_total.ensures.instances_tie old new c.args.task c.args.addr was c.park.ensures
-          (c.in-Ok.ensures.ok ∙ ap (with_waiter old.items c.args.addr) c.inst.ensures) refl none c.self.invariant.0.listed g c.self.invariant.0 (needs (λ value by. ap (λ o. is_item o value by) none)),
+      either c.park.result c.park.ensures.ok c.park.ensures.refused
+          (λ ok. parked_is_of total tie old new c.args.task c.args.addr was ok.0 ok.1 c.park.ensures.fault none c.self.invariant.0.listed g c.self.invariant.0 (needs (λ value by. ap (λ o. is_item o value by) none)))
+          (λ refused. moved_is_of total tie old new c.args.task Running Ready was refused.0 refused.1 c.park.ensures.fault g c.self.invariant.0 refl (λ a. refl) (λ a. refl)),
       c.self.invariant.1,
     )
 
-pub returns-in-Ok-clause-ok : goal.returns-in-Ok-clause-ok
-returns-in-Ok-clause-ok c =
+pub returns-clause-ok : goal.returns-clause-ok
+returns-clause-ok c =
     let old = c.self.inside.memory in
     let g = c.self.inside.graph.value in
-    let new : Memory = record { items = c.wait_on.new.self; instances = c.park.new.self; fault = old.fault } in
+    let new = c.park.new.self in
     let was = subst (λ (m : Machine). state_of m c.args.task ≡ Some Running) (sym c.self.view_is) c.requires.running in
     let none : item_at old.items c.args.addr ≡ None = sym c.get.ensures ∙ no_item c.get.result (sym c.if-is_some.ensures) in
-    subst (λ (m : Machine). LooksAgain m (record { graph = g; memory = new }) c.args.task c.args.addr) c.self.view_is
+    if_ok c.park.result
+    (λ ok. subst (λ (m : Machine). LooksAgain m (record { graph = g; memory = new }) c.args.task c.args.addr) c.self.view_is
     (inl (
       absent_of old c.args.addr none,
-      parked_moves c.orders_are_total.ensures.instances c.orders_are_total.ensures.instances_tie old new c.args.task c.args.addr was c.park.ensures
-          (c.in-Ok.ensures.ok ∙ ap (with_waiter old.items c.args.addr) c.inst.ensures) refl none c.self.invariant.0.listed g,
-    ))
+      parked_moves c.orders_are_total.ensures.instances c.orders_are_total.ensures.instances_tie old new c.args.task c.args.addr was ok.0 ok.1 c.park.ensures.fault none c.self.invariant.0.listed g,
+    ))) c.park.ensures.ok
 
-pub invariant_of-self-in-Err : goal.invariant_of-self-in-Err
-invariant_of-self-in-Err c =
-    let old = c.self.inside.memory in
-    let new : Memory = record { items = c.wait_on.new.self; instances = c.release-in-Err.new.self; fault = old.fault } in
-    let was = subst (λ (m : Machine). state_of m c.args.task ≡ Some Running) (sym c.self.view_is) c.requires.running in (
-      moved_is_of c.orders_are_total.ensures.instances c.orders_are_total.ensures.instances_tie old new c.args.task Running Ready was c.release-in-Err.ensures
-          c.in-Err.ensures.refused refl c.self.inside.graph.value c.self.invariant.0 refl (λ a. refl) (λ a. refl),
-      c.self.invariant.1,
-    )
-
-pub returns-in-Err-clause-refused : goal.returns-in-Err-clause-refused
-returns-in-Err-clause-refused c =
+pub returns-clause-refused : goal.returns-clause-refused
+returns-clause-refused c =
     let old = c.self.inside.memory in
     let g = c.self.inside.graph.value in
-    let new : Memory = record { items = c.wait_on.new.self; instances = c.release-in-Err.new.self; fault = old.fault } in
+    let new = c.park.new.self in
     let was = subst (λ (m : Machine). state_of m c.args.task ≡ Some Running) (sym c.self.view_is) c.requires.running in
     let none : item_at old.items c.args.addr ≡ None = sym c.get.ensures ∙ no_item c.get.result (sym c.if-is_some.ensures) in
-    subst (λ (m : Machine). IsAbsent (facts m) c.args.addr × Moves m (record { graph = g; memory = new }) c.args.task Ready) c.self.view_is (
+    if_err c.park.result
+    (λ refused. subst (λ (m : Machine). IsAbsent (facts m) c.args.addr × Moves m (record { graph = g; memory = new }) c.args.task Ready) c.self.view_is (
       λ value by. ap (λ o. is_item o value by) none,
-      moves_of c.orders_are_total.ensures.instances c.orders_are_total.ensures.instances_tie old new c.args.task Running Ready was c.release-in-Err.ensures c.in-Err.ensures.refused refl g refl,
-    )
+      moves_of c.orders_are_total.ensures.instances c.orders_are_total.ensures.instances_tie old new c.args.task Running Ready was refused.0 refused.1 c.park.ensures.fault g refl,
+    )) c.park.ensures.refused
