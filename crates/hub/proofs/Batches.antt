@@ -24,15 +24,15 @@ use Rattle.vault.specs.declared.error.VaultError.TheVariants as vault
 use Rattle.commit.specs.declared.error.CoreError.{CoreError}
 use Rattle.commit.specs.declared.error.CoreError.TheVariants.{Refused, Store}
 use Rattle.commit.specs.declared.outcome.Outcome.{Outcome}
-use Rattle.commit.specs.declared.outcome.Outcome.TheVariants.{Gave, Fault}
 use Rattle.commit.specs.Came.{IsOutcomeIn}
 use mathlib.Core.List.{IsPrefix}
-use Rattle.commit.specs.Batch.{Batch, EndsAsAnswered, HaveOutcomes, RefusesAll, TellsFullAll, TriesTogether, end_said, ends_by, ends_said}
+use Rattle.commit.specs.Batch.{Batch, EndsAsAnswered, HaveOutcomes, RefusesAll, TellsFullAll, TriesTogether, end_said, ends_by, ends_said, facts_with}
 use Rattle.commit.specs.Calls.{AreTooLong, commit_length, step_count}
 use Rattle.commit.specs.Core.{Core}
 use Rattle.commit.specs.Core as core
 use Rattle.commit.specs.Runs.{IsEnd, Runs}
 use Rattle.commit.proofs.Lists.{first_ends, given_by_ends}
+use Rattle.commit.proofs.Outcomes.{more_with, outcome_within, outcomes_within}
 use Rattle.passes.specs.Known.{Desk, Known, Made, commits}
 use Rattle.passes.specs.Opening.{Opening}
 use Rattle.passes.specs.Rule.{IsInHistory}
@@ -41,41 +41,28 @@ use Rattle.hub.specs.Batches.{AddsTogether, HaveNoRoom, HaveRoom, RefusesTogethe
 use Rattle.hub.specs.Opening.{IsBehind, end_behind, facts_behind, steps_in}
 use Rattle.passes.proofs.Lists.{commits_append}
 use Rattle.hub.proofs.States.{Comes, stays}
-use Rattle.hub.proofs.Telling.{known_end, known_state, outcome_there, writes_from}
+use Rattle.hub.proofs.Telling.{known_end, known_state, seen_stays, writes_from}
 
--- what the outcomes read is there for the core
+-- what the outcomes read is there for the core, or put by those before them
 pub outcomes_there : AmongBoth → FactsGoOn → ReadsStay → {D : Type 0} (opening : Opening) (history : List Made) (known : Known) (c : Core D) (tasks : List Inst) (outcomes : List Outcome) → IsBehind opening (commits history) c → IsInHistory history known
     → HaveOutcomes opening.graph (facts_behind opening known.seen) tasks outcomes → HaveOutcomes (core.graph c) (core.facts c) tasks outcomes
-outcomes_there both go_on stay opening history known c [] [] behind before have = tt
-outcomes_there both go_on stay opening history known c [] (outcome ∷ outcomes) behind before have = absurd have
-outcomes_there both go_on stay opening history known c (task ∷ tasks) [] behind before have = absurd have
-outcomes_there both go_on stay opening history known c (task ∷ tasks) (outcome ∷ outcomes) behind before have = (
-  outcome_there both go_on stay opening history known c task outcome behind before have.0,
-  outcomes_there both go_on stay opening history known c tasks outcomes behind before have.1,
-)
+outcomes_there both go_on stay opening history known c tasks outcomes behind before have =
+    subst (λ (g : Graph). HaveOutcomes g (core.facts c) tasks outcomes) (sym behind.graph)
+    (outcomes_within stay opening.graph (facts_behind opening known.seen) (core.facts c) (seen_stays both go_on opening history known c behind before) tasks outcomes have)
 
 -- ---- a pass that has seen more
 
--- what an outcome read is still there
-pub outcome_stays : AmongBoth → FactsGoOn → ReadsStay → (opening : Opening) (some all : List Commit) → IsPrefix some all → (task : Inst) (outcome : Outcome) → IsOutcomeIn opening.graph (facts_behind opening some) task outcome
-    → IsOutcomeIn opening.graph (facts_behind opening all) task outcome
-outcome_stays both go_on stay opening some all begins task (Gave given) is = (is.0, is.1, stay (facts_behind opening some) (facts_behind opening all) given.reads (stays both go_on opening some all begins) is.2)
-outcome_stays both go_on stay opening some all begins task (Fault bad) is = (is.0, is.1, stay (facts_behind opening some) (facts_behind opening all) bad.reads (stays both go_on opening some all begins) is.2)
+-- what an outcome read is still there, or put by the batch
+pub outcome_stays : AmongBoth → FactsGoOn → ReadsStay → (opening : Opening) (some all : List Commit) → IsPrefix some all → (kept : Option Batch) (task : Inst) (outcome : Outcome)
+    → IsOutcomeIn opening.graph (facts_with (facts_behind opening some) kept) task outcome → IsOutcomeIn opening.graph (facts_with (facts_behind opening all) kept) task outcome
+outcome_stays both go_on stay opening some all begins kept task outcome is =
+    outcome_within stay opening.graph (facts_with (facts_behind opening some) kept) (facts_with (facts_behind opening all) kept)
+    (more_with (facts_behind opening some) (facts_behind opening all) kept (stays both go_on opening some all begins)) task outcome is
 
 pub outcomes_stay : AmongBoth → FactsGoOn → ReadsStay → (opening : Opening) (some all : List Commit) → IsPrefix some all → (tasks : List Inst) (outcomes : List Outcome) → HaveOutcomes opening.graph (facts_behind opening some) tasks outcomes
     → HaveOutcomes opening.graph (facts_behind opening all) tasks outcomes
-outcomes_stay both go_on stay opening some all begins [] [] have = tt
-outcomes_stay both go_on stay opening some all begins [] (outcome ∷ outcomes) have = absurd have
-outcomes_stay both go_on stay opening some all begins (task ∷ tasks) [] have = absurd have
-outcomes_stay both go_on stay opening some all begins (task ∷ tasks) (outcome ∷ outcomes) have =
-    (outcome_stays both go_on stay opening some all begins task outcome have.0, outcomes_stay both go_on stay opening some all begins tasks outcomes have.1)
-
--- one more, behind the others
-pub outcomes_more : (g : Graph) (X : Facts) (tasks : List Inst) (outcomes : List Outcome) (task : Inst) (outcome : Outcome) → HaveOutcomes g X tasks outcomes → IsOutcomeIn g X task outcome → HaveOutcomes g X (tasks ++ task ∷ []) (outcomes ++ outcome ∷ [])
-outcomes_more g X [] [] task outcome have is = (is, tt)
-outcomes_more g X [] (other ∷ outcomes) task outcome have is = absurd have
-outcomes_more g X (other ∷ tasks) [] task outcome have is = absurd have
-outcomes_more g X (other ∷ tasks) (came ∷ outcomes) task outcome have is = (have.0, outcomes_more g X tasks outcomes task outcome have.1 is)
+outcomes_stay both go_on stay opening some all begins tasks outcomes have =
+    outcomes_within stay opening.graph (facts_behind opening some) (facts_behind opening all) (stays both go_on opening some all begins) tasks outcomes have
 
 -- ---- what comes
 

@@ -6,6 +6,7 @@ ghost use Rattle.passes.specs.Known.{Made};
 ghost use Rattle.passes.specs.Roll.{has_number};
 ghost use Rattle.hub.specs.Whole.{IsWhole, WhyNotClosed};
 
+use crate::glance::Glance;
 use crate::{EnvPass, Hub, Kept, WorkPass};
 use commit::Core;
 use disk::Disk;
@@ -116,6 +117,7 @@ impl<J: Naming, D: Disk> Hub<J, D> {
             });
         }
         let (board, kept, graph, count) = self.into_parts();
+        let glance = Glance::new(kept.core.ready());
         if kept.core.running() != 0 {
             return Err(NotClosed {
                 error: CloseError::TaskOut,
@@ -124,6 +126,7 @@ impl<J: Naming, D: Disk> Hub<J, D> {
                     kept: Mutex::new(kept),
                     graph,
                     count,
+                    glance,
                 },
                 envs,
                 workers,

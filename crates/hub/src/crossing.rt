@@ -7,6 +7,7 @@ ghost use Rattle.terms.specs.contracts.event.Event as of_event;
 ghost use Rattle.vault.specs.contracts.vault.Vault as of_vault;
 
 use crate::Kept;
+use crate::glance::Glance;
 use cells::cells_cross;
 use disk::Disk;
 use graph::{Graph, goes, graphs_cross, is_shared};
@@ -54,4 +55,5 @@ pub fn hubs_cross<J: Naming + Send + Sync, D: Disk + Send>()
     is_shared::<Arc<Graph>>();
     is_shared::<Mutex<Kept<J, D>>>();
     is_shared::<Board<J>>();
+    is_shared::<Glance>();
 }

@@ -1,5 +1,6 @@
 ghost use Rattle.std.specs.Prelude.{◌≡◌, [], ◌∷◌, true, None, Ok, OnErr, OnOk, IfErr, IfOk, IfSome};
 
+use crate::glance::Glance;
 use crate::{BatchError, EnvPass, Kept, TaskError, WorkPass};
 use cells::Watch;
 use commit::{Batch, Committed, CoreError, Outcome};
@@ -27,6 +28,7 @@ pub struct Hub<J: Naming, D: Disk> {
     pub(crate) kept: Mutex<Kept<J, D>>,
     pub(crate) graph: Arc<Graph>,
     pub(crate) count: usize,
+    pub(crate) glance: Glance,
     ghost counted: { count ≡ J.passes },
     ghost of_opening: { graph.value ≡ J.opening.graph },
 }
@@ -38,6 +40,7 @@ impl<J: Naming, D: Disk + Drop> Drop for Hub<J, D> {
             kept: _,
             graph: _,
             count: _,
+            glance: _,
         } = self;
     }
 }
@@ -69,6 +72,7 @@ impl<J: Naming, D: Disk> Hub<J, D> {
             kept,
             graph,
             count,
+            glance: _,
         } = self;
         (board, kept.into_inner(), graph, count)
     }
@@ -98,7 +102,10 @@ impl<J: Naming, D: Disk> Hub<J, D> {
         ensures err { OnErr result (AddsNothing pass.old pass.new) }
         ensures refused { IfErr result (RefusesEvent J.opening pass.new (λ g X. RefusesItem g X addr) (EnvItem addr value)) }
     {
-        self.locked(rt).put_item(&self.board, pass, addr, value)
+        let mut kept = self.locked(rt);
+        let answer = kept.put_item(&self.board, pass, addr, value);
+        self.note(&kept);
+        answer
     }
 
     /// Puts a tag of the environment. The refusals are those of the core's `put_tag`, in the state after what the pass
@@ -109,7 +116,10 @@ impl<J: Naming, D: Disk> Hub<J, D> {
         ensures err { OnErr result (AddsNothing pass.old pass.new) }
         ensures refused { IfErr result (RefusesEvent J.opening pass.new (λ g X. RefusesTag g X tag) (EnvTag tag)) }
     {
-        self.locked(rt).put_tag(&self.board, pass, tag)
+        let mut kept = self.locked(rt);
+        let answer = kept.put_tag(&self.board, pass, tag);
+        self.note(&kept);
+        answer
     }
 
     /// The value at an address, as the environment gets it, in the state after what the pass has then seen.
@@ -174,7 +184,10 @@ impl<J: Naming, D: Disk> Hub<J, D> {
         ensures claimed { IfOk result (λ claimed. IfSome claimed (MayRun J.opening pass.new)) }
         ensures refused { IfErr result SaysHalted }
     {
-        self.locked(rt).claim(&self.board, pass, at)
+        let mut kept = self.locked(rt);
+        let claimed = kept.claim(&self.board, pass, at);
+        self.note(&kept);
+        claimed
     }
 
     /// Claims up to `most` of the ready instances one after another, and adds their tasks to these. It claims no more than the number of ready ones
@@ -191,8 +204,10 @@ impl<J: Naming, D: Disk> Hub<J, D> {
         ensures claimed { AddsClaimed J.opening pass.new most tasks.old tasks.new }
         ensures refused { IfErr result RefusesClaims }
     {
-        self.locked(rt)
-            .claim_some(&self.board, pass, tasks, most, self.count)
+        let mut kept = self.locked(rt);
+        let answer = kept.claim_some(&self.board, pass, tasks, most, self.count);
+        self.note(&kept);
+        answer
     }
 
     /// Lets an instance wait for the item that its body asks for, unless the item is there by now.
@@ -210,7 +225,10 @@ impl<J: Naming, D: Disk> Hub<J, D> {
         ensures seen { Sees J.opening pass.old pass.new × AddsNothing pass.old pass.new }
         ensures refused { OnTask result (λ back. back ≡ task) (λ answer. IfErr answer (RefusesWait J.opening pass.new parked.entry.address)) }
     {
-        self.locked(rt).park(&self.board, pass, task, parked)
+        let mut kept = self.locked(rt);
+        let answer = kept.park(&self.board, pass, task, parked);
+        self.note(&kept);
+        answer
     }
 
     /// Gives the instance of a task back: it is ready.
@@ -223,7 +241,10 @@ impl<J: Naming, D: Disk> Hub<J, D> {
         ensures seen { Sees J.opening pass.old pass.new × AddsNothing pass.old pass.new }
         ensures foreign { OnTask result (λ back. back ≡ task) (λ answer. answer ≡ Ok tt) }
     {
-        self.locked(rt).release(&self.board, pass, task)
+        let mut kept = self.locked(rt);
+        let answer = kept.release(&self.board, pass, task);
+        self.note(&kept);
+        answer
     }
 
     /// Commits what the body of an instance came to: the instance is done, with its puts, or at fault.
@@ -243,19 +264,26 @@ impl<J: Naming, D: Disk> Hub<J, D> {
         ensures err { OnErr result (AddsNothing pass.old pass.new) }
         ensures refused { OnTask result (λ back. back ≡ task) (λ answer. IfErr answer (RefusesEndOf J.opening pass.new task outcome.entry)) }
     {
-        self.locked(rt).finish(&self.board, pass, task, outcome)
+        let mut kept = self.locked(rt);
+        let answer = kept.finish(&self.board, pass, task, outcome);
+        self.note(&kept);
+        self.glance.note_batch();
+        answer
     }
 
     /// Commits what the bodies of several instances came to, as one: all of it, or all of it up to the first fault. The
     /// instances behind a fault are ready again, and so are all of them at an error of the core.
     ///
     /// Each outcome must be of its task's instance and of the body of its step in this graph, and each item that it read
-    /// must be in the state that the pass knew.
+    /// must be in the state that the pass knew, or be put by an outcome before it.
+    ///
+    /// `ahead` is what `Batch::spell_ahead` gives of the outcomes that are to be committed next, or nothing: then their records need one sync in place of two.
     pub fn finish_all<'a, R: Wait>(
         &self,
         rt: &R,
         pass: &mut WorkPass<J>,
         batch: Batch<'a>,
+        ahead: &[u8],
     ) -> Result<Ended, BatchError<'a>>
         requires { HaveOutcomes J.opening.graph (facts_behind J.opening pass.old.seen) batch.tasks batch.outcomes }
         ensures seen { Sees J.opening pass.old pass.new }
@@ -263,7 +291,11 @@ impl<J: Naming, D: Disk> Hub<J, D> {
         ensures err { OnErr result (AddsNothing pass.old pass.new) }
         ensures refused { OnBatch result (λ back. back ≡ batch.entry) (λ answer. IfErr answer (RefusesTogether J.opening pass.new (ends_said batch.entry))) }
     {
-        self.locked(rt).finish_all(&self.board, pass, batch)
+        let mut kept = self.locked(rt);
+        let answer = kept.finish_all(&self.board, pass, batch, ahead);
+        self.note(&kept);
+        self.glance.note_batch();
+        answer
     }
 
     /// `finish_all`, and then, if it is not refused, `claim_some`, with one visit of the lock.
@@ -283,8 +315,11 @@ impl<J: Naming, D: Disk> Hub<J, D> {
         ensures claimed { AddsClaimed J.opening pass.new most tasks.old tasks.new }
         ensures unclaimed { OnErr result (tasks.new ≡ tasks.old) }
     {
-        self.locked(rt)
-            .exchange(&self.board, pass, batch, tasks, most, self.count)
+        let mut kept = self.locked(rt);
+        let answer = kept.exchange(&self.board, pass, batch, tasks, most, self.count);
+        self.note(&kept);
+        self.glance.note_batch();
+        answer
     }
 
     /// Whether an instance runs, or may be claimed. No clause says which it returns.
@@ -292,6 +327,27 @@ impl<J: Naming, D: Disk> Hub<J, D> {
         ensures { Sees J.opening pass.old pass.new × AddsNothing pass.old pass.new }
     {
         self.locked(rt).busy(&self.board, pass)
+    }
+
+    // Notes what is ready and what runs, before the lock is left.
+    fn note(&self, kept: &Kept<J, D>) {
+        self.glance.note(kept.core.ready(), kept.core.running());
+    }
+
+    /// How many instances were ready when the lock was last left. It waits for nobody, and no clause says it: it is for whoever shares out the work. So are `running` and
+    /// `batches`.
+    pub fn ready(&self) -> usize {
+        self.glance.ready()
+    }
+
+    /// How many instances ran when the lock was last left.
+    pub fn running(&self) -> usize {
+        self.glance.running()
+    }
+
+    /// How often outcomes were given to `finish`, `finish_all` and `exchange`.
+    pub fn batches(&self) -> usize {
+        self.glance.batches()
     }
 
     /// The graph; bodies of it are run outside the lock.

@@ -93,7 +93,7 @@ impl<J: Naming, D: Disk> Kept<J, D> {
         ensures claimed { AddsClaimed J.opening pass.new most tasks.old tasks.new }
         ensures unclaimed { OnErr result (tasks.new ≡ tasks.old) }
     {
-        match self.finish_all(board, pass, batch) {
+        match self.finish_all(board, pass, batch, &[]) {
             Ok(ended) => {
                 // What is refused here is asked for again by the worker's next claim.
                 let _ = self.claim_some(board, pass, tasks, most, passes);

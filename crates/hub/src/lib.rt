@@ -12,6 +12,7 @@ mod both;
 mod close;
 mod crossing;
 mod error;
+mod glance;
 mod hub;
 mod kept;
 mod kept_batch;

@@ -3,6 +3,7 @@ ghost use Rattle.std.specs.Prelude.{◌≡◌, IfOk, IfErr};
 ghost use Rattle.hub.specs.Whole.{IsNamedFor};
 ghost use Rattle.passes.specs.Roll.{new_passes};
 
+use crate::glance::Glance;
 use crate::{EnvPass, Hub, Kept, WorkPass};
 use cells::Fillers;
 use commit::Core;
@@ -46,6 +47,7 @@ impl<J: Naming, D: Disk> Hub<J, D> {
     {
         stores_go_on::<D>();
         core.is_kept();
+        let ready = core.ready();
         let env_count = blank.envs();
         let worker_count = blank.workers();
         let mut envs = Vec::new(alloc);
@@ -70,6 +72,7 @@ impl<J: Naming, D: Disk> Hub<J, D> {
             }),
             graph,
             count: env_count as usize + worker_count as usize,
+            glance: Glance::new(ready),
         };
         Ok((hub, envs, workers))
     }
