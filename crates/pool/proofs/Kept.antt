@@ -1,31 +1,41 @@
 -- What a worker keeps, and what it knows of a refusal.
-use Rattle.std.proofs.Common.{◌≡◌, ◌≤◌, ◌++◌, ℕ, zero, suc, List, [], ◌∷◌, length, take, drop, Option, Some, None, IfSome, MatchOption, sym, subst}
+use Rattle.std.proofs.Common.{◌≡◌, ◌∙◌, ◌⊎◌, ◌≤◌, ◌++◌, ◌||◌, ℕ, zero, suc, Bool, true, false, arith, refl, List, [], ◌∷◌, length, take, drop, take-append-drop, Option, Some, None, IfSome, MatchOption, Result, Ok, ap, inl, inr, is_some, not, sym, subst}
+use Rattle.std.proofs.lemmas.Bool.{false≢true}
 use mathlib.Core.List.{IsPrefix}
 use Rattle.std.specs.List.{AllByRecursion}
 use Rattle.terms.specs.declared.name.Inst.{Inst}
 use Rattle.terms.specs.declared.event.Event.{Event}
 use Rattle.terms.specs.declared.event.Event.TheVariants as event
 use Rattle.terms.specs.declared.fault.FaultKind.{FaultKind}
-use Rattle.terms.specs.Facts.{FactsGoOn}
-use Rattle.terms.specs.Sets.{AmongBoth}
+use Rattle.terms.specs.Commits.{Commit}
+use Rattle.terms.specs.Facts.{Fact, FactsGoOn, facts}
+use Rattle.terms.specs.Sets.{AmongBoth, Facts, among, with_facts}
 use Rattle.graph.specs.Fits.{InstanceIsOf}
-use Rattle.machine.specs.Group.{cut, stop_at, stopped_as}
+use Rattle.graph.specs.Graph.{Graph}
+use Rattle.machine.specs.declared.group.Ended.{Ended}
+use Rattle.machine.specs.Group.{StopsAt, cut, stop_at, stopped_as}
 use Rattle.machine.specs.Results.{ReadsStay}
+use Rattle.machine.proofs.Sets.{Within, or_right}
 use Rattle.commit.specs.declared.outcome.Outcome.{Outcome}
 use Rattle.commit.specs.declared.outcome.Outcome.TheVariants.{Gave, Fault}
-use Rattle.commit.specs.Batch.{Batch, HaveOutcomes, end_said, ends_by, ends_said}
+use Rattle.commit.proofs.Outcomes.{divided, in_both, more_within, outcome_within, outcomes_more, outcomes_within}
+use Rattle.commit.specs.Batch.{Batch, HaveOutcomes, IsDivided, end_said, ends_by, ends_said, facts_with}
 use Rattle.commit.specs.Came.{IsOutcomeIn}
-use Rattle.commit.specs.Runs.{IsEnd}
+use Rattle.commit.specs.Runs.{IsEnd, MetFull}
 use Rattle.passes.specs.Known.{Known}
 use Rattle.passes.specs.Opening.{Opening}
 use Rattle.passes.proofs.Gathered.{all_of_both}
 use Rattle.passes.proofs.Lists.{prefix_further, prefix_self}
-use Rattle.hub.specs.Batches.{HaveNoRoom}
+use Rattle.steplang.specs.Running.{Running}
+use Rattle.hub.specs.Batches.{AddsTogether, HaveNoRoom}
 use Rattle.hub.specs.Claims.{AddsClaimed}
 use Rattle.hub.specs.Opening.{end_behind, facts_behind}
 use Rattle.hub.specs.Replies.{MayRun}
-use Rattle.hub.proofs.Batches.{outcomes_more, outcomes_stay, some_come}
+use Rattle.hub.specs.Running.{WaitsIn}
+use Rattle.hub.proofs.States.{facts_more, stays}
+use Rattle.hub.proofs.Batches.{outcomes_stay, some_come}
 use Rattle.pool.specs.declared.worker.Met.{Met}
+use Rattle.pool.specs.declared.worker.Met.TheVariants as met
 use Rattle.pool.specs.Worked.{AreClaimed, AreKept, IsTurned, Justifies, SawFull, turned_by}
 
 -- ---- what is kept
@@ -59,32 +69,76 @@ first_taken opening (Some task) old new is are =
 -- ---- what is kept, further
 
 -- the outcomes of a batch with one more
-pub added : (opening : Opening) (known : Known) (old new : Batch) (task : Inst) (outcome : Outcome) → new.tasks ≡ old.tasks ++ task ∷ [] → new.outcomes ≡ old.outcomes ++ outcome ∷ []
-    → HaveOutcomes opening.graph (facts_behind opening known.seen) old.tasks old.outcomes → IsOutcomeIn opening.graph (facts_behind opening known.seen) task outcome
+pub added : AmongBoth → ReadsStay → (opening : Opening) (known : Known) (old new : Batch) (task : Inst) (outcome : Outcome) → new.tasks ≡ old.tasks ++ task ∷ [] → new.outcomes ≡ old.outcomes ++ outcome ∷ []
+    → HaveOutcomes opening.graph (facts_behind opening known.seen) old.tasks old.outcomes → IsOutcomeIn opening.graph (facts_with (facts_behind opening known.seen) (Some old)) task outcome
     → HaveOutcomes opening.graph (facts_behind opening known.seen) new.tasks new.outcomes
-added opening known old new task outcome tasks outcomes have is =
+added both stay opening known old new task outcome tasks outcomes have is =
     subst (λ (at : List Inst × List Outcome). HaveOutcomes opening.graph (facts_behind opening known.seen) at.0 at.1) (λ i. (sym tasks i, sym outcomes i))
-    (outcomes_more opening.graph (facts_behind opening known.seen) old.tasks old.outcomes task outcome have is)
+    (outcomes_more both stay opening.graph (facts_behind opening known.seen) old.tasks old.outcomes task outcome have is)
+
+-- an end alone comes as it is
+cut_whole : (events : List Event) (ended : Ended) → StopsAt ended.stopped (drop ended.done events) → ended.stopped ≡ None → cut ended events ≡ events
+cut_whole events ended stops none =
+    let nothing : drop ended.done events ≡ [] = subst (λ (o : Option FaultKind). StopsAt o (drop ended.done events)) none stops in
+    ap (λ (o : Option FaultKind). take ended.done events ++ stop_at o (drop ended.done events)) none
+    ∙ ap (λ (rest : List Event). take ended.done events ++ rest) (sym nothing) ∙ take-append-drop ended.done events
+
+-- once all of a batch came as it is, what it puts is in the state that the pass knows
+pub all_there : AmongBoth → FactsGoOn → (opening : Opening) (old new : Known) (batch : Batch) (ended : Ended) → AddsTogether opening (ends_said batch) old new ended → ended.stopped ≡ None
+    → (fact : Fact) → facts_with (facts_behind opening old.seen) (Some batch) fact ≡ true → facts_behind opening new.seen fact ≡ true
+all_there both go_on opening old new batch ended adds none fact there =
+    let ends = ends_said batch in
+    let before = adds.adds.before in
+    let whole = cut_whole ends ended adds.together.stops none in
+    subst (λ (seen : List Commit). facts_behind opening seen fact ≡ true) (sym adds.adds.ends)
+    (ap (λ (X : Facts). X fact) (facts_more both go_on opening before (cut ended ends))
+    ∙ more_within (facts_behind opening old.seen) (facts_behind opening before) (facts (cut ended ends)) (stays both go_on opening old.seen before adds.adds.starts) fact
+    (subst (λ (list : List Event). with_facts (facts_behind opening old.seen) (facts list) fact ≡ true) (sym whole) there))
+
+-- what waits over items of a set waits over more of them
+pub waits_within : ReadsStay → (g : Graph) (X Y : Facts) → Within X Y → (instance : Inst) (run : Running) → WaitsIn g X instance run → WaitsIn g Y instance run
+waits_within stay g X Y within instance run waits = record {
+  instance_is = waits.instance_is;
+  body = waits.body;
+  reads = stay X Y run.reads within waits.reads;
+  address = waits.address;
+  awaits = waits.awaits;
+  asks = waits.asks;
+}
+
+-- a result over what is lent is one over what is kept
+pub over_kept : ReadsStay → (opening : Opening) (known : Known) (kept lent : Option Batch) (task : Inst) (outcome : Outcome) → (lent ≡ None) ⊎ (lent ≡ kept)
+    → IsOutcomeIn opening.graph (facts_with (facts_behind opening known.seen) lent) task outcome → IsOutcomeIn opening.graph (facts_with (facts_behind opening known.seen) kept) task outcome
+over_kept stay opening known kept lent task outcome (inl none) is =
+    outcome_within stay opening.graph (facts_behind opening known.seen) (facts_with (facts_behind opening known.seen) kept) (in_both (facts_behind opening known.seen) kept) task outcome
+    (subst (λ (o : Option Batch). IsOutcomeIn opening.graph (facts_with (facts_behind opening known.seen) o) task outcome) none is)
+over_kept stay opening known kept lent task outcome (inr same) is = subst (λ (o : Option Batch). IsOutcomeIn opening.graph (facts_with (facts_behind opening known.seen) o) task outcome) same is
+
+pub waits_over_kept : ReadsStay → (opening : Opening) (known : Known) (kept lent : Option Batch) (task : Inst) (run : Running) → (lent ≡ None) ⊎ (lent ≡ kept)
+    → WaitsIn opening.graph (facts_with (facts_behind opening known.seen) lent) task run → WaitsIn opening.graph (facts_with (facts_behind opening known.seen) kept) task run
+waits_over_kept stay opening known kept lent task run (inl none) is =
+    waits_within stay opening.graph (facts_behind opening known.seen) (facts_with (facts_behind opening known.seen) kept) (in_both (facts_behind opening known.seen) kept) task run
+    (subst (λ (o : Option Batch). WaitsIn opening.graph (facts_with (facts_behind opening known.seen) o) task run) none is)
+waits_over_kept stay opening known kept lent task run (inr same) is = subst (λ (o : Option Batch). WaitsIn opening.graph (facts_with (facts_behind opening known.seen) o) task run) same is
 
 -- a worker that met something ends, and another goes on
 pub turned : (opening : Opening) (known : Known) (met : Option Met) → Justifies opening met known → IsTurned opening known (turned_by met)
 turned opening known None full = tt
 turned opening known (Some met) full = full
 
--- what a pass saw it has still seen when it has seen more
-pub saw_further : (opening : Opening) (old new : Known) → IsPrefix old.seen new.seen → SawFull opening old → SawFull opening new
-saw_further opening old new begins saw = record {
-  before = saw.before;
-  starts = prefix_further saw.before old.seen new.seen saw.starts begins;
-  refused = saw.refused;
-  some = saw.some;
-  are_ends = saw.are_ends;
-  legal = saw.legal;
-  too_long = saw.too_long;
-}
-
-pub justified_further : (opening : Opening) (old new : Known) (result : Option Met) → IsPrefix old.seen new.seen → Justifies opening result old → Justifies opening result new
-justified_further opening old new result begins full is = saw_further opening old new begins (full is)
+-- what justified it in commits that a pass has seen does so when it has seen more
+pub justified_further : (opening : Opening) (seen : List Commit) (new : Known) (result : Option Met) → IsPrefix seen new.seen → (result ≡ Some met.Full → MetFull opening.graph opening.facts opening.end seen) → Justifies opening result new
+justified_further opening seen new result begins full is =
+    let saw = full is in
+    record {
+      before = saw.before;
+      starts = prefix_further saw.before seen new.seen saw.starts begins;
+      refused = saw.refused;
+      some = saw.some;
+      are_ends = saw.are_ends;
+      legal = saw.legal;
+      too_long = saw.too_long;
+    }
 
 -- ---- a record of several ends that does not fit
 
@@ -123,3 +177,60 @@ saw_batch opening old known batch some have why = record {
   legal = why.together.legal;
   too_long = why.too_long;
 }
+
+-- ---- a batch that was divided
+
+parted : AmongBoth → ReadsStay → (opening : Opening) (known : Known) (batch first rest : Batch) (size : ℕ) → IsDivided batch size first rest → HaveOutcomes opening.graph (facts_behind opening known.seen) batch.tasks batch.outcomes
+    → HaveOutcomes opening.graph (facts_behind opening known.seen) first.tasks first.outcomes × HaveOutcomes opening.graph (facts_with (facts_behind opening known.seen) (Some first)) rest.tasks rest.outcomes
+parted both stay opening known batch first rest size is have =
+    divided both stay opening.graph (facts_behind opening known.seen) first.tasks first.outcomes rest.tasks rest.outcomes
+    (subst (λ (at : List Inst × List Outcome). HaveOutcomes opening.graph (facts_behind opening known.seen) at.0 at.1) (λ i. (sym is.tasks i, sym is.outcomes i)) have)
+    (is.many_outcomes ∙ sym is.many_tasks)
+
+-- the outcomes in front are over the state
+pub first_have : AmongBoth → ReadsStay → (opening : Opening) (known : Known) (batch first rest : Batch) (size : ℕ) → IsDivided batch size first rest → HaveOutcomes opening.graph (facts_behind opening known.seen) batch.tasks batch.outcomes
+    → HaveOutcomes opening.graph (facts_behind opening known.seen) first.tasks first.outcomes
+first_have both stay opening known batch first rest size is have = (parted both stay opening known batch first rest size is have).0
+
+-- and the others over the state after those
+pub rest_have : AmongBoth → ReadsStay → (opening : Opening) (old mid : Known) (batch first rest : Batch) (size : ℕ) → IsDivided batch size first rest → HaveOutcomes opening.graph (facts_behind opening old.seen) batch.tasks batch.outcomes
+    → Within (facts_with (facts_behind opening old.seen) (Some first)) (facts_behind opening mid.seen) → HaveOutcomes opening.graph (facts_behind opening mid.seen) rest.tasks rest.outcomes
+rest_have both stay opening old mid batch first rest size is have within =
+    outcomes_within stay opening.graph (facts_with (facts_behind opening old.seen) (Some first)) (facts_behind opening mid.seen) within rest.tasks rest.outcomes (parted both stay opening old batch first rest size is have).1
+
+ends_joined : (front behind : List Inst) (came later : List Outcome) → length came ≡ length front → ends_by (front ++ behind) (came ++ later) ≡ ends_by front came ++ ends_by behind later
+ends_joined [] behind [] later even = refl
+ends_joined [] behind (outcome ∷ came) later even = absurd (omega (arith, even))
+ends_joined (task ∷ front) behind [] later even = absurd (omega (arith, even))
+ends_joined (task ∷ front) behind (outcome ∷ came) later even = ap (λ (list : List Event). end_said task outcome ∷ list) (ends_joined front behind came later (omega (arith, even)))
+
+-- what all of it puts is there once both parts are
+pub both_there : AmongBoth → FactsGoOn → (opening : Opening) (old mid new : Known) (batch first rest : Batch) (size : ℕ) → IsDivided batch size first rest → Within (facts_with (facts_behind opening old.seen) (Some first)) (facts_behind opening mid.seen)
+    → Within (facts_with (facts_behind opening mid.seen) (Some rest)) (facts_behind opening new.seen) → Within (facts_with (facts_behind opening old.seen) (Some batch)) (facts_behind opening new.seen)
+both_there both go_on opening old mid new batch first rest size is one two fact there =
+    let X = facts_behind opening old.seen in
+    let Y = facts_behind opening mid.seen in
+    let ends : ends_said batch ≡ ends_said first ++ ends_said rest =
+    (λ i. ends_by (sym is.tasks i) (sym is.outcomes i)) ∙ ends_joined first.tasks rest.tasks first.outcomes rest.outcomes (is.many_outcomes ∙ sym is.many_tasks)
+    in
+    let said : (X fact || among (facts (ends_said first) ++ facts (ends_said rest)) fact) ≡ true =
+    sym (ap (λ (list : List Event). X fact || among (facts list) fact) ends ∙ ap (λ (list : List Fact). X fact || among list fact) (go_on (ends_said first) (ends_said rest))) ∙ there
+    in
+    let parts : (X fact || (among (facts (ends_said first)) fact || among (facts (ends_said rest)) fact)) ≡ true = sym (ap (λ b. X fact || b) (both (facts (ends_said first)) (facts (ends_said rest)) fact)) ∙ said in
+    two fact (later (X fact) (among (facts (ends_said first)) fact) (among (facts (ends_said rest)) fact) (Y fact) (one fact) parts)
+  where
+    later : (a b c d : Bool) → ((a || b) ≡ true → d ≡ true) → (a || (b || c)) ≡ true → (d || c) ≡ true
+    later true b c d there is = ap (λ x. x || c) (there refl)
+    later false true c d there is = ap (λ x. x || c) (there refl)
+    later false false c d there is = or_right d c is
+
+-- if no fault came, all did
+pub came_whole : (stopped : Option FaultKind) (none : Bool) → is_some stopped ≡ not none → ◌≡◌ {A = Result Bool Met} (Ok none) (Ok true) → stopped ≡ None
+came_whole None none is all = refl
+came_whole (Some kind) none is all = absurd (false≢true (sym (is ∙ ap not (value none all))))
+  where
+    value : (b : Bool) → ◌≡◌ {A = Result Bool Met} (Ok b) (Ok true) → b ≡ true
+    value b same = cc
+
+pub all_came : (all : Bool) → all ≡ true → ◌≡◌ {A = Result Bool Met} (Ok all) (Ok true)
+all_came all is = ap (λ (b : Bool). Ok b) is

@@ -21,7 +21,7 @@ use Rattle.hub.specs.Opening.{facts_behind}
 use Rattle.passes.specs.Known.{Known}
 use Rattle.passes.specs.Opening.{Opening}
 use Rattle.pool.specs.declared.worker.Met.{Met}
-use Rattle.pool.specs.declared.worker.TheConstants.{GROUP}
+use Rattle.pool.specs.declared.worker.TheConstants.{MOST_KEPT}
 use Rattle.pool.specs.declared.worker.Turned.{Turned}
 use Rattle.pool.specs.declared.worker.Turned.TheVariants as turned
 use Rattle.pool.specs.declared.worker.Met.TheVariants as met
@@ -54,9 +54,10 @@ Justifies opening result known = result ≡ Some met.Full → SawFull opening kn
 
 -- ---- turns
 
--- The results that a worker keeps, if it keeps any: fewer than a group; each outcome is of its instance, over items of the state that its pass knows.
+-- The results that a worker keeps, if it keeps any: fewer than it claims at once; each outcome is of its instance, over items of the state that its pass knows, or that the
+-- results before it put.
 pub record AreKeptIn (opening : Opening) (known : Known) (batch : Batch) : Type 0 where
-  pub few : length batch.tasks < GROUP
+  pub few : length batch.tasks < MOST_KEPT
   pub outcomes : HaveOutcomes opening.graph (facts_behind opening known.seen) batch.tasks batch.outcomes
 
 abbrev pub AreKept : Opening → Known → Option Batch → Type 0

@@ -1,13 +1,14 @@
 //! What a worker has claimed, and what it remembers of the bodies that it ran.
-ghost use Rattle.std.specs.Prelude.{◌≡◌, [], IfOk, IfErr, IfSome};
+ghost use Rattle.std.specs.Prelude.{◌≡◌, ◌⊎◌, [], None, IfOk, IfErr, IfSome};
 ghost use mathlib.Core.List.{IsPrefix};
 ghost use Rattle.graph.specs.Fits.{InstanceIsOf};
 ghost use Rattle.hub.specs.Claims.{RefusesClaims};
+ghost use Rattle.hub.specs.Running.{kept_of};
 ghost use Rattle.pool.specs.Worked.{AreClaimed};
 
 use crate::settling::settled;
-use crate::worker::GROUP;
-use commit::CoreError;
+use crate::worker::{GROUP, MOST_KEPT};
+use commit::{Batch, CoreError};
 use disk::Disk;
 use hub::{Hub, WorkPass};
 use instances::{Task, Tasks};
@@ -21,6 +22,12 @@ const LONG: u32 = 10_000;
 // What a body takes beside its statements, counted in statements.
 const VISIT: u32 = 100;
 
+// A body is light if it makes fewer statements: then its commit takes longer than the body, and one worker alone takes about as long for such bodies as several.
+const LIGHT: u32 = 64;
+
+// A body looks for items among the results that are kept if these have at most this number of puts, since it goes through all of them.
+const FEW_PUTS: usize = 64;
+
 /// What a worker has claimed, and what it remembers of the bodies that it ran.
 pub(crate) struct Hand {
     /// The instances that it has claimed and not begun to run, in order.
@@ -29,31 +36,96 @@ pub(crate) struct Hand {
     slow: bool,
     // The statements of the bodies that ran since the first of the results that are kept, with `VISIT` more for each body.
     spent: u32,
+    // The puts of the results that are kept.
+    puts: usize,
+    // Whether the bodies that ran since then are light.
+    light: bool,
+    // The number of the worker, from 0.
+    number: usize,
+    // How many batches had been committed when it last committed one.
+    batches: usize,
+    /// Whether it leaves the work to others for a while, and how often in a row it has done so.
+    pub(crate) rests: bool,
+    pub(crate) rested: u32,
     /// How often in a row it has found nothing to do.
     pub(crate) vain: u32,
 }
 
 impl Hand {
     /// A hand that has claimed nothing. Until a body was run, it is not known whether bodies take long.
-    pub(crate) fn empty(alloc: Global) -> Result<Hand, AllocError>
+    pub(crate) fn empty(alloc: Global, number: usize) -> Result<Hand, AllocError>
         ensures { IfOk result (λ hand. hand.claimed ≡ []) }
     {
-        let claimed = Tasks::with_room(alloc, GROUP)?;
+        let claimed = Tasks::with_room(alloc, MOST_KEPT)?;
         Ok(Hand {
             claimed,
             slow: true,
             spent: 0,
+            puts: 0,
+            light: false,
+            number,
+            batches: 0,
+            rests: false,
+            rested: 0,
             vain: 0,
         })
     }
 
-    /// Notes how many statements a body has made, and whether results are kept beside it.
-    pub(crate) fn note(&mut self, statements: u32, keeps: bool)
+    /// Notes how many statements and puts a body has made, and whether results are kept beside it.
+    pub(crate) fn note(&mut self, statements: u32, puts: usize, keeps: bool)
         ensures { self.new.claimed ≡ self.old.claimed }
     {
+        if !keeps {
+            self.spent = 0;
+            self.puts = 0;
+            self.light = true;
+        }
         self.slow = statements >= LONG;
-        let before = if keeps { self.spent } else { 0 };
-        self.spent = before.saturating_add(statements).saturating_add(VISIT);
+        self.light = self.light && statements < LIGHT;
+        self.puts = self.puts.saturating_add(puts);
+        self.spent = self.spent.saturating_add(statements).saturating_add(VISIT);
+    }
+
+    /// What is kept, if a body may look for items there: if it has few puts, and this number of ready instances is a group or more. Where fewer are ready, results are
+    /// committed soon, and a record has no more ends than it would have if each body read what is committed alone.
+    pub(crate) fn ahead<'k, 'a>(
+        &self,
+        kept: &'k Option<Batch<'a>>,
+        ready: usize,
+    ) -> Option<&'k Batch<'a>>
+        ensures { (kept_of result ≡ None) ⊎ (kept_of result ≡ kept.now) }
+    {
+        if self.puts > FEW_PUTS || ready < GROUP {
+            return None;
+        }
+        match kept {
+            Some(batch) => Some(batch),
+            None => None,
+        }
+    }
+
+    /// Before it commits: it rests afterwards if others have committed since it did, bodies are light, and nothing else is claimed. Then a worker with a smaller number does
+    /// the work as fast.
+    pub(crate) fn before_commit(&mut self, batches: usize)
+        ensures { self.new.claimed ≡ self.old.claimed }
+    {
+        let crowded = batches != self.batches;
+        self.rests = crowded && self.light && self.number > 0 && self.claimed.is_empty();
+        if !self.light {
+            self.rested = 0;
+        }
+    }
+
+    /// After it has committed: how many batches were.
+    pub(crate) fn after_commit(&mut self, batches: usize)
+        ensures { self.new.claimed ≡ self.old.claimed }
+    {
+        self.batches = batches;
+    }
+
+    /// The number of the worker.
+    pub(crate) fn number(&self) -> usize {
+        self.number
     }
 
     /// Whether the last body took long.
@@ -67,12 +139,14 @@ impl Hand {
     }
 
     /// The next instance to run, if there is one: it was claimed before, or is now, with others of its group. Says whether an instance runs then. After
-    /// a body that took long, what was claimed before it is given back, so that others can run it, and one instance is claimed alone.
+    /// a body that took long, what was claimed before it is given back, so that others can run it, and one instance is claimed alone. If the worker keeps
+    /// a group of results, or some and none seems to be ready, none is claimed: the results are committed first.
     pub(crate) fn next<J: Naming, D: Disk, R: Wait>(
         &mut self,
         rt: &R,
         hub: &Hub<J, D>,
         pass: &mut WorkPass<J>,
+        kept: usize,
     ) -> Result<(Option<Task>, bool), CoreError>
         requires { AreClaimed J.opening self.old.claimed }
         ensures claimed { AreClaimed J.opening self.new.claimed }
@@ -86,7 +160,8 @@ impl Hand {
         }
         match self.claimed.take_first() {
             Some(task) => Ok((Some(task), true)),
-            None => self.claim(rt, hub, pass, GROUP),
+            None if kept >= GROUP || (kept > 0 && hub.ready() == 0) => Ok((None, true)),
+            None => self.claim(rt, hub, pass, MOST_KEPT),
         }
     }
 
@@ -133,6 +208,12 @@ impl Hand {
             claimed,
             slow: _,
             spent: _,
+            puts: _,
+            light: _,
+            number: _,
+            batches: _,
+            rests: _,
+            rested: _,
             vain: _,
         } = self;
         claimed.end();

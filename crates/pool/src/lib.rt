@@ -10,6 +10,7 @@
 mod crew;
 mod driver;
 mod driving;
+mod groups;
 mod hand;
 mod probe;
 mod running;

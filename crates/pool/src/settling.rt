@@ -3,17 +3,15 @@ ghost use Rattle.std.specs.Prelude.{◌≡◌, IsErrOf, None, Some};
 ghost use mathlib.Core.List.{IsPrefix};
 ghost use Rattle.vault.specs.declared.error.VaultError.TheVariants.{Full};
 ghost use Rattle.commit.specs.declared.error.CoreError.TheVariants.{Store};
-ghost use Rattle.commit.specs.Batch.{HaveOutcomes};
 ghost use Rattle.commit.specs.Came.{IsOutcomeIn};
 ghost use Rattle.hub.specs.Opening.{facts_behind};
 ghost use Rattle.hub.specs.Running.{WaitsIn};
 ghost use Rattle.hub.specs.Tasks.{OnTask};
 ghost use Rattle.hub.specs.declared.error.BatchError.TheVariants.{Refused as AllRefused};
 ghost use Rattle.pool.specs.declared.worker.Met.TheVariants.{Asked as MetAsked, Full as MetFull};
-ghost use Rattle.pool.specs.Worked.{AreClaimed, AreKept, Justifies, met_after, met_after_all, met_by};
+ghost use Rattle.pool.specs.Worked.{Justifies, met_after, met_after_all, met_by};
 
-use crate::hand::Hand;
-use crate::worker::{GROUP, Met};
+use crate::worker::Met;
 use commit::{Batch, CoreError, Outcome};
 use disk::Disk;
 use hub::{BatchError, Hub, TaskError, WorkPass};
@@ -38,61 +36,6 @@ pub(crate) fn park<'a, J: Naming, D: Disk, R: Wait>(
 {
     let parked = run.park();
     settled(rt, hub.park(rt, pass, task, parked))
-}
-
-/// Commits what is kept, if anything is.
-pub(crate) fn commit_kept<'a, J: Naming, D: Disk, R: Wait>(
-    rt: &R,
-    hub: &'a Hub<J, D>,
-    pass: &mut WorkPass<J>,
-    kept: Option<Batch<'a>>,
-) -> Option<Met>
-    requires { AreKept J.opening pass.old kept }
-    ensures asked { result ≡ Some MetAsked → ⊥ }
-    ensures full { Justifies J.opening result pass.new }
-{
-    match kept {
-        Some(batch) => commit(rt, hub, pass, batch),
-        None => None,
-    }
-}
-
-/// Commits the outcomes of a batch together.
-pub(crate) fn commit<'a, J: Naming, D: Disk, R: Wait>(
-    rt: &R,
-    hub: &'a Hub<J, D>,
-    pass: &mut WorkPass<J>,
-    batch: Batch<'a>,
-) -> Option<Met>
-    requires { HaveOutcomes J.opening.graph (facts_behind J.opening pass.old.seen) batch.tasks batch.outcomes }
-    ensures ahead { IsPrefix pass.old.seen pass.new.seen }
-    ensures asked { result ≡ Some MetAsked → ⊥ }
-    ensures full { Justifies J.opening result pass.new }
-{
-    // What is known of every batch: it has an instance.
-    batch.len();
-    settled_all(rt, hub.finish_all(rt, pass, batch))
-}
-
-/// Commits the outcomes of a batch together, and claims the next group of instances with the same visit of the lock.
-pub(crate) fn exchange<'a, J: Naming, D: Disk, R: Wait>(
-    rt: &R,
-    hub: &'a Hub<J, D>,
-    pass: &mut WorkPass<J>,
-    hand: &mut Hand,
-    batch: Batch<'a>,
-) -> Option<Met>
-    requires batch { HaveOutcomes J.opening.graph (facts_behind J.opening pass.old.seen) batch.tasks batch.outcomes }
-    requires claimed { AreClaimed J.opening hand.old.claimed }
-    ensures claimed { AreClaimed J.opening hand.new.claimed }
-    ensures asked { result ≡ Some MetAsked → ⊥ }
-    ensures full { Justifies J.opening result pass.new }
-{
-    // What is known of every batch: it has an instance.
-    batch.len();
-    // No more than the hand has room for.
-    let most = GROUP.saturating_sub(hand.claimed.len());
-    settled_all(rt, hub.exchange(rt, pass, batch, &mut hand.claimed, most))
 }
 
 /// Commits the outcome of an instance by itself.
@@ -126,8 +69,11 @@ pub(crate) fn settled<T: Drop, R: Wait>(rt: &R, answer: Result<T, TaskError>) ->
     }
 }
 
-// What ends the worker, given the answer of a call that spent a batch; or nothing.
-fn settled_all<T: Drop, R: Wait>(rt: &R, answer: Result<T, BatchError<'_>>) -> Option<Met>
+/// What ends the worker, given the answer of a call that spent a batch; or nothing.
+pub(crate) fn settled_all<T: Drop, R: Wait>(
+    rt: &R,
+    answer: Result<T, BatchError<'_>>,
+) -> Option<Met>
     ensures met { result ≡ met_after_all answer.entry }
     ensures asked { result ≡ Some MetAsked → ⊥ }
     ensures full { result ≡ Some MetFull → IsErrOf answer.entry (AllRefused (Store Full)) }
@@ -152,8 +98,8 @@ fn stranded<R: Wait>(rt: &R, task: Task) -> Option<Met>
     unreachable!()
 }
 
-// The same for a batch.
-fn stranded_batch<R: Wait>(rt: &R, batch: Batch<'_>) -> Option<Met>
+/// The same for a batch.
+pub(crate) fn stranded_batch<R: Wait>(rt: &R, batch: Batch<'_>) -> Option<Met>
     ensures { result ≡ None }
 {
     for _ in rt.forever() {}
@@ -171,8 +117,8 @@ pub(crate) fn stopped_by(error: CoreError) -> Met
     }
 }
 
-// What a worker meets by an error of a call that spent a task or a batch.
-fn met_of(error: CoreError) -> Met
+/// What a worker meets by an error of a call that spent a task or a batch.
+pub(crate) fn met_of(error: CoreError) -> Met
     ensures met { result ≡ met_by error }
     ensures asked { result ≡ MetAsked → ⊥ }
     ensures full { result ≡ MetFull → error ≡ Store Full }

@@ -5,9 +5,10 @@ ghost use Rattle.pool.specs.declared.worker.Turned.TheVariants.{Ends};
 ghost use Rattle.pool.specs.Worked.{AreClaimed, AreKept, IsTurned, Justifies, turned_by};
 
 use crate::Probe;
+use crate::groups::{commit_kept, exchange};
 use crate::hand::Hand;
 use crate::running::run_task;
-use crate::settling::{commit, commit_kept, stopped_by};
+use crate::settling::stopped_by;
 use commit::Batch;
 use disk::Disk;
 use hub::{Hub, WorkPass};
@@ -57,17 +58,28 @@ pub(crate) enum Turned<'a> {
     Ends(Option<Met>),
 }
 
-/// How many results a worker commits together, and how many instances it claims at once, at most. It keeps fewer results than that.
+/// How many results a worker commits as one record, at most.
 pub(crate) const GROUP: usize = 8;
 
-// How often a worker that found nothing to do looks for a new commit, before it looks for something to do again. Each time that it finds nothing in a row
-// doubles this, up to `DOUBLINGS` times.
+/// How many instances a worker claims at once, at most. It keeps fewer results than that.
+pub(crate) const MOST_KEPT: usize = 16;
+
+// How often a worker that found nothing to do looks beside the lock whether an instance is ready, before it takes the lock again to see. Each time that it finds nothing in a
+// row doubles this, up to `DOUBLINGS` times.
 const LOOKS: u32 = 64;
 
-const DOUBLINGS: u32 = 3;
+const DOUBLINGS: u32 = 6;
 
 // How many of these looks come at once. Before each of the others the worker yields to other threads.
 const SPINS: u32 = 8;
+
+// How often a worker that rests looks whether others go on without it. Each rest in a row doubles this, up to `RESTS` times. If nothing was committed in the last
+// `QUIET` looks, once for its number, the worker is needed.
+const RESTING: u32 = 512;
+
+const RESTS: u32 = 4;
+
+const QUIET: usize = 512;
 
 /// Runs instances until there is nothing to do, or a stop was asked for.
 pub(crate) fn work<J: Naming, D: Disk, P: Probe, R: Wait>(
@@ -98,7 +110,7 @@ fn run_all<J: Naming, D: Disk, P: Probe, R: Wait>(
     ensures asked { result ≡ Some MetAsked → P.may_stop ≡ true }
     ensures full { Justifies J.opening result pass.new }
 {
-    let mut hand = match Hand::empty(alloc) {
+    let mut hand = match Hand::empty(alloc, pass.number()) {
         Ok(hand) => hand,
         Err(_) => return Some(Met::NoMemory),
     };
@@ -152,36 +164,41 @@ fn turn<'a, J: Naming, D: Disk, P: Probe, R: Wait>(
     facts_go_on();
     results_are_meant();
     if hub.stop_asked(pass) {
-        return Turned::Ends(commit_kept(rt, hub, pass, kept));
+        return Turned::Ends(commit_kept(rt, alloc, hub, pass, kept));
     }
-    match hand.next(rt, hub, pass) {
+    if hand.rests {
+        rest(hub, hand);
+    }
+    match hand.next(rt, hub, pass, kept_of(&kept)) {
         Ok((Some(task), _)) => run_task(rt, alloc, hub, pass, probe, hand, task, kept),
-        Ok((None, busy)) => idle(rt, hub, pass, hand, kept, busy),
-        Err(error) => ends(rt, hub, pass, stopped_by(error), kept),
+        Ok((None, busy)) => idle(rt, alloc, hub, pass, hand, kept, busy),
+        Err(error) => ends(rt, alloc, hub, pass, stopped_by(error), kept),
     }
 }
 
-// No instance is to be claimed: what is kept is committed; or the worker waits a little for others; or it ends.
+// No instance is to be claimed: what is kept is committed, and what may be claimed then is, with the same visit of the lock; or the worker waits a little for others; or it ends.
 fn idle<'a, J: Naming, D: Disk, R: Wait>(
     rt: &R,
+    alloc: Global,
     hub: &'a Hub<J, D>,
     pass: &mut WorkPass<J>,
     hand: &mut Hand,
     kept: Option<Batch<'a>>,
     busy: bool,
 ) -> Turned<'a>
-    requires { AreKept J.opening pass.old kept }
-    ensures claimed { hand.new.claimed ≡ hand.old.claimed }
+    requires claimed { AreClaimed J.opening hand.old.claimed }
+    requires kept { AreKept J.opening pass.old kept }
+    ensures claimed { AreClaimed J.opening hand.new.claimed }
     ensures turned { IsTurned J.opening pass.new result }
     ensures asked { result ≡ Ends (Some MetAsked) → ⊥ }
 {
     match kept {
-        Some(batch) => goes_on_unless(commit(rt, hub, pass, batch)),
+        Some(batch) => goes_on_unless(exchange(rt, alloc, hub, pass, hand, batch)),
         None => {
             if !busy {
                 return Turned::Ends(None);
             }
-            look_for_commits(hub, pass, LOOKS << hand.vain.min(DOUBLINGS));
+            look_for_work(hub, pass, hand.vain);
             hand.vain = hand.vain.saturating_add(1);
             Turned::GoesOn(None)
         }
@@ -191,6 +208,7 @@ fn idle<'a, J: Naming, D: Disk, R: Wait>(
 /// The worker ends, since it met this, after what it keeps is committed.
 pub(crate) fn ends<'a, J: Naming, D: Disk, R: Wait>(
     rt: &R,
+    alloc: Global,
     hub: &'a Hub<J, D>,
     pass: &mut WorkPass<J>,
     met: Met,
@@ -201,9 +219,17 @@ pub(crate) fn ends<'a, J: Naming, D: Disk, R: Wait>(
     ensures turned { IsTurned J.opening pass.new result }
     ensures asked { result ≡ Ends (Some MetAsked) → met ≡ MetAsked }
 {
-    match commit_kept(rt, hub, pass, kept) {
+    match commit_kept(rt, alloc, hub, pass, kept) {
         Some(last) => Turned::Ends(Some(last)),
         None => Turned::Ends(Some(met)),
+    }
+}
+
+// How many results are kept.
+fn kept_of(kept: &Option<Batch<'_>>) -> usize {
+    match kept {
+        Some(batch) => batch.len(),
+        None => 0,
     }
 }
 
@@ -217,16 +243,46 @@ pub(crate) fn goes_on_unless<'a>(met: Option<Met>) -> Turned<'a>
     }
 }
 
-// Waits a little for a commit, since mostly a commit makes an instance ready; or until a stop is asked for.
-fn look_for_commits<J: Naming, D: Disk>(hub: &Hub<J, D>, pass: &mut WorkPass<J>, looks: u32) {
-    let before = hub.commits(pass);
-    for look in 0..looks {
+// Waits a little for an instance to be ready, or until none runs or a stop is asked for. It takes no lock. Where the worker has looked in vain before, what is ready may
+// be beyond the limit: then it waits for a commit, too.
+fn look_for_work<J: Naming, D: Disk>(hub: &Hub<J, D>, pass: &mut WorkPass<J>, vain: u32) {
+    let before = hub.batches();
+    for look in 0..(LOOKS << vain.min(DOUBLINGS)) {
         if look < SPINS {
             spin_loop();
         } else {
             yield_now();
         }
-        if hub.commits(pass) != before || hub.stop_asked(pass) {
+        if hub.stop_asked(pass) || hub.running() == 0 {
+            return;
+        }
+        if hub.ready() != 0 && (vain == 0 || hub.batches() != before) {
+            return;
+        }
+    }
+}
+
+// Leaves the work to others for a while, as long as they go on. It takes no lock.
+fn rest<J: Naming, D: Disk>(hub: &Hub<J, D>, hand: &mut Hand)
+    ensures { hand.new.claimed ≡ hand.old.claimed }
+{
+    let most_quiet = QUIET.saturating_mul(hand.number());
+    let looks = RESTING << hand.rested.min(RESTS);
+    hand.rests = false;
+    hand.rested = hand.rested.saturating_add(1);
+    let mut last = hub.batches();
+    let mut quiet = 0usize;
+    for _ in 0..looks {
+        yield_now();
+        let now = hub.batches();
+        if now == last {
+            quiet = quiet.saturating_add(1);
+        } else {
+            quiet = 0;
+        }
+        last = now;
+        if hub.running() == 0 || quiet > most_quiet {
+            hand.rested = 0;
             return;
         }
     }

@@ -13,8 +13,11 @@ ends-requires-clause-kept g c =
 pub keep-requires-clause-kept : goal.keep-requires-clause-kept
 keep-requires-clause-kept g c = kept_stay c.facts_are_told_apart.ensures.among c.facts_go_on.ensures.all c.results_are_meant.ensures.stay g.J.Naming.opening c.args.pass.now c.run.new.pass c.args.kept c.run.ensures.pass.starts c.requires.kept
 
-pub wait-requires-clause-kept : goal.wait-requires-clause-kept
-wait-requires-clause-kept g c = kept_stay c.facts_are_told_apart.ensures.among c.facts_go_on.ensures.all c.results_are_meant.ensures.stay g.J.Naming.opening c.args.pass.now c.run.new.pass c.args.kept c.run.ensures.pass.starts c.requires.kept
+pub wait_for_own-requires-clause-kept : goal.wait_for_own-requires-clause-kept
+wait_for_own-requires-clause-kept g c = kept_stay c.facts_are_told_apart.ensures.among c.facts_go_on.ensures.all c.results_are_meant.ensures.stay g.J.Naming.opening c.args.pass.now c.run.new.pass c.args.kept c.run.ensures.pass.starts c.requires.kept
+
+pub park_beside-requires-clause-kept : goal.park_beside-requires-clause-kept
+park_beside-requires-clause-kept g c = kept_stay c.facts_are_told_apart.ensures.among c.facts_go_on.ensures.all c.results_are_meant.ensures.stay g.J.Naming.opening c.args.pass.now c.run.new.pass c.args.kept c.run.ensures.pass.starts c.requires.kept
 
 pub ends-requires-in-Err-clause-kept : goal.ends-requires-in-Err-clause-kept
 ends-requires-in-Err-clause-kept g c =

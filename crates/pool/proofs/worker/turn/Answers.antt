@@ -9,8 +9,8 @@ run_task-requires-clause-kept g c κs within =
     kept_stay c.facts_are_told_apart.ensures.among c.facts_go_on.ensures.all c.results_are_meant.ensures.stay g.J.Naming.opening c.args.pass.now c.next.new.pass c.args.kept
     (subst (λ (known : Known). IsPrefix known.seen c.next.new.pass.seen) (c.stop_asked.ensures.pass ∙ ap (λ (heard : Bool). heard_of heard c.args.pass.now) c.if-stop_asked.false) c.next.ensures.ahead) c.requires.kept
 
-pub idle-requires : goal.idle-requires
-idle-requires g c =
+pub idle-requires-clause-kept : goal.idle-requires-clause-kept
+idle-requires-clause-kept g c =
     kept_stay c.facts_are_told_apart.ensures.among c.facts_go_on.ensures.all c.results_are_meant.ensures.stay g.J.Naming.opening c.args.pass.now c.next.new.pass c.args.kept
     (subst (λ (known : Known). IsPrefix known.seen c.next.new.pass.seen) (c.stop_asked.ensures.pass ∙ ap (λ (heard : Bool). heard_of heard c.args.pass.now) c.if-stop_asked.false) c.next.ensures.ahead) c.requires.kept
 

@@ -4,7 +4,7 @@ use Rattle.commit.specs.Batch.{ends_said}
 use Rattle.hub.specs.Batches.{OnBatch, RefusesTogether}
 use Rattle.hub.specs.declared.error.BatchError.{BatchError}
 use Rattle.pool.proofs.Kept.{claimed_more, saw_batch}
-use Rattle.pool.proofs.settling.exchange.Goals as goal
+use Rattle.pool.proofs.groups.exchange_last.Goals as goal
 
 pub returns-clause-claimed : goal.returns-clause-claimed
 returns-clause-claimed g c = claimed_more g.J.Naming.opening c.exchange.new.pass _ c.args.hand.now.claimed c.exchange.new.tasks c.exchange.ensures.claimed c.requires.claimed
