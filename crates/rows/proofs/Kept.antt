@@ -7,15 +7,17 @@ use Rattle.std.specs.List.{AllByRecursion}
 use Rattle.std.specs.Ordering.{eq_by_cmp}
 use Rattle.terms.specs.declared.name.Inst.{Inst}
 use Rattle.terms.specs.Name.{inst_cmp}
-use Rattle.terms.specs.Sets.{Facts}
+use Rattle.terms.specs.Sets.{AmongBoth, Facts}
 use Rattle.graph.specs.Graph.{Graph}
 use Rattle.items.specs.Once.{is_one_of, once_more}
 use Rattle.instances.specs.declared.state.State.{State}
 use Rattle.instances.specs.declared.state.State.TheVariants.{Ready, Running}
+use Rattle.machine.specs.Results.{ReadsStay}
 use Rattle.machine.proofs.StillRunning.{apart}
 use Rattle.machine.proofs.Woken.{one_instance}
 use Rattle.commit.specs.declared.outcome.Outcome.{Outcome}
-use Rattle.commit.specs.Batch.{AreOutcomesOf, Batch, HaveOutcomes}
+use Rattle.commit.proofs.Outcomes.{in_both, outcome_within, outcomes_more}
+use Rattle.commit.specs.Batch.{AreOutcomesOf, Batch, HaveOutcomes, facts_with}
 use Rattle.commit.specs.Came.{IsOutcomeIn}
 use Rattle.commit.specs.Core.{Core, facts, graph, state_of}
 use Rattle.commit.specs.Steps.{MayClaim, Moves}
@@ -27,25 +29,20 @@ one_more : (P : Inst → Type 0) (list : List Inst) (one : Inst) → AllByRecurs
 one_more P [] one all is = (is, tt)
 one_more P (first ∷ others) one all is = (all.0, one_more P others one all.1 is)
 
-outcomes_more : (g : Graph) (X : Facts) (tasks : List Inst) (outcomes : List Outcome) (task : Inst) (outcome : Outcome) → HaveOutcomes g X tasks outcomes → IsOutcomeIn g X task outcome → HaveOutcomes g X (tasks ++ task ∷ []) (outcomes ++ outcome ∷ [])
-outcomes_more g X [] [] task outcome have is = (is, tt)
-outcomes_more g X [] (other ∷ outcomes) task outcome have is = absurd have
-outcomes_more g X (other ∷ tasks) [] task outcome have is = absurd have
-outcomes_more g X (other ∷ tasks) (came ∷ outcomes) task outcome have is = (have.0, outcomes_more g X tasks outcomes task outcome have.1 is)
-
 pub alone : {D : Type 0} (c : Core D) (batch : Batch) (task : Inst) (outcome : Outcome) → batch ≡ record { tasks = task ∷ []; outcomes = outcome ∷ [] } → state_of c task ≡ Some Running → IsOutcomeIn (graph c) (facts c) task outcome → AreOutcomesOf c batch
 alone c batch task outcome is runs came = subst (AreOutcomesOf c) (sym is) (record { running = record { each = (runs, tt); once = (refl, tt) }; outcomes = (came, tt) })
 
-pub added : IsTotalOrder inst_cmp → {D : Type 0} (c : Core D) (old new : Batch) (task : Inst) (outcome : Outcome) → new.tasks ≡ old.tasks ++ task ∷ [] → new.outcomes ≡ old.outcomes ++ outcome ∷ []
+pub added : AmongBoth → ReadsStay → IsTotalOrder inst_cmp → {D : Type 0} (c : Core D) (old new : Batch) (task : Inst) (outcome : Outcome) → new.tasks ≡ old.tasks ++ task ∷ [] → new.outcomes ≡ old.outcomes ++ outcome ∷ []
     → state_of c task ≡ Some Running → IsOutcomeIn (graph c) (facts c) task outcome → AreOutcomesApart c task old → AreOutcomesOf c new
-added total c old new task outcome tasks outcomes runs came kept = record {
+added both stay total c old new task outcome tasks outcomes runs came kept = record {
   running = record {
     each = subst (AllByRecursion (λ instance. state_of c instance ≡ Some Running)) (sym tasks) (one_more (λ instance. state_of c instance ≡ Some Running) old.tasks task kept.may.running.each runs);
     once = rw tasks (once_more total old.tasks task kept.may.running.once kept.apart);
   };
   outcomes =
       subst (λ (at : List Inst × List Outcome). HaveOutcomes (graph c) (facts c) at.0 at.1) (λ i. (sym tasks i, sym outcomes i))
-      (outcomes_more (graph c) (facts c) old.tasks old.outcomes task outcome kept.may.outcomes came);
+      (outcomes_more both stay (graph c) (facts c) old.tasks old.outcomes task outcome kept.may.outcomes
+      (outcome_within stay (graph c) (facts c) (facts_with (facts c) (Some old)) (in_both (facts c) (Some old)) task outcome came));
 }
 
 -- ---- another instance is claimed or given back

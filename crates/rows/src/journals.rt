@@ -5,7 +5,7 @@ ghost use Rattle.std.specs.Prelude.{◌<◌, length};
 ghost use Rattle.disk.specs.MemDisk.{files_of};
 
 use disk::{Disk, MemDisk, Side};
-use journal::{AppendError, Journal, Payloads, begins_closed, first_payload};
+use journal::{AppendError, Ground, Journal, Payloads, begins_closed, first_payload};
 use std::alloc::{AllocError, Global};
 
 /// What some bytes begin with.
@@ -70,7 +70,8 @@ fn append(
     requires { journal.end < length (files_of disk.old journal.side).content }
 {
     disk.fail_call(failing);
-    let answer = journal.try_append(disk, payload, 0);
+    let nothing = Ground::Lay { ahead: &[], zeros: 0 };
+    let answer = journal.try_append(disk, payload, nothing);
     tell_append(answer, journal.end, out)
 }
 

@@ -11,10 +11,10 @@ use commit::{Batch, Came, Core, CoreError, MOST_TOGETHER, Outcome};
 use disk::MemDisk;
 use graph::Graph;
 use instances::Task;
-use machine::Ended;
+use machine::{Ended, results_are_meant};
 use std::alloc::{AllocError, Global};
 use std::sync::Arc;
-use terms::orders_are_total;
+use terms::{facts_are_told_apart, orders_are_total};
 
 /// Lets at most this number of ready instances run, and commits the ends of those that came to one. Returns what was
 /// committed of them, or `None` if none came to an end.
@@ -25,7 +25,7 @@ pub(crate) fn finish_together(
 ) -> Result<Option<Result<Ended, CoreError>>, AllocError> {
     let graph = Arc::clone(core.graph())?;
     match ended(alloc, core, &graph, most) {
-        Some(batch) => Ok(Some(core.finish_all(batch))),
+        Some(batch) => Ok(Some(core.finish_all(batch, &[]))),
         None => Ok(None),
     }
 }
@@ -130,6 +130,8 @@ fn with_outcome<'a>(
     ensures graph { graph_of core.new ≡ graph_of core.old }
     ensures kept { AreOutcomesOf core.new result }
 {
+    facts_are_told_apart();
+    results_are_meant();
     orders_are_total();
     if batch.len() == MOST_TOGETHER {
         core.release(task);

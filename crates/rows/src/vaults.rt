@@ -93,7 +93,7 @@ impl Live {
         let result = if commit.len() == 1 {
             vault.append(&commit[0])
         } else {
-            vault.append_all(commit)
+            vault.append_all(commit, &[])
         };
         match result {
             Ok(()) => (Live { vault, image }, None),

@@ -1,8 +1,8 @@
 //! A batch with a task of another hub, given to `finish_all`.
 ghost use Rattle.std.specs.Prelude.{IfOk};
-ghost use Rattle.commit.specs.Batch.{HaveOutcomes};
 ghost use Rattle.commit.specs.Came.{IsOutcomeIn};
 ghost use Rattle.hub.specs.Opening.{facts_behind};
+ghost use Rattle.threads.specs.Alone.{AreAlone};
 
 use crate::handles::Handles;
 use crate::stores::fib;
@@ -42,7 +42,7 @@ fn come_back<'a, J: Naming, D: Disk, R: Handles>(
     outcome: Outcome<'a>,
 ) -> Result<Batch<'a>, Error>
     requires { IsOutcomeIn J.opening.graph (facts_behind J.opening runner.old.seen) task outcome }
-    ensures { IfOk result (λ back. HaveOutcomes J.opening.graph (facts_behind J.opening runner.new.seen) back.tasks back.outcomes) }
+    ensures { IfOk result (λ back. AreAlone J.opening.graph (facts_behind J.opening runner.new.seen) back.tasks back.outcomes) }
 {
     let batch = match Batch::new(rt.alloc(), task, outcome) {
         Ok(batch) => batch,
@@ -65,8 +65,8 @@ fn with_own<'a, J: Naming, D: Disk, R: Handles>(
     mut batch: Batch<'a>,
     at: usize,
 ) -> Result<Batch<'a>, Error>
-    requires { HaveOutcomes J.opening.graph (facts_behind J.opening runner.old.seen) batch.tasks batch.outcomes }
-    ensures { IfOk result (λ more. HaveOutcomes J.opening.graph (facts_behind J.opening runner.new.seen) more.tasks more.outcomes) }
+    requires { AreAlone J.opening.graph (facts_behind J.opening runner.old.seen) batch.tasks batch.outcomes }
+    ensures { IfOk result (λ more. AreAlone J.opening.graph (facts_behind J.opening runner.new.seen) more.tasks more.outcomes) }
 {
     facts_are_told_apart();
     facts_go_on();
@@ -75,7 +75,7 @@ fn with_own<'a, J: Naming, D: Disk, R: Handles>(
         keep_batch(rt, batch);
         bail!("nothing was claimed")
     };
-    let Ok(Ran::Ended(outcome, _)) = here.run(rt, rt.alloc(), runner, &task) else {
+    let Ok(Ran::Ended(outcome, _)) = here.run(rt, rt.alloc(), runner, &task, None) else {
         keep(rt, task);
         keep_batch(rt, batch);
         bail!("it did not end")
@@ -102,13 +102,13 @@ fn comes_back<'a, J: Naming, D: Disk, R: Handles>(
     runner: &mut WorkPass<J>,
     batch: Batch<'a>,
 ) -> Result<Batch<'a>, Error>
-    requires { HaveOutcomes J.opening.graph (facts_behind J.opening runner.old.seen) batch.tasks batch.outcomes }
-    ensures { IfOk result (λ back. HaveOutcomes J.opening.graph (facts_behind J.opening runner.new.seen) back.tasks back.outcomes) }
+    requires { AreAlone J.opening.graph (facts_behind J.opening runner.old.seen) batch.tasks batch.outcomes }
+    ensures { IfOk result (λ back. AreAlone J.opening.graph (facts_behind J.opening runner.new.seen) back.tasks back.outcomes) }
 {
     facts_are_told_apart();
     facts_go_on();
     results_are_meant();
-    let batch = match here.finish_all(rt, runner, batch) {
+    let batch = match here.finish_all(rt, runner, batch, &[]) {
         Err(BatchError::Foreign(batch)) => batch,
         Err(BatchError::Refused(error)) => return Err(error.into()),
         Ok(_) => bail!("it was finished here"),
@@ -145,7 +145,7 @@ fn finish_rest<'a, J: Naming, K: Naming, D: Disk, R: Handles>(
     stranger: &mut WorkPass<K>,
     batch: Batch<'a>,
 ) -> Result<(), Error>
-    requires { HaveOutcomes J.opening.graph (facts_behind J.opening runner.old.seen) batch.tasks batch.outcomes }
+    requires { AreAlone J.opening.graph (facts_behind J.opening runner.old.seen) batch.tasks batch.outcomes }
 {
     let (again, _, rest) = batch.pop();
     let given = release(rt, here, releaser, again);
@@ -190,7 +190,7 @@ fn finish_alone<'a, J: Naming, D: Disk, R: Handles>(
             bail!("no memory")
         }
     };
-    match hub.finish_all(rt, pass, batch) {
+    match hub.finish_all(rt, pass, batch, &[]) {
         Ok(ended) => Ok(ended.done),
         Err(BatchError::Refused(error)) => Err(error.into()),
         Err(BatchError::Foreign(batch)) => {

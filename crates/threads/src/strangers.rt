@@ -86,11 +86,11 @@ pub(crate) fn outcome_here<'a, J: Naming, D: Disk + Drop, R: Handles>(
         bail!("nothing was claimed")
     };
     let instance = task.inst();
-    let came = here.run(rt, rt.alloc(), runner, &task);
+    let came = here.run(rt, rt.alloc(), runner, &task, None);
     release(rt, here, releaser, task)?;
     match came? {
         Ran::Ended(outcome, _) => Ok((instance, outcome)),
-        Ran::Waits(_) => bail!("it waits"),
+        Ran::Waits(_, _) => bail!("it waits"),
     }
 }
 

@@ -90,7 +90,7 @@ pub(crate) fn number(key: i64) -> Tag {
     }
 }
 
-/// Prints the verdict of a run, the last lines of the report, and how many bytes the file A has.
+/// Prints the verdict of a run, how many bytes the file A has, and the last lines of the report.
 pub(crate) fn tell(
     rt: &HostRuntime,
     workers: u8,
@@ -103,15 +103,54 @@ pub(crate) fn tell(
     write_report(alloc, &core, &mut text)?;
     let text = str::from_utf8(text.as_slice()).unwrap_or("");
     let all = text.lines().count();
-    let mut disk = core.into_disk();
-    let bytes = disk.len(Side::A)?;
+    let bytes = core.into_disk().len(Side::A)?;
+    print_verdict(rt, workers, verdict)?;
+    rt.println(format_args!(", {all} lines, {bytes} bytes"))?;
+    print_last(rt, text, lines)
+}
+
+/// The same of a run whose records depend on which ends came together: that the file A has no more bytes than if each end had a record of its own, or how many it has.
+pub(crate) fn tell_at_most(
+    rt: &HostRuntime,
+    workers: u8,
+    core: Core<MemDisk>,
+    verdict: Result<Verdict, RunError>,
+    lines: usize,
+    most: u64,
+) -> Result<(), Error> {
+    let alloc = rt.alloc();
+    let mut text = Vec::new(alloc);
+    write_report(alloc, &core, &mut text)?;
+    let text = str::from_utf8(text.as_slice()).unwrap_or("");
+    let all = text.lines().count();
+    let bytes = core.into_disk().len(Side::A)?;
+    print_verdict(rt, workers, verdict)?;
+    if bytes <= most {
+        rt.println(format_args!(", {all} lines, at most {most} bytes"))?;
+    } else {
+        rt.println(format_args!(", {all} lines, {bytes} bytes"))?;
+    }
+    print_last(rt, text, lines)
+}
+
+// Prints the number of workers and the verdict.
+fn print_verdict(
+    rt: &HostRuntime,
+    workers: u8,
+    verdict: Result<Verdict, RunError>,
+) -> Result<(), Error> {
     match verdict {
         Ok(Verdict::Stopped(_, kind)) => rt.print(format_args!(
             "  {workers}: stopped by {kind:?}"
         ))?,
         other => rt.print(format_args!("  {workers}: {other:?}"))?,
     }
-    rt.println(format_args!(", {all} lines, {bytes} bytes"))?;
+    Ok(())
+}
+
+// Prints the last lines of a text.
+fn print_last(rt: &HostRuntime, text: &str, lines: usize) -> Result<(), Error> {
+    let all = text.lines().count();
     for line in text.lines().skip(all.saturating_sub(lines)) {
         rt.println(format_args!("    {line}"))?;
     }

@@ -12,7 +12,7 @@ returns-then-len-eq-MOST_TOGETHER-clause-kept c =
 
 pub returns-in-Ok-clause-kept : goal.returns-in-Ok-clause-kept
 returns-in-Ok-clause-kept c =
-    added c.orders_are_total.ensures.instances c.args.core.now c.args.batch c.add.new.self c.args.task c.args.outcome c.in-Ok.ensures.ok.0 c.in-Ok.ensures.ok.1 c.requires.running c.requires.outcome c.requires.kept
+    added c.facts_are_told_apart.ensures.among c.results_are_meant.ensures.stay c.orders_are_total.ensures.instances c.args.core.now c.args.batch c.add.new.self c.args.task c.args.outcome c.in-Ok.ensures.ok.0 c.in-Ok.ensures.ok.1 c.requires.running c.requires.outcome c.requires.kept
 
 pub returns-clause-kept : goal.returns-clause-kept
 returns-clause-kept c =
