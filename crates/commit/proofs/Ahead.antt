@@ -12,9 +12,10 @@ use Rattle.terms.specs.declared.name.Inst.{Inst}
 use Rattle.terms.specs.declared.event.Event.{Event}
 use Rattle.commit.specs.declared.outcome.Outcome.{Outcome}
 use Rattle.commit.specs.Batch.{end_said, ends_by}
-use Rattle.commit.specs.Ahead.{groups_ahead, groups_within, laid_ahead}
+use Rattle.journal.specs.Staged.{laid_ahead}
+use Rattle.commit.specs.Ahead.{groups_ahead, groups_within}
 use Rattle.machine.proofs.Woken.{left_at}
-use Rattle.vault.proofs.Short.{commit_short}
+use Rattle.commit.proofs.Short.{commit_short}
 
 -- the end at a place is what the outcome there says of the instance there
 pub said_at : (tasks : List Inst) (outcomes : List Outcome) (number : ℕ) (task : Inst) (outcome : Outcome) → slice_get tasks number ≡ Some task → number < length outcomes → outcome ≡ get_or outcomes number outcome
@@ -80,14 +81,14 @@ enough zero others size (first ∷ ends) some one two = absurd (omega (arith, on
 enough (suc more) zero size (first ∷ ends) some one two = absurd (omega (arith, two))
 enough (suc more) (suc others) size (first ∷ ends) some one two =
     let fewer : length (drop size (first ∷ ends)) ≡ length (first ∷ ends) - size = length-drop size (first ∷ ends) in
-    ap (λ (bytes : List ℕ). laid_ahead (take size (first ∷ ends)) ++ bytes) (enough more others size (drop size (first ∷ ends)) some (omega (arith, fewer, one, some)) (omega (arith, fewer, two, some)))
+    ap (λ (bytes : List ℕ). laid_ahead (commit_bytes (take size (first ∷ ends))) ++ bytes) (enough more others size (drop size (first ∷ ends)) some (omega (arith, fewer, one, some)) (omega (arith, fewer, two, some)))
 
 -- the first group, and the others
-group_first : (size : ℕ) (ends : List Event) → 1 ≤ size → 1 ≤ length ends → groups_ahead size ends ≡ laid_ahead (take size ends) ++ groups_ahead size (drop size ends)
+group_first : (size : ℕ) (ends : List Event) → 1 ≤ size → 1 ≤ length ends → groups_ahead size ends ≡ laid_ahead (commit_bytes (take size ends)) ++ groups_ahead size (drop size ends)
 group_first size [] some any = absurd (omega (arith, any))
 group_first size (first ∷ ends) some any =
     let fewer : length (drop size (first ∷ ends)) ≡ length (first ∷ ends) - size = length-drop size (first ∷ ends) in
-    ap (λ (bytes : List ℕ). laid_ahead (take size (first ∷ ends)) ++ bytes) (enough (length ends) (length (drop size (first ∷ ends))) size (drop size (first ∷ ends)) some (omega (arith, fewer, some)) (omega arith))
+    ap (λ (bytes : List ℕ). laid_ahead (commit_bytes (take size (first ∷ ends))) ++ bytes) (enough (length ends) (length (drop size (first ∷ ends))) size (drop size (first ∷ ends)) some (omega (arith, fewer, some)) (omega arith))
 
 min_more : (a b : ℕ) → min (suc a) (suc b) ≡ suc (min a b)
 min_more a b = omega arith
@@ -105,7 +106,7 @@ cut_drop (suc size) (first ∷ ends) = ap (λ n. drop n (first ∷ ends)) (min_m
 
 -- one group more is spelled
 pub group_after : (size start to : ℕ) (ends : List Event) (old new whole : List ℕ) → 1 ≤ size → start < length ends → to ≡ start + min size (length ends - start)
-    → new ≡ old ++ laid_ahead (take (to - start) (drop start ends)) → old ++ groups_ahead size (drop start ends) ≡ whole → new ++ groups_ahead size (drop to ends) ≡ whole
+    → new ≡ old ++ laid_ahead (commit_bytes (take (to - start) (drop start ends))) → old ++ groups_ahead size (drop start ends) ≡ whole → new ++ groups_ahead size (drop to ends) ≡ whole
 group_after size start to ends old new whole some less is spelled all =
     let left = drop start ends in
     let many : length left ≡ length ends - start = length-drop start ends in
@@ -113,5 +114,5 @@ group_after size start to ends old new whole some less is spelled all =
     let taken : take (to - start) left ≡ take size left = ap (λ n. take (n - start) left) count ∙ ap (λ n. take n left) (omega arith) ∙ cut_take size left in
     let after : drop to ends ≡ drop size left = ap (λ n. drop n ends) count ∙ sym (drop-drop (min size (length left)) start ends) ∙ cut_drop size left in
     let rest = groups_ahead size (drop size left) in
-    ap (λ (list : List Event). new ++ groups_ahead size list) after ∙ ap (λ (bytes : List ℕ). bytes ++ rest) spelled ∙ ap (λ (list : List Event). (old ++ laid_ahead list) ++ rest) taken
-    ∙ append_assoc old (laid_ahead (take size left)) rest ∙ ap (λ (bytes : List ℕ). old ++ bytes) (sym (group_first size left some (omega (arith, many, less)))) ∙ all
+    ap (λ (list : List Event). new ++ groups_ahead size list) after ∙ ap (λ (bytes : List ℕ). bytes ++ rest) spelled ∙ ap (λ (list : List Event). (old ++ laid_ahead (commit_bytes list)) ++ rest) taken
+    ∙ append_assoc old (laid_ahead (commit_bytes (take size left))) rest ∙ ap (λ (bytes : List ℕ). old ++ bytes) (sym (group_first size left some (omega (arith, many, less)))) ∙ all

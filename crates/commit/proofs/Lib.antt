@@ -21,6 +21,7 @@ pub mod Ran
 pub mod Roomy
 pub mod Running
 pub mod Same
+mod Short
 pub mod Taken
 pub mod Together
 pub mod Told

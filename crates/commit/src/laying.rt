@@ -17,7 +17,8 @@ impl<'a> Batch<'a> {
     ghost use Rattle.codec.specs.Spelling.{IsEvent, event_bytes};
     ghost use Rattle.commit.specs.declared.batch.TheConstants.{MOST_TOGETHER};
     ghost use Rattle.commit.specs.Batch.{ends_said};
-    ghost use Rattle.commit.specs.Ahead.{groups_ahead, laid_ahead};
+    ghost use Rattle.journal.specs.Staged.{laid_ahead};
+    ghost use Rattle.commit.specs.Ahead.{groups_ahead};
 
     /// Adds what an append lays ahead for the pairs from number `from` on, if they are committed in groups of `size`, each pair with the end
     /// that its outcome says. It is a hint: what lies ahead is looked at, never believed.
@@ -42,7 +43,7 @@ impl<'a> Batch<'a> {
         requires some { start < end }
         requires within { end ≤ length (ends_said self.now) }
         requires few { end ≤ MOST_TOGETHER }
-        ensures { OnOk result (out.new.items ≡ out.old.items ++ laid_ahead (take (end - start) (drop start (ends_said self.now)))) }
+        ensures { OnOk result (out.new.items ≡ out.old.items ++ laid_ahead (commit_bytes (take (end - start) (drop start (ends_said self.now))))) }
     {
         let place = out.len();
         encode_count(out, 0)?;

@@ -277,7 +277,8 @@ impl<J: Naming, D: Disk> Hub<J, D> {
     /// Each outcome must be of its task's instance and of the body of its step in this graph, and each item that it read
     /// must be in the state that the pass knew, or be put by an outcome before it.
     ///
-    /// `ahead` is what `Batch::spell_ahead` gives of the outcomes that are to be committed next, or nothing: then their records need one sync in place of two.
+    /// `ahead` is what `Batch::spell_ahead` gives of the outcomes that are to be committed next, or nothing. Their commit may need one sync then, in place
+    /// of two.
     pub fn finish_all<'a, R: Wait>(
         &self,
         rt: &R,

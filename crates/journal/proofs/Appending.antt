@@ -9,12 +9,8 @@ use Rattle.disk.specs.File.{File, MayLeave, WriteLeaves, at_rest, overwritten}
 use Rattle.disk.specs.Settled.{settled_only}
 use Rattle.disk.specs.Time.{Contents, MayLeaveNow, OtherStays, OtherMayBe, LeavesOnly}
 use Rattle.disk.specs.Moments.{joined, other_before}
-use Rattle.journal.specs.Records.{record_of, records, IsShort, StandsFor}
+use Rattle.journal.specs.Records.{without_gate, record_of, records, IsShort, StandsFor}
 use Rattle.journal.specs.Journal.{BeforeOrAfter}
-
--- what follows the gate of a record
-abbrev pub body_of : List ℕ → List ℕ
-body_of payload = little_bytes 4 (length payload) ++ payload
 
 pub records-push : (payloads : List (List ℕ)) (payload : List ℕ) → records (payloads ++ payload ∷ []) ≡ records payloads ++ record_of payload
 records-push payloads payload = sym (flat_map_more record_of [] payloads payload)
@@ -131,26 +127,26 @@ module _ (start : ℕ) (content : List ℕ) (payloads : List (List ℕ)) (end : 
     module _ (ahead : List ℕ) where
       -- what is behind the gate once the record is written there
       abbrev pub staged : List ℕ
-      staged = (body_of payload ++ 0 ∷ ahead) ++ drop (length (body_of payload ++ 0 ∷ ahead)) stands.rest
+      staged = (without_gate payload ++ 0 ∷ ahead) ++ drop (length (without_gate payload ++ 0 ∷ ahead)) stands.rest
 
       stands_after : (c : List ℕ) → c ≡ with_gate 1 staged → StandsFor (drop start c) (payloads ++ payload ∷ [])
       stands_after c is = record {
         short = short-push payloads payload stands.short short;
         gate = 0;
         closed = omega arith;
-        rest = ahead ++ drop (length (body_of payload ++ 0 ∷ ahead)) stands.rest;
+        rest = ahead ++ drop (length (without_gate payload ++ 0 ∷ ahead)) stands.rest;
         spelled =
             rest_of front (records payloads) start end long ends 1 staged c is
-            ∙ ap (λ (l : List ℕ). records payloads ++ 1 ∷ l) (append_assoc (body_of payload) (0 ∷ ahead) (drop (length (body_of payload ++ 0 ∷ ahead)) stands.rest))
-            ∙ sym (append_assoc (records payloads) (record_of payload) (0 ∷ (ahead ++ drop (length (body_of payload ++ 0 ∷ ahead)) stands.rest)))
-            ∙ ap (λ (l : List ℕ). l ++ 0 ∷ (ahead ++ drop (length (body_of payload ++ 0 ∷ ahead)) stands.rest)) (sym (records-push payloads payload));
+            ∙ ap (λ (l : List ℕ). records payloads ++ 1 ∷ l) (append_assoc (without_gate payload) (0 ∷ ahead) (drop (length (without_gate payload ++ 0 ∷ ahead)) stands.rest))
+            ∙ sym (append_assoc (records payloads) (record_of payload) (0 ∷ (ahead ++ drop (length (without_gate payload ++ 0 ∷ ahead)) stands.rest)))
+            ∙ ap (λ (l : List ℕ). l ++ 0 ∷ (ahead ++ drop (length (without_gate payload ++ 0 ∷ ahead)) stands.rest)) (sym (records-push payloads payload));
       }
 
       abbrev pub after_stage : List ℕ
-      after_stage = overwritten content (end + 1) (body_of payload ++ 0 ∷ ahead)
+      after_stage = overwritten content (end + 1) (without_gate payload ++ 0 ∷ ahead)
 
       pub after_stage_is : after_stage ≡ with_gate stands.gate staged
-      after_stage_is = ap (λ (l : List ℕ). overwritten l (end + 1) (body_of payload ++ 0 ∷ ahead)) whole ∙ behind_gate front (records payloads) start end long ends stands.gate stands.rest (body_of payload ++ 0 ∷ ahead)
+      after_stage_is = ap (λ (l : List ℕ). overwritten l (end + 1) (without_gate payload ++ 0 ∷ ahead)) whole ∙ behind_gate front (records payloads) start end long ends stands.gate stands.rest (without_gate payload ++ 0 ∷ ahead)
 
       pub end_within_stage : end < length after_stage
       end_within_stage = omega (arith, ap length after_stage_is, length-parts front (records payloads) start end long ends stands.gate staged)
@@ -181,7 +177,7 @@ crash_now start content payloads payload stands c is = record { front = ap (take
 module _ {D : Type 0} (moment : D → ℕ) (left_at : D → ℕ → Contents → Type 0) (old mid new : D) (side : Side) (before between : Side → File) (stays : OtherStays side before between) where
   pub moments_of_both : (start : ℕ) (content : List ℕ) (payloads : List (List ℕ)) (payload ahead : List ℕ) (end count : ℕ) (stands : StandsFor (drop start content) payloads) (ends : end ≡ start + length (records payloads)) (short : IsShort payload)
       → LeavesOnly moment left_at old mid (λ contents. WriteLeaves content (end + 1) count (contents side) × OtherMayBe side before contents)
-      → LeavesOnly moment left_at mid new (λ contents. WriteLeaves (overwritten content (end + 1) (body_of payload ++ 0 ∷ ahead)) end 1 (contents side) × OtherMayBe side between contents)
+      → LeavesOnly moment left_at mid new (λ contents. WriteLeaves (overwritten content (end + 1) (without_gate payload ++ 0 ∷ ahead)) end 1 (contents side) × OtherMayBe side between contents)
       → LeavesOnly moment left_at old new (λ contents. BeforeOrAfter start content payloads payload (contents side) × OtherMayBe side before contents)
   moments_of_both start content payloads payload ahead end count stands ends short first second =
       joined moment left_at old mid new _ _ _ first second

@@ -3,9 +3,13 @@ use Rattle.std.specs.Prelude.{◌≡◌, ◌≢◌, ◌<◌, ◌^◌, ℕ, List,
 use Rattle.std.specs.List.{flat_map}
 use Rattle.byteorder.specs.Endian.{little_bytes}
 
--- a record: an open gate, the length of the payload as four little-endian bytes, and the payload
+-- a record without its gate: the length of the payload as four little-endian bytes, and the payload
+abbrev pub without_gate : List ℕ → List ℕ
+without_gate payload = little_bytes 4 (length payload) ++ payload
+
+-- a record: an open gate, and the rest
 abbrev pub record_of : List ℕ → List ℕ
-record_of payload = 1 ∷ little_bytes 4 (length payload) ++ payload
+record_of payload = 1 ∷ without_gate payload
 
 -- the records of these payloads, one after another
 abbrev pub records : List (List ℕ) → List ℕ

@@ -19,4 +19,4 @@ pub use journal::{Journal, LIMIT};
 pub use law::{one_meaning, records_lead};
 pub use payloads::Payloads;
 pub use records::{begins_closed, first_payload, record_length};
-pub use staging::{Ground, spell_ahead};
+pub use staging::Ground;

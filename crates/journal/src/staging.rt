@@ -1,9 +1,9 @@
 ghost use Rattle.std.specs.Prelude.{◌≡◌, ◌≢◌, ◌≤◌, ◌<◌, ◌+◌, ◌^◌, [], ◌∷◌, ◌++◌, ℕ, List, length, take, drop, replicate, IsTrue, IfOk, OnOk};
-ghost use Rattle.byteorder.specs.Endian.{little_bytes};
 ghost use Rattle.disk.specs.declared.side.Side.{Side};
 ghost use Rattle.disk.specs.File.{WriteLeaves, at_rest, overwritten};
 ghost use Rattle.disk.specs.Time.{MayLeaveNow, OtherStays, OtherMayBe, LeavesOnly, HasCause, CountsRefusal};
-ghost use Rattle.journal.specs.Staged.{ground_bytes};
+ghost use Rattle.journal.specs.Records.{without_gate};
+ghost use Rattle.journal.specs.Staged.{ground_bytes, laid_ahead};
 ghost use Rattle.journal.specs.declared.staging.Ground.TheVariants.{Laid};
 
 use byteorder::{ByteOrder, LittleEndian};
@@ -20,10 +20,10 @@ pub enum Ground<'a> {
     Laid,
 }
 
-/// Adds a record as it is laid ahead: all but its gate, and the closed gate after it. After an error a part of it may have been added.
-pub fn spell_ahead(out: &mut Vec<u8>, payload: &[u8]) -> Result<(), AllocError>
+// Adds a record as it is laid ahead.
+fn spell_record(out: &mut Vec<u8>, payload: &[u8]) -> Result<(), AllocError>
     requires { length payload.now < 2 ^ 32 }
-    ensures { OnOk result (out.new.items ≡ out.old.items ++ little_bytes 4 (length payload.now) ++ payload.now ++ 0 ∷ []) }
+    ensures { OnOk result (out.new.items ≡ out.old.items ++ laid_ahead payload.now) }
 {
     let mut count = [0; 4];
     LittleEndian::write_u32(&mut count, payload.len() as u32);
@@ -41,13 +41,13 @@ pub(crate) fn spell(
     behind: Ground<'_>,
 ) -> Result<(), AllocError>
     requires { length payload.now < 2 ^ 32 }
-    ensures spelled { OnOk result (buffer.new.items ≡ little_bytes 4 (length payload.now) ++ payload.now ++ 0 ∷ ground_bytes behind.entry) }
+    ensures spelled { OnOk result (buffer.new.items ≡ without_gate payload.now ++ 0 ∷ ground_bytes behind.entry) }
     ensures looks { OnOk result (behind.entry ≡ Laid → length found.new.items ≡ length buffer.new.items) }
     ensures writes { OnOk result (behind.entry ≢ Laid → found.new.items ≡ []) }
 {
     buffer.clear();
     found.clear();
-    spell_ahead(buffer, payload)?;
+    spell_record(buffer, payload)?;
     match behind {
         Ground::Lay { ahead, zeros } => lay(buffer, ahead, zeros),
         Ground::Laid => found.resize(buffer.len(), 0),

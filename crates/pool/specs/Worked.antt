@@ -5,12 +5,13 @@ use Rattle.disk.specs.declared.side.Side.{Side}
 use Rattle.disk.specs.File.{File}
 use Rattle.disk.specs.Time.{Contents}
 use Rattle.terms.specs.Commits.{Commit}
+use Rattle.terms.specs.Facts.{Fact}
 use Rattle.terms.specs.declared.name.Inst.{Inst}
 use Rattle.graph.specs.Fits.{InstanceIsOf}
 use Rattle.vault.specs.declared.error.VaultError.TheVariants as vault
 use Rattle.commit.specs.declared.error.CoreError.{CoreError}
 use Rattle.commit.specs.declared.error.CoreError.TheVariants.{Store}
-use Rattle.commit.specs.Batch.{Batch, HaveOutcomes}
+use Rattle.commit.specs.Batch.{Batch, HaveOutcomes, facts_with}
 use Rattle.commit.specs.Core.{Core, graph, facts}
 use Rattle.commit.specs.Runs.{MetFull, Runs}
 use Rattle.hub.specs.declared.error.BatchError.{BatchError}
@@ -51,6 +52,10 @@ SawFull opening known = MetFull opening.graph opening.facts opening.end known.se
 -- a worker that met `Full` saw such a prefix
 abbrev pub Justifies : Opening → Option Met → Known → Type 0
 Justifies opening result known = result ≡ Some met.Full → SawFull opening known
+
+-- a pass knows the facts of the state that it knew before, and all that a batch puts
+abbrev pub HasAll : Opening → Known → Known → Batch → Type 0
+HasAll opening old new batch = (fact : Fact) → facts_with (facts_behind opening old.seen) (Some batch) fact ≡ true → facts_behind opening new.seen fact ≡ true
 
 -- ---- turns
 

@@ -1,11 +1,10 @@
 //! How a worker commits what it keeps: as one record, or as two, one after another.
 ghost use Rattle.std.specs.Prelude.{◌≡◌, true, IfErr, None, Ok, Some};
 ghost use mathlib.Core.List.{IsPrefix};
-ghost use Rattle.terms.specs.Facts.{Fact};
-ghost use Rattle.commit.specs.Batch.{HaveOutcomes, facts_with};
+ghost use Rattle.commit.specs.Batch.{HaveOutcomes};
 ghost use Rattle.hub.specs.Opening.{facts_behind};
 ghost use Rattle.pool.specs.declared.worker.Met.TheVariants.{Asked as MetAsked};
-ghost use Rattle.pool.specs.Worked.{AreClaimed, AreKept, Justifies};
+ghost use Rattle.pool.specs.Worked.{AreClaimed, AreKept, HasAll, Justifies};
 
 use crate::hand::Hand;
 use crate::settling::{met_of, settled, settled_all, stranded_batch};
@@ -65,7 +64,7 @@ pub(crate) fn commit_before<'a, J: Naming, D: Disk, R: Wait>(
 ) -> Result<bool, Met>
     requires { HaveOutcomes J.opening.graph (facts_behind J.opening pass.old.seen) batch.tasks batch.outcomes }
     ensures ahead { IsPrefix pass.old.seen pass.new.seen }
-    ensures all { result ≡ Ok true → (fact : Fact) → facts_with (facts_behind J.opening pass.old.seen) (Some batch.entry) fact ≡ true → facts_behind J.opening pass.new.seen fact ≡ true }
+    ensures all { result ≡ Ok true → HasAll J.opening pass.old pass.new batch.entry }
     ensures asked { IfErr result (λ met. met ≡ MetAsked → ⊥) }
     ensures full { IfErr result (λ met. Justifies J.opening (Some met) pass.new) }
 {
@@ -84,7 +83,7 @@ fn commit_groups<'a, J: Naming, D: Disk, R: Wait>(
 ) -> Result<bool, Met>
     requires { HaveOutcomes J.opening.graph (facts_behind J.opening pass.old.seen) batch.tasks batch.outcomes }
     ensures ahead { IsPrefix pass.old.seen pass.new.seen }
-    ensures all { result ≡ Ok true → (fact : Fact) → facts_with (facts_behind J.opening pass.old.seen) (Some batch.entry) fact ≡ true → facts_behind J.opening pass.new.seen fact ≡ true }
+    ensures all { result ≡ Ok true → HasAll J.opening pass.old pass.new batch.entry }
     ensures asked { IfErr result (λ met. met ≡ MetAsked → ⊥) }
     ensures full { IfErr result (λ met. Justifies J.opening (Some met) pass.new) }
 {
@@ -120,7 +119,7 @@ fn commit_group<'a, J: Naming, D: Disk, R: Wait>(
 ) -> Result<bool, Met>
     requires { HaveOutcomes J.opening.graph (facts_behind J.opening pass.old.seen) batch.tasks batch.outcomes }
     ensures ahead { IsPrefix pass.old.seen pass.new.seen }
-    ensures all { result ≡ Ok true → (fact : Fact) → facts_with (facts_behind J.opening pass.old.seen) (Some batch.entry) fact ≡ true → facts_behind J.opening pass.new.seen fact ≡ true }
+    ensures all { result ≡ Ok true → HasAll J.opening pass.old pass.new batch.entry }
     ensures asked { IfErr result (λ met. met ≡ MetAsked → ⊥) }
     ensures full { IfErr result (λ met. Justifies J.opening (Some met) pass.new) }
 {
@@ -153,7 +152,7 @@ pub(crate) fn exchange<'a, J: Naming, D: Disk, R: Wait>(
     ensures asked { result ≡ Some MetAsked → ⊥ }
     ensures full { Justifies J.opening result pass.new }
 {
-    hand.before_commit(hub.batches());
+    hand.before_commit(pass.number(), hub.batches());
     let ahead = spelled_ahead(alloc, &batch);
     let met = exchange_groups(rt, alloc, hub, pass, hand, batch, &ahead);
     hand.after_commit(hub.batches());

@@ -40,8 +40,6 @@ pub(crate) struct Hand {
     puts: usize,
     // Whether the bodies that ran since then are light.
     light: bool,
-    // The number of the worker, from 0.
-    number: usize,
     // How many batches had been committed when it last committed one.
     batches: usize,
     /// Whether it leaves the work to others for a while, and how often in a row it has done so.
@@ -53,7 +51,7 @@ pub(crate) struct Hand {
 
 impl Hand {
     /// A hand that has claimed nothing. Until a body was run, it is not known whether bodies take long.
-    pub(crate) fn empty(alloc: Global, number: usize) -> Result<Hand, AllocError>
+    pub(crate) fn empty(alloc: Global) -> Result<Hand, AllocError>
         ensures { IfOk result (λ hand. hand.claimed ≡ []) }
     {
         let claimed = Tasks::with_room(alloc, MOST_KEPT)?;
@@ -63,7 +61,6 @@ impl Hand {
             spent: 0,
             puts: 0,
             light: false,
-            number,
             batches: 0,
             rests: false,
             rested: 0,
@@ -104,13 +101,13 @@ impl Hand {
         }
     }
 
-    /// Before it commits: it rests afterwards if others have committed since it did, bodies are light, and nothing else is claimed. Then a worker with a smaller number does
+    /// Before the worker with this number commits: it rests afterwards if others have committed since it did, bodies are light, and nothing else is claimed. Then a worker with a smaller number does
     /// the work as fast.
-    pub(crate) fn before_commit(&mut self, batches: usize)
+    pub(crate) fn before_commit(&mut self, number: usize, batches: usize)
         ensures { self.new.claimed ≡ self.old.claimed }
     {
         let crowded = batches != self.batches;
-        self.rests = crowded && self.light && self.number > 0 && self.claimed.is_empty();
+        self.rests = crowded && self.light && number > 0 && self.claimed.is_empty();
         if !self.light {
             self.rested = 0;
         }
@@ -121,11 +118,6 @@ impl Hand {
         ensures { self.new.claimed ≡ self.old.claimed }
     {
         self.batches = batches;
-    }
-
-    /// The number of the worker.
-    pub(crate) fn number(&self) -> usize {
-        self.number
     }
 
     /// Whether the last body took long.
@@ -210,7 +202,6 @@ impl Hand {
             spent: _,
             puts: _,
             light: _,
-            number: _,
             batches: _,
             rests: _,
             rested: _,

@@ -110,7 +110,7 @@ fn run_all<J: Naming, D: Disk, P: Probe, R: Wait>(
     ensures asked { result ≡ Some MetAsked → P.may_stop ≡ true }
     ensures full { Justifies J.opening result pass.new }
 {
-    let mut hand = match Hand::empty(alloc, pass.number()) {
+    let mut hand = match Hand::empty(alloc) {
         Ok(hand) => hand,
         Err(_) => return Some(Met::NoMemory),
     };
@@ -167,7 +167,7 @@ fn turn<'a, J: Naming, D: Disk, P: Probe, R: Wait>(
         return Turned::Ends(commit_kept(rt, alloc, hub, pass, kept));
     }
     if hand.rests {
-        rest(hub, hand);
+        rest(hub, pass.number(), hand);
     }
     match hand.next(rt, hub, pass, kept_of(&kept)) {
         Ok((Some(task), _)) => run_task(rt, alloc, hub, pass, probe, hand, task, kept),
@@ -263,10 +263,10 @@ fn look_for_work<J: Naming, D: Disk>(hub: &Hub<J, D>, pass: &mut WorkPass<J>, va
 }
 
 // Leaves the work to others for a while, as long as they go on. It takes no lock.
-fn rest<J: Naming, D: Disk>(hub: &Hub<J, D>, hand: &mut Hand)
+fn rest<J: Naming, D: Disk>(hub: &Hub<J, D>, number: usize, hand: &mut Hand)
     ensures { hand.new.claimed ≡ hand.old.claimed }
 {
-    let most_quiet = QUIET.saturating_mul(hand.number());
+    let most_quiet = QUIET.saturating_mul(number);
     let looks = RESTING << hand.rested.min(RESTS);
     hand.rests = false;
     hand.rested = hand.rested.saturating_add(1);

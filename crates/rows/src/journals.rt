@@ -70,7 +70,10 @@ fn append(
     requires { journal.end < length (files_of disk.old journal.side).content }
 {
     disk.fail_call(failing);
-    let nothing = Ground::Lay { ahead: &[], zeros: 0 };
+    let nothing = Ground::Lay {
+        ahead: &[],
+        zeros: 0,
+    };
     let answer = journal.try_append(disk, payload, nothing);
     tell_append(answer, journal.end, out)
 }

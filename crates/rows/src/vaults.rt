@@ -83,17 +83,17 @@ impl Live {
         vault.into_disk()
     }
 
-    // Appends a commit of one event, or of several.
-    fn appended(self, commit: &[Event]) -> (Live, Option<VaultError>)
+    // Appends a commit of one event, or of several, and lays these bytes ahead.
+    fn appended(self, commit: &[Event], ahead: &[u8]) -> (Live, Option<VaultError>)
         requires some { 1 ≤ length commit.now }
         requires few { length commit.now ≤ MOST_EVENTS }
         requires puts { AllByRecursion HasFewPuts commit.now }
     {
         let Live { mut vault, image } = self;
-        let result = if commit.len() == 1 {
+        let result = if commit.len() == 1 && ahead.is_empty() {
             vault.append(&commit[0])
         } else {
-            vault.append_all(commit, &[])
+            vault.append_all(commit, ahead)
         };
         match result {
             Ok(()) => (Live { vault, image }, None),
@@ -275,7 +275,7 @@ pub(crate) fn tell_facts(
     }
 }
 
-/// Appends the commit that these bytes of a payload spell: one event, or several.
+/// Appends the commit that these bytes of a payload spell: one event, or several. What stands behind `|` is laid ahead.
 pub(crate) fn append_commit(
     alloc: Global,
     names: &Names,
@@ -283,31 +283,33 @@ pub(crate) fn append_commit(
     text: &str,
     told: &mut String,
 ) -> Result<(), AllocError> {
-    let bytes = bytes_of(alloc, names, text)?.unwrap_or(Vec::new(alloc));
-    match append_payload(alloc, world, &bytes) {
+    let (payload, ahead) = text.split_once('|').unwrap_or((text, ""));
+    let payload = bytes_of(alloc, names, payload)?.unwrap_or(Vec::new(alloc));
+    let ahead = bytes_of(alloc, names, ahead)?.unwrap_or(Vec::new(alloc));
+    match append_payload(alloc, world, &payload, &ahead) {
         Some(answer) => tell_answer(answer, "appended", told),
         None => told.push_str("not open, or no commit"),
     }
 }
 
 // The result of the append of a payload, if it is one and a store is open.
-fn append_payload(alloc: Global, world: &mut World, bytes: &[u8]) -> Option<Answer> {
+fn append_payload(alloc: Global, world: &mut World, bytes: &[u8], ahead: &[u8]) -> Option<Answer> {
     let mut commit = Vec::new(alloc);
     match decode_payload(alloc, bytes, MAX_COMPONENTS, &mut commit) {
-        Ok(()) => append(alloc, world, &commit),
+        Ok(()) => append(alloc, world, &commit, ahead),
         Err(_) => None,
     }
 }
 
 // The result of an append, if a store is open.
-fn append(alloc: Global, world: &mut World, commit: &[Event]) -> Option<Answer>
+fn append(alloc: Global, world: &mut World, commit: &[Event], ahead: &[u8]) -> Option<Answer>
     requires some { 1 ≤ length commit.now }
     requires few { length commit.now ≤ MOST_EVENTS }
     requires puts { AllByRecursion HasFewPuts commit.now }
 {
     match world.taken(alloc).into_store() {
         Ok(live) => {
-            let (live, error) = live.appended(commit);
+            let (live, error) = live.appended(commit, ahead);
             let answer = live.answer(error);
             *world = World::Open(live);
             Some(answer)

@@ -14,7 +14,6 @@ mod OpenedHeads
 mod OpenedSides
 mod PiecesMoments
 mod Ready
-pub mod Short
 mod TurnedLengths
 mod TurnedSides
 mod TurnedStores

@@ -1,5 +1,4 @@
-ghost use Rattle.std.specs.Prelude.{◌≡◌, ◌≢◌, ◌≤◌, ◌<◌, ◌+◌, ◌*◌, ◌^◌, ◌⊎◌, ◌↔◌, ◌++◌, [], ◌∷◌, ℕ, false, length, replicate, IsTrue, OnOk, IfErr};
-ghost use Rattle.byteorder.specs.Endian.{little_bytes};
+ghost use Rattle.std.specs.Prelude.{◌≡◌, ◌≢◌, ◌≤◌, ◌<◌, ◌+◌, ◌*◌, ◌^◌, ◌⊎◌, ◌↔◌, ◌++◌, [], ◌∷◌, ℕ, false, length, replicate, IsTrue, OnOk};
 ghost use Rattle.disk.specs.Time.{LeavesOnly};
 ghost use Rattle.terms.specs.Facts.{facts, environment};
 ghost use Rattle.terms.specs.Sets.{Facts, with_facts};
@@ -67,9 +66,9 @@ impl<D: Disk> Vault<D> {
     /// Appends a commit of 1 to 64 events that fit, one after another, what the store holds. After `Ok` it is acknowledged: every crash leaves
     /// all of it.
     ///
-    /// Behind the closed gate that follows its record it may lay `ahead`, which is what `spell_ahead` gives of the commits that are to follow:
-    /// the append of such a commit then opens its gate alone, with one sync in place of two. What lies there is looked at, never
-    /// believed, and stands for nothing until then. From `FIRST_GROUND` on it may lay zeros too.
+    /// Behind the closed gate that follows its record it may lay `ahead`, the records of the commits that are to follow, each without its gate
+    /// and with the closed gate after it: the append of such a commit then opens its gate alone, with one sync in place of two. What lies
+    /// there is looked at, never believed, and stands for nothing until then. From `FIRST_GROUND` on it may lay zeros too.
     ///
     /// The vault halts exactly if a call of the disk returned an error; then the whole commit may be there or nothing of it.
     /// Every other error leaves the vault and its disk as they were: `Full`, `Halted`, and `NoMemory` if memory for the commit, or
@@ -126,27 +125,6 @@ impl<D: Disk> Vault<D> {
             }
         }
     }
-}
-
-/// Adds what `append_all` lays ahead for a commit: its record, all but the gate, and the closed gate after it. The buffer's bytes do not
-/// stay.
-///
-/// `NoMemory` is returned if memory is refused; then a part of it may have been added.
-pub fn spell_ahead(
-    ahead: &mut Vec<u8>,
-    buffer: &mut Vec<u8>,
-    commit: &[Event],
-) -> Result<(), VaultError>
-    requires some { 1 ≤ length commit.now }
-    requires few { length commit.now ≤ MOST_EVENTS }
-    requires puts { AllByRecursion HasFewPuts commit.now }
-    ensures added { OnOk result (ahead.new.items ≡ ahead.old.items ++ little_bytes 4 (length (commit_bytes commit.now)) ++ commit_bytes commit.now ++ 0 ∷ []) }
-    ensures error { IfErr result (λ error. error ≡ NoMemory) }
-{
-    buffer.clear();
-    encode_payload(buffer, commit)?;
-    journal::spell_ahead(ahead, buffer)?;
-    Ok(())
 }
 
 // What a record of `count` bytes finds and leaves behind its gates: it may have been laid ahead, while the journal ends below `ahead_to`; or it

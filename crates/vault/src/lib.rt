@@ -2,7 +2,7 @@
 //!
 //! The files stand for a graph and a set of facts (`Stands` of `specs/Stands.antt`), which a vault holds (`Holds` of
 //! `specs/Store.antt`). The layer above uses `create`, `open`, `Vault::append`, `Vault::append_all` and `Vault::turn_by`: what each
-//! leaves at each moment, and after `Ok`. An append may lay the records of the next commits ahead, which `spell_ahead` spells.
+//! leaves at each moment, and after `Ok`. An append may lay the records of the next commits ahead.
 #![tactic(auto)]
 
 mod append;
@@ -18,7 +18,7 @@ mod refused;
 mod turn;
 mod vault;
 
-pub use append::{FIRST_GROUND, spell_ahead};
+pub use append::FIRST_GROUND;
 pub use creation::create;
 pub use error::VaultError;
 pub use history::{half_a_commit, stores_go_on};

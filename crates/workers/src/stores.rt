@@ -109,13 +109,14 @@ pub(crate) fn tell(
     print_last(rt, text, lines)
 }
 
-/// The same of a run whose records depend on which ends came together: that the file A has no more bytes than if each end had a record of its own, or how many it has.
-pub(crate) fn tell_at_most(
+/// The same of a run whose records depend on which ends came together: between which numbers the bytes of the file A are, or how many it has.
+pub(crate) fn tell_within(
     rt: &HostRuntime,
     workers: u8,
     core: Core<MemDisk>,
     verdict: Result<Verdict, RunError>,
     lines: usize,
+    least: u64,
     most: u64,
 ) -> Result<(), Error> {
     let alloc = rt.alloc();
@@ -125,8 +126,8 @@ pub(crate) fn tell_at_most(
     let all = text.lines().count();
     let bytes = core.into_disk().len(Side::A)?;
     print_verdict(rt, workers, verdict)?;
-    if bytes <= most {
-        rt.println(format_args!(", {all} lines, at most {most} bytes"))?;
+    if least <= bytes && bytes <= most {
+        rt.println(format_args!(", {all} lines, {least} to {most} bytes"))?;
     } else {
         rt.println(format_args!(", {all} lines, {bytes} bytes"))?;
     }

@@ -2,9 +2,9 @@ use Rattle.std.proofs.Common.{◌≡◌, ◌<◌, ◌+◌, ◌++◌, ◌∷◌, 
 use Rattle.disk.specs.File.{File, MayLeave, at_rest, overwritten}
 use Rattle.disk.specs.Settled.{settled_only}
 use Rattle.disk.specs.Moments.{begun, weakened}
-use Rattle.journal.specs.Records.{StandsFor}
+use Rattle.journal.specs.Records.{StandsFor, without_gate}
 use Rattle.journal.specs.Staged.{ground_bytes}
-use Rattle.journal.proofs.Appending.{crash_now, crash_behind, appended, end_after, body_of, moments_of_both, other_moments}
+use Rattle.journal.proofs.Appending.{crash_now, crash_behind, appended, end_after, moments_of_both, other_moments}
 use Rattle.journal.proofs.journal.Journal.try_append.Goals as goal
 
 -- no call of the disk was made
@@ -34,8 +34,8 @@ returns-in_err-write_synced-clause-any_moment g c honest start payloads content 
     let side = c.args.self.now.side in
     let ahead = ground_bytes c.args.behind in
     let short : length c.args.payload.now < 2 ^ 32 = omega arith in
-    let spelled : c.deref.result.now ≡ body_of c.args.payload.now ++ 0 ∷ ahead = c.deref.ensures.value ∙ c.in_ok-spell.ensures.spelled in
-    let staged : g.D.Disk.files c.stage.new.disk side ≡ at_rest (overwritten content (c.args.self.now.end + 1) (body_of c.args.payload.now ++ 0 ∷ ahead)) =
+    let spelled : c.deref.result.now ≡ without_gate c.args.payload.now ++ 0 ∷ ahead = c.deref.ensures.value ∙ c.in_ok-spell.ensures.spelled in
+    let staged : g.D.Disk.files c.stage.new.disk side ≡ at_rest (overwritten content (c.args.self.now.end + 1) (without_gate c.args.payload.now ++ 0 ∷ ahead)) =
     c.in_ok-stage.ensures.rests honest content is ∙ ap (λ (l : List ℕ). at_rest (overwritten content (c.args.self.now.end + 1) l)) spelled in
     moments_of_both g.D.Disk.moment g.D.Disk.left_at c.args.disk.now c.stage.new.disk c.write_synced.new.disk side (g.D.Disk.files c.args.disk.now) (g.D.Disk.files c.stage.new.disk) (c.stage.ensures.other honest)
     start content payloads c.args.payload.now ahead c.args.self.now.end _ at.stands at.end short (c.stage.ensures.any_moment honest content is) (c.write_synced.ensures.any_moment honest _ staged)
@@ -45,8 +45,8 @@ returns-clause-any_moment g c honest start payloads content is at =
     let side = c.args.self.now.side in
     let ahead = ground_bytes c.args.behind in
     let short : length c.args.payload.now < 2 ^ 32 = omega arith in
-    let spelled : c.deref.result.now ≡ body_of c.args.payload.now ++ 0 ∷ ahead = c.deref.ensures.value ∙ c.in_ok-spell.ensures.spelled in
-    let staged : g.D.Disk.files c.stage.new.disk side ≡ at_rest (overwritten content (c.args.self.now.end + 1) (body_of c.args.payload.now ++ 0 ∷ ahead)) =
+    let spelled : c.deref.result.now ≡ without_gate c.args.payload.now ++ 0 ∷ ahead = c.deref.ensures.value ∙ c.in_ok-spell.ensures.spelled in
+    let staged : g.D.Disk.files c.stage.new.disk side ≡ at_rest (overwritten content (c.args.self.now.end + 1) (without_gate c.args.payload.now ++ 0 ∷ ahead)) =
     c.in_ok-stage.ensures.rests honest content is ∙ ap (λ (l : List ℕ). at_rest (overwritten content (c.args.self.now.end + 1) l)) spelled in
     moments_of_both g.D.Disk.moment g.D.Disk.left_at c.args.disk.now c.stage.new.disk c.write_synced.new.disk side (g.D.Disk.files c.args.disk.now) (g.D.Disk.files c.stage.new.disk) (c.stage.ensures.other honest)
     start content payloads c.args.payload.now ahead c.args.self.now.end _ at.stands at.end short (c.stage.ensures.any_moment honest content is) (c.write_synced.ensures.any_moment honest _ staged)
@@ -58,10 +58,10 @@ returns-clause-added g c honest start payloads at =
     let ahead = ground_bytes c.args.behind in
     let content = (g.D.Disk.files c.args.disk.now side).content in
     let short : length c.args.payload.now < 2 ^ 32 = omega arith in
-    let spelled : c.deref.result.now ≡ body_of c.args.payload.now ++ 0 ∷ ahead = c.deref.ensures.value ∙ c.in_ok-spell.ensures.spelled in
-    let staged : (g.D.Disk.files c.stage.new.disk side).content ≡ overwritten content (c.args.self.now.end + 1) (body_of c.args.payload.now ++ 0 ∷ ahead) =
+    let spelled : c.deref.result.now ≡ without_gate c.args.payload.now ++ 0 ∷ ahead = c.deref.ensures.value ∙ c.in_ok-spell.ensures.spelled in
+    let staged : (g.D.Disk.files c.stage.new.disk side).content ≡ overwritten content (c.args.self.now.end + 1) (without_gate c.args.payload.now ++ 0 ∷ ahead) =
     c.in_ok-stage.ensures.content honest ∙ ap (λ (l : List ℕ). overwritten content (c.args.self.now.end + 1) l) spelled in
-    let opened : (g.D.Disk.files c.write_synced.new.disk side).content ≡ overwritten (overwritten content (c.args.self.now.end + 1) (body_of c.args.payload.now ++ 0 ∷ ahead)) c.args.self.now.end (1 ∷ []) =
+    let opened : (g.D.Disk.files c.write_synced.new.disk side).content ≡ overwritten (overwritten content (c.args.self.now.end + 1) (without_gate c.args.payload.now ++ 0 ∷ ahead)) c.args.self.now.end (1 ∷ []) =
     ap (λ (f : File). f.content) (c.in_ok-write_synced.ensures.ok honest) ∙ ap (λ (l : List ℕ). overwritten l c.args.self.now.end (1 ∷ [])) staged in
     record {
       stands = subst (λ (l : List ℕ). StandsFor (drop start l) (payloads ++ c.args.payload.now ∷ [])) (sym opened) (appended start content payloads c.args.self.now.end at.stands at.end c.args.payload.now short ahead);
