@@ -16,7 +16,7 @@ impl<D: Disk> Core<D> {
     }
 
     /// The number of items, of tags, of instances that are prescribed, and of those of them that are done. It takes no
-    /// memory, and goes through all instances.
+    /// memory.
     pub fn counts(&self) -> Counts
         ensures { AreCountsOf (graph self.now) (facts self.now) result }
     {

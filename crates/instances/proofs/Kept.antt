@@ -72,13 +72,13 @@ stood keys left key taken = omega (arith, times_taken key key keys left taken, h
     here = ap (λ b. cond b 1 0) ((eq_by_cmp_equiv keys_total).refl key)
 
 -- no instances
+pub none_counted : (test : State → Bool) → how_many test empty ≡ 0
+none_counted test = omega (arith, count_by-le-length (λ (entry : List ℤ × State). test entry.1) (entries (empty {X = State} {R = key_cmp})), len-entries (empty {X = State} {R = key_cmp}), len-empty key_cmp State)
+
 pub kept_none : (capacity : ℕ) → IsKept empty [] 0 capacity
 kept_none capacity = record {
   listed = λ q. sym (ap (one_if is_ready) (get-empty key_cmp q));
-  all_listed = sym (no_count is_ready);
-  counted = sym (no_count is_running);
+  all_listed = sym (none_counted is_ready);
+  counted = sym (none_counted is_running);
   enough = omega (arith, sym (len-entries (empty {X = State} {R = key_cmp})), len-empty key_cmp State);
 }
-  where
-    no_count : (test : State → Bool) → how_many test empty ≡ 0
-    no_count test = omega (arith, count_by-le-length (λ (entry : List ℤ × State). test entry.1) (entries (empty {X = State} {R = key_cmp})), len-entries (empty {X = State} {R = key_cmp}), len-empty key_cmp State)

@@ -15,4 +15,5 @@ mod Quiet
 mod Restoring
 mod Runs
 mod Stepwise
+mod Tallied
 mod Together

@@ -171,7 +171,7 @@ impl Instances {
         running
     }
 
-    /// The number of instances that wait, or the greatest `usize` if there are more. It goes through all instances.
+    /// The number of instances that wait, or the greatest `usize` if there are more.
     pub fn waiting(&self) -> usize
         ensures { result ≡ min (total is_waiting self.now) (2 ^ 64 - 1) }
     {
@@ -193,7 +193,7 @@ impl Instances {
         count
     }
 
-    /// The number of instances that are done, or the greatest `usize` if there are more. It goes through all instances.
+    /// The number of instances that are done, or the greatest `usize` if there are more.
     pub fn done_count(&self) -> usize
         ensures { CountsDone self.now result }
     {

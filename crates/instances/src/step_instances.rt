@@ -1,6 +1,3 @@
-ghost use Rattle.std.specs.Prelude.{◌≡◌};
-ghost use Rattle.instances.specs.OfStep.{is_done as is_done_state, is_waiting as is_waiting_state};
-
 use crate::State;
 use crate::standing::Standing;
 use crate::state_walk::StateWalk;
@@ -20,14 +17,15 @@ pub(crate) struct StepInstances {
     // or not. No promise is made about that order.
     ready: VecDeque<Key>,
     running: usize,
+    waiting: usize,
 }
 
 impl Model for StepInstances {
-    ghost use Rattle.std.specs.Prelude.{◌-◌, length, min};
+    ghost use Rattle.std.specs.Prelude.{◌≡◌, ◌-◌, length, min};
     ghost use Rattle.std.specs.FinMap.{entries};
     ghost use Rattle.std.specs.VecDeque.{deque_capacity};
     ghost use Rattle.instances.specs.Codes.{of_step_code};
-    ghost use Rattle.instances.specs.OfStep.{OfStep, IsKept};
+    ghost use Rattle.instances.specs.OfStep.{OfStep, IsKept, how_many, is_waiting};
 
     ghost Value = { OfStep };
 
@@ -35,7 +33,7 @@ impl Model for StepInstances {
 
     ghost view = { λ s. record { states = s.states.items; room = min s.states.room (deque_capacity s.ready - length (entries s.states.items)) } };
 
-    ghost invariant = { λ s. IsKept s.states.items s.ready.items s.running (deque_capacity s.ready) };
+    ghost invariant = { λ s. IsKept s.states.items s.ready.items s.running (deque_capacity s.ready) × (s.waiting ≡ how_many is_waiting s.states.items) };
 }
 
 impl StepInstances {
@@ -52,6 +50,7 @@ impl StepInstances {
             states: States::new(alloc),
             ready: VecDeque::new(alloc),
             running: 0,
+            waiting: 0,
         }
     }
 
@@ -90,21 +89,18 @@ impl StepInstances {
         self.running
     }
 
-    /// The number of instances that wait. It goes through all instances.
+    /// The number of instances that wait.
     pub(crate) fn waiting(&self) -> usize
         ensures { result ≡ how_many is_waiting self.now.states }
     {
-        self.states
-            .walk()
-            .filter(|entry| is_waiting(&entry.1))
-            .count()
+        self.waiting
     }
 
-    /// The number of instances that are done. It goes through all instances.
+    /// The number of instances that are done: all that are neither ready nor running, and do not wait.
     pub(crate) fn done(&self) -> usize
         ensures { result ≡ how_many is_done self.now.states }
     {
-        self.states.walk().filter(|entry| is_done(&entry.1)).count()
+        self.count() - self.ready() - self.running() - self.waiting()
     }
 
     /// The number of further instances that there is room for.
@@ -194,6 +190,7 @@ impl StepInstances {
     {
         self.states.wait(key, addr)?;
         self.running -= 1;
+        self.waiting += 1;
         Ok(())
     }
 
@@ -229,19 +226,6 @@ impl StepInstances {
     {
         self.states.wake(key);
         self.ready.push_front_reserved(key);
+        self.waiting -= 1;
     }
-}
-
-// Whether this is the state of an instance that waits.
-fn is_waiting(state: &State) -> bool
-    ensures { result ≡ is_waiting_state state.now }
-{
-    matches!(state, State::Waiting(_))
-}
-
-// Whether this is the state of an instance that is done.
-fn is_done(state: &State) -> bool
-    ensures { result ≡ is_done_state state.now }
-{
-    matches!(state, State::Done)
 }

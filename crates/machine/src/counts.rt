@@ -29,7 +29,7 @@ impl Machine {
         }
     }
 
-    /// The numbers of items, of tags, of prescribed instances and of those that are done. It goes through all instances.
+    /// The numbers of items, of tags, of prescribed instances and of those that are done.
     pub fn counts(&self) -> Counts
         ensures { AreCountsOf self.now.graph (facts self.now) result }
     {

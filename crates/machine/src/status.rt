@@ -47,7 +47,7 @@ impl Machine {
         self.memory.instances.running()
     }
 
-    /// The number of waiting instances, or `usize::MAX` if there are more. It goes through all instances.
+    /// The number of waiting instances, or `usize::MAX` if there are more.
     pub fn waiting(&self) -> usize
         ensures { result ≡ min (waiting_count self.now) (2 ^ 64 - 1) }
     {
