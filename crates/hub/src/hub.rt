@@ -1,7 +1,7 @@
 ghost use Rattle.std.specs.Prelude.{◌≡◌, [], ◌∷◌, true, None, Ok, OnErr, OnOk, IfErr, IfOk, IfSome};
 
 use crate::glance::Glance;
-use crate::{BatchError, EnvPass, Kept, TaskError, WorkPass};
+use crate::{BatchError, EnvPass, Kept, TaskError, Visit, WorkPass};
 use cells::Watch;
 use commit::{Batch, Committed, CoreError, Outcome};
 use disk::Disk;
@@ -86,6 +86,14 @@ impl<J: Naming, D: Disk> Hub<J, D> {
             yield_now();
         }
         self.kept.lock(rt)
+    }
+
+    /// Takes the lock for several calls.
+    pub fn visit<R: Wait>(&self, rt: &R) -> Visit<'_, J, D> {
+        Visit {
+            hub: self,
+            kept: self.locked(rt),
+        }
     }
 
     /// Puts an item of the environment. The refusals are those of the core's `put_item`, in the state after what the pass
@@ -277,14 +285,12 @@ impl<J: Naming, D: Disk> Hub<J, D> {
     /// Each outcome must be of its task's instance and of the body of its step in this graph, and each item that it read
     /// must be in the state that the pass knew, or be put by an outcome before it.
     ///
-    /// `ahead` is what `Batch::spell_ahead` gives of the outcomes that are to be committed next, or nothing. Their commit may need one sync then, in place
-    /// of two.
+    /// Several batches are committed with one visit of the lock by `visit`.
     pub fn finish_all<'a, R: Wait>(
         &self,
         rt: &R,
         pass: &mut WorkPass<J>,
         batch: Batch<'a>,
-        ahead: &[u8],
     ) -> Result<Ended, BatchError<'a>>
         requires { HaveOutcomes J.opening.graph (facts_behind J.opening pass.old.seen) batch.tasks batch.outcomes }
         ensures seen { Sees J.opening pass.old pass.new }
@@ -292,35 +298,7 @@ impl<J: Naming, D: Disk> Hub<J, D> {
         ensures err { OnErr result (AddsNothing pass.old pass.new) }
         ensures refused { OnBatch result (λ back. back ≡ batch.entry) (λ answer. IfErr answer (RefusesTogether J.opening pass.new (ends_said batch.entry))) }
     {
-        let mut kept = self.locked(rt);
-        let answer = kept.finish_all(&self.board, pass, batch, ahead);
-        self.note(&kept);
-        self.glance.note_batch();
-        answer
-    }
-
-    /// `finish_all`, and then, if it is not refused, `claim_some`, with one visit of the lock.
-    pub fn exchange<'a, R: Wait>(
-        &self,
-        rt: &R,
-        pass: &mut WorkPass<J>,
-        batch: Batch<'a>,
-        tasks: &mut Tasks,
-        most: usize,
-    ) -> Result<Ended, BatchError<'a>>
-        requires { HaveOutcomes J.opening.graph (facts_behind J.opening pass.old.seen) batch.tasks batch.outcomes }
-        ensures seen { Sees J.opening pass.old pass.new }
-        ensures ok { IfOk result (AddsTogether J.opening (ends_said batch.entry) pass.old pass.new) }
-        ensures err { OnErr result (AddsNothing pass.old pass.new) }
-        ensures refused { OnBatch result (λ back. back ≡ batch.entry) (λ answer. IfErr answer (RefusesTogether J.opening pass.new (ends_said batch.entry))) }
-        ensures claimed { AddsClaimed J.opening pass.new most tasks.old tasks.new }
-        ensures unclaimed { OnErr result (tasks.new ≡ tasks.old) }
-    {
-        let mut kept = self.locked(rt);
-        let answer = kept.exchange(&self.board, pass, batch, tasks, most, self.count);
-        self.note(&kept);
-        self.glance.note_batch();
-        answer
+        self.visit(rt).finish_all(pass, batch, &[])
     }
 
     /// Whether an instance runs, or may be claimed. No clause says which it returns.
@@ -331,7 +309,7 @@ impl<J: Naming, D: Disk> Hub<J, D> {
     }
 
     // Notes what is ready and what runs, before the lock is left.
-    fn note(&self, kept: &Kept<J, D>) {
+    pub(crate) fn note(&self, kept: &Kept<J, D>) {
         self.glance.note(kept.core.ready(), kept.core.running());
     }
 
@@ -346,7 +324,7 @@ impl<J: Naming, D: Disk> Hub<J, D> {
         self.glance.running()
     }
 
-    /// How often outcomes were given to `finish`, `finish_all` and `exchange`.
+    /// How often outcomes were given to `finish` and `finish_all`.
     pub fn batches(&self) -> usize {
         self.glance.batches()
     }

@@ -1,18 +1,14 @@
 //! Several claims, under the lock.
-ghost use Rattle.std.specs.Prelude.{◌≡◌, ◌≢◌, ◌↔◌, ◌≤◌, ◌<◌, true, IfErr, IfOk, OnErr};
-ghost use Rattle.commit.specs.Batch.{HaveOutcomes, ends_said};
+ghost use Rattle.std.specs.Prelude.{◌≡◌, ◌≢◌, ◌↔◌, ◌≤◌, ◌<◌, true};
 ghost use Rattle.commit.specs.Steps.{running_count};
 ghost use Rattle.passes.specs.Visits.{Shows};
-ghost use Rattle.hub.specs.Batches.{AddsTogether, OnBatch, RefusesTogether};
 ghost use Rattle.hub.specs.Claims.{AddsClaimed, ClaimsOne, ClaimsSome};
-ghost use Rattle.hub.specs.Opening.{facts_behind};
 ghost use Rattle.hub.specs.Replies.{AddsNothing, Sees};
 
-use crate::{BatchError, Kept, WorkPass};
-use commit::{Batch, CoreError};
+use crate::{Kept, WorkPass};
+use commit::CoreError;
 use disk::Disk;
 use instances::Tasks;
-use machine::Ended;
 use passes::{Board, Naming};
 use vault::VaultError;
 
@@ -73,34 +69,6 @@ impl<J: Naming, D: Disk> Kept<J, D> {
         ensures { (result ≡ true) ↔ (running_count self.now.core ≢ 0) }
     {
         self.core.running() != 0
-    }
-
-    /// `finish_all`, and then, if it is not refused, `claim_some`.
-    pub(crate) fn exchange<'a>(
-        &mut self,
-        board: &Board<J>,
-        pass: &mut WorkPass<J>,
-        batch: Batch<'a>,
-        tasks: &mut Tasks,
-        most: usize,
-        passes: usize,
-    ) -> Result<Ended, BatchError<'a>>
-        requires { HaveOutcomes J.opening.graph (facts_behind J.opening pass.old.seen) batch.tasks batch.outcomes }
-        ensures seen { Sees J.opening pass.old pass.new }
-        ensures ok { IfOk result (AddsTogether J.opening (ends_said batch.entry) pass.old pass.new) }
-        ensures err { OnErr result (AddsNothing pass.old pass.new) }
-        ensures refused { OnBatch result (λ back. back ≡ batch.entry) (λ answer. IfErr answer (RefusesTogether J.opening pass.new (ends_said batch.entry))) }
-        ensures claimed { AddsClaimed J.opening pass.new most tasks.old tasks.new }
-        ensures unclaimed { OnErr result (tasks.new ≡ tasks.old) }
-    {
-        match self.finish_all(board, pass, batch, &[]) {
-            Ok(ended) => {
-                // What is refused here is asked for again by the worker's next claim.
-                let _ = self.claim_some(board, pass, tasks, most, passes);
-                Ok(ended)
-            }
-            Err(error) => Err(error),
-        }
     }
 }
 

@@ -20,6 +20,7 @@ mod kept_claims;
 mod open;
 mod pass;
 mod running;
+mod visit;
 mod visits;
 
 pub use both::{Both, BothError, NonePut, put_two};
@@ -31,3 +32,4 @@ pub use kept::Kept;
 pub use open::{NotOpened, Opened};
 pub use pass::{Env, EnvPass, Work, WorkPass};
 pub use running::Ran;
+pub use visit::Visit;

@@ -1,5 +1,5 @@
 -- What a worker keeps, and what it knows of a refusal.
-use Rattle.std.proofs.Common.{◌≡◌, ◌∙◌, ◌⊎◌, ◌≤◌, ◌++◌, ◌||◌, ℕ, zero, suc, Bool, true, false, arith, refl, List, [], ◌∷◌, length, take, drop, take-append-drop, Option, Some, None, IfSome, MatchOption, Result, Ok, ap, inl, inr, is_some, not, sym, subst}
+use Rattle.std.proofs.Common.{◌≡◌, ◌∙◌, ◌⊎◌, ◌≤◌, ◌<◌, ◌++◌, ◌||◌, ℕ, zero, suc, Bool, true, false, arith, refl, List, [], ◌∷◌, length, take, drop, take-append-drop, length-append, Option, Some, None, IfSome, MatchOption, Result, Ok, Err, IfOk, IfErr, IsErrOf, ap, inl, inr, is_some, not, sym, subst}
 use Rattle.std.proofs.lemmas.Bool.{false≢true}
 use mathlib.Core.List.{IsPrefix}
 use Rattle.std.specs.List.{AllByRecursion}
@@ -16,6 +16,8 @@ use Rattle.machine.specs.declared.group.Ended.{Ended}
 use Rattle.machine.specs.Group.{StopsAt, cut, stop_at, stopped_as}
 use Rattle.machine.specs.Results.{ReadsStay}
 use Rattle.machine.proofs.Sets.{Within, or_right}
+use Rattle.commit.specs.declared.error.CoreError.TheVariants.{Store}
+use Rattle.vault.specs.declared.error.VaultError.TheVariants.{Full}
 use Rattle.commit.specs.declared.outcome.Outcome.{Outcome}
 use Rattle.commit.specs.declared.outcome.Outcome.TheVariants.{Gave, Fault}
 use Rattle.commit.proofs.Outcomes.{divided, in_both, more_within, outcome_within, outcomes_more, outcomes_within}
@@ -27,7 +29,7 @@ use Rattle.passes.specs.Opening.{Opening}
 use Rattle.passes.proofs.Gathered.{all_of_both}
 use Rattle.passes.proofs.Lists.{prefix_further, prefix_self}
 use Rattle.steplang.specs.Running.{Running}
-use Rattle.hub.specs.Batches.{AddsTogether, HaveNoRoom}
+use Rattle.hub.specs.Batches.{AddsTogether, HaveNoRoom, OnBatch, RefusesTogether}
 use Rattle.hub.specs.Claims.{AddsClaimed}
 use Rattle.hub.specs.Opening.{end_behind, facts_behind}
 use Rattle.hub.specs.Replies.{MayRun}
@@ -36,7 +38,9 @@ use Rattle.hub.proofs.States.{facts_more, stays}
 use Rattle.hub.proofs.Batches.{outcomes_stay, some_come}
 use Rattle.pool.specs.declared.worker.Met.{Met}
 use Rattle.pool.specs.declared.worker.Met.TheVariants as met
-use Rattle.pool.specs.Worked.{AreClaimed, AreKept, IsTurned, Justifies, SawFull, turned_by}
+use Rattle.hub.specs.declared.error.BatchError.{BatchError}
+use Rattle.hub.specs.declared.error.BatchError.TheVariants as batch_error
+use Rattle.pool.specs.Worked.{came_after, AreClaimed, AreKept, IsTurned, Justifies, SawFull, turned_by}
 
 -- ---- what is kept
 
@@ -178,6 +182,17 @@ saw_batch opening old known batch some have why = record {
   too_long = why.too_long;
 }
 
+-- if a batch was refused with `Full`, its record did not fit
+pub refused_full : (opening : Opening) (old known : Known) (batch : Batch) (answer : Result Ended BatchError) (result : Result Bool Met) → 1 ≤ length batch.tasks → HaveOutcomes opening.graph (facts_behind opening old.seen) batch.tasks batch.outcomes
+    → OnBatch answer (λ back. back ≡ batch) (λ called. IfErr called (RefusesTogether opening known (ends_said batch))) → IfErr result (λ one. one ≡ met.Full → IsErrOf answer (batch_error.Refused (Store Full))) → IfErr result (λ one. Justifies opening (Some one) known)
+refused_full opening old known batch answer (Ok all) some have refused full = tt
+refused_full opening old known batch answer (Err one) some have refused full =
+    λ is. saw_batch opening old known batch some have
+    (subst (λ (given : Result Ended BatchError). OnBatch given (λ back. back ≡ batch) (λ called. IfErr called (RefusesTogether opening known (ends_said batch)))) (full (value one is)) refused)
+  where
+    value : (other : Met) → Some other ≡ Some met.Full → other ≡ met.Full
+    value other same = cc
+
 -- ---- a batch that was divided
 
 parted : AmongBoth → ReadsStay → (opening : Opening) (known : Known) (batch first rest : Batch) (size : ℕ) → IsDivided batch size first rest → HaveOutcomes opening.graph (facts_behind opening known.seen) batch.tasks batch.outcomes
@@ -204,12 +219,9 @@ ends_joined [] behind (outcome ∷ came) later even = absurd (omega (arith, even
 ends_joined (task ∷ front) behind [] later even = absurd (omega (arith, even))
 ends_joined (task ∷ front) behind (outcome ∷ came) later even = ap (λ (list : List Event). end_said task outcome ∷ list) (ends_joined front behind came later (omega (arith, even)))
 
--- what all of it puts is there once both parts are
-pub both_there : AmongBoth → FactsGoOn → (opening : Opening) (old mid new : Known) (batch first rest : Batch) (size : ℕ) → IsDivided batch size first rest → Within (facts_with (facts_behind opening old.seen) (Some first)) (facts_behind opening mid.seen)
-    → Within (facts_with (facts_behind opening mid.seen) (Some rest)) (facts_behind opening new.seen) → Within (facts_with (facts_behind opening old.seen) (Some batch)) (facts_behind opening new.seen)
-both_there both go_on opening old mid new batch first rest size is one two fact there =
-    let X = facts_behind opening old.seen in
-    let Y = facts_behind opening mid.seen in
+-- what all of it puts is there, or is put by the other part, once the part in front is there
+parts_there : AmongBoth → FactsGoOn → (X Y : Facts) (batch first rest : Batch) (size : ℕ) → IsDivided batch size first rest → Within (facts_with X (Some first)) Y → Within (facts_with X (Some batch)) (facts_with Y (Some rest))
+parts_there both go_on X Y batch first rest size is one fact there =
     let ends : ends_said batch ≡ ends_said first ++ ends_said rest =
     (λ i. ends_by (sym is.tasks i) (sym is.outcomes i)) ∙ ends_joined first.tasks rest.tasks first.outcomes rest.outcomes (is.many_outcomes ∙ sym is.many_tasks)
     in
@@ -217,20 +229,59 @@ both_there both go_on opening old mid new batch first rest size is one two fact 
     sym (ap (λ (list : List Event). X fact || among (facts list) fact) ends ∙ ap (λ (list : List Fact). X fact || among list fact) (go_on (ends_said first) (ends_said rest))) ∙ there
     in
     let parts : (X fact || (among (facts (ends_said first)) fact || among (facts (ends_said rest)) fact)) ≡ true = sym (ap (λ b. X fact || b) (both (facts (ends_said first)) (facts (ends_said rest)) fact)) ∙ said in
-    two fact (later (X fact) (among (facts (ends_said first)) fact) (among (facts (ends_said rest)) fact) (Y fact) (one fact) parts)
+    later (X fact) (among (facts (ends_said first)) fact) (among (facts (ends_said rest)) fact) (Y fact) (one fact) parts
   where
     later : (a b c d : Bool) → ((a || b) ≡ true → d ≡ true) → (a || (b || c)) ≡ true → (d || c) ≡ true
     later true b c d there is = ap (λ x. x || c) (there refl)
     later false true c d there is = ap (λ x. x || c) (there refl)
     later false false c d there is = or_right d c is
 
+-- What is left of a batch, of which the groups in front were committed: its outcomes are over the state that the pass knows now, and with what it puts, all that the whole
+-- batch puts is there.
+pub record IsLeft (opening : Opening) (old now : Known) (whole batch : Batch) : Type 0 where
+  pub begins : IsPrefix old.seen now.seen
+  pub have : HaveOutcomes opening.graph (facts_behind opening now.seen) batch.tasks batch.outcomes
+  pub all : Within (facts_with (facts_behind opening old.seen) (Some whole)) (facts_with (facts_behind opening now.seen) (Some batch))
+
+pub left_whole : (opening : Opening) (known : Known) (batch : Batch) → HaveOutcomes opening.graph (facts_behind opening known.seen) batch.tasks batch.outcomes → IsLeft opening known known batch batch
+left_whole opening known batch have = record { begins = prefix_self known.seen; have = have; all = λ fact there. there }
+
+-- one group more was committed
+pub left_after : AmongBoth → FactsGoOn → ReadsStay → (opening : Opening) (old now mid : Known) (whole batch first rest : Batch) (size : ℕ) → IsLeft opening old now whole batch → IsDivided batch size first rest → IsPrefix now.seen mid.seen
+    → Within (facts_with (facts_behind opening now.seen) (Some first)) (facts_behind opening mid.seen) → IsLeft opening old mid whole rest
+left_after both go_on stay opening old now mid whole batch first rest size left is further within = record {
+  begins = prefix_further old.seen now.seen mid.seen left.begins further;
+  have = rest_have both stay opening now mid batch first rest size is left.have within;
+  all = λ fact there. parts_there both go_on (facts_behind opening now.seen) (facts_behind opening mid.seen) batch first rest size is within fact (left.all fact there);
+}
+
+-- the last group was committed, and then all of it is there
+pub all_left : (opening : Opening) (old now new : Known) (whole batch : Batch) → IsLeft opening old now whole batch → Within (facts_with (facts_behind opening now.seen) (Some batch)) (facts_behind opening new.seen)
+    → Within (facts_with (facts_behind opening old.seen) (Some whole)) (facts_behind opening new.seen)
+all_left opening old now new whole batch left within fact there = within fact (left.all fact there)
+
+-- fewer are left
+pub fewer_left : (batch first rest : Batch) (size : ℕ) → 1 ≤ size → IsDivided batch size first rest → length rest.tasks < length batch.tasks
+fewer_left batch first rest size some is = omega (arith, some, is.many_tasks, ap length is.tasks, length-append first.tasks rest.tasks)
+
 -- if no fault came, all did
-pub came_whole : (stopped : Option FaultKind) (none : Bool) → is_some stopped ≡ not none → ◌≡◌ {A = Result Bool Met} (Ok none) (Ok true) → stopped ≡ None
-came_whole None none is all = refl
-came_whole (Some kind) none is all = absurd (false≢true (sym (is ∙ ap not (value none all))))
+pub came_as_is : (opening : Opening) (ends : List Event) (old new : Known) (answer : Result Ended BatchError) → IfOk answer (AddsTogether opening ends old new) → came_after answer ≡ Ok true → (ended : Ended) × AddsTogether opening ends old new ended × (ended.stopped ≡ None)
+came_as_is opening ends old new (Ok ended) adds all = (ended, adds, none ended.stopped (same (not (is_some ended.stopped)) all))
   where
-    value : (b : Bool) → ◌≡◌ {A = Result Bool Met} (Ok b) (Ok true) → b ≡ true
-    value b same = cc
+    same : (b : Bool) → ◌≡◌ {A = Result Bool Met} (Ok b) (Ok true) → b ≡ true
+    same b is = cc
+
+    none : (stopped : Option FaultKind) → not (is_some stopped) ≡ true → stopped ≡ None
+    none None is = refl
+    none (Some kind) is = absurd (false≢true is)
+came_as_is opening ends old new (Err (batch_error.Refused error)) adds all = absurd (cc)
+came_as_is opening ends old new (Err (batch_error.Foreign back)) adds all = absurd (never all)
+  where
+    never : ◌≡◌ {A = Result Bool Met} (Ok false) (Ok true) → ⊥
+    never is = false≢true (value false is)
+      where
+        value : (b : Bool) → ◌≡◌ {A = Result Bool Met} (Ok b) (Ok true) → b ≡ true
+        value b same = cc
 
 pub all_came : (all : Bool) → all ≡ true → ◌≡◌ {A = Result Bool Met} (Ok all) (Ok true)
 all_came all is = ap (λ (b : Bool). Ok b) is

@@ -1,6 +1,7 @@
 -- What workers make of a core, and what a worker knows of a refusal that it met.
-use Rattle.std.specs.Prelude.{◌≡◌, ◌⊎◌, ℕ, Bool, true, List, [], ◌∷◌, Option, None, Some, IfSome, ◌<◌, length, Result, Ok, Err}
+use Rattle.std.specs.Prelude.{◌≡◌, ◌⊎◌, ℕ, Bool, true, false, not, is_some, List, [], ◌∷◌, Option, None, Some, IfSome, ◌<◌, length, Result, Ok, Err}
 use Rattle.std.specs.List.{AllByRecursion}
+use Rattle.machine.specs.declared.group.Ended.{Ended}
 use Rattle.disk.specs.declared.side.Side.{Side}
 use Rattle.disk.specs.File.{File}
 use Rattle.disk.specs.Time.{Contents}
@@ -39,11 +40,11 @@ met_after (Ok value) = None
 met_after (Err (Refused error)) = Some (met_by error)
 met_after (Err (Foreign back)) = None
 
--- the same by the answer of a call that spent a batch
-abbrev pub met_after_all : {T : Type 0} → Result T BatchError → Option Met
-met_after_all (Ok value) = None
-met_after_all (Err (batch_error.Refused error)) = Some (met_by error)
-met_after_all (Err (batch_error.Foreign back)) = None
+-- whether all of a batch came as it is, by the answer of the call that spent it; or what the worker meets
+abbrev pub came_after : Result Ended BatchError → Result Bool Met
+came_after (Ok ended) = Ok (not (is_some ended.stopped))
+came_after (Err (batch_error.Refused error)) = Err (met_by error)
+came_after (Err (batch_error.Foreign back)) = Ok false
 
 -- among the commits that a pass has seen there is a prefix after which ends were refused, since their record did not fit
 abbrev pub SawFull : Opening → Known → Type 0

@@ -1,4 +1,4 @@
-//! How a worker commits what it keeps: as one record, or as two, one after another.
+//! How a worker commits what it keeps: as one record, or as several, one after another, with one visit of the lock.
 ghost use Rattle.std.specs.Prelude.{◌≡◌, true, IfErr, None, Ok, Some};
 ghost use mathlib.Core.List.{IsPrefix};
 ghost use Rattle.commit.specs.Batch.{HaveOutcomes};
@@ -7,11 +7,11 @@ ghost use Rattle.pool.specs.declared.worker.Met.TheVariants.{Asked as MetAsked};
 ghost use Rattle.pool.specs.Worked.{AreClaimed, AreKept, HasAll, Justifies};
 
 use crate::hand::Hand;
-use crate::settling::{met_of, settled, settled_all, stranded_batch};
+use crate::settling::{settled, settled_all};
 use crate::worker::{GROUP, MOST_KEPT, Met};
 use commit::Batch;
 use disk::Disk;
-use hub::{BatchError, Hub, WorkPass};
+use hub::{Hub, Visit, WorkPass};
 use machine::results_are_meant;
 use passes::Naming;
 use std::alloc::Global;
@@ -69,75 +69,11 @@ pub(crate) fn commit_before<'a, J: Naming, D: Disk, R: Wait>(
     ensures full { IfErr result (λ met. Justifies J.opening (Some met) pass.new) }
 {
     let ahead = spelled_ahead(alloc, &batch);
-    commit_groups(rt, alloc, hub, pass, batch, &ahead)
+    let mut visit = hub.visit(rt);
+    commit_groups(rt, alloc, &mut visit, pass, batch, &ahead)
 }
 
-// The same, with the bytes of the second record, which may be laid with the first one.
-fn commit_groups<'a, J: Naming, D: Disk, R: Wait>(
-    rt: &R,
-    alloc: Global,
-    hub: &'a Hub<J, D>,
-    pass: &mut WorkPass<J>,
-    batch: Batch<'a>,
-    ahead: &[u8],
-) -> Result<bool, Met>
-    requires { HaveOutcomes J.opening.graph (facts_behind J.opening pass.old.seen) batch.tasks batch.outcomes }
-    ensures ahead { IsPrefix pass.old.seen pass.new.seen }
-    ensures all { result ≡ Ok true → HasAll J.opening pass.old pass.new batch.entry }
-    ensures asked { IfErr result (λ met. met ≡ MetAsked → ⊥) }
-    ensures full { IfErr result (λ met. Justifies J.opening (Some met) pass.new) }
-{
-    facts_are_told_apart();
-    facts_go_on();
-    results_are_meant();
-    if batch.len() <= GROUP {
-        return commit_group(rt, hub, pass, batch, ahead);
-    }
-    match batch.split(alloc, GROUP) {
-        Err(whole) => commit_group(rt, hub, pass, whole, &[]),
-        Ok((first, rest)) => match commit_group(rt, hub, pass, first, ahead) {
-            Ok(true) => commit_group(rt, hub, pass, rest, &[]),
-            Ok(false) => {
-                give_up(rt, hub, pass, rest);
-                Ok(false)
-            }
-            Err(met) => {
-                give_up(rt, hub, pass, rest);
-                Err(met)
-            }
-        },
-    }
-}
-
-// Commits the outcomes of a batch as one record.
-fn commit_group<'a, J: Naming, D: Disk, R: Wait>(
-    rt: &R,
-    hub: &'a Hub<J, D>,
-    pass: &mut WorkPass<J>,
-    batch: Batch<'a>,
-    ahead: &[u8],
-) -> Result<bool, Met>
-    requires { HaveOutcomes J.opening.graph (facts_behind J.opening pass.old.seen) batch.tasks batch.outcomes }
-    ensures ahead { IsPrefix pass.old.seen pass.new.seen }
-    ensures all { result ≡ Ok true → HasAll J.opening pass.old pass.new batch.entry }
-    ensures asked { IfErr result (λ met. met ≡ MetAsked → ⊥) }
-    ensures full { IfErr result (λ met. Justifies J.opening (Some met) pass.new) }
-{
-    facts_are_told_apart();
-    facts_go_on();
-    // What is known of every batch: it has an instance.
-    batch.len();
-    match hub.finish_all(rt, pass, batch, ahead) {
-        Ok(ended) => Ok(ended.stopped.is_none()),
-        Err(BatchError::Refused(error)) => Err(met_of(error)),
-        Err(BatchError::Foreign(batch)) => {
-            stranded_batch(rt, batch);
-            Ok(false)
-        }
-    }
-}
-
-/// Commits the outcomes of a batch, and claims the next instances with the last visit of the lock.
+/// Commits the outcomes of a batch, and claims the next instances.
 pub(crate) fn exchange<'a, J: Naming, D: Disk, R: Wait>(
     rt: &R,
     alloc: Global,
@@ -154,74 +90,98 @@ pub(crate) fn exchange<'a, J: Naming, D: Disk, R: Wait>(
 {
     hand.before_commit(pass.number(), hub.batches());
     let ahead = spelled_ahead(alloc, &batch);
-    let met = exchange_groups(rt, alloc, hub, pass, hand, batch, &ahead);
+    let mut visit = hub.visit(rt);
+    let came = commit_groups(rt, alloc, &mut visit, pass, batch, &ahead);
     hand.after_commit(hub.batches());
-    met
+    match came {
+        Ok(_) => {
+            claim_next(&mut visit, pass, hand);
+            None
+        }
+        Err(met) => Some(met),
+    }
 }
 
-// The same, with the bytes of the second record, which may be laid with the first one.
-fn exchange_groups<'a, J: Naming, D: Disk, R: Wait>(
+// Claims the next instances, no more than the hand has room for. What is refused here is asked for again by the next claim.
+fn claim_next<J: Naming, D: Disk>(
+    visit: &mut Visit<'_, J, D>,
+    pass: &mut WorkPass<J>,
+    hand: &mut Hand,
+)
+    requires { AreClaimed J.opening hand.old.claimed }
+    ensures { AreClaimed J.opening hand.new.claimed }
+{
+    if hand.rests {
+        return;
+    }
+    let most = MOST_KEPT.saturating_sub(hand.claimed.len());
+    let _ = visit.claim_some(pass, &mut hand.claimed, most);
+}
+
+// Commits the outcomes of a batch in groups, each as one record, with the bytes of those after the first, which may be laid with it.
+fn commit_groups<'a, J: Naming, D: Disk, R: Wait>(
     rt: &R,
     alloc: Global,
-    hub: &'a Hub<J, D>,
+    visit: &mut Visit<'_, J, D>,
     pass: &mut WorkPass<J>,
-    hand: &mut Hand,
     batch: Batch<'a>,
     ahead: &[u8],
-) -> Option<Met>
-    requires batch { HaveOutcomes J.opening.graph (facts_behind J.opening pass.old.seen) batch.tasks batch.outcomes }
-    requires claimed { AreClaimed J.opening hand.old.claimed }
-    ensures claimed { AreClaimed J.opening hand.new.claimed }
-    ensures asked { result ≡ Some MetAsked → ⊥ }
-    ensures full { Justifies J.opening result pass.new }
+) -> Result<bool, Met>
+    requires { HaveOutcomes J.opening.graph (facts_behind J.opening pass.old.seen) batch.tasks batch.outcomes }
+    ensures ahead { IsPrefix pass.old.seen pass.new.seen }
+    ensures all { result ≡ Ok true → HasAll J.opening pass.old pass.new batch.entry }
+    ensures asked { IfErr result (λ met. met ≡ MetAsked → ⊥) }
+    ensures full { IfErr result (λ met. Justifies J.opening (Some met) pass.new) }
 {
     facts_are_told_apart();
+    facts_go_on();
     results_are_meant();
-    if batch.len() <= GROUP {
-        return exchange_last(rt, hub, pass, hand, batch);
-    }
-    match batch.split(alloc, GROUP) {
-        Err(whole) => exchange_last(rt, hub, pass, hand, whole),
-        Ok((first, rest)) => match commit_group(rt, hub, pass, first, ahead) {
-            Ok(true) => exchange_last(rt, hub, pass, hand, rest),
-            Ok(false) => {
-                give_up(rt, hub, pass, rest);
-                None
-            }
-            Err(met) => {
-                give_up(rt, hub, pass, rest);
-                Some(met)
-            }
-        },
+    let mut batch = batch;
+    let mut ahead = ahead;
+    loop {
+        if batch.len() <= GROUP {
+            return commit_group(rt, visit, pass, batch, ahead);
+        }
+        match batch.split(alloc, GROUP) {
+            Err(whole) => return commit_group(rt, visit, pass, whole, &[]),
+            Ok((first, rest)) => match commit_group(rt, visit, pass, first, ahead) {
+                Ok(true) => batch = rest,
+                Ok(false) => {
+                    give_up(rt, visit, pass, rest);
+                    return Ok(false);
+                }
+                Err(met) => {
+                    give_up(rt, visit, pass, rest);
+                    return Err(met);
+                }
+            },
+        }
+        ahead = &[];
     }
 }
 
-// Commits the outcomes of a batch as one record, and claims the next instances with the same visit of the lock.
-fn exchange_last<'a, J: Naming, D: Disk, R: Wait>(
+// Commits the outcomes of a batch as one record.
+fn commit_group<'a, J: Naming, D: Disk, R: Wait>(
     rt: &R,
-    hub: &'a Hub<J, D>,
+    visit: &mut Visit<'_, J, D>,
     pass: &mut WorkPass<J>,
-    hand: &mut Hand,
     batch: Batch<'a>,
-) -> Option<Met>
-    requires batch { HaveOutcomes J.opening.graph (facts_behind J.opening pass.old.seen) batch.tasks batch.outcomes }
-    requires claimed { AreClaimed J.opening hand.old.claimed }
-    ensures claimed { AreClaimed J.opening hand.new.claimed }
-    ensures asked { result ≡ Some MetAsked → ⊥ }
-    ensures full { Justifies J.opening result pass.new }
+    ahead: &[u8],
+) -> Result<bool, Met>
+    requires { HaveOutcomes J.opening.graph (facts_behind J.opening pass.old.seen) batch.tasks batch.outcomes }
+    ensures ahead { IsPrefix pass.old.seen pass.new.seen }
+    ensures all { result ≡ Ok true → HasAll J.opening pass.old pass.new batch.entry }
+    ensures asked { IfErr result (λ met. met ≡ MetAsked → ⊥) }
+    ensures full { IfErr result (λ met. Justifies J.opening (Some met) pass.new) }
 {
+    facts_are_told_apart();
+    facts_go_on();
     // What is known of every batch: it has an instance.
     batch.len();
-    // No more than the hand has room for.
-    let most = if hand.rests {
-        0
-    } else {
-        MOST_KEPT.saturating_sub(hand.claimed.len())
-    };
-    settled_all(rt, hub.exchange(rt, pass, batch, &mut hand.claimed, most))
+    settled_all(rt, visit.finish_all(pass, batch, ahead))
 }
 
-// What `Vault::append_all` may lay ahead when the first group of these outcomes is committed: the record of the others. Nothing if there is no memory for it.
+// What may be laid ahead when the first group of these outcomes is committed: the records of the other groups. Nothing if there is no memory for it.
 fn spelled_ahead(alloc: Global, batch: &Batch<'_>) -> Vec<u8> {
     let mut ahead = Vec::new(alloc);
     if batch.len() > GROUP && batch.spell_ahead(GROUP, GROUP, &mut ahead).is_err() {
@@ -233,7 +193,7 @@ fn spelled_ahead(alloc: Global, batch: &Batch<'_>) -> Vec<u8> {
 // Gives the instances of a batch back, which are ready then, the last one first.
 fn give_up<'a, J: Naming, D: Disk, R: Wait>(
     rt: &R,
-    hub: &Hub<J, D>,
+    visit: &mut Visit<'_, J, D>,
     pass: &mut WorkPass<J>,
     batch: Batch<'a>,
 )
@@ -241,8 +201,8 @@ fn give_up<'a, J: Naming, D: Disk, R: Wait>(
 {
     let (task, outcome, rest) = batch.pop();
     drop(outcome);
-    let _ = settled(rt, hub.release(rt, pass, task));
+    let _ = settled(rt, visit.release(pass, task));
     if let Some(rest) = rest {
-        give_up(rt, hub, pass, rest);
+        give_up(rt, visit, pass, rest);
     }
 }

@@ -245,7 +245,7 @@ fn finish_after<'a, J: Naming, D: Disk, R: Wait>(
 }
 
 // Goes on with these results. They are committed if bodies took long since the first of them, so that others do not wait for them; or if they are as many as it keeps, and
-// then the worker claims the next instances with the last visit of the lock.
+// then the worker claims the next instances with the same visit of the lock.
 fn go_on_with<'a, J: Naming, D: Disk, R: Wait>(
     rt: &R,
     alloc: Global,

@@ -1,5 +1,5 @@
 //! How a worker gives back what it has claimed, and what it meets by the answer.
-ghost use Rattle.std.specs.Prelude.{◌≡◌, IsErrOf, None, Some};
+ghost use Rattle.std.specs.Prelude.{◌≡◌, false, IfErr, IsErrOf, None, Some};
 ghost use mathlib.Core.List.{IsPrefix};
 ghost use Rattle.vault.specs.declared.error.VaultError.TheVariants.{Full};
 ghost use Rattle.commit.specs.declared.error.CoreError.TheVariants.{Store};
@@ -9,13 +9,14 @@ ghost use Rattle.hub.specs.Running.{WaitsIn};
 ghost use Rattle.hub.specs.Tasks.{OnTask};
 ghost use Rattle.hub.specs.declared.error.BatchError.TheVariants.{Refused as AllRefused};
 ghost use Rattle.pool.specs.declared.worker.Met.TheVariants.{Asked as MetAsked, Full as MetFull};
-ghost use Rattle.pool.specs.Worked.{Justifies, met_after, met_after_all, met_by};
+ghost use Rattle.pool.specs.Worked.{Justifies, came_after, met_after, met_by};
 
 use crate::worker::Met;
 use commit::{Batch, CoreError, Outcome};
 use disk::Disk;
 use hub::{BatchError, Hub, TaskError, WorkPass};
 use instances::Task;
+use machine::Ended;
 use passes::Naming;
 use std::sync::Wait;
 use steplang::Run;
@@ -69,22 +70,19 @@ pub(crate) fn settled<T: Drop, R: Wait>(rt: &R, answer: Result<T, TaskError>) ->
     }
 }
 
-/// What ends the worker, given the answer of a call that spent a batch; or nothing.
-pub(crate) fn settled_all<T: Drop, R: Wait>(
+/// Whether all of a batch came as it is, given the answer of the call that spent it; or what ends the worker.
+pub(crate) fn settled_all<R: Wait>(
     rt: &R,
-    answer: Result<T, BatchError<'_>>,
-) -> Option<Met>
-    ensures met { result ≡ met_after_all answer.entry }
-    ensures asked { result ≡ Some MetAsked → ⊥ }
-    ensures full { result ≡ Some MetFull → IsErrOf answer.entry (AllRefused (Store Full)) }
+    answer: Result<Ended, BatchError<'_>>,
+) -> Result<bool, Met>
+    ensures met { result ≡ came_after answer.entry }
+    ensures asked { IfErr result (λ met. met ≡ MetAsked → ⊥) }
+    ensures full { IfErr result (λ met. met ≡ MetFull → IsErrOf answer.entry (AllRefused (Store Full))) }
 {
     match answer {
-        Ok(done) => {
-            drop(done);
-            None
-        }
-        Err(BatchError::Refused(error)) => Some(met_of(error)),
-        Err(BatchError::Foreign(batch)) => stranded_batch(rt, batch),
+        Ok(ended) => Ok(ended.stopped.is_none()),
+        Err(BatchError::Refused(error)) => Err(met_of(error)),
+        Err(BatchError::Foreign(batch)) => Ok(stranded_batch(rt, batch)),
     }
 }
 
@@ -98,9 +96,9 @@ fn stranded<R: Wait>(rt: &R, task: Task) -> Option<Met>
     unreachable!()
 }
 
-/// The same for a batch.
-pub(crate) fn stranded_batch<R: Wait>(rt: &R, batch: Batch<'_>) -> Option<Met>
-    ensures { result ≡ None }
+// The same for a batch.
+fn stranded_batch<R: Wait>(rt: &R, batch: Batch<'_>) -> bool
+    ensures { result ≡ false }
 {
     for _ in rt.forever() {}
     batch.len();

@@ -62,7 +62,7 @@ pub(crate) enum Turned<'a> {
 pub(crate) const GROUP: usize = 8;
 
 /// How many instances a worker claims at once, at most. It keeps fewer results than that.
-pub(crate) const MOST_KEPT: usize = 16;
+pub(crate) const MOST_KEPT: usize = 32;
 
 // How often a worker that found nothing to do looks beside the lock whether an instance is ready, before it takes the lock again to see. Each time that it finds nothing in a
 // row doubles this, up to `DOUBLINGS` times.

@@ -108,7 +108,7 @@ fn comes_back<'a, J: Naming, D: Disk, R: Handles>(
     facts_are_told_apart();
     facts_go_on();
     results_are_meant();
-    let batch = match here.finish_all(rt, runner, batch, &[]) {
+    let batch = match here.finish_all(rt, runner, batch) {
         Err(BatchError::Foreign(batch)) => batch,
         Err(BatchError::Refused(error)) => return Err(error.into()),
         Ok(_) => bail!("it was finished here"),
@@ -190,7 +190,7 @@ fn finish_alone<'a, J: Naming, D: Disk, R: Handles>(
             bail!("no memory")
         }
     };
-    match hub.finish_all(rt, pass, batch, &[]) {
+    match hub.finish_all(rt, pass, batch) {
         Ok(ended) => Ok(ended.done),
         Err(BatchError::Refused(error)) => Err(error.into()),
         Err(BatchError::Foreign(batch)) => {

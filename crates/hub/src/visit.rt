@@ -1,0 +1,73 @@
+use crate::{BatchError, Hub, Kept, TaskError, WorkPass};
+use commit::{Batch, CoreError};
+use disk::Disk;
+use instances::{Task, Tasks};
+use machine::Ended;
+use passes::Naming;
+use std::sync::MutexGuard;
+
+/// The lock of a hub, held for several calls: no other thread commits or claims between them. Whoever has it must make no call of the hub itself that waits.
+/// The lock is left once the visit is dropped.
+pub struct Visit<'h, J: Naming, D: Disk> {
+    pub(crate) hub: &'h Hub<J, D>,
+    pub(crate) kept: MutexGuard<'h, Kept<J, D>>,
+}
+
+impl<'h, J: Naming, D: Disk> Drop for Visit<'h, J, D> {
+    fn drop(self) {
+        let Visit { hub, kept } = self;
+        hub.note(&kept);
+    }
+}
+
+impl<'h, J: Naming, D: Disk> Visit<'h, J, D> {
+    ghost use Rattle.std.specs.Prelude.{◌≡◌, Ok, OnErr, IfErr, IfOk};
+    ghost use Rattle.commit.specs.Batch.{HaveOutcomes, ends_said};
+    ghost use Rattle.hub.specs.Batches.{AddsTogether, OnBatch, RefusesTogether};
+    ghost use Rattle.hub.specs.Claims.{AddsClaimed, RefusesClaims};
+    ghost use Rattle.hub.specs.Opening.{facts_behind};
+    ghost use Rattle.hub.specs.Replies.{AddsNothing, Sees};
+    ghost use Rattle.hub.specs.Tasks.{OnTask};
+
+    /// As the hub's `finish_all`. Behind the record it may lay `ahead`, which is what `Batch::spell_ahead` gives of the outcomes that are to be committed next:
+    /// if nothing comes between, their commit takes one sync in place of two.
+    pub fn finish_all<'a>(
+        &mut self,
+        pass: &mut WorkPass<J>,
+        batch: Batch<'a>,
+        ahead: &[u8],
+    ) -> Result<Ended, BatchError<'a>>
+        requires { HaveOutcomes J.opening.graph (facts_behind J.opening pass.old.seen) batch.tasks batch.outcomes }
+        ensures seen { Sees J.opening pass.old pass.new }
+        ensures ok { IfOk result (AddsTogether J.opening (ends_said batch.entry) pass.old pass.new) }
+        ensures err { OnErr result (AddsNothing pass.old pass.new) }
+        ensures refused { OnBatch result (λ back. back ≡ batch.entry) (λ answer. IfErr answer (RefusesTogether J.opening pass.new (ends_said batch.entry))) }
+    {
+        let answer = self.kept.finish_all(&self.hub.board, pass, batch, ahead);
+        self.hub.glance.note_batch();
+        answer
+    }
+
+    /// As the hub's `claim_some`.
+    pub fn claim_some(
+        &mut self,
+        pass: &mut WorkPass<J>,
+        tasks: &mut Tasks,
+        most: usize,
+    ) -> Result<bool, CoreError>
+        ensures seen { Sees J.opening pass.old pass.new × AddsNothing pass.old pass.new }
+        ensures claimed { AddsClaimed J.opening pass.new most tasks.old tasks.new }
+        ensures refused { IfErr result RefusesClaims }
+    {
+        self.kept
+            .claim_some(&self.hub.board, pass, tasks, most, self.hub.count)
+    }
+
+    /// As the hub's `release`.
+    pub fn release(&mut self, pass: &mut WorkPass<J>, task: Task) -> Result<(), TaskError>
+        ensures seen { Sees J.opening pass.old pass.new × AddsNothing pass.old pass.new }
+        ensures foreign { OnTask result (λ back. back ≡ task) (λ answer. answer ≡ Ok tt) }
+    {
+        self.kept.release(&self.hub.board, pass, task)
+    }
+}
