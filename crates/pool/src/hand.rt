@@ -92,7 +92,7 @@ impl Hand {
     ) -> Option<&'k Batch<'a>>
         ensures { (kept_of result ≡ None) ⊎ (kept_of result ≡ kept.now) }
     {
-        if self.puts > FEW_PUTS || ready < GROUP {
+        if self.has_many_puts() || ready < GROUP {
             return None;
         }
         match kept {
@@ -125,6 +125,11 @@ impl Hand {
         self.slow
     }
 
+    /// Whether what is kept has so many puts that bodies do not look for items there.
+    pub(crate) fn has_many_puts(&self) -> bool {
+        self.puts > FEW_PUTS
+    }
+
     /// Whether results that are kept are to be committed now, since others may have waited for them for long.
     pub(crate) fn is_due(&self) -> bool {
         self.spent >= LONG
@@ -132,7 +137,7 @@ impl Hand {
 
     /// The next instance to run, if there is one: it was claimed before, or is now, with others of its group. Says whether an instance runs then. After
     /// a body that took long, what was claimed before it is given back, so that others can run it, and one instance is claimed alone. If the worker keeps
-    /// a group of results, or some and none seems to be ready, none is claimed: the results are committed first.
+    /// a group of results and fewer seem to be ready, or some and none seems to be, none is claimed: the results are committed first.
     pub(crate) fn next<J: Naming, D: Disk, R: Wait>(
         &mut self,
         rt: &R,
@@ -152,8 +157,8 @@ impl Hand {
         }
         match self.claimed.take_first() {
             Some(task) => Ok((Some(task), true)),
-            None if kept >= GROUP || (kept > 0 && hub.ready() == 0) => Ok((None, true)),
-            None => self.claim(rt, hub, pass, MOST_KEPT),
+            None if commits_first(kept, hub.ready()) => Ok((None, true)),
+            None => self.claim(rt, hub, pass, MOST_KEPT.saturating_sub(kept)),
         }
     }
 
@@ -209,4 +214,9 @@ impl Hand {
         } = self;
         claimed.end();
     }
+}
+
+// Whether a worker that keeps this number of results commits them before it claims, where this number of instances seems to be ready.
+fn commits_first(kept: usize, ready: usize) -> bool {
+    kept > 0 && (ready == 0 || (kept >= GROUP && ready < GROUP))
 }

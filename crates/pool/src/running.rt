@@ -61,7 +61,7 @@ pub(crate) fn run_task<'a, J: Naming, D: Disk, P: Probe, R: Wait>(
         Ok(Ran::Waits(run, ahead)) => {
             hand.vain = 0;
             hand.note(run.statements(), 0, kept.is_some());
-            if ahead || hand.is_slow() {
+            if ahead || hand.is_slow() || hand.has_many_puts() {
                 return wait_for_own(rt, alloc, hub, pass, hand, task, run, kept);
             }
             park_beside(rt, alloc, hub, pass, hand, task, run, kept)
@@ -103,7 +103,7 @@ fn park_beside<'a, J: Naming, D: Disk, R: Wait>(
     }
 }
 
-// The body waits, after it took long or has read items that are kept: what is kept is committed first, and the same run goes on if its item is there then. Otherwise
+// The body waits, after it took long or has read items that are kept, or could not look among them: what is kept is committed first, and the same run goes on if its item is there then. Otherwise
 // the instance waits, and its body is run anew once the item is there.
 fn wait_for_own<'a, J: Naming, D: Disk, R: Wait>(
     rt: &R,

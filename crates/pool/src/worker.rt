@@ -75,11 +75,11 @@ const SPINS: u32 = 8;
 
 // How often a worker that rests looks whether others go on without it. Each rest in a row doubles this, up to `RESTS` times. If nothing was committed in the last
 // `QUIET` looks, once for its number, the worker is needed.
-const RESTING: u32 = 512;
+const RESTING: u32 = 4096;
 
 const RESTS: u32 = 4;
 
-const QUIET: usize = 512;
+const QUIET: usize = 4096;
 
 /// Runs instances until there is nothing to do, or a stop was asked for.
 pub(crate) fn work<J: Naming, D: Disk, P: Probe, R: Wait>(
