@@ -26,7 +26,7 @@ const VISIT: u32 = 100;
 const LIGHT: u32 = 64;
 
 // A body looks for items among the results that are kept if these have at most this number of puts, since it goes through all of them.
-const FEW_PUTS: usize = 64;
+const FEW_PUTS: usize = 256;
 
 /// What a worker has claimed, and what it remembers of the bodies that it ran.
 pub(crate) struct Hand {
@@ -38,6 +38,8 @@ pub(crate) struct Hand {
     spent: u32,
     // The puts of the results that are kept.
     puts: usize,
+    // Whether a group or more was ready at once so far.
+    many: bool,
     // Whether the bodies that ran since then are light.
     light: bool,
     // How many batches had been committed when it last committed one.
@@ -60,6 +62,7 @@ impl Hand {
             slow: true,
             spent: 0,
             puts: 0,
+            many: false,
             light: false,
             batches: 0,
             rests: false,
@@ -83,16 +86,18 @@ impl Hand {
         self.spent = self.spent.saturating_add(statements).saturating_add(VISIT);
     }
 
-    /// What is kept, if a body may look for items there: if it has few puts, and this number of ready instances is a group or more. Where fewer are ready, results are
-    /// committed soon, and a record has no more ends than it would have if each body read what is committed alone.
+    /// What is kept, if a body may look for items there: if it has few puts, and a group or more of instances was ready at once so far, `ready` being those that are now. In a
+    /// run that never has so many, a record has no more ends than it would have if each body read what is committed alone.
     pub(crate) fn ahead<'k, 'a>(
-        &self,
+        &mut self,
         kept: &'k Option<Batch<'a>>,
         ready: usize,
     ) -> Option<&'k Batch<'a>>
-        ensures { (kept_of result ≡ None) ⊎ (kept_of result ≡ kept.now) }
+        ensures kept { (kept_of result ≡ None) ⊎ (kept_of result ≡ kept.now) }
+        ensures claimed { self.new.claimed ≡ self.old.claimed }
     {
-        if self.has_many_puts() || ready < GROUP {
+        self.many = self.many || ready >= GROUP;
+        if self.has_many_puts() || !self.many {
             return None;
         }
         match kept {
@@ -206,6 +211,7 @@ impl Hand {
             slow: _,
             spent: _,
             puts: _,
+            many: _,
             light: _,
             batches: _,
             rests: _,
