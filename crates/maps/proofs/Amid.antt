@@ -28,7 +28,7 @@ module _ {X : Type 0} (pages : List (List (Entry X))) (sorted : T (is_sorted key
   pub is_in_page : (key : List ℤ) (page place : ℕ) → IsPageFor pages key page → IsAt (page_at pages page) key place → IsInPage pages key page place
   is_in_page key page place it at =
       let among = amid pages key page sorted filled it in
-      record { page_within = it.within; place_within = at.within; found = λ other. among.found ∙ at.found other; written = λ v. among.goes v ∙ ap (λ es. all_of (set pages page es)) (at.written_there v) }
+      record { page_within = it.within; place_within = at.within; key_there = at.key_there; found = λ other. among.found ∙ at.found other; written = λ v. among.goes v ∙ ap (λ es. all_of (set pages page es)) (at.written_there v) }
 
   pub goes_into_page : (key : List ℤ) (page place : ℕ) → IsPageFor pages key page → IsGapFor (page_at pages page) key place → GoesInto pages key page place
   goes_into_page key page place it at =

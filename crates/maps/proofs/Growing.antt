@@ -1,5 +1,5 @@
 -- Pages with one more entry, or with one that is rewritten, are kept as pages are.
-use Rattle.std.proofs.Common.{◌≡◌, ◌∙◌, ap, sym, subst, ℕ, zero, suc, ◌+◌, ◌-◌, ◌<◌, ◌≤◌, ℤ, T, List, [], ◌∷◌, ◌++◌, length, set, get_or, cond, is_some, None, arith, length-append}
+use Rattle.std.proofs.Common.{◌≡◌, ◌∙◌, ap, sym, subst, ℕ, suc, ◌+◌, ◌-◌, ◌<◌, ◌≤◌, ℤ, T, List, [], ◌∷◌, ◌++◌, length, set, cond, is_some, None, arith, length-append}
 use Rattle.std.specs.List.{AllByRecursion}
 use Rattle.std.specs.List.{insert as add}
 use Rattle.std.specs.FinMap.{find, put, is_sorted}
@@ -7,31 +7,17 @@ use Rattle.std.specs.FinMap.Entries.{is_sorted-put, length-put}
 use Rattle.std.proofs.lemmas.List.{length-set}
 use Rattle.std.proofs.lemmas.List.Edits.{length-insert}
 use Rattle.terms.specs.Key.{key_cmp}
+use Rattle.maps.specs.Marks.{Marks}
 use Rattle.maps.specs.Paged.{AreFilled, Entry, GoesBehind, GoesInto, IsInPage, all_of, page_at}
 use Rattle.maps.specs.PagesKept.{AreKept, IsEnough}
 use Rattle.maps.specs.PlaceOrder.{keys_total}
 use Rattle.maps.specs.declared.page.TheConstants.{HALF}
 use Rattle.maps.proofs.Halves.{all_divided, enough_in_new, enough_in_page, filled_behind, filled_count, filled_divided, filled_set, has_spare}
 
--- a page that was read is the page at its number
-pub page_read : {X : Type 0} → (pages : List (List X)) (n : ℕ) (page : List X) → n < length pages → page ≡ get_or pages n page → page ≡ page_at pages n
-page_read [] n page within is = absurd (omega (arith, within))
-page_read (here ∷ pages) zero page within is = is
-page_read (here ∷ pages) (suc n) page within is = page_read pages n page (omega (arith, within)) is
-
--- of pages that are empty, the last one is taken off
-pub front_empty : {X : Type 0} → (front : List (List X)) (last : List X) → AllByRecursion (λ page. page ≡ []) (front ++ last ∷ []) → AllByRecursion (λ page. page ≡ []) front
-front_empty [] last all = tt
-front_empty (page ∷ front) last all = (all.0, front_empty front last all.1)
-
-pub last_empty : {X : Type 0} → (front : List (List X)) (last : List X) → AllByRecursion (λ page. page ≡ []) (front ++ last ∷ []) → last ≡ []
-last_empty [] last all = all.0
-last_empty (page ∷ front) last all = last_empty front last all.1
-
-module _ {X : Type 0} (pages spare : List (List (Entry X))) (places count room : ℕ) (kept : AreKept pages spare places count room) where
+module _ {X : Type 0} (pages : List (List (Entry X))) (spare : List Marks) (places count room : ℕ) (kept : AreKept pages spare places count room) where
   -- one more entry
-  more : (new left : List (List (Entry X))) (now : ℕ) (key : List ℤ) (value : X) → 0 < room → find key_cmp key (all_of pages) ≡ None → all_of new ≡ put key_cmp key value (all_of pages) →
-      AreFilled new → AllByRecursion (λ page. page ≡ []) left → length new + length left ≤ now → IsEnough (length new) (length left) (count + 1) (room - 1) → AreKept new left now (count + 1) (room - 1)
+  more : (new : List (List (Entry X))) (left : List Marks) (now : ℕ) (key : List ℤ) (value : X) → 0 < room → find key_cmp key (all_of pages) ≡ None → all_of new ≡ put key_cmp key value (all_of pages) →
+      AreFilled new → AllByRecursion (λ page. page ≡ ([], [])) left → length new + length left ≤ now → IsEnough (length new) (length left) (count + 1) (room - 1) → AreKept new left now (count + 1) (room - 1)
   more new left now key value some absent is filled empty fits enough =
       let longer : length (put key_cmp key value (all_of pages)) ≡ length (all_of pages) + 1 = length-put key_cmp keys_total key value (all_of pages) kept.sorted ∙ ap (λ o. cond (is_some o) (length (all_of pages)) (length (all_of pages) + 1)) absent in
       record {
@@ -63,8 +49,8 @@ module _ {X : Type 0} (pages spare : List (List (Entry X))) (places count room :
     pub all_of_divided : (lower upper : List (Entry X)) → lower ++ upper ≡ add (page_at pages page) place (key, value) → all_of (add (set pages page lower) (suc page) upper) ≡ put key_cmp key value (all_of pages)
     all_of_divided lower upper is = all_divided pages page lower upper goes.page_within ∙ ap (λ p. all_of (set pages page p)) is ∙ sym (goes.goes value)
 
-    pub kept_divided : (lower upper : List (Entry X)) (left : List (List (Entry X))) (now : ℕ) → lower ++ upper ≡ add (page_at pages page) place (key, value) → HALF ≤ length lower → HALF ≤ length upper →
-        AllByRecursion (λ page. page ≡ []) left → length left + 1 ≡ length spare → places ≤ now → 0 < room → AreKept (add (set pages page lower) (suc page) upper) left now (count + 1) (room - 1)
+    pub kept_divided : (lower upper : List (Entry X)) (left : List Marks) (now : ℕ) → lower ++ upper ≡ add (page_at pages page) place (key, value) → HALF ≤ length lower → HALF ≤ length upper →
+        AllByRecursion (λ page. page ≡ ([], [])) left → length left + 1 ≡ length spare → places ≤ now → 0 < room → AreKept (add (set pages page lower) (suc page) upper) left now (count + 1) (room - 1)
     kept_divided lower upper left now is low high empty one more_places some =
         let longer : length (add (set pages page lower) (suc page) upper) ≡ length pages + 1 = length-insert (set pages page lower) (suc page) upper (omega (arith, goes.page_within, length-set pages page lower)) ∙ ap (λ n. n + 1) (length-set pages page lower) in
         more (add (set pages page lower) (suc page) upper) left now key value some goes.absent (all_of_divided lower upper is) (filled_divided pages page lower upper goes.page_within low high kept.filled) empty
@@ -72,7 +58,7 @@ module _ {X : Type 0} (pages spare : List (List (Entry X))) (places count room :
         (subst (λ n. IsEnough n (length left) (count + 1) (room - 1)) (sym longer) (enough_in_new (length pages) (length spare) (length left) count room kept.enough some one))
 
   -- into a page of its own
-  pub kept_behind : (key : List ℤ) (value : X) (left : List (List (Entry X))) (now : ℕ) → GoesBehind pages key → AllByRecursion (λ page. page ≡ []) left → length left + 1 ≡ length spare → places ≤ now → 0 < room →
+  pub kept_behind : (key : List ℤ) (value : X) (left : List Marks) (now : ℕ) → GoesBehind pages key → AllByRecursion (λ page. page ≡ ([], [])) left → length left + 1 ≡ length spare → places ≤ now → 0 < room →
       AreKept (pages ++ ((key, value) ∷ []) ∷ []) left now (count + 1) (room - 1)
   kept_behind key value left now goes empty one more_places some =
       let longer : length (pages ++ ((key, value) ∷ []) ∷ []) ≡ length pages + 1 = length-append pages (((key, value) ∷ []) ∷ []) in

@@ -1,11 +1,13 @@
 mod Amid
 mod ByNumber
 mod Costs
+mod Entered
 mod Growing
 mod Halves
 mod Joined
 mod OneCollection
 mod Places
 mod Refused
+mod Taken
 mod Whole
 mod Written

@@ -22,6 +22,7 @@ pub record Adds {X : Type 0} (old new : Keyed X) (key : List ℤ) (value : X) : 
 -- the key is at this place of the list: its value is found there, and is written there
 pub record IsAt {X : Type 0} (entries : List (List ℤ × X)) (key : List ℤ) (place : ℕ) : Type 0 where
   pub within : place < length entries
+  pub key_there : (other : List ℤ × X) → (get_or entries place other).0 ≡ key
   pub found : (other : List ℤ × X) → find key_cmp key entries ≡ Some (get_or entries place other).1
   pub written_there : (value : X) → put key_cmp key value entries ≡ set entries place (key, value)
 

@@ -1,7 +1,9 @@
 pub mod Codes
 pub mod Insertion
 pub mod Keyed
+pub mod Marks
 pub mod Numbered
 pub mod Paged
 pub mod PagesKept
 pub mod PlaceOrder
+pub mod Stored

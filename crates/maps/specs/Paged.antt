@@ -52,6 +52,7 @@ pub record IsPageFor {X : Type 0} (pages : List (List (Entry X))) (key : List �
 pub record IsInPage {X : Type 0} (pages : List (List (Entry X))) (key : List ℤ) (page place : ℕ) : Type 0 where
   pub page_within : page < length pages
   pub place_within : place < length (page_at pages page)
+  pub key_there : (other : Entry X) → (get_or (page_at pages page) place other).0 ≡ key
   pub found : (other : Entry X) → find key_cmp key (all_of pages) ≡ Some (get_or (page_at pages page) place other).1
   pub written : (value : X) → put key_cmp key value (all_of pages) ≡ all_of (set pages page (set (page_at pages page) place (key, value)))
 

@@ -1,18 +1,18 @@
 ghost use Rattle.std.specs.Prelude.{◌≡◌, IfOk, replicate};
 ghost use Rattle.maps.specs.Keyed.{none};
 
-use crate::{Hint, InsertError, KeyMap, KeyWalk, Steps, Walk};
+use crate::{Hint, InsertError, KeyMap, KeyWalk, Steps, Stored, Walk};
 use std::alloc::{AllocError, Global};
 use std::marker::Model;
 use terms::Key;
 
 /// A map from places, each the number of a collection and a key, to values. It has a `KeyMap` for each collection.
 #[derive(Drop)]
-pub struct CollectionMap<V> {
+pub struct CollectionMap<V: Stored> {
     collections: Vec<KeyMap<V>>,
 }
 
-impl<V> Model for CollectionMap<V> {
+impl<V: Stored> Model for CollectionMap<V> {
     ghost use Rattle.std.specs.Prelude.{◌≤◌, ◌^◌, length, map};
     ghost use Rattle.std.specs.FinMap.{from_entries};
     ghost use Rattle.maps.specs.Codes.{numbered_code};
@@ -27,7 +27,7 @@ impl<V> Model for CollectionMap<V> {
     ghost invariant = { λ m. length m.collections.items ≤ 2 ^ 16 };
 }
 
-impl<V: Copy> CollectionMap<V> {
+impl<V: Stored> CollectionMap<V> {
     ghost use Rattle.std.specs.Prelude.{◌≡◌, ◌<◌, ◌≤◌, ◌+◌, ◌-◌, ◌*◌, ◌/◌, ◌^◌, ℕ, IfOk, IfErr, IsSome, OnOk, OnErr, length, min, replicate};
     ghost use Rattle.std.specs.FinMap.{empty, entries, get, insert};
     ghost use Rattle.maps.specs.Insertion.{IsRefused};
@@ -152,7 +152,7 @@ impl<V: Copy> CollectionMap<V> {
 }
 
 /// A vector of `count` empty maps.
-fn empty_maps<V: Copy>(alloc: Global, count: usize) -> Result<Vec<KeyMap<V>>, AllocError>
+fn empty_maps<V: Stored>(alloc: Global, count: usize) -> Result<Vec<KeyMap<V>>, AllocError>
     ensures { IfOk result (λ maps. maps.items ≡ replicate count none) }
 {
     let mut maps = Vec::with_capacity(alloc, count)?;

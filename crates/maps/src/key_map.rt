@@ -1,5 +1,5 @@
 use crate::pages::{Found, Pages};
-use crate::{Hint, InsertError, KeyWalk, Steps};
+use crate::{Hint, InsertError, KeyWalk, Steps, Stored};
 use std::alloc::{AllocError, Global};
 use std::marker::Model;
 use terms::Key;
@@ -8,11 +8,11 @@ use terms::Key;
 /// near the last change. So is the search of an insertion, wherever its key goes, and it moves few entries; for a key greater than all
 /// others it takes one comparison.
 #[derive(Drop)]
-pub struct KeyMap<V> {
+pub struct KeyMap<V: Stored> {
     pages: Pages<V>,
 }
 
-impl<V> Model for KeyMap<V> {
+impl<V: Stored> Model for KeyMap<V> {
     ghost use Rattle.std.specs.FinMap.{from_entries};
     ghost use Rattle.maps.specs.Keyed.{Keyed};
     ghost use Rattle.maps.specs.Codes.{keyed_code};
@@ -25,7 +25,7 @@ impl<V> Model for KeyMap<V> {
     ghost view = { λ s. record { items = from_entries (all_of s.pages.pages); room = s.pages.room } };
 }
 
-impl<V: Copy> KeyMap<V> {
+impl<V: Stored> KeyMap<V> {
     ghost use Rattle.std.specs.Prelude.{◌≡◌, ◌+◌, ◌*◌, ◌/◌, ◌^◌, ◌<◌, ◌≤◌, ℕ, IfErr, IsSome, OnOk, OnErr, length};
     ghost use Rattle.std.specs.FinMap.{entries, get, insert};
     ghost use Rattle.maps.specs.Insertion.{IsRefused};
@@ -118,9 +118,10 @@ impl<V: Copy> KeyMap<V> {
         }
     }
 
-    /// Gives a new value to a key that has one.
+    /// Gives a new value to a key that has one. It is for values that have no words.
     pub fn set(&mut self, key: Key, value: V)
-        requires { IsSome (get self.old.items key) }
+        requires there { IsSome (get self.old.items key) }
+        requires no_words { V.MOST ≡ 0 }
         ensures { self.new ≡ record { items = insert self.old.items key value; room = self.old.room } }
     {
         match self.pages.search(key) {

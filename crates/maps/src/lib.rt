@@ -12,9 +12,11 @@ mod error;
 mod hint;
 mod key_map;
 mod key_walk;
+mod mark;
 mod page;
 mod pages;
 mod steps;
+mod stored;
 mod walk;
 
 pub use collection_map::CollectionMap;
@@ -23,4 +25,5 @@ pub use hint::Hint;
 pub use key_map::KeyMap;
 pub use key_walk::KeyWalk;
 pub use steps::Steps;
+pub use stored::{Brief, Stored};
 pub use walk::Walk;

@@ -1,14 +1,15 @@
-ghost use Rattle.std.specs.Prelude.{◌≡◌, ◌⊎◌, ◌+◌, ◌^◌, ◌<◌, ◌≤◌, [], IfOk, OnOk, length};
+ghost use Rattle.std.specs.Prelude.{◌≡◌, ◌⊎◌, ◌+◌, ◌*◌, ◌^◌, ◌<◌, ◌≤◌, [], IfOk, OnOk, length};
 ghost use Rattle.std.specs.List.{AllByRecursion};
 ghost use Rattle.std.specs.List.{insert as add};
 ghost use Rattle.std.specs.Vec.{vec_capacity};
 ghost use Rattle.maps.specs.PagesKept.{IsEnough};
 
+use crate::mark::spell;
 use crate::page::{HALF, PAGE, Page};
-use crate::{Hint, KeyWalk, Steps};
+use crate::{Hint, KeyWalk, Steps, Stored};
 use std::alloc::{AllocError, Global};
 use std::marker::Model;
-use terms::Key;
+use terms::{Key, MAX_COMPONENTS};
 
 /// Where a key is among pages.
 #[derive(Clone, Copy)]
@@ -23,10 +24,12 @@ pub(crate) enum Found {
 
 /// The entries of a map, in the order of their keys, in pages of at most `PAGE`. Each page but the last is at least half
 /// full. So a search looks at few pages, and a new entry moves at most a page of entries; if it divides a page, it also moves
-/// the places of the pages after it, 24 bytes each.
+/// the places of the pages after it, 64 bytes each. The words of an entry stay where they were put.
 #[derive(Drop)]
-pub(crate) struct Pages<V> {
+pub(crate) struct Pages<V: Stored> {
     pages: Vec<Page<V>>,
+    // The words of all entries, in the order in which they came.
+    words: Vec<i64>,
     // Empty pages, so that adding an entry allocates nothing.
     spare: Vec<Page<V>>,
     count: usize,
@@ -36,22 +39,23 @@ pub(crate) struct Pages<V> {
     alloc: Global,
 }
 
-impl<V> Model for Pages<V> {
+impl<V: Stored> Model for Pages<V> {
     ghost use Rattle.std.specs.Vec.{vec_capacity};
     ghost use Rattle.maps.specs.Codes.{paged_code};
     ghost use Rattle.maps.specs.Paged.{Paged};
+    ghost use Rattle.maps.specs.Marks.{AreHeld, seen_pages};
     ghost use Rattle.maps.specs.PagesKept.{AreKept};
 
     ghost Value = { Paged V };
 
     ghost coded = { paged_code V.code };
 
-    ghost view = { λ s. record { pages = s.pages.items; room = s.room } };
+    ghost view = { λ s. record { pages = seen_pages V.said s.words.items s.pages.items; room = s.room } };
 
-    ghost invariant = { λ s. AreKept s.pages.items s.spare.items (vec_capacity s.pages) s.count s.room };
+    ghost invariant = { λ s. AreKept (seen_pages V.said s.words.items s.pages.items) s.spare.items (vec_capacity s.pages) s.count s.room × AreHeld V.said V.MOST s.words.items (vec_capacity s.words) s.pages.items s.room };
 }
 
-impl<V: Copy> Pages<V> {
+impl<V: Stored> Pages<V> {
     ghost use Rattle.std.specs.Prelude.{◌≡◌, ◌+◌, ◌*◌, ◌/◌, ◌^◌, ◌<◌, ◌≤◌, ℕ, ℤ, List, [], T, IsTrue, OnErr, OnOk, length, get_or};
     ghost use Rattle.std.specs.Ordering.{is_lt};
     ghost use Rattle.std.specs.FinMap.{find, is_sorted, put};
@@ -65,6 +69,7 @@ impl<V: Copy> Pages<V> {
     {
         Pages {
             pages: Vec::new(alloc),
+            words: Vec::new(alloc),
             spare: Vec::new(alloc),
             count: 0,
             room: 0,
@@ -94,8 +99,9 @@ impl<V: Copy> Pages<V> {
         ensures sorted { T (is_sorted key_cmp (all_of self.now.pages)) }
     {
         KeyWalk {
-            entries: &[],
+            words: &self.words,
             pages: &self.pages,
+            place: 0,
         }
     }
 
@@ -117,7 +123,7 @@ impl<V: Copy> Pages<V> {
         requires place { place < length (page_at self.now.pages page) }
         ensures { (other : _) → result ≡ (get_or (page_at self.now.pages page) place other).1 }
     {
-        self.pages[page].value(place)
+        self.pages[page].value(place, &self.words)
     }
 
     /// Where the key is, or where it would go. It counts its comparisons.
@@ -143,7 +149,7 @@ impl<V: Copy> Pages<V> {
         if count == 0 {
             return Found::Behind;
         }
-        if self.pages[count - 1].ends_before(key) {
+        if self.pages[count - 1].ends_before(key, &self.words) {
             return self.end();
         }
         self.find_near(&key, &mut Hint { page: self.near })
@@ -219,7 +225,7 @@ impl<V: Copy> Pages<V> {
         ensures cost { (digits : ℕ) → length (page_at self.now.pages page) < 2 ^ digits → steps.new ≤ steps.old + digits }
         ensures more { steps.old ≤ steps.new }
     {
-        match self.pages[page].search(key, steps) {
+        match self.pages[page].search(key, &self.words, steps) {
             Ok(place) => Found::At(page, place),
             Err(place) => Found::Gap(page, place),
         }
@@ -245,13 +251,15 @@ impl<V: Copy> Pages<V> {
         low
     }
 
-    /// Gives a new value to a key that is in a page.
+    /// Gives a new value, which has no words, to a key that is in a page.
     pub fn set(&mut self, page: usize, place: usize, key: Key, value: V)
-        requires { IsInPage self.old.pages key page place }
+        requires there { IsInPage self.old.pages key page place }
+        requires no_words { V.MOST ≡ 0 }
         ensures entries { all_of self.new.pages ≡ put key_cmp key value (all_of self.old.pages) }
         ensures room { self.new.room ≡ self.old.room }
     {
-        self.pages[page].set(place, key, value);
+        value.write(&mut self.words);
+        self.pages[page].set(place, value.brief());
         self.near = page;
     }
 
@@ -278,7 +286,8 @@ impl<V: Copy> Pages<V> {
         ensures entries { all_of self.new.pages ≡ put key_cmp key value (all_of self.old.pages) }
         ensures room { self.new.room + 1 ≡ self.old.room }
     {
-        self.pages[page].insert(place, key, value);
+        let mark = spell(&mut self.words, &key, &value);
+        self.pages[page].insert(place, key, mark);
         self.count += 1;
         self.room -= 1;
     }
@@ -293,7 +302,8 @@ impl<V: Copy> Pages<V> {
     {
         if let Some(spare) = self.spare.pop() {
             let mut upper = spare;
-            self.pages[page].divide(place, key, value, &mut upper);
+            let mark = spell(&mut self.words, &key, &value);
+            self.pages[page].divide(place, key, mark, &self.words, &mut upper);
             insert_page(&mut self.pages, page + 1, upper);
             self.count += 1;
             self.room -= 1;
@@ -309,7 +319,8 @@ impl<V: Copy> Pages<V> {
     {
         if let Some(spare) = self.spare.pop() {
             let mut page = spare;
-            page.insert(0, key, value);
+            let mark = spell(&mut self.words, &key, &value);
+            page.insert(0, key, mark);
             self.near = self.pages.len();
             self.pages.push_reserved(page);
             self.count += 1;
@@ -329,6 +340,8 @@ impl<V: Copy> Pages<V> {
             return Ok(());
         }
         let enough = spare_pages(self.pages.len(), self.count, count)?;
+        let most = most_words(self.words.len(), count, MAX_COMPONENTS + V::MOST)?;
+        self.words.reserve(most)?;
         self.pages.reserve(enough)?;
         fill_spare(self.alloc, &mut self.spare, enough)?;
         self.room = count;
@@ -337,7 +350,7 @@ impl<V: Copy> Pages<V> {
 }
 
 // Inserts a page, for which there is a place.
-fn insert_page<V: Copy>(pages: &mut Vec<Page<V>>, at: usize, page: Page<V>)
+fn insert_page<V: Stored>(pages: &mut Vec<Page<V>>, at: usize, page: Page<V>)
     requires within { at ≤ length pages.old.items }
     requires place { length pages.old.items < vec_capacity pages.old }
     ensures pages { pages.new.items ≡ add pages.old.items at page }
@@ -356,14 +369,26 @@ fn spare_pages(pages: usize, count: usize, room: usize) -> Result<usize, AllocEr
     Ok(needed.min(room))
 }
 
+// How many words `room` entries take at most, of `each` words; refused if the places of the words would not be numbers of 32 bits.
+fn most_words(words: usize, room: usize, each: usize) -> Result<usize, AllocError>
+    ensures { IfOk result (λ most. (most ≡ room * each) × (words + most < 2 ^ 32)) }
+{
+    let most = room.checked_mul(each).ok_or(AllocError)?;
+    let all = words.checked_add(most).ok_or(AllocError)?;
+    if all >= 1 << 32 {
+        return Err(AllocError);
+    }
+    Ok(most)
+}
+
 // Makes empty pages until there are enough.
-fn fill_spare<V: Copy>(
+fn fill_spare<V: Stored>(
     alloc: Global,
     spare: &mut Vec<Page<V>>,
     enough: usize,
 ) -> Result<(), AllocError>
-    requires { AllByRecursion (λ page. page ≡ []) spare.old.items }
-    ensures empty { AllByRecursion (λ page. page ≡ []) spare.new.items }
+    requires { AllByRecursion (λ page. page ≡ ([], [])) spare.old.items }
+    ensures empty { AllByRecursion (λ page. page ≡ ([], [])) spare.new.items }
     ensures more { length spare.old.items ≤ length spare.new.items }
     ensures few { (length spare.new.items ≤ enough) ⊎ (length spare.new.items ≡ length spare.old.items) }
     ensures ok { OnOk result (enough ≤ length spare.new.items) }

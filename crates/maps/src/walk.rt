@@ -1,17 +1,17 @@
-use crate::{KeyMap, KeyWalk};
+use crate::{KeyMap, KeyWalk, Stored};
 use std::marker::Model;
 use terms::Key;
 
 /// The entries that are left of a walk, in the order of their places. It does not allocate.
 #[derive(Drop)]
-pub struct Walk<'a, V> {
+pub struct Walk<'a, V: Stored> {
     // What is left of the collection with this number, and the collections after it.
     pub(crate) number: u16,
     pub(crate) entries: KeyWalk<'a, V>,
     pub(crate) collections: &'a [KeyMap<V>],
 }
 
-impl<'a, V> Model for Walk<'a, V> {
+impl<'a, V: Stored> Model for Walk<'a, V> {
     ghost use Rattle.std.specs.Prelude.{◌+◌, ◌<◌, ◌^◌, List, length};
     ghost use Rattle.maps.specs.Numbered.{Place, left_of};
 
@@ -22,7 +22,7 @@ impl<'a, V> Model for Walk<'a, V> {
     ghost invariant = { λ w. w.number + length w.collections.now < 2 ^ 16 };
 }
 
-impl<'a, V: Copy> Iterator for Walk<'a, V> {
+impl<'a, V: Stored> Iterator for Walk<'a, V> {
     type Item = ((u16, Key), V);
 
     ghost use Rattle.std.specs.Iterator.{YieldsFirst, item_count};

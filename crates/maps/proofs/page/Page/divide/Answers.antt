@@ -6,6 +6,6 @@ use Rattle.maps.proofs.page.Page.divide.Goals as goal
 
 pub returns-else-place-le-HALF-clause-all : goal.returns-else-place-le-HALF-clause-all
 returns-else-place-le-HALF-clause-all g c =
-    ap (λ es. c.split.new.self ++ es) c.insert-else-place-le-HALF.ensures
-    ∙ sym (insert-append_right c.split.new.self c.split.new.upper HALF c.args.place (c.args.key, c.args.value) c.split.ensures.lower (omega (arith, c.if-place-le-HALF.false)))
-    ∙ ap (λ es. add es c.args.place (c.args.key, c.args.value)) c.split.ensures.all
+    ap (λ p. c.split.new.self.1 ++ p.1) c.insert-else-place-le-HALF.ensures
+    ∙ sym (insert-append_right c.split.new.self.1 c.split.new.upper.1 HALF c.args.place c.args.mark c.split.ensures.lower.1 (omega (arith, c.if-place-le-HALF.false)))
+    ∙ ap (λ ms. add ms c.args.place c.args.mark) c.split.ensures.all
