@@ -30,6 +30,7 @@ fi
 log=$(mktemp)
 directory=$(mktemp -d)
 trap 'rm -rf "$directory"' EXIT
+trap 'exit 130' INT TERM
 
 # step STATUS WORD..: runs cnc with these words, and stops unless it ends with that status
 step() {
@@ -39,15 +40,15 @@ step() {
     found=0
     "$cnc" "$@" || found=$?
     if [ "$found" != "$wanted" ]; then
-        echo "quickstart: status $found in place of $wanted; docs/troubles.md says what it means" >&2
-        exit "$found"
+        echo "quickstart: status $found in place of $wanted" >&2
+        exit 1
     fi
 }
 
 # The file of the program that was started with the words `draw PATH`, if it runs now.
 running() {
     for process in $(grep -lsF "$1" /proc/[0-9]*/cmdline); do
-        file=$(tr '\000' '\n' <"$process" 2>/dev/null | awk -v path="$1" '
+        file=$(cat "$process" 2>/dev/null | tr '\000' '\n' | awk -v path="$1" '
             { word[NR] = $0 } END { if (NR > 2 && word[NR] == path && word[NR - 1] == "draw") print word[NR - 2] }')
         if [ -f "$file" ] && [ -x "$file" ]; then
             echo "$file"
@@ -61,7 +62,7 @@ if [ "${1:-}" = --unproved ]; then
     cnc=$PWD/out/cnc-unproved
     mkdir -p out
     rm -f "$cnc"
-    # `rt try` keeps no program. So the one that it starts waits for a graph from a pipe until its file is copied. If this script ends before, the pipe does too.
+    # `rt try` keeps no program. So the one that it starts waits for a graph from a pipe until its file is copied. If this script ends before, the pipe is gone.
     mkfifo "$directory/pipe"
     exec 3<>"$directory/pipe"
     (cd crates/cnc && exec rt try -- draw "$directory/pipe") >"$log" 2>&1 3>&- &
@@ -80,11 +81,14 @@ if [ "${1:-}" = --unproved ]; then
         exit 1
     fi
     rm "$log"
+    echo "Compiled, not proved: $cnc"
     mkdir "$directory/store"
     step 0 create "${graph:-$example/graph}" "$directory/store"
-    step 0 run "$directory/store" "${script:-$example/script}"
-    echo "Compiled, not proved, and left as $cnc"
-    exit
+    echo "> cnc-unproved run $directory/store ${script:-$example/script}"
+    status=0
+    "$cnc" run "$directory/store" "${script:-$example/script}" || status=$?
+    if [ "$status" != 0 ]; then echo "quickstart: the run ended with status $status; docs/troubles.md says what it means" >&2; fi
+    exit "$status"
 fi
 
 # The crates that stand above `cnc` in crates.txt, lowest first, are those that it is made of, and a program that it is not stands below.
