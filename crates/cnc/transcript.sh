@@ -2,8 +2,9 @@
 # Prints the transcript of README.md: the wavefront of docs/wavefront is run on four workers, killed by `kill -9` in the middle, and goes on. The counts of the
 # report after the kill differ from time to time; all else is the same. The answer is compared with one that awk computes.
 #
-# usage: transcript.sh CNC FOLDER
+# usage: transcript.sh CNC FOLDER [SIZE]
 #     FOLDER   a folder of the file system that is used; a new one in it holds the store, and is removed
+#     SIZE     the letters of a strand (as docs/wavefront/script says). More are for a program that ends before it can be killed
 set -eu
 cnc=$(realpath "${1:?the program}")
 example=$(realpath "$(dirname "$0")/../../docs/wavefront")
@@ -11,6 +12,7 @@ room=$(mktemp -d "${2:?a folder}/transcript.XXXXXX")
 trap 'rm -rf "$room"' EXIT
 cp "$example/graph" "$example/script" "$room"
 cd "$room"
+if [ $# -gt 2 ]; then sed -i "s/^put \[size\] = .*/put [size] = $3/" script; fi
 size=$(sed -n 's/^put \[size\] = //p' script)
 cells=$(((size + 1) * (size + 1)))
 
