@@ -1,6 +1,7 @@
 #!/bin/sh
 # Builds the program, makes a store of an example in a directory of its own, runs a script on it, prints the report, turns the store over, and runs again.
-# Every crate of the program is proved before. With --unproved none is: the example, or the graph and the script that are given, is shown on a disk in memory.
+# Every crate of the program is proved before. With --unproved none is: the program is compiled alone, and left as out/cnc-unproved. Then it runs the example, or the
+# graph and the script that are given.
 set -eu
 case "$#:${1:-}" in
 0: | 1:--unproved) ;;
@@ -27,19 +28,68 @@ if ! command -v rt >/dev/null; then
 fi
 
 log=$(mktemp)
-if [ "${1:-}" = --unproved ]; then
-    echo "Nothing is proved here: the program is compiled, which takes a minute or two, and run on a disk in memory."
-    cd crates/program
-    rt try --data example/graph="${graph:-$example/graph}" --data example/script="${script:-$example/script}" -- --show=example 2>"$log" || {
-        echo "quickstart: the example did not run; see $log" >&2
-        exit 1
-    }
-    rm "$log"
-    exit
-fi
-
 directory=$(mktemp -d)
 trap 'rm -rf "$directory"' EXIT
+trap 'exit 130' INT TERM
+
+# step STATUS WORD..: runs cnc with these words, and stops unless it ends with that status
+step() {
+    wanted=$1
+    shift
+    echo "> $(basename "$cnc") $*"
+    found=0
+    "$cnc" "$@" || found=$?
+    if [ "$found" != "$wanted" ]; then
+        echo "quickstart: status $found in place of $wanted" >&2
+        exit 1
+    fi
+}
+
+# The file of the program that was started with the words `draw PATH`, if it runs now.
+running() {
+    for process in $(grep -lsF "$1" /proc/[0-9]*/cmdline); do
+        file=$(cat "$process" 2>/dev/null | tr '\000' '\n' | awk -v path="$1" '
+            { word[NR] = $0 } END { if (NR > 2 && word[NR] == path && word[NR - 1] == "draw") print word[NR - 2] }')
+        if [ -f "$file" ] && [ -x "$file" ]; then
+            echo "$file"
+            return
+        fi
+    done
+}
+
+if [ "${1:-}" = --unproved ]; then
+    echo "Nothing is proved here: the program is compiled alone, which takes one to three minutes."
+    cnc=$PWD/out/cnc-unproved
+    mkdir -p out
+    rm -f "$cnc"
+    # `rt try` keeps no program. So the one that it starts waits for a graph from a pipe until its file is copied. If this script ends before, the pipe is gone.
+    mkfifo "$directory/pipe"
+    exec 3<>"$directory/pipe"
+    (cd crates/cnc && exec rt try -- draw "$directory/pipe") >"$log" 2>&1 3>&- &
+    trial=$!
+    while kill -0 "$trial" 2>/dev/null && [ ! -e "$cnc" ]; do
+        sleep 1
+        file=$(running "$directory/pipe")
+        if [ -n "$file" ]; then cp "$file" "$cnc"; fi
+    done
+    cat "$example/graph" >&3
+    exec 3>&-
+    wait "$trial" || true
+    if ! "$cnc" --help >>"$log" 2>&1; then
+        rm -f "$cnc"
+        echo "quickstart: the program was not compiled, or its file could not be copied; see $log" >&2
+        exit 1
+    fi
+    rm "$log"
+    echo "Compiled, not proved: $cnc"
+    mkdir "$directory/store"
+    step 0 create "${graph:-$example/graph}" "$directory/store"
+    echo "> cnc-unproved run $directory/store ${script:-$example/script}"
+    status=0
+    "$cnc" run "$directory/store" "${script:-$example/script}" || status=$?
+    if [ "$status" != 0 ]; then echo "quickstart: the run ended with status $status; docs/troubles.md says what it means" >&2; fi
+    exit "$status"
+fi
 
 # The crates that stand above `cnc` in crates.txt, lowest first, are those that it is made of, and a program that it is not stands below.
 crates=$(sed -n '/^cnc[ :]/q; s/^\([a-z_]*\)[ :].*/\1/p' crates.txt)
@@ -58,19 +108,6 @@ done
 (cd crates/cnc && rt run -- --help) >>"$log" 2>&1
 echo "proved: cnc, the program"
 cnc=$PWD/crates/cnc/out/cnc
-
-# step STATUS WORD..: runs cnc with these words, and stops unless it ends with that status
-step() {
-    wanted=$1
-    shift
-    echo "> cnc $*"
-    found=0
-    "$cnc" "$@" || found=$?
-    if [ "$found" != "$wanted" ]; then
-        echo "quickstart: status $found in place of $wanted" >&2
-        exit 1
-    fi
-}
 
 # As many workers as there are processors, of which a crew has 64 at most.
 workers=$(getconf _NPROCESSORS_ONLN)
