@@ -2,7 +2,8 @@
 //!
 //! A `KeyMap` maps the keys of one collection. A `CollectionMap` maps the keys of several, each by the collection's
 //! number. Clauses see them as finite maps, together with the number of further entries that there is room for. Inside,
-//! `Pages` hold the entries of a collection, in order, in pages of at most 64.
+//! `Pages` hold the entries of a collection, in order, in pages of at most 64. An entry is a `Mark` there, whose words stand with those of all
+//! entries of the collection. A value that a map keeps says by `Stored` which words it has.
 //!
 //! The crates above rely on `insert`: if there is room it never returns `NoMemory`, and an error changes nothing.
 #![tactic(auto)]
