@@ -34,7 +34,6 @@ tries=0
 while :; do
     tries=$((tries + 1))
     rm -rf store
-    mkdir store
     "$cnc" create graph store >created
     "$cnc" run store script --workers 4 >run 2>err &
     process=$!
@@ -54,7 +53,6 @@ echo run | "$cnc" run store - --workers 4 >again
 printf 'complete\n[length] = %s\n%s items, %s tags, %s of %s steps done\n' "$length" \
     $((2 * size + cells + 2)) $((cells + 2)) $((cells + 2)) $((cells + 2)) | diff - again >&2
 
-echo '$ mkdir store'
 echo '$ cnc create graph store'
 cat created
 echo '$ cnc run store script --workers 4 &'

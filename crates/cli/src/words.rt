@@ -17,6 +17,9 @@ pub const MOST_LIMIT: u64 = 1_000_000_000;
 /// The most workers.
 pub const MOST_WORKERS: u8 = 64;
 
+// What `--version` prints behind the program's name.
+const VERSION: &str = "0.1, stores of format 1";
+
 // The help for the file of a graph.
 const GRAPH_HELP: &str = "The file with the text of the graph; - is the standard input";
 
@@ -180,6 +183,7 @@ fn drawing_in<'a>(found: &ArgMatches<'a>) -> Option<Command<'a>>
 fn command_line<'a>(alloc: Global) -> Result<clap::Command<'a>, AllocError> {
     let line = clap::Command::new(alloc, "cnc")
         .about("Runs graphs of Concurrent Collections on stores that survive a crash")
+        .version(VERSION)
         .after_help(
             "Try: cnc create fib.graph store && cnc run store fib.script\n\nStatus: 0 all is done, 1 some step is not done, 2 a usage, graph or script fault, 3 a fault stopped the store,\n4 the store is refused or full, 5 the device, memory, a thread or the output failed, 6 the limit was met.",
         )
@@ -216,13 +220,15 @@ fn create_line<'a>(alloc: Global) -> Result<clap::Command<'a>, AllocError> {
         .about("Make a store of a graph in a directory that has none")
         .after_help("Example: cnc create fib.graph store");
     let line = with_argument(Ok(line), graph(alloc));
-    with_argument(line, directory(alloc))
+    with_argument(line, new_directory(alloc))
 }
 
 fn run_line<'a>(alloc: Global) -> Result<clap::Command<'a>, AllocError> {
     let line = clap::Command::new(alloc, "run")
         .about("Run a script on a store, and print the replies and the report")
-        .after_help("Example: cnc run store fib.script --workers 4");
+        .after_help(
+            "A line of a script is one of\n  put [fib: 0] = 0    puts an item\n  tag <n: 2>          puts a tag\n  get [fib: 2]        prints an item\n  run                 runs all that can run\n\nExamples: cnc run store fib.script --workers 4\n          echo run | cnc run store -",
+        );
     let line = with_argument(Ok(line), directory(alloc));
     let line = with_argument(line, script(alloc));
     let line = with_argument(line, workers(alloc));
@@ -281,6 +287,14 @@ fn directory<'a>(alloc: Global) -> Arg<'a> {
         alloc,
         "DIR",
         "The directory of the store, which is there already",
+    )
+}
+
+fn new_directory<'a>(alloc: Global) -> Arg<'a> {
+    wanted(
+        alloc,
+        "DIR",
+        "The directory of the store; it is made if it is not there",
     )
 }
 

@@ -12,7 +12,7 @@ use console::{Console, Kept, Place};
 use disk::{Disk, DiskError, FileDisk, MemDisk};
 use pool::{AlwaysGo, Crew, Driver, Probe};
 use progress::{Cleared, Telling};
-use std::fs::File;
+use std::fs::{self, File};
 use std::io::{BufWriter, Eprint, IsTerminal, Read, Write};
 use std::marker::Sync;
 use std::process::ExitCode;
@@ -73,7 +73,7 @@ fn with_input<H: Handles>(rt: &HostRuntime, threads: &H, command: &Command<'_>) 
     }
 }
 
-// Opens the directory of a command, if it needs one, and does the command.
+// Opens the directory of a command, if it needs one, and does the command. The directory of a new store is made, if it is not there.
 fn with_disk<R: Read, H: Handles>(
     rt: &HostRuntime,
     threads: &H,
@@ -84,6 +84,10 @@ fn with_disk<R: Read, H: Handles>(
 {
     if let Command::Draw { .. } = command {
         return pointed(rt, threads, command, MemDisk::new(rt.alloc()), input);
+    }
+    if let Command::Create { directory, .. } = command {
+        // If it is there already, or cannot be made, that is seen when it is opened.
+        let _ = fs::create_dir(rt, directory);
     }
     match FileDisk::open(rt.alloc(), rt, command.directory()) {
         Ok(disk) => pointed(rt, threads, command, disk, input),
