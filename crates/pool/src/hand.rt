@@ -166,6 +166,8 @@ impl Hand {
         ensures { self.new.claimed ≡ self.old.claimed }
     {
         self.batches = batches;
+        // What it commits itself is no sign that others go on.
+        self.batches_left = batches;
     }
 
     /// Whether the last body took long.

@@ -99,7 +99,9 @@ fn leave<'a, J: Naming, D: Disk, R: Wait>(
     results_are_meant();
     hand.give_back(rt, hub, pass);
     let _ = settled(rt, hub.release(rt, pass, task));
-    goes_on_unless(commit_kept(rt, alloc, hub, pass, kept))
+    let met = commit_kept(rt, alloc, hub, pass, kept);
+    hand.after_commit(hub.batches());
+    goes_on_unless(met)
 }
 
 // Lets the instance wait, and goes on with what is kept, unless that is to be committed now.

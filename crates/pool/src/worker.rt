@@ -70,8 +70,8 @@ const LOOKS: u32 = 64;
 
 const DOUBLINGS: u32 = 6;
 
-// The same of a worker that left the work to others since a body waited.
-const LEFT: u32 = 10;
+// The same of a worker that left the work to others since a body waited: it looks for some milliseconds at most.
+const LEFT: u32 = 7;
 
 // How many of these looks come at once. Before each of the others the worker yields to other threads.
 const SPINS: u32 = 8;
