@@ -28,9 +28,6 @@ const LIGHT: u32 = 64;
 // A body looks for items among the results that are kept if these have at most this number of puts, since it goes through all of them.
 const FEW_PUTS: usize = 256;
 
-// How often in a row a worker leaves the work to others while they commit nothing: it looks some 4,000 times then, which take longer than a commit's syncs on a disk.
-const MOST_IN_VAIN: u32 = 6;
-
 /// What a worker has claimed, and what it remembers of the bodies that it ran.
 pub(crate) struct Hand {
     /// The instances that it has claimed and not begun to run, in order.
@@ -45,19 +42,11 @@ pub(crate) struct Hand {
     many: bool,
     // Whether the bodies that ran since then are light.
     light: bool,
-    // Whether the last body that ended is light, or none has ended.
-    light_lately: bool,
     // How many batches had been committed when it last committed one.
     batches: usize,
-    // How many had been when it last left the work to others since a body waited, and how often it has done so while they stayed as many.
-    batches_left: usize,
-    left_in_vain: u32,
     /// Whether it leaves the work to others for a while, and how often in a row it has done so.
     pub(crate) rests: bool,
     pub(crate) rested: u32,
-    /// Whether it leaves the work to others since a body waited, and how often it has done so since one ended.
-    pub(crate) leaves: bool,
-    pub(crate) left: u32,
     /// How often in a row it has found nothing to do.
     pub(crate) vain: u32,
 }
@@ -75,14 +64,9 @@ impl Hand {
             puts: 0,
             many: false,
             light: false,
-            light_lately: true,
             batches: 0,
-            batches_left: 0,
-            left_in_vain: 0,
             rests: false,
             rested: 0,
-            leaves: false,
-            left: 0,
             vain: 0,
         })
     }
@@ -100,33 +84,6 @@ impl Hand {
         self.light = self.light && statements < LIGHT;
         self.puts = self.puts.saturating_add(puts);
         self.spent = self.spent.saturating_add(statements).saturating_add(VISIT);
-    }
-
-    /// Notes that a body ended, after as many statements.
-    pub(crate) fn note_end(&mut self, statements: u32)
-        ensures { self.new.claimed ≡ self.old.claimed }
-    {
-        self.light_lately = statements < LIGHT;
-        self.left = 0;
-    }
-
-    /// A body waits, where `running` instances are claimed by all workers and `batches` were committed so far. Says whether the worker leaves the work to others for a while: if bodies
-    /// are light, others have claimed instances, and they commit. They may have claimed what the body waits for; if each worker then lets all that it claims wait, each commit wakes few instances, and records get short.
-    pub(crate) fn leaves_to_others(&mut self, running: usize, batches: usize) -> bool
-        ensures { self.new.claimed ≡ self.old.claimed }
-    {
-        if batches != self.batches_left {
-            self.batches_left = batches;
-            self.left_in_vain = 0;
-        }
-        let alone = running <= self.claimed.len().saturating_add(1);
-        if alone || !self.light_lately || self.left_in_vain >= MOST_IN_VAIN {
-            return false;
-        }
-        self.left_in_vain += 1;
-        self.left = self.left.saturating_add(1);
-        self.leaves = true;
-        true
     }
 
     /// What is kept, if a body may look for items there: if it has few puts, and a group or more of instances was ready at once so far, `ready` being those that are now. In a
@@ -166,8 +123,6 @@ impl Hand {
         ensures { self.new.claimed ≡ self.old.claimed }
     {
         self.batches = batches;
-        // What it commits itself is no sign that others go on.
-        self.batches_left = batches;
     }
 
     /// Whether the last body took long.
@@ -208,16 +163,7 @@ impl Hand {
         match self.claimed.take_first() {
             Some(task) => Ok((Some(task), true)),
             None if commits_first(kept, hub.ready()) => Ok((None, true)),
-            None => self.claim(rt, hub, pass, self.most(kept)),
-        }
-    }
-
-    // How many instances it claims at once, if it keeps this number of results. A worker that left the work to others claims one, to see whether it can go on.
-    fn most(&self, kept: usize) -> usize {
-        if self.left > 0 {
-            1
-        } else {
-            MOST_KEPT.saturating_sub(kept)
+            None => self.claim(rt, hub, pass, MOST_KEPT.saturating_sub(kept)),
         }
     }
 
@@ -271,14 +217,9 @@ impl Hand {
             puts: _,
             many: _,
             light: _,
-            light_lately: _,
             batches: _,
-            batches_left: _,
-            left_in_vain: _,
             rests: _,
             rested: _,
-            leaves: _,
-            left: _,
             vain: _,
         } = self;
         claimed.end();

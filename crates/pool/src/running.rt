@@ -55,7 +55,6 @@ pub(crate) fn run_task<'a, J: Naming, D: Disk, P: Probe, R: Wait>(
     match hub.run(rt, alloc, pass, &task, hand.ahead(&kept, hub.ready())) {
         Ok(Ran::Ended(outcome, statements)) => {
             hand.vain = 0;
-            hand.note_end(statements);
             hand.note(statements, puts_of(&outcome), kept.is_some());
             keep(rt, alloc, hub, pass, hand, task, outcome, kept)
         }
@@ -65,10 +64,6 @@ pub(crate) fn run_task<'a, J: Naming, D: Disk, P: Probe, R: Wait>(
             if ahead || hand.is_slow() || hand.has_many_puts() {
                 return wait_for_own(rt, alloc, hub, pass, hand, task, run, kept);
             }
-            if hand.leaves_to_others(hub.running(), hub.batches()) {
-                drop(run);
-                return leave(rt, alloc, hub, pass, hand, task, kept);
-            }
             park_beside(rt, alloc, hub, pass, hand, task, run, kept)
         }
         Err(error) => {
@@ -76,32 +71,6 @@ pub(crate) fn run_task<'a, J: Naming, D: Disk, P: Probe, R: Wait>(
             ends(rt, alloc, hub, pass, stopped_by(error), kept)
         }
     }
-}
-
-// Leaves the work to others for a while: gives back what is claimed, in its order, and commits what is kept.
-fn leave<'a, J: Naming, D: Disk, R: Wait>(
-    rt: &R,
-    alloc: Global,
-    hub: &'a Hub<J, D>,
-    pass: &mut WorkPass<J>,
-    hand: &mut Hand,
-    task: Task,
-    kept: Option<Batch<'a>>,
-) -> Turned<'a>
-    requires claimed { AreClaimed J.opening hand.old.claimed }
-    requires kept { AreKept J.opening pass.old kept }
-    ensures claimed { AreClaimed J.opening hand.new.claimed }
-    ensures turned { IsTurned J.opening pass.new result }
-    ensures asked { result ≡ Ends (Some MetAsked) → ⊥ }
-{
-    facts_are_told_apart();
-    facts_go_on();
-    results_are_meant();
-    hand.give_back(rt, hub, pass);
-    let _ = settled(rt, hub.release(rt, pass, task));
-    let met = commit_kept(rt, alloc, hub, pass, kept);
-    hand.after_commit(hub.batches());
-    goes_on_unless(met)
 }
 
 // Lets the instance wait, and goes on with what is kept, unless that is to be committed now.

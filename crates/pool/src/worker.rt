@@ -70,9 +70,6 @@ const LOOKS: u32 = 64;
 
 const DOUBLINGS: u32 = 6;
 
-// The same of a worker that left the work to others since a body waited: it looks for some milliseconds at most.
-const LEFT: u32 = 7;
-
 // How many of these looks come at once. Before each of the others the worker yields to other threads.
 const SPINS: u32 = 8;
 
@@ -172,9 +169,6 @@ fn turn<'a, J: Naming, D: Disk, P: Probe, R: Wait>(
     if hand.rests {
         rest(hub, pass.number(), hand);
     }
-    if hand.leaves {
-        look_on(hub, hand);
-    }
     match hand.next(rt, hub, pass, kept_of(&kept)) {
         Ok((Some(task), _)) => run_task(rt, alloc, hub, pass, probe, hand, task, kept),
         Ok((None, busy)) => idle(rt, alloc, hub, pass, hand, kept, busy),
@@ -263,19 +257,6 @@ fn look_for_work<J: Naming, D: Disk>(hub: &Hub<J, D>, pass: &mut WorkPass<J>, va
             return;
         }
         if hub.ready() != 0 && (vain == 0 || hub.batches() != before) {
-            return;
-        }
-    }
-}
-
-// Looks on while others do what bodies wait for: longer each time since a body ended, but not if nobody runs anything. It takes no lock.
-fn look_on<J: Naming, D: Disk>(hub: &Hub<J, D>, hand: &mut Hand)
-    ensures { hand.new.claimed ≡ hand.old.claimed }
-{
-    hand.leaves = false;
-    for _ in 0..(LOOKS << hand.left.min(LEFT)) {
-        yield_now();
-        if hub.running() == 0 {
             return;
         }
     }

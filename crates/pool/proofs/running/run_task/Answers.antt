@@ -23,6 +23,3 @@ pub ends-requires-in-Err-clause-kept : goal.ends-requires-in-Err-clause-kept
 ends-requires-in-Err-clause-kept g c =
     kept_stay c.facts_are_told_apart.ensures.among c.facts_go_on.ensures.all c.results_are_meant.ensures.stay g.J.Naming.opening c.args.pass.now c.release-in-Err.new.pass c.args.kept
     (prefix_further c.args.pass.now.seen c.run.new.pass.seen c.release-in-Err.new.pass.seen c.run.ensures.pass.starts c.release-in-Err.ensures.seen.0.starts) c.requires.kept
-
-pub leave-requires-clause-kept : goal.leave-requires-clause-kept
-leave-requires-clause-kept g c = kept_stay c.facts_are_told_apart.ensures.among c.facts_go_on.ensures.all c.results_are_meant.ensures.stay g.J.Naming.opening c.args.pass.now c.run.new.pass c.args.kept c.run.ensures.pass.starts c.requires.kept
