@@ -1,6 +1,7 @@
 -- How an instance stands, as a small number, which maps keep.
-use Rattle.std.specs.Prelude.{◌≡◌, ℕ, zero, suc, ℤ, List, [], refl}
+use Rattle.std.specs.Prelude.{◌≡◌, ℕ, zero, suc, ℤ, List, refl}
 use Rattle.maps.specs.declared.stored.Brief.{Brief}
+use Rattle.maps.specs.Stored.{no_words}
 use Rattle.instances.specs.declared.standing.Standing.{Standing}
 use Rattle.instances.specs.declared.standing.Standing.TheVariants.{Ready, Running, Waiting, Done}
 
@@ -12,9 +13,6 @@ small_of Done = 3
 
 abbrev pub standing_brief : Standing → Brief
 standing_brief standing = record { number = 0; half = 0; small = small_of standing }
-
-abbrev pub no_words : Standing → List ℤ
-no_words standing = []
 
 abbrev standing_by : ℕ → Standing
 standing_by zero = Ready

@@ -1,7 +1,8 @@
-ghost use Rattle.std.proofs.Common.{arith};
-ghost use Rattle.instances.specs.Marks.{no_words, same_standing, standing_brief, standing_said};
+ghost use Rattle.std.proofs.Common.{arith, refl};
+ghost use Rattle.maps.specs.Stored.{no_words};
+ghost use Rattle.instances.specs.Marks.{same_standing, standing_brief, standing_said};
 
-use maps::{Brief, Stored};
+use maps::{Brief, Plain, Stored};
 
 /// How an instance stands. It takes one byte: the address at which one waits is kept elsewhere.
 #[derive(Clone, Copy)]
@@ -51,4 +52,8 @@ impl Stored for Standing {
     ghost same = { same_standing };
 
     ghost short = { Prim.omega arith };
+}
+
+impl Plain for Standing {
+    ghost plain = { refl };
 }

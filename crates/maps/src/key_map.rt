@@ -1,5 +1,5 @@
 use crate::pages::{Found, Pages};
-use crate::{Hint, InsertError, KeyWalk, Steps, Stored};
+use crate::{Hint, InsertError, KeyWalk, Plain, Steps, Stored};
 use std::alloc::{AllocError, Global};
 use std::marker::Model;
 use terms::Key;
@@ -26,8 +26,8 @@ impl<V: Stored> Model for KeyMap<V> {
 }
 
 impl<V: Stored> KeyMap<V> {
-    ghost use Rattle.std.specs.Prelude.{◌≡◌, ◌+◌, ◌*◌, ◌/◌, ◌^◌, ◌<◌, ◌≤◌, ℕ, IfErr, IsSome, OnOk, OnErr, length};
-    ghost use Rattle.std.specs.FinMap.{entries, get, insert};
+    ghost use Rattle.std.specs.Prelude.{◌≡◌, ◌+◌, ◌*◌, ◌/◌, ◌^◌, ◌<◌, ◌≤◌, ℕ, IfErr, OnOk, OnErr, length};
+    ghost use Rattle.std.specs.FinMap.{entries, get};
     ghost use Rattle.maps.specs.Insertion.{IsRefused};
     ghost use Rattle.maps.specs.Keyed.{none, Adds};
 
@@ -117,11 +117,15 @@ impl<V: Stored> KeyMap<V> {
             }
         }
     }
+}
 
-    /// Gives a new value to a key that has one. It is for values that have no words.
+impl<V: Plain> KeyMap<V> {
+    ghost use Rattle.std.specs.Prelude.{◌≡◌, IsSome};
+    ghost use Rattle.std.specs.FinMap.{get, insert};
+
+    /// Gives a new value to a key that has one.
     pub fn set(&mut self, key: Key, value: V)
-        requires there { IsSome (get self.old.items key) }
-        requires no_words { V.MOST ≡ 0 }
+        requires { IsSome (get self.old.items key) }
         ensures { self.new ≡ record { items = insert self.old.items key value; room = self.old.room } }
     {
         match self.pages.search(key) {

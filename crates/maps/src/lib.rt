@@ -26,5 +26,5 @@ pub use hint::Hint;
 pub use key_map::KeyMap;
 pub use key_walk::KeyWalk;
 pub use steps::Steps;
-pub use stored::{Brief, Stored};
+pub use stored::{Brief, Plain, Stored};
 pub use walk::Walk;

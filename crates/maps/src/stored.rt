@@ -50,6 +50,11 @@ pub trait Stored: Copy {
     ghost short: { MOST < 2 ^ 8 };
 }
 
+/// A value that a map keeps as small numbers alone, so a map can give its key another one in its place.
+pub trait Plain: Stored {
+    ghost plain: { Self.MOST ≡ 0 };
+}
+
 // The small numbers of a value that has none.
 const NONE: Brief = Brief {
     number: 0,

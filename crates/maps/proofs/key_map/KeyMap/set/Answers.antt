@@ -13,7 +13,7 @@ returns-in-At g c =
     λ i. record { items = now i; room = room i }
 
 pub returns-in-Gap : goal.returns-in-Gap
-returns-in-Gap g c = absurd (false≢true (subst IsSome (ap (λ s. get s.items c.args.key) (sym c.self.view_is) ∙ get-from_entries keys_total (all_of c.self.inside.pages.pages) c.args.key ∙ c.in-Gap.ensures.absent) c.requires.there))
+returns-in-Gap g c = absurd (false≢true (subst IsSome (ap (λ s. get s.items c.args.key) (sym c.self.view_is) ∙ get-from_entries keys_total (all_of c.self.inside.pages.pages) c.args.key ∙ c.in-Gap.ensures.absent) c.requires))
 
 pub returns-in-Behind : goal.returns-in-Behind
-returns-in-Behind g c = absurd (false≢true (subst IsSome (ap (λ s. get s.items c.args.key) (sym c.self.view_is) ∙ get-from_entries keys_total (all_of c.self.inside.pages.pages) c.args.key ∙ c.in-Behind.ensures.absent) c.requires.there))
+returns-in-Behind g c = absurd (false≢true (subst IsSome (ap (λ s. get s.items c.args.key) (sym c.self.view_is) ∙ get-from_entries keys_total (all_of c.self.inside.pages.pages) c.args.key ∙ c.in-Behind.ensures.absent) c.requires))
