@@ -3,8 +3,8 @@ use Rattle.instances.specs.Standings.{address_in, state_with}
 use Rattle.instances.proofs.Joining.{changes, plain, there}
 use Rattle.instances.proofs.states.States.set.Goals as goal
 
-pub set-requires-clause-there : goal.set-requires-clause-there
-set-requires-clause-there c = there c.self.inside.standings c.self.inside.addresses.entries c.args.self.now c.args.key c.self.view_is c.requires.there
+pub set-requires : goal.set-requires
+set-requires c = there c.self.inside.standings c.self.inside.addresses.entries c.args.self.now c.args.key c.self.view_is c.requires.there
 
 pub returns : goal.returns
 returns c =

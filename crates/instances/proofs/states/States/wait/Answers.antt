@@ -5,8 +5,8 @@ use Rattle.instances.specs.Standings.{state_with}
 use Rattle.instances.proofs.Joining.{changes, other_addresses, there}
 use Rattle.instances.proofs.states.States.wait.Goals as goal
 
-pub set-requires-clause-there : goal.set-requires-clause-there
-set-requires-clause-there c = there c.self.inside.standings c.self.inside.addresses.entries c.args.self.now c.args.key c.self.view_is c.requires
+pub set-requires : goal.set-requires
+set-requires c = there c.self.inside.standings c.self.inside.addresses.entries c.args.self.now c.args.key c.self.view_is c.requires
 
 pub returns-clause-ok : goal.returns-clause-ok
 returns-clause-ok c =
