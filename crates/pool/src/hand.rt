@@ -38,6 +38,8 @@ pub(crate) struct Hand {
     spent: u32,
     // The puts of the results that are kept.
     puts: usize,
+    // Of the results that are kept, how many it has looked at for instances that wait for their items.
+    looked: usize,
     // Whether a group or more was ready at once so far.
     many: bool,
     // Whether the bodies that ran since then are light.
@@ -62,6 +64,7 @@ impl Hand {
             slow: true,
             spent: 0,
             puts: 0,
+            looked: 0,
             many: false,
             light: false,
             batches: 0,
@@ -78,6 +81,7 @@ impl Hand {
         if !keeps {
             self.spent = 0;
             self.puts = 0;
+            self.looked = 0;
             self.light = true;
         }
         self.slow = statements >= LONG;
@@ -142,13 +146,14 @@ impl Hand {
 
     /// The next instance to run, if there is one: it was claimed before, or is now, with others of its group. Says whether an instance runs then. After
     /// a body that took long, what was claimed before it is given back, so that others can run it, and one instance is claimed alone. If the worker keeps
-    /// a group of results and fewer seem to be ready, or some and none seems to be, none is claimed: the results are committed first.
+    /// a group of results and fewer instances seem to be ready, or some and none seems to be, it claims those that wait for what it keeps; if there are none, the results are
+    /// committed first.
     pub(crate) fn next<J: Naming, D: Disk, R: Wait>(
         &mut self,
         rt: &R,
         hub: &Hub<J, D>,
         pass: &mut WorkPass<J>,
-        kept: usize,
+        kept: &Option<Batch<'_>>,
     ) -> Result<(Option<Task>, bool), CoreError>
         requires { AreClaimed J.opening self.old.claimed }
         ensures claimed { AreClaimed J.opening self.new.claimed }
@@ -156,15 +161,46 @@ impl Hand {
         ensures ahead { IsPrefix pass.old.seen pass.new.seen }
         ensures refused { IfErr result RefusesClaims }
     {
+        let count = count_of(kept);
         if self.slow {
             self.give_back(rt, hub, pass);
             return self.claim(rt, hub, pass, 1);
         }
         match self.claimed.take_first() {
             Some(task) => Ok((Some(task), true)),
-            None if commits_first(kept, hub.ready()) => Ok((None, true)),
-            None => self.claim(rt, hub, pass, MOST_KEPT.saturating_sub(kept)),
+            None if commits_first(count, hub.ready()) => self.claim_waiting(rt, hub, pass, kept),
+            None => self.claim(rt, hub, pass, MOST_KEPT.saturating_sub(count)),
         }
+    }
+
+    // Claims instances that wait for items which are kept, if bodies may read these, and takes the first of them.
+    fn claim_waiting<J: Naming, D: Disk, R: Wait>(
+        &mut self,
+        rt: &R,
+        hub: &Hub<J, D>,
+        pass: &mut WorkPass<J>,
+        kept: &Option<Batch<'_>>,
+    ) -> Result<(Option<Task>, bool), CoreError>
+        requires { AreClaimed J.opening self.old.claimed }
+        ensures claimed { AreClaimed J.opening self.new.claimed }
+        ensures task { IfOk result (λ next. IfSome next.0 (InstanceIsOf J.opening.graph)) }
+        ensures ahead { IsPrefix pass.old.seen pass.new.seen }
+        ensures refused { IfErr result RefusesClaims }
+    {
+        let Some(batch) = self.ahead(kept, hub.ready()) else {
+            return Ok((None, true));
+        };
+        let most = MOST_KEPT.saturating_sub(batch.len());
+        let mut visit = hub.visit(rt);
+        for number in self.looked..batch.len() {
+            let left = most.saturating_sub(self.claimed.len());
+            if left == 0 {
+                break;
+            }
+            visit.claim_waiting(pass, &mut self.claimed, batch.puts(number), left)?;
+            self.looked = number + 1;
+        }
+        Ok((self.claimed.take_first(), true))
     }
 
     // Claims up to `most` instances, and takes the first of them.
@@ -215,6 +251,7 @@ impl Hand {
             slow: _,
             spent: _,
             puts: _,
+            looked: _,
             many: _,
             light: _,
             batches: _,
@@ -223,6 +260,14 @@ impl Hand {
             vain: _,
         } = self;
         claimed.end();
+    }
+}
+
+// How many results are kept.
+fn count_of(kept: &Option<Batch<'_>>) -> usize {
+    match kept {
+        Some(batch) => batch.len(),
+        None => 0,
     }
 }
 

@@ -169,7 +169,7 @@ fn turn<'a, J: Naming, D: Disk, P: Probe, R: Wait>(
     if hand.rests {
         rest(hub, pass.number(), hand);
     }
-    match hand.next(rt, hub, pass, kept_of(&kept)) {
+    match hand.next(rt, hub, pass, &kept) {
         Ok((Some(task), _)) => run_task(rt, alloc, hub, pass, probe, hand, task, kept),
         Ok((None, busy)) => idle(rt, alloc, hub, pass, hand, kept, busy),
         Err(error) => ends(rt, alloc, hub, pass, stopped_by(error), kept),
@@ -222,14 +222,6 @@ pub(crate) fn ends<'a, J: Naming, D: Disk, R: Wait>(
     match commit_kept(rt, alloc, hub, pass, kept) {
         Some(last) => Turned::Ends(Some(last)),
         None => Turned::Ends(Some(met)),
-    }
-}
-
-// How many results are kept.
-fn kept_of(kept: &Option<Batch<'_>>) -> usize {
-    match kept {
-        Some(batch) => batch.len(),
-        None => 0,
     }
 }
 
