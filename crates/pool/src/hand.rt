@@ -7,7 +7,7 @@ ghost use Rattle.hub.specs.Running.{kept_of};
 ghost use Rattle.pool.specs.Worked.{AreClaimed};
 
 use crate::settling::settled;
-use crate::worker::{GROUP, MOST_KEPT};
+use crate::worker::{GROUP, MOST_KEPT, others_commit};
 use commit::{Batch, CoreError};
 use disk::Disk;
 use hub::{Hub, WorkPass};
@@ -24,6 +24,12 @@ const VISIT: u32 = 100;
 
 // A body is light if it makes fewer statements: then its commit takes longer than the body, and one worker alone takes about as long for such bodies as several.
 const LIGHT: u32 = 64;
+
+// For how many commits of others an instance is held, at most. Each of 64 workers may have to go on before.
+const MOST_HELD: u32 = 64;
+
+// After this number of instances in a row that were held in vain, no more are parked between them than after so many.
+const MOST_MISSED: u32 = 12;
 
 // A body looks for items among the results that are kept if these have at most this number of puts, since it goes through all of them.
 const FEW_PUTS: usize = 256;
@@ -51,6 +57,9 @@ pub(crate) struct Hand {
     pub(crate) rested: u32,
     /// How often in a row it has found nothing to do.
     pub(crate) vain: u32,
+    // How often in a row it has held an instance in vain, and how many instances it parks before it holds one again.
+    missed: u32,
+    parks: u32,
 }
 
 impl Hand {
@@ -71,6 +80,8 @@ impl Hand {
             rests: false,
             rested: 0,
             vain: 0,
+            missed: 0,
+            parks: 0,
         })
     }
 
@@ -108,6 +119,47 @@ impl Hand {
             Some(batch) => Some(batch),
             None => None,
         }
+    }
+
+    /// How many commits of others the worker waits for before it parks the instance whose body waits now; 0 if it parks it at once. It holds it where bodies are
+    /// light and others run something, so that it need not run the body anew. `kept` is the number of results that it keeps, and `running` that of all instances that run.
+    pub(crate) fn holds(&mut self, kept: usize, running: usize) -> u32
+        ensures { self.new.claimed ≡ self.old.claimed }
+    {
+        let own = self.claimed.len().saturating_add(kept).saturating_add(1);
+        if !self.light || running <= own {
+            return 0;
+        }
+        if self.parks > 0 {
+            self.parks -= 1;
+            return 0;
+        }
+        MOST_HELD
+    }
+
+    /// Waits until others commit, with an instance that is held for up to `left` commits. Says whether they did. When nothing comes, or these were all, more instances are parked before the
+    /// next one is held: twice as many each time.
+    pub(crate) fn sees_commit<J: Naming, D: Disk>(
+        &mut self,
+        hub: &Hub<J, D>,
+        before: usize,
+        left: u32,
+    ) -> bool
+        ensures { self.new.claimed ≡ self.old.claimed }
+    {
+        let seen = others_commit(hub, before, self.claimed.len().saturating_add(1));
+        if !seen || left <= 1 {
+            self.parks = 1 << self.missed.min(MOST_MISSED);
+            self.missed = self.missed.saturating_add(1);
+        }
+        seen
+    }
+
+    /// Notes that an instance that was held has gone on.
+    pub(crate) fn note_held(&mut self)
+        ensures { self.new.claimed ≡ self.old.claimed }
+    {
+        self.missed = 0;
     }
 
     /// Before the worker with this number commits: it rests afterwards if others have committed since it did, bodies are light, and nothing else is claimed. Then a worker with a smaller number does
@@ -258,13 +310,15 @@ impl Hand {
             rests: _,
             rested: _,
             vain: _,
+            missed: _,
+            parks: _,
         } = self;
         claimed.end();
     }
 }
 
-// How many results are kept.
-fn count_of(kept: &Option<Batch<'_>>) -> usize {
+/// How many results are kept.
+pub(crate) fn count_of(kept: &Option<Batch<'_>>) -> usize {
     match kept {
         Some(batch) => batch.len(),
         None => 0,
