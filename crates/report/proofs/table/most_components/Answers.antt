@@ -1,8 +1,8 @@
-use Rattle.std.proofs.Common.{◌≡◌, ◌∙◌, ◌<◌, ℕ, List, [], length, map, max, take, get_or, ap, sym}
+use Rattle.std.proofs.Common.{◌∙◌, ◌<◌, ℕ, List, [], length, map, max, take, get_or, ap, sym}
 use Rattle.std.proofs.lemmas.List.{map_more}
 use Rattle.terms.specs.declared.name.ItemCollection.{ItemCollection}
 use Rattle.report.specs.Got.{Named}
-use Rattle.report.specs.TableText.{components_of, most_components}
+use Rattle.report.specs.TableText.{most_components}
 use Rattle.report.proofs.Reports.{most_more}
 use Rattle.report.proofs.table.most_components.Goals as goal
 
