@@ -10,7 +10,7 @@ mod components;
 mod error;
 mod format;
 mod got;
-mod items;
+mod item_lines;
 mod law;
 mod named;
 mod objects;

@@ -7,7 +7,7 @@ ghost use Rattle.report.specs.ReportText.{AreGot, fault_line, line};
 ghost use Rattle.report.specs.Sinks.{TellsFailure};
 
 use crate::components::BetweenCommas;
-use crate::items::write_collections;
+use crate::item_lines::write_collections;
 use crate::named::step_name_of;
 use crate::spelling::Spelling;
 use crate::{Sink, SinkFailed};

@@ -8,7 +8,7 @@ ghost use Rattle.report.specs.Sinks.{TellsFailure, TellsReport};
 ghost use Rattle.report.specs.declared.error.ReportError.TheVariants.{NoMemory};
 
 use crate::got::got_by_name;
-use crate::items::write_collections;
+use crate::item_lines::write_collections;
 use crate::objects::write_objects;
 use crate::spelling::Spelling;
 use crate::table::write_table;

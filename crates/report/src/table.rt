@@ -7,7 +7,7 @@ ghost use Rattle.report.specs.Sinks.{TellsFailure};
 ghost use Rattle.report.specs.TableText.{IsTable, components_of, header, most_components};
 
 use crate::components::ColumnNames;
-use crate::items::write_collections;
+use crate::item_lines::write_collections;
 use crate::spelling::Spelling;
 use crate::{Sink, SinkFailed};
 use commit::Core;

@@ -11,7 +11,7 @@ use Rattle.report.specs.Formats.{spelled}
 use Rattle.report.specs.Got.{Named}
 use Rattle.report.specs.ReportText.{AreItemsIn, item_lines, line}
 use Rattle.report.proofs.Lines.{one_more}
-use Rattle.report.proofs.items.write_collections.Goals as goal
+use Rattle.report.proofs.item_lines.write_collections.Goals as goal
 
 pub loop-one-preserved : goal.loop-one-preserved
 loop-one-preserved g c =

@@ -3,7 +3,7 @@ use Rattle.std.specs.Io.KnownBytes.{Appends}
 use Rattle.report.specs.Formats.{spelled}
 use Rattle.report.specs.ReportText.{item_lines}
 use Rattle.report.specs.Sinks.{StaysCalm}
-use Rattle.report.proofs.items.write_items.Given as goal
+use Rattle.report.proofs.item_lines.write_items.Given as goal
 
 -- the lines of the items so far are written, and the others are left
 abbrev pub invariant-loop-address : goal.invariant-loop-address

@@ -2,7 +2,7 @@ use Rattle.std.proofs.Common.{List, ℕ, OnOk, subst, w64}
 use Rattle.std.proofs.lemmas.Int.{to_z-of_z}
 use Rattle.std.specs.Io.KnownBytes.{Appends}
 use Rattle.report.proofs.Lines.{object_written}
-use Rattle.report.proofs.items.write_object.Goals as goal
+use Rattle.report.proofs.item_lines.write_object.Goals as goal
 
 pub returns-clause-written : goal.returns-clause-written
 returns-clause-written g c =

@@ -5,7 +5,7 @@ use Rattle.commit.specs.Core.{facts, graph}
 use Rattle.report.specs.Formats.{spelled}
 use Rattle.report.specs.ReportText.{AreItemsIn, item_lines}
 use Rattle.report.specs.Sinks.{StaysCalm}
-use Rattle.report.proofs.items.write_collections.Given as goal
+use Rattle.report.proofs.item_lines.write_collections.Given as goal
 
 -- the lines of the collections so far are written
 abbrev pub invariant-loop-one : goal.invariant-loop-one

@@ -4,7 +4,7 @@ use Rattle.std.proofs.lemmas.List.Concat.{flat_map-append}
 use Rattle.std.specs.Io.KnownBytes.{Appends}
 use Rattle.report.specs.Formats.{spelled}
 use Rattle.report.specs.ReportText.{item_lines, line}
-use Rattle.report.proofs.items.write_items.Goals as goal
+use Rattle.report.proofs.item_lines.write_items.Goals as goal
 
 pub loop-address-preserved : goal.loop-address-preserved
 loop-address-preserved g c =
