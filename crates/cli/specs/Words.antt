@@ -10,7 +10,7 @@ use Rattle.cli.specs.declared.words.TheConstants.{MOST_LIMIT, MOST_WORKERS}
 abbrev pub IsInRange : Command → Type 0
 IsInRange (Run directory script limit workers) = (limit ≤ MOST_LIMIT) × (1 ≤ workers) × (workers ≤ MOST_WORKERS)
 IsInRange (Create graph directory) = ⊤
-IsInRange (Report directory) = ⊤
+IsInRange (Report directory format) = ⊤
 IsInRange (Turn directory) = ⊤
 IsInRange (Draw graph) = ⊤
 IsInRange (DrawStore directory) = ⊤
