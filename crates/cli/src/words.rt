@@ -1,7 +1,8 @@
 //! The words of a command line, read by `clap`.
-ghost use Rattle.std.specs.Prelude.{◌≡◌, ◌≤◌, ◌⊎◌, IfErr, IfOk, IfSome};
+ghost use Rattle.std.specs.Prelude.{◌≡◌, ◌≢◌, ◌≤◌, ◌⊎◌, IfErr, IfOk, IfSome, MatchOption};
 ghost use Rattle.clap.specs.Words.{kind_of};
-ghost use Rattle.cli.specs.Words.{IsInRange, usage_status_of};
+ghost use Rattle.report.specs.declared.format.Format.{Format as ReportFormat};
+ghost use Rattle.cli.specs.Words.{IsInRange, format_word, usage_status_of};
 
 use clap::builder::ValueParser;
 use clap::error::ErrorKind;
@@ -179,8 +180,11 @@ fn report_in<'a>(found: &ArgMatches<'a>, directory: &'a str) -> Option<Command<'
     Some(Command::Report { directory, format })
 }
 
-// The format that a word asks for.
-fn format_of(word: &str) -> Option<Format> {
+// The format that a word asks for, if it is the word for one.
+fn format_of(word: &str) -> Option<Format>
+    ensures { MatchOption result ((format : ReportFormat) → word.now ≢ format_word format)
+        (λ format. word.now ≡ format_word format) }
+{
     match word {
         "text" => Some(Format::Text),
         "csv" => Some(Format::Csv),
