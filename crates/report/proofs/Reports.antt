@@ -1,7 +1,9 @@
 -- Whole texts, from the parts that were written one after another.
 use Rattle.std.proofs.Common.{◌≡◌, ℕ, ℤ, Option, List, [], ◌∷◌, ◌++◌, max, ap, refl, arith}
 use Rattle.std.proofs.KnownBytes.{Appends-trans}
+use Rattle.std.proofs.lemmas.Bool.Decides.{nat_tests}
 use Rattle.std.specs.Io.KnownBytes.{Appends}
+use Rattle.std.specs.Ordering.{nat_cmp, ord_max}
 use Rattle.terms.specs.declared.name.Addr.{Addr}
 use Rattle.terms.specs.declared.name.Inst.{Inst}
 use Rattle.terms.specs.declared.name.ItemCollection.{ItemCollection}
@@ -37,6 +39,9 @@ is_table g X collections columns start header_in end got is first wrote =
       record { collections = collections; got = got; items = wrote.0; listed = wrote.1; whole = ap (λ (n : ℕ). line (header n) ++ item_lines (row_text g n) wrote.0) is },
       Appends-trans start header_in end (line (header columns)) rows first wrote.2,
     )
+
+pub greater : (one two : ℕ) → ord_max nat_cmp one two ≡ max one two
+greater one two = grind (arith, nat_tests)
 
 -- one more collection may have more components
 pub most_more : (g : Graph) (collections : List ItemCollection) (collection : ItemCollection) → most_components g (collections ++ collection ∷ []) ≡ max (most_components g collections) (components_of g collection)

@@ -1,5 +1,5 @@
 //! The items of a store as a table.
-ghost use Rattle.std.specs.Prelude.{◌≡◌, List, map, max, OnOk, ℕ};
+ghost use Rattle.std.specs.Prelude.{◌≡◌, List, map, OnOk, ℕ};
 ghost use Rattle.std.specs.Io.KnownBytes.{Appends};
 ghost use Rattle.commit.specs.Core.{facts, graph};
 ghost use Rattle.report.specs.ReportText.{AreGot, line};
@@ -45,16 +45,9 @@ fn most_components(graph: &Graph, collections: &[(&str, ItemCollection)]) -> usi
 {
     let mut most = 0;
     for one in collections {
-        most = greater(most, components_of(graph, one.1));
+        most = most.max(components_of(graph, one.1));
     }
     most
-}
-
-/// The greater of two numbers.
-fn greater(one: usize, two: usize) -> usize
-    ensures { result ≡ max one two }
-{
-    if one < two { two } else { one }
 }
 
 /// How many components the keys of a collection have; 0 if the graph has no such collection.
