@@ -7,7 +7,7 @@ ghost use Rattle.hub.specs.Running.{kept_of};
 ghost use Rattle.pool.specs.Worked.{AreClaimed};
 
 use crate::settling::settled;
-use crate::worker::{GROUP, MOST_KEPT, others_commit};
+use crate::worker::{GROUP, MOST_KEPT};
 use commit::{Batch, CoreError};
 use disk::Disk;
 use hub::{Hub, WorkPass};
@@ -24,12 +24,6 @@ const VISIT: u32 = 100;
 
 // A body is light if it makes fewer statements: then its commit takes longer than the body, and one worker alone takes about as long for such bodies as several.
 const LIGHT: u32 = 64;
-
-// For how many commits of others an instance is held, at most. Each of 64 workers may have to go on before.
-const MOST_HELD: u32 = 64;
-
-// After this number of instances in a row that were held in vain, no more are parked between them than after so many.
-const MOST_MISSED: u32 = 12;
 
 // A body looks for items among the results that are kept if these have at most this number of puts, since it goes through all of them.
 const FEW_PUTS: usize = 256;
@@ -50,16 +44,17 @@ pub(crate) struct Hand {
     many: bool,
     // Whether the bodies that ran since then are light.
     light: bool,
+    // Whether the last body that ended is light, or none has ended.
+    light_lately: bool,
     // How many batches had been committed when it last committed one.
     batches: usize,
     /// Whether it leaves the work to others for a while, and how often in a row it has done so.
     pub(crate) rests: bool,
     pub(crate) rested: u32,
+    // Whether it has left the work to others since the last body that ended.
+    left: bool,
     /// How often in a row it has found nothing to do.
     pub(crate) vain: u32,
-    // How often in a row it has held an instance in vain, and how many instances it parks before it holds one again.
-    missed: u32,
-    parks: u32,
 }
 
 impl Hand {
@@ -76,13 +71,35 @@ impl Hand {
             looked: 0,
             many: false,
             light: false,
+            light_lately: true,
             batches: 0,
             rests: false,
             rested: 0,
+            left: false,
             vain: 0,
-            missed: 0,
-            parks: 0,
         })
+    }
+
+    /// Notes that a body has ended, after this number of statements.
+    pub(crate) fn note_end(&mut self, statements: u32)
+        ensures { self.new.claimed ≡ self.old.claimed }
+    {
+        self.light_lately = statements < LIGHT;
+        self.left = false;
+    }
+
+    /// Whether the worker with this number, whose body waits, leaves the work to others: if bodies are light and others run something. Then it rests. `kept` is the number of results that it
+    /// keeps, and `running` that of all instances that run. A worker that goes on would let one instance after another wait, and each would be woken and run anew by somebody else.
+    pub(crate) fn leaves(&mut self, number: usize, kept: usize, running: usize) -> bool
+        ensures { self.new.claimed ≡ self.old.claimed }
+    {
+        let own = self.claimed.len().saturating_add(kept).saturating_add(1);
+        if number == 0 || !self.light_lately || running <= own {
+            return false;
+        }
+        self.rests = true;
+        self.left = true;
+        true
     }
 
     /// Notes how many statements and puts a body has made, and whether results are kept beside it.
@@ -119,47 +136,6 @@ impl Hand {
             Some(batch) => Some(batch),
             None => None,
         }
-    }
-
-    /// How many commits of others the worker waits for before it parks the instance whose body waits now; 0 if it parks it at once. It holds it where bodies are
-    /// light and others run something, so that it need not run the body anew. `kept` is the number of results that it keeps, and `running` that of all instances that run.
-    pub(crate) fn holds(&mut self, kept: usize, running: usize) -> u32
-        ensures { self.new.claimed ≡ self.old.claimed }
-    {
-        let own = self.claimed.len().saturating_add(kept).saturating_add(1);
-        if !self.light || running <= own {
-            return 0;
-        }
-        if self.parks > 0 {
-            self.parks -= 1;
-            return 0;
-        }
-        MOST_HELD
-    }
-
-    /// Waits until others commit, with an instance that is held for up to `left` commits. Says whether they did. When nothing comes, or these were all, more instances are parked before the
-    /// next one is held: twice as many each time.
-    pub(crate) fn sees_commit<J: Naming, D: Disk>(
-        &mut self,
-        hub: &Hub<J, D>,
-        before: usize,
-        left: u32,
-    ) -> bool
-        ensures { self.new.claimed ≡ self.old.claimed }
-    {
-        let seen = others_commit(hub, before, self.claimed.len().saturating_add(1));
-        if !seen || left <= 1 {
-            self.parks = 1 << self.missed.min(MOST_MISSED);
-            self.missed = self.missed.saturating_add(1);
-        }
-        seen
-    }
-
-    /// Notes that an instance that was held has gone on.
-    pub(crate) fn note_held(&mut self)
-        ensures { self.new.claimed ≡ self.old.claimed }
-    {
-        self.missed = 0;
     }
 
     /// Before the worker with this number commits: it rests afterwards if others have committed since it did, bodies are light, and nothing else is claimed. Then a worker with a smaller number does
@@ -221,7 +197,16 @@ impl Hand {
         match self.claimed.take_first() {
             Some(task) => Ok((Some(task), true)),
             None if commits_first(count, hub.ready()) => self.claim_waiting(rt, hub, pass, kept),
-            None => self.claim(rt, hub, pass, MOST_KEPT.saturating_sub(count)),
+            None => self.claim(rt, hub, pass, self.most(count)),
+        }
+    }
+
+    // How many instances it claims at once, if it keeps this number of results. A worker that left the work to others claims one, to see whether it can go on.
+    fn most(&self, kept: usize) -> usize {
+        if self.left {
+            1
+        } else {
+            MOST_KEPT.saturating_sub(kept)
         }
     }
 
@@ -306,12 +291,12 @@ impl Hand {
             looked: _,
             many: _,
             light: _,
+            light_lately: _,
             batches: _,
             rests: _,
             rested: _,
+            left: _,
             vain: _,
-            missed: _,
-            parks: _,
         } = self;
         claimed.end();
     }

@@ -55,15 +55,19 @@ pub(crate) fn run_task<'a, J: Naming, D: Disk, P: Probe, R: Wait>(
     match hub.run(rt, alloc, pass, &task, hand.ahead(&kept, hub.ready())) {
         Ok(Ran::Ended(outcome, statements)) => {
             hand.vain = 0;
+            hand.note_end(statements);
             hand.note(statements, puts_of(&outcome), kept.is_some());
             keep(rt, alloc, hub, pass, hand, task, outcome, kept)
         }
         Ok(Ran::Waits(run, ahead)) => {
             hand.vain = 0;
             hand.note(run.statements(), 0, kept.is_some());
-            let held = hand.holds(count_of(&kept), hub.running());
-            if ahead || hand.is_slow() || hand.has_many_puts() || held > 0 {
-                return wait_for_own(rt, alloc, hub, pass, hand, task, run, kept, held);
+            if hand.leaves(pass.number(), count_of(&kept), hub.running()) {
+                drop(run);
+                return leave(rt, alloc, hub, pass, hand, task, kept);
+            }
+            if ahead || hand.is_slow() || hand.has_many_puts() {
+                return wait_for_own(rt, alloc, hub, pass, hand, task, run, kept);
             }
             park_beside(rt, alloc, hub, pass, hand, task, run, kept)
         }
@@ -72,6 +76,30 @@ pub(crate) fn run_task<'a, J: Naming, D: Disk, P: Probe, R: Wait>(
             ends(rt, alloc, hub, pass, stopped_by(error), kept)
         }
     }
+}
+
+// Leaves the work to others for a while: gives back what is claimed, in its order, and commits what is kept.
+fn leave<'a, J: Naming, D: Disk, R: Wait>(
+    rt: &R,
+    alloc: Global,
+    hub: &'a Hub<J, D>,
+    pass: &mut WorkPass<J>,
+    hand: &mut Hand,
+    task: Task,
+    kept: Option<Batch<'a>>,
+) -> Turned<'a>
+    requires claimed { AreClaimed J.opening hand.old.claimed }
+    requires kept { AreKept J.opening pass.old kept }
+    ensures claimed { AreClaimed J.opening hand.new.claimed }
+    ensures turned { IsTurned J.opening pass.new result }
+    ensures asked { result ≡ Ends (Some MetAsked) → ⊥ }
+{
+    facts_are_told_apart();
+    facts_go_on();
+    results_are_meant();
+    hand.give_back(rt, hub, pass);
+    let _ = settled(rt, hub.release(rt, pass, task));
+    goes_on_unless(commit_kept(rt, alloc, hub, pass, kept))
 }
 
 // Lets the instance wait, and goes on with what is kept, unless that is to be committed now.
@@ -104,8 +132,8 @@ fn park_beside<'a, J: Naming, D: Disk, R: Wait>(
     }
 }
 
-// The body waits, after it took long or has read items that are kept, or could not look among them; or it is held. What is kept is committed first, and the same run goes on if its item is there then,
-// or after one of up to `held` commits of others. Otherwise the instance waits, and its body is run anew once the item is there.
+// The body waits, after it took long or has read items that are kept, or could not look among them: what is kept is committed first, and the same run goes on if its item is there then. Otherwise
+// the instance waits, and its body is run anew once the item is there.
 fn wait_for_own<'a, J: Naming, D: Disk, R: Wait>(
     rt: &R,
     alloc: Global,
@@ -115,7 +143,6 @@ fn wait_for_own<'a, J: Naming, D: Disk, R: Wait>(
     task: Task,
     run: Run<'a>,
     kept: Option<Batch<'a>>,
-    held: u32,
 ) -> Turned<'a>
     requires run { WaitsIn J.opening.graph (facts_with (facts_behind J.opening pass.old.seen) kept) task run }
     requires claimed { AreClaimed J.opening hand.old.claimed }
@@ -128,12 +155,12 @@ fn wait_for_own<'a, J: Naming, D: Disk, R: Wait>(
     facts_go_on();
     results_are_meant();
     let Some(batch) = kept else {
-        return go_on_alone(rt, alloc, hub, pass, hand, task, run, held);
+        return goes_on_unless(park(rt, hub, pass, task, run));
     };
     let came = commit_before(rt, alloc, hub, pass, batch);
     hand.after_commit(hub.batches());
     match came {
-        Ok(true) => go_on_alone(rt, alloc, hub, pass, hand, task, run, held),
+        Ok(true) => go_on_alone(rt, alloc, hub, pass, hand, task, run),
         Ok(false) => {
             drop(run);
             goes_on_unless(settled(rt, hub.release(rt, pass, task)))
@@ -146,7 +173,7 @@ fn wait_for_own<'a, J: Naming, D: Disk, R: Wait>(
     }
 }
 
-// Lets a run go on if its item is there by now, or after one of up to `held` commits of others, when nothing is kept.
+// Lets a run go on if its item is there by now, when nothing is kept.
 fn go_on_alone<'a, J: Naming, D: Disk, R: Wait>(
     rt: &R,
     alloc: Global,
@@ -155,7 +182,6 @@ fn go_on_alone<'a, J: Naming, D: Disk, R: Wait>(
     hand: &mut Hand,
     task: Task,
     run: Run<'a>,
-    held: u32,
 ) -> Turned<'a>
     requires run { WaitsIn J.opening.graph (facts_behind J.opening pass.old.seen) task run }
     requires claimed { AreClaimed J.opening hand.old.claimed }
@@ -163,19 +189,13 @@ fn go_on_alone<'a, J: Naming, D: Disk, R: Wait>(
     ensures turned { IsTurned J.opening pass.new result }
     ensures asked { result ≡ Ends (Some MetAsked) → ⊥ }
 {
-    let before = hub.batches();
     match hub.resume(rt, pass, run) {
         Ok(Ran::Ended(outcome, statements)) => {
+            hand.note_end(statements);
             hand.note(statements, puts_of(&outcome), false);
-            hand.note_held();
             keep(rt, alloc, hub, pass, hand, task, outcome, None)
         }
-        Ok(Ran::Waits(run, _)) => {
-            if held > 0 && hand.sees_commit(hub, before, held) {
-                return go_on_alone(rt, alloc, hub, pass, hand, task, run, held - 1);
-            }
-            goes_on_unless(park(rt, hub, pass, task, run))
-        }
+        Ok(Ran::Waits(run, _)) => goes_on_unless(park(rt, hub, pass, task, run)),
         Err(error) => {
             let _ = settled(rt, hub.release(rt, pass, task));
             Turned::Ends(Some(stopped_by(error)))
