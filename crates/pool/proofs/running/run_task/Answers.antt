@@ -13,6 +13,9 @@ ends-requires-clause-kept g c =
 pub keep-requires-clause-kept : goal.keep-requires-clause-kept
 keep-requires-clause-kept g c = kept_stay c.facts_are_told_apart.ensures.among c.facts_go_on.ensures.all c.results_are_meant.ensures.stay g.J.Naming.opening c.args.pass.now c.run.new.pass c.args.kept c.run.ensures.pass.starts c.requires.kept
 
+pub leave-requires-clause-kept : goal.leave-requires-clause-kept
+leave-requires-clause-kept g c = kept_stay c.facts_are_told_apart.ensures.among c.facts_go_on.ensures.all c.results_are_meant.ensures.stay g.J.Naming.opening c.args.pass.now c.run.new.pass c.args.kept c.run.ensures.pass.starts c.requires.kept
+
 pub wait_for_own-requires-clause-kept : goal.wait_for_own-requires-clause-kept
 wait_for_own-requires-clause-kept g c = kept_stay c.facts_are_told_apart.ensures.among c.facts_go_on.ensures.all c.results_are_meant.ensures.stay g.J.Naming.opening c.args.pass.now c.run.new.pass c.args.kept c.run.ensures.pass.starts c.requires.kept
 

@@ -1,0 +1,8 @@
+use Rattle.passes.proofs.Lists.{prefix_further}
+use Rattle.pool.proofs.Kept.{kept_stay}
+use Rattle.pool.proofs.running.leave.Goals as goal
+
+pub commit_kept-requires : goal.commit_kept-requires
+commit_kept-requires g c =
+    kept_stay c.facts_are_told_apart.ensures.among c.facts_go_on.ensures.all c.results_are_meant.ensures.stay g.J.Naming.opening c.args.pass.now c.release.new.pass c.args.kept
+    (prefix_further c.args.pass.now.seen c.give_back.new.pass.seen c.release.new.pass.seen c.give_back.ensures.ahead c.release.ensures.seen.0.starts) c.requires.kept
