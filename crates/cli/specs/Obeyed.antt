@@ -1,5 +1,5 @@
 -- What a command did with a store, what it wrote, and what it came to.
-use Rattle.std.specs.Prelude.{◌≡◌, ◌⊎◌, ◌<◌, ◌↔◌, ℕ, true, false, List, ◌++◌, codes, Option, Result, Ok, Err, MatchResult, IfOk, OnOk}
+use Rattle.std.specs.Prelude.{◌≡◌, ◌⊎◌, ◌<◌, ◌↔◌, ℕ, true, List, ◌++◌, codes, Option, Result, Ok, Err, MatchResult, OnOk}
 use Rattle.std.specs.Fmt.{decimal}
 use Rattle.std.specs.Io.KnownBytes.{Appends}
 use Rattle.disk.specs.declared.side.Side.{Side}

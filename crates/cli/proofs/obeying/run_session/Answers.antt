@@ -1,4 +1,4 @@
-use Rattle.std.proofs.Common.{rules, ◌≡◌, false, IsTrue, ℕ, List, Option, sym, subst}
+use Rattle.std.proofs.Common.{rules, ◌≡◌, false, IsTrue, ℕ, List, Option, subst}
 use Rattle.commit.specs.Core.{is_halted}
 use Rattle.pool.specs.Driver.{may_be_asked, may_spawn}
 use Rattle.session.specs.Answers.{drive_of}
