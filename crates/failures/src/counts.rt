@@ -51,7 +51,12 @@ pub(crate) fn has_items(report: &str, items_of: &str) -> bool {
 
 // Whether a text has this line.
 fn has_line(text: &str, wanted: &str) -> bool {
-    text.lines().any(|line: &str| line == wanted)
+    for line in text.lines() {
+        if line == wanted {
+            return true;
+        }
+    }
+    false
 }
 
 /// Whether this is the line at a place of a text.

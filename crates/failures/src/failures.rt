@@ -1,8 +1,8 @@
 //! A failure at each call in turn.
 use crate::calls::{Came, Way, call};
 use crate::crashes::CHOICES;
-use crate::left;
-use crate::right::{self, Deed, Right};
+use crate::left::{broken_by_crash, broken_by_more};
+use crate::right::{Deed, Right, broken_by_text};
 use crate::stage::Stage;
 use crate::streams::Limits;
 use crate::trials::{Kind, Trial, tried};
@@ -95,7 +95,7 @@ fn find<R: Threads + Wait + Sync>(
 ) -> Result<Found, AllocError> {
     let disk = stage.disk()?;
     let (_, came, is_met) = tried(stage, line, Way::Whole, trial, disk)?;
-    if let Some(what) = right::broken(trial.kind, right, &came, is_met) {
+    if let Some(what) = broken_by_text(trial.kind, right, &came, is_met) {
         return Ok(Found::Told(what));
     }
     if !is_met {
@@ -150,7 +150,7 @@ fn recover<R: Threads + Wait + Sync>(
 ) -> Result<Option<&'static str>, AllocError> {
     let (disk, after) = call(stage, "cnc report .", Way::Whole, &Limits::none(), disk)?;
     let before = stage.before.as_str();
-    if let Some(what) = left::broken(kind, right, before, came, after.told.as_str()) {
+    if let Some(what) = broken_by_crash(kind, right, before, came, after.told.as_str()) {
         return Ok(Some(what));
     }
     again(stage, line, right, right.answered(came.told.as_str()), disk)
@@ -165,7 +165,7 @@ fn again<R: Threads + Wait + Sync>(
     disk: MemDisk,
 ) -> Result<Option<&'static str>, AllocError> {
     let (disk, more) = call(stage, line, Way::Whole, &Limits::none(), disk)?;
-    if let Some(what) = left::broken_again(right, answered, more.told.as_str()) {
+    if let Some(what) = broken_by_more(right, answered, more.told.as_str()) {
         return Ok(Some(what));
     }
     let (_, last) = call(stage, "cnc report .", Way::Whole, &Limits::none(), disk)?;

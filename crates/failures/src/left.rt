@@ -24,7 +24,7 @@ const NO_STORE: &str = "no store is there";
 const NOT_A_STORE: &str = "! store refused: not a store\nstatus 4\n";
 
 /// Which promise is broken by what a report says after the crash, if one is: `before` is what it said before the command.
-pub(crate) fn broken(
+pub(crate) fn broken_by_crash(
     kind: Kind,
     right: &Right<'_>,
     before: &str,
@@ -159,7 +159,11 @@ fn of_row(row: u64, left: u64) -> u64 {
 }
 
 /// Which promise is broken by what the command writes when it is called again, if one is; this many lines were answered before.
-pub(crate) fn broken_again(right: &Right<'_>, answered: usize, told: &str) -> Option<&'static str> {
+pub(crate) fn broken_by_more(
+    right: &Right<'_>,
+    answered: usize,
+    told: &str,
+) -> Option<&'static str> {
     let is_right = match right.deed {
         Deed::Create => told == right.writes || told == "! store refused: exists\nstatus 4\n",
         Deed::Turn => told.starts_with("turned, generation "),

@@ -69,21 +69,35 @@ impl LyingDisk {
         ensures refusals { self.new.refusals ≡ self.old.refusals }
     {
         let drawn = self.draw();
-        match drawn.checked_rem(self.rarity) {
-            Some(0) if drawn % 3 != 0 => Mood::Lying,
-            Some(0) if self.hides => {
-                self.hidden = self.hidden.saturating_add(1);
-                Mood::Lying
-            }
-            Some(0) => Mood::Failing,
-            _ => Mood::Honest,
+        if self.rarity > 0 && drawn % self.rarity > 0 {
+            return Mood::Honest;
         }
+        if drawn % 3 > 0 {
+            return Mood::Lying;
+        }
+        if self.hides {
+            self.hidden = self.hidden.saturating_add(1);
+            return Mood::Lying;
+        }
+        Mood::Failing
     }
 
     fn file(&self, side: Side) -> &[u8] {
         match side {
             Side::A => self.a.as_slice(),
             Side::B => self.b.as_slice(),
+        }
+    }
+
+    // Leaves of a file so many bytes, at most.
+    fn shorten(&mut self, side: Side, count: u64)
+        ensures failures { self.new.failures ≡ self.old.failures }
+        ensures refusals { self.new.refusals ≡ self.old.refusals }
+    {
+        let count = usize::try_from(count).unwrap_or(usize::MAX);
+        match side {
+            Side::A => self.a.truncate(count),
+            Side::B => self.b.truncate(count),
         }
     }
 
@@ -208,11 +222,16 @@ impl Disk for LyingDisk {
 
     fn read(&mut self, side: Side, at: u64, buffer: &mut [u8]) -> Result<(), DiskError> {
         match self.mood() {
-            Mood::Failing => return self.fail(),
-            Mood::Lying => invent(self.draw(), buffer),
-            Mood::Honest => give(self.file(side), at, buffer),
+            Mood::Failing => self.fail(),
+            Mood::Lying => {
+                invent(self.draw(), buffer);
+                Ok(())
+            }
+            Mood::Honest => {
+                give(self.file(side), at, buffer);
+                Ok(())
+            }
         }
-        Ok(())
     }
 
     fn write_at(&mut self, side: Side, at: u64, bytes: &[u8]) -> Result<(), DiskError> {
@@ -234,11 +253,7 @@ impl Disk for LyingDisk {
             Mood::Failing => self.fail(),
             Mood::Lying => Ok(()),
             Mood::Honest => {
-                let count = usize::try_from(count).unwrap_or(usize::MAX);
-                match side {
-                    Side::A => self.a.truncate(count),
-                    Side::B => self.b.truncate(count),
-                }
+                self.shorten(side, count);
                 Ok(())
             }
         }

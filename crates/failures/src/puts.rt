@@ -105,16 +105,15 @@ fn crashed(
         return told.push_str("no such crash\n");
     }
     let bytes = disk.len(Side::A).unwrap_or(0);
-    let gate = byte(&mut disk, bytes);
+    let gate = gate(&mut disk);
     let there = is_there(alloc, disk);
     writeln!(told, "{bytes} bytes, byte {GATE} is {gate}, {there}")
 }
 
-// The byte that opens the record, of a file of this length; 0 if it has none.
-fn byte(disk: &mut MemDisk, bytes: u64) -> u8 {
+// The byte that opens the record; 0 if there is none.
+fn gate(disk: &mut MemDisk) -> u8 {
     let mut buffer = [0u8];
     if let Ok(count) = disk.len(Side::A)
-        && count == bytes
         && GATE < count
     {
         let _ = disk.read(Side::A, GATE, &mut buffer);

@@ -26,6 +26,7 @@ impl Deed {
 }
 
 /// What a command writes if nothing fails.
+#[derive(Clone, Copy)]
 pub(crate) struct Right<'a> {
     pub(crate) deed: Deed,
     /// The lines of the script, if it runs one. Each has one line of the replies.
@@ -72,6 +73,7 @@ pub(crate) fn is_put(line: &str) -> bool {
 }
 
 // How a failure is told: where nothing was done, as the reply to a put, and as that to a run, which may be one of two.
+#[derive(Clone, Copy)]
 struct Refusals {
     nothing: &'static str,
     put: &'static str,
@@ -99,7 +101,7 @@ const OTHERWISE: &str = "nothing failed, and it wrote something else";
 const IN_PLACE: &str = "an answer in place of the error";
 
 /// Which promise a command breaks by what it wrote, if it breaks one.
-pub(crate) fn broken(
+pub(crate) fn broken_by_text(
     kind: Kind,
     right: &Right<'_>,
     came: &Came,
