@@ -42,7 +42,7 @@ fn number_at(line: &str, place: usize) -> u64 {
 /// Whether each item of a report is in the other, with the same value.
 pub(crate) fn has_items(report: &str, items_of: &str) -> bool {
     for line in items_of.lines() {
-        if line.starts_with('[') && !has_line(report, line) {
+        if line.starts_with("[") && !has_line(report, line) {
             return false;
         }
     }

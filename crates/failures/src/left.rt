@@ -191,7 +191,13 @@ fn is_completed(right: &Right<'_>, answered: usize, told: &str) -> bool {
             _ => return false,
         }
     }
-    replies.count() == right.report.lines().count() && told.ends_with(right.report)
+    for line in right.report.lines() {
+        match replies.next() {
+            Some(reply) if reply == line => {}
+            _ => return false,
+        }
+    }
+    replies.next().is_none()
 }
 
 // Whether this is a reply to a line that has `first` as its reply if nothing fails.

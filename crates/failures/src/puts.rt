@@ -105,13 +105,13 @@ fn crashed(
         return told.push_str("no such crash\n");
     }
     let bytes = disk.len(Side::A).unwrap_or(0);
-    let gate = gate(&mut disk);
+    let gate = first_byte(&mut disk);
     let there = is_there(alloc, disk);
     writeln!(told, "{bytes} bytes, byte {GATE} is {gate}, {there}")
 }
 
 // The byte that opens the record; 0 if there is none.
-fn gate(disk: &mut MemDisk) -> u8 {
+fn first_byte(disk: &mut MemDisk) -> u8 {
     let mut buffer = [0u8];
     if let Ok(count) = disk.len(Side::A)
         && GATE < count
