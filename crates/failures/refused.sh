@@ -91,7 +91,7 @@ try() {
 # The least memory in which the program starts: it says its version, or that there is no memory.
 limit=$step
 limited "$limit" --version
-while [ "$status" -gt 5 ]; do
+while [ "$status" != 0 ] && [ "$status" != 5 ]; do
     limit=$((limit + step))
     limited "$limit" --version
 done
