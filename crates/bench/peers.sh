@@ -1,16 +1,16 @@
 #!/bin/bash
-# What a step takes in `cnc run`, and what a program that keeps the same rows in SQLite takes, and the bare writes and syncs of a group of eight steps: all in one run,
-# in alternating rounds, on the file system of one folder. It prints the median of the rounds, in microseconds a step, a line each.
+# What a step takes in `cnc run`, and what programs that keep the same rows in SQLite and in LMDB take, and the bare writes and syncs of a group of eight steps: all in one
+# run, in alternating rounds, on the file system of one folder. It prints the median of the rounds, in microseconds a step, a line each.
 #
 # usage: peers.sh CNC [FOLDER [STEPS [SIDE [LINKS [ROUNDS]]]]]
 #     CNC     the program, as `rt run` built it
 #     FOLDER  a folder of the file system that is measured; a new one in it is used, and removed (.)
-#     STEPS   the instances of `wide`, and the steps of SQLite and of the bare writes (20000)
+#     STEPS   the instances of `wide`, and the steps of SQLite, of LMDB and of the bare writes (20000)
 #     SIDE    the side of `wavefront`, which has as many cells as its square (140)
 #     LINKS   the instances of `chain` (2000)
 #     ROUNDS  how often each is measured (5)
 #
-# It needs cc, awk and SQLite with its header: apt-get install gcc sqlite3 libsqlite3-dev
+# It needs cc, awk, SQLite and LMDB with their headers: apt-get install gcc sqlite3 libsqlite3-dev liblmdb-dev
 # Beside other work a sync waits for a processor; where that may be done, `chrt -f 50 peers.sh ..` gives it one at once.
 #
 # Measured of `cnc run`: from the start of the process to its reply `complete`, in a new store, made before. So the start of the process is in it, the opening of the
@@ -23,6 +23,8 @@
 # synchronous=FULL, from the first BEGIN to the last COMMIT, with SQLite's own checkpoints. Eight steps are one transaction. A step inserts its item; or it inserts its
 # item and the mark that it is done. Not in it: the start of the process, the tables, the graph, the tags, the choice of what runs next, the body of the step, and
 # the checkpoint when the database is closed. So it does less than `cnc run` does; it says what its writes and syncs take, not what a program with steps takes.
+#
+# Measured of LMDB: the same, in a new database with its own settings, by which a commit is on the disk when it returns: from the first transaction to the end of the last.
 #
 # Measured of the bare writes: 330 bytes, fdatasync, one byte in front of them, fdatasync, for each eight steps; and nothing else. Once at the end of a file that grows,
 # once over zeros that were written and synced before.
@@ -43,6 +45,7 @@ export LC_ALL=C
 cat >"$room/peer.c" <<'C'
 #define _GNU_SOURCE
 #include <fcntl.h>
+#include <lmdb.h>
 #include <sqlite3.h>
 #include <stdio.h>
 #include <stdlib.h>
@@ -119,6 +122,37 @@ static double database(const char *path, long steps, int marks) {
     return took;
 }
 
+static void keep(MDB_txn *within, MDB_dbi table, size_t key, long long value) {
+    MDB_val k = {sizeof key, &key}, v = {sizeof value, &value};
+    need(mdb_put(within, table, &k, &v, 0) == 0, "a put");
+}
+
+static double map(const char *path, long steps, int marks) {
+    MDB_env *env;
+    MDB_txn *within;
+    MDB_dbi item, done;
+    MDB_stat found;
+    need(mdb_env_create(&env) == 0 && mdb_env_set_mapsize(env, (size_t)1 << 32) == 0 && mdb_env_set_maxdbs(env, 2) == 0, "no map");
+    need(mdb_env_open(env, path, MDB_NOSUBDIR, 0666) == 0, "no map is open");
+    need(mdb_txn_begin(env, NULL, 0, &within) == 0, "no transaction");
+    need(mdb_dbi_open(within, "item", MDB_CREATE | MDB_INTEGERKEY, &item) == 0, "no items");
+    need(mdb_dbi_open(within, "done", MDB_CREATE | MDB_INTEGERKEY, &done) == 0, "no marks");
+    need(mdb_txn_commit(within) == 0, "no tables");
+    double start = now();
+    for (long step = 0; step < steps; step++) {
+        if (step % TOGETHER == 0) need(mdb_txn_begin(env, NULL, 0, &within) == 0, "no transaction");
+        keep(within, item, step, step);
+        if (marks) keep(within, done, step, 0);
+        if (step % TOGETHER == TOGETHER - 1 || step == steps - 1) need(mdb_txn_commit(within) == 0, "no commit");
+    }
+    double took = now() - start;
+    need(mdb_txn_begin(env, NULL, MDB_RDONLY, &within) == 0 && mdb_stat(within, item, &found) == 0, "nothing there");
+    need((long)found.ms_entries == steps, "not all there");
+    mdb_txn_abort(within);
+    mdb_env_close(env);
+    return took;
+}
+
 static double bare(const char *path, long steps, int over) {
     int file = open(path, O_RDWR | O_CREAT | O_TRUNC, 0666);
     char bytes[RECORD] = {0}, gate = 1;
@@ -140,15 +174,22 @@ static double bare(const char *path, long steps, int over) {
 }
 
 int main(int count, char **words) {
-    need(count == 4, "usage: peer one|two|grown|over PATH STEPS");
-    int one = strcmp(words[1], "one") == 0, two = strcmp(words[1], "two") == 0, over = strcmp(words[1], "over") == 0;
+    need(count == 4, "usage: peer one|two|put|puts|grown|over PATH STEPS");
+    const char *kind = words[1], *path = words[2];
     long steps = atol(words[3]);
-    double took = one || two ? database(words[2], steps, two) : bare(words[2], steps, over);
+    double took;
+    if (strcmp(kind, "one") == 0 || strcmp(kind, "two") == 0) {
+        took = database(path, steps, strcmp(kind, "two") == 0);
+    } else if (strcmp(kind, "put") == 0 || strcmp(kind, "puts") == 0) {
+        took = map(path, steps, strcmp(kind, "puts") == 0);
+    } else {
+        took = bare(path, steps, strcmp(kind, "over") == 0);
+    }
     printf("%.3f\n", took / steps);
     return 0;
 }
 C
-cc -O2 -o "$room/peer" "$room/peer.c" -lsqlite3
+cc -O2 -o "$room/peer" "$room/peer.c" -lsqlite3 -llmdb
 
 # ---- the graphs and their scripts
 
@@ -282,7 +323,7 @@ of_cnc() {
 # The microseconds of each step by the program in C.
 of_peer() {
     "$room/peer" "$1" "$room/database" "$steps"
-    rm -f "$room/database" "$room/database-wal" "$room/database-shm"
+    rm -f "$room/database" "$room/database-wal" "$room/database-shm" "$room/database-lock"
 }
 
 # Measures one thing, and keeps what came under its name.
@@ -300,6 +341,8 @@ for ((round = 0; round < rounds; round++)); do
     done
     measure "SQLite, one insert a step" of_peer one
     measure "SQLite, two inserts a step" of_peer two
+    measure "LMDB, one put a step" of_peer put
+    measure "LMDB, two puts a step" of_peer puts
     measure "bare writes and syncs, a file that grows" of_peer grown
     measure "bare writes and syncs, over zeros" of_peer over
 done
@@ -317,6 +360,6 @@ for workers in 1 4; do
         echo "$name: $(middle "$room/$name.times")"
     done
 done
-for name in "SQLite, one insert a step" "SQLite, two inserts a step" "bare writes and syncs, a file that grows" "bare writes and syncs, over zeros"; do
+for name in "SQLite, one insert a step" "SQLite, two inserts a step" "LMDB, one put a step" "LMDB, two puts a step" "bare writes and syncs, a file that grows" "bare writes and syncs, over zeros"; do
     echo "$name: $(middle "$room/$name.times")"
 done

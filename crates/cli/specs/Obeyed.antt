@@ -25,7 +25,9 @@ use Rattle.commit.specs.Created.{IsCreated, LeavesOthers, TellsCreation, answer_
 use Rattle.commit.specs.Opened.{Finds, IsOpened}
 use Rattle.commit.specs.Turning.{TurnsAs}
 use Rattle.report.specs.declared.error.ReportError.{ReportError}
-use Rattle.report.specs.ReportText.{IsReport, line}
+use Rattle.report.specs.declared.format.Format.{Format}
+use Rattle.report.specs.Formats.{IsReportIn}
+use Rattle.report.specs.ReportText.{line}
 use Rattle.session.specs.declared.ending.Ending.{Ending}
 use Rattle.session.specs.declared.error.SessionError.{SessionError}
 use Rattle.session.specs.Answers.{Drive}
@@ -137,11 +139,11 @@ module _ {D : Type 0} (files : D → Side → File) (moment : D → ℕ) (left_a
     pub told : TellsSession last answer outcome
     pub disk : new ≡ last.vault.disk
 
-  pub record Reports (before behind : Option (List ℕ)) (old new : D) (outcome : Outcome) : Type 0 where
+  pub record Reports (format : Format) (before behind : Option (List ℕ)) (old new : D) (outcome : Outcome) : Type 0 where
     pub core : Core D
     pub opened : WasOpened old core
     pub answer : Result (Unit {0}) ReportError
-    pub written : OnOk answer ((text : List ℕ) × IsReport (graph core) (facts core) text × Appends before behind text)
+    pub written : OnOk answer ((text : List ℕ) × IsReportIn format (graph core) (facts core) text × Appends before behind text)
     pub told : TellsReport core answer outcome
     pub disk : new ≡ core.vault.disk
 
@@ -167,7 +169,7 @@ module _ {D : Type 0} (files : D → Side → File) (moment : D → ℕ) (left_a
   abbrev pub Obeys : Drive → Command → (input before behind : Option (List ℕ)) → D → D → Outcome → Type 0
   Obeys drive (asked.Create text directory) input before behind old new outcome = CreatesOrNot input before behind old new outcome
   Obeys drive (asked.Run directory script limit workers) input before behind old new outcome = IsNotOpened before behind old new outcome ⊎ Runs (record drive { most = limit }) input before behind old new outcome
-  Obeys drive (asked.Report directory) input before behind old new outcome = IsNotOpened before behind old new outcome ⊎ Reports before behind old new outcome
+  Obeys drive (asked.Report directory format) input before behind old new outcome = IsNotOpened before behind old new outcome ⊎ Reports format before behind old new outcome
   Obeys drive (asked.Turn directory) input before behind old new outcome = IsNotOpened before behind old new outcome ⊎ TurnsOver before behind old new outcome
   Obeys drive (asked.Draw text) input before behind old new outcome = (new ≡ old) × Draws input before behind outcome
   Obeys drive (asked.DrawStore directory) input before behind old new outcome = IsNotOpened before behind old new outcome ⊎ DrawsStore old new outcome

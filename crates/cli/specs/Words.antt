@@ -1,7 +1,9 @@
 -- What the words of a command line come to.
-use Rattle.std.specs.Prelude.{◌≤◌, ⊤, ℕ}
+use Rattle.std.specs.Prelude.{◌≤◌, ⊤, ℕ, List, codes}
 use Rattle.clap.specs.declared.error.kind.ErrorKind.{ErrorKind}
 use Rattle.clap.specs.declared.error.kind.ErrorKind.TheVariants as kind
+use Rattle.report.specs.declared.format.Format.{Format}
+use Rattle.report.specs.declared.format.Format.TheVariants.{Text, Csv, Json}
 use Rattle.cli.specs.declared.words.Command.{Command}
 use Rattle.cli.specs.declared.words.Command.TheVariants.{Create, Run, Report, Turn, Draw, DrawStore}
 use Rattle.cli.specs.declared.words.TheConstants.{MOST_LIMIT, MOST_WORKERS}
@@ -10,10 +12,16 @@ use Rattle.cli.specs.declared.words.TheConstants.{MOST_LIMIT, MOST_WORKERS}
 abbrev pub IsInRange : Command → Type 0
 IsInRange (Run directory script limit workers) = (limit ≤ MOST_LIMIT) × (1 ≤ workers) × (workers ≤ MOST_WORKERS)
 IsInRange (Create graph directory) = ⊤
-IsInRange (Report directory) = ⊤
+IsInRange (Report directory format) = ⊤
 IsInRange (Turn directory) = ⊤
 IsInRange (Draw graph) = ⊤
 IsInRange (DrawStore directory) = ⊤
+
+-- the word for a format of a report
+abbrev pub format_word : Format → List ℕ
+format_word Text = codes "text"
+format_word Csv = codes "csv"
+format_word Json = codes "json"
 
 -- the status of words that ask for no command: 0 if help was asked for, 5 if memory was refused, else 2
 abbrev pub usage_status_of : ErrorKind → ℕ

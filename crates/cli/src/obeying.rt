@@ -23,7 +23,7 @@ use disk::Disk;
 use drawing::{DrawError, draw_graph, draw_store};
 use graph::{Graph, MOST_TEXT, parse};
 use pool::{Driver, Probe};
-use report::{ReportError, WriterSink, write_report};
+use report::{Format, ReportError, WriterSink, write_report_in};
 use session::{Ending, ReaderSource, SessionError, session};
 use std::alloc::Global;
 use std::io::{ErrorKind, Read, Write};
@@ -85,7 +85,7 @@ fn obeyed<D: Disk + Send, R: Read, W: Write, H: Threads + Wait + Sync, P: Probe>
     match *command {
         Command::Create { .. } => create(alloc, disk, input, out),
         Command::Run { limit, .. } => run(alloc, disk, input, out, driver, limit),
-        Command::Report { .. } => report(alloc, disk, out),
+        Command::Report { format, .. } => report(alloc, disk, format, out),
         Command::Turn { .. } => turn(alloc, disk, out),
         Command::Draw { .. } => (disk, draw(alloc, input, out)),
         Command::DrawStore { .. } => draw_stored(alloc, disk, out),
@@ -266,14 +266,14 @@ fn run_session<D: Disk + Send, R: Read, W: Write, H: Threads + Wait + Sync, P: P
     went
 }
 
-// Writes the report of a store.
-fn report<D: Disk, W: Write>(alloc: Global, disk: D, out: &mut W) -> (D, Outcome)
+// Writes the report of a store in a format.
+fn report<D: Disk, W: Write>(alloc: Global, disk: D, format: Format, out: &mut W) -> (D, Outcome)
     ensures { IsNotOpened D.files D.moment D.left_at D.failures D.refusals (IsTrue D.is_honest) (W.contents out.old) (W.contents out.new) disk result.0 result.1
-        ⊎ Reports D.files D.moment D.left_at D.failures D.refusals (IsTrue D.is_honest) (W.contents out.old) (W.contents out.new) disk result.0 result.1 }
+        ⊎ Reports D.files D.moment D.left_at D.failures D.refusals (IsTrue D.is_honest) format (W.contents out.old) (W.contents out.new) disk result.0 result.1 }
 {
     match Core::open(alloc, disk) {
         Ok(core) => {
-            let outcome = reported(&core, write_report(alloc, &core, out));
+            let outcome = reported(&core, write_report_in(alloc, &core, format, out));
             (core.into_disk(), outcome)
         }
         Err(refused) => {

@@ -1,11 +1,13 @@
 //! The words of a command line, read by `clap`.
-ghost use Rattle.std.specs.Prelude.{◌≡◌, ◌≤◌, ◌⊎◌, IfErr, IfOk, IfSome};
+ghost use Rattle.std.specs.Prelude.{◌≡◌, ◌≢◌, ◌≤◌, ◌⊎◌, IfErr, IfOk, IfSome, MatchOption};
 ghost use Rattle.clap.specs.Words.{kind_of};
-ghost use Rattle.cli.specs.Words.{IsInRange, usage_status_of};
+ghost use Rattle.report.specs.declared.format.Format.{Format as ReportFormat};
+ghost use Rattle.cli.specs.Words.{IsInRange, format_word, usage_status_of};
 
 use clap::builder::ValueParser;
 use clap::error::ErrorKind;
 use clap::{Arg, ArgMatches, Error};
+use report::Format;
 use std::alloc::{AllocError, Global};
 use std::convert::AsStr;
 use std::env::Env;
@@ -19,6 +21,9 @@ pub const MOST_WORKERS: u8 = 64;
 
 // What `--version` prints behind the program's name.
 const VERSION: &str = "0.1, stores of format 1";
+
+// The words for the formats of a report.
+static FORMATS: [&str; 3] = ["text", "csv", "json"];
 
 // The help for the file of a graph.
 const GRAPH_HELP: &str = "The file with the text of the graph; - is the standard input";
@@ -39,9 +44,10 @@ pub enum Command<'a> {
         limit: u64,
         workers: u8,
     },
-    /// Print the report of the store in the directory.
+    /// Print the report of the store in the directory, in this format.
     Report {
         directory: &'a str,
+        format: Format,
     },
     /// Turn over the store in the directory: write it anew, without the records that led to what it holds.
     Turn {
@@ -63,7 +69,7 @@ impl<'a> Command<'a> {
         match self {
             Command::Create { directory, .. }
             | Command::Run { directory, .. }
-            | Command::Report { directory }
+            | Command::Report { directory, .. }
             | Command::Turn { directory }
             | Command::DrawStore { directory } => directory,
             Command::Draw { .. } => "",
@@ -160,8 +166,29 @@ fn command_in<'a>(matches: &ArgMatches<'a>) -> Option<Command<'a>>
                 workers,
             })
         }
-        "report" => Some(Command::Report { directory }),
+        "report" => report_in(found, directory),
         "turn" => Some(Command::Turn { directory }),
+        _ => None,
+    }
+}
+
+// The command to print the report of the store in this directory.
+fn report_in<'a>(found: &ArgMatches<'a>, directory: &'a str) -> Option<Command<'a>>
+    ensures { IfSome result IsInRange }
+{
+    let format = format_of(found.get_str("format")?)?;
+    Some(Command::Report { directory, format })
+}
+
+// The format that a word asks for, if it is the word for one.
+fn format_of(word: &str) -> Option<Format>
+    ensures { MatchOption result ((format : ReportFormat) → word.now ≢ format_word format)
+        (λ format. word.now ≡ format_word format) }
+{
+    match word {
+        "text" => Some(Format::Text),
+        "csv" => Some(Format::Csv),
+        "json" => Some(Format::Json),
         _ => None,
     }
 }
@@ -238,8 +265,11 @@ fn run_line<'a>(alloc: Global) -> Result<clap::Command<'a>, AllocError> {
 fn report_line<'a>(alloc: Global) -> Result<clap::Command<'a>, AllocError> {
     let line = clap::Command::new(alloc, "report")
         .about("Print what a store holds")
-        .after_help("Example: cnc report store");
-    with_argument(Ok(line), directory(alloc))
+        .after_help(
+            "Examples: cnc report store\n          cnc report store --format csv > items.csv",
+        );
+    let line = with_argument(Ok(line), directory(alloc));
+    with_argument(line, format(alloc))
 }
 
 fn turn_line<'a>(alloc: Global) -> Result<clap::Command<'a>, AllocError> {
@@ -322,6 +352,17 @@ fn limit<'a>(alloc: Global) -> Arg<'a> {
         .value_parser(ValueParser::Unsigned(0, MOST_LIMIT))
         .default_value("1000000000")
         .help("How many steps each run of the script may commit, 0 to 1000000000")
+}
+
+fn format<'a>(alloc: Global) -> Arg<'a> {
+    Arg::new(alloc, "format")
+        .long("format")
+        .value_name("FORMAT")
+        .value_parser(ValueParser::Names(FORMATS.as_slice()))
+        .default_value("text")
+        .help(
+            "How it is printed: text; csv, which has the items alone, without counts and fault; or json, an object a line",
+        )
 }
 
 // A required argument.

@@ -1,11 +1,12 @@
 -- Moves of instances change no fact.
-use Rattle.std.proofs.Common.{◌≡◌, inl, inr, ap, refl, Option, Some, None, IfSome}
+use Rattle.std.proofs.Common.{◌≡◌, inl, inr, ap, refl, List, Option, Some, None, IfSome}
 use Rattle.terms.specs.declared.name.Addr.{Addr}
 use Rattle.terms.specs.declared.name.Inst.{Inst}
+use Rattle.terms.specs.declared.put.Put.{Put}
 use Rattle.terms.specs.Facts.{Fact}
 use Rattle.instances.specs.declared.state.State.{State}
 use Rattle.instances.specs.declared.state.State.TheVariants.{Ready, Running, Waiting}
-use Rattle.machine.specs.Machine.{Machine, LooksAgain, Moves, environment, facts, state_of}
+use Rattle.machine.specs.Machine.{Machine, LooksAgain, Moves, WakesFor, environment, facts, state_of}
 
 -- the two machines have the same facts
 pub record SameFacts (old new : Machine) : Type 0 where
@@ -15,6 +16,9 @@ pub record SameFacts (old new : Machine) : Type 0 where
 
 pub of_move : (old new : Machine) (instance : Inst) (to : State) → Moves old new instance to → SameFacts old new
 of_move old new instance to moves = record { graph = moves.graph; environment = moves.environment; facts = moves.facts }
+
+pub of_wake : (old new : Machine) (puts : List Put) → WakesFor old new puts → SameFacts old new
+of_wake old new puts wakes = record { graph = wakes.graph; environment = wakes.environment; facts = wakes.facts }
 
 pub of_equal : (old new : Machine) → new ≡ old → SameFacts old new
 of_equal old new same =

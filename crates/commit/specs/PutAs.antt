@@ -16,3 +16,8 @@ IsPutAs puts address (Some value) = (before behind : List Put) × (puts ≡ befo
 abbrev pub puts_said : Outcome → List Put
 puts_said (Gave given) = given.puts
 puts_said (Fault bad) = []
+
+-- what the outcome puts, if there is one
+abbrev pub puts_in : Option Outcome → List Put
+puts_in None = []
+puts_in (Some outcome) = puts_said outcome

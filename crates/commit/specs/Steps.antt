@@ -1,7 +1,8 @@
 -- Instances that are claimed, parked and given back.
-use Rattle.std.specs.Prelude.{◌≡◌, ◌⊎◌, ◌<◌, ◌-◌, ◌^◌, min, max, ℕ, false, true, Option, None, Some, Result, IfOk, IfErr, IfSome, IsSome, IsErrOf, OnOk, OnErr}
+use Rattle.std.specs.Prelude.{◌≡◌, ◌⊎◌, ◌<◌, ◌-◌, ◌^◌, min, max, ℕ, false, true, List, Option, None, Some, Result, IfOk, IfErr, IfSome, IsSome, IsErrOf, OnOk, OnErr}
 use Rattle.terms.specs.declared.name.Addr.{Addr}
 use Rattle.terms.specs.declared.name.Inst.{Inst}
+use Rattle.terms.specs.declared.put.Put.{Put}
 use Rattle.graph.specs.Fits.{HasNoFault, IsAbsent}
 use Rattle.instances.specs.declared.state.State.{State}
 use Rattle.instances.specs.declared.state.State.TheVariants.{Ready, Running, Waiting}
@@ -36,6 +37,14 @@ pub record MayClaim {D : Type 0} (c : Core D) (at : ℕ) : Type 0 where
 -- one instance comes into a state, and nothing else has changed
 pub record Moves {D : Type 0} (old new : Core D) (instance : Inst) (to : State) : Type 0 where
   pub machine : machine.Moves old.machine new.machine instance to
+  pub vault : new.vault ≡ old.vault
+  pub in_doubt : new.in_doubt ≡ old.in_doubt
+  pub latest : new.latest ≡ old.latest
+  pub allowance : new.allowance ≡ old.allowance
+
+-- the instances that wait for an item that one of these puts puts are ready, and nothing else has changed
+pub record Wakes {D : Type 0} (old new : Core D) (puts : List Put) : Type 0 where
+  pub machine : machine.WakesFor old.machine new.machine puts
   pub vault : new.vault ≡ old.vault
   pub in_doubt : new.in_doubt ≡ old.in_doubt
   pub latest : new.latest ≡ old.latest

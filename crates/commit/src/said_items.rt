@@ -1,7 +1,7 @@
 //! The items that the outcomes of a batch put.
-ghost use Rattle.std.specs.Prelude.{◌≡◌, ◌∷◌, []};
+ghost use Rattle.std.specs.Prelude.{◌≡◌, ◌∷◌, [], slice_get};
 ghost use Rattle.terms.specs.Same.{is_same as is_one};
-ghost use Rattle.commit.specs.PutAs.{IsPutAs, puts_said};
+ghost use Rattle.commit.specs.PutAs.{IsPutAs, puts_in, puts_said};
 
 use crate::{Batch, Outcome};
 use terms::{Addr, Put, facts_are_told_apart};
@@ -23,6 +23,16 @@ impl<'a> Batch<'a> {
             }
         }
         None
+    }
+
+    /// The puts of the outcome with this number; none if there is no such outcome, or if it is a fault.
+    pub fn puts(&self, number: usize) -> &[Put]
+        ensures { result.now ≡ puts_in (slice_get self.now.outcomes number) }
+    {
+        match self.outcomes.get(number) {
+            Some(Outcome::Gave(given)) => given.puts().as_slice(),
+            _ => &[],
+        }
     }
 }
 

@@ -5,6 +5,7 @@ use instances::Task;
 use machine::results_are_meant;
 use std::alloc::Global;
 use steplang::Parked;
+use terms::Put;
 use vault::VaultError;
 
 impl<D: Disk> Core<D> {
@@ -14,7 +15,7 @@ impl<D: Disk> Core<D> {
     ghost use Rattle.commit.specs.declared.error.CoreError.TheVariants.{Store};
     ghost use Rattle.commit.specs.Came.{CameTo};
     ghost use Rattle.commit.specs.Core.{graph as graph_of, state_of};
-    ghost use Rattle.commit.specs.Steps.{Claims, IsParkedOf, Moves, Parks, SetsAllowance};
+    ghost use Rattle.commit.specs.Steps.{Claims, IsParkedOf, Moves, Parks, SetsAllowance, Wakes};
 
     /// Lets `count` steps be committed from now on, or as many as run now if these are more.
     ///
@@ -79,6 +80,14 @@ impl<D: Disk> Core<D> {
         ensures { Moves self.old self.new task Ready }
     {
         self.machine.release(task);
+    }
+
+    /// Makes the instances ready that wait for an item which one of these puts puts, although the item may not be here: so that their bodies can
+    /// be run over results that are not committed yet.
+    pub fn wake(&mut self, puts: &[Put])
+        ensures { Wakes self.old self.new puts.now }
+    {
+        self.machine.wake(puts);
     }
 
     /// Runs the body of the instance of a task over the items that are here, to its end or to an item that is not. The

@@ -22,7 +22,8 @@ use Rattle.terms.specs.declared.name.Addr.{Addr}
 use Rattle.graph.specs.Fits.{IsAbsent}
 use Rattle.instances.specs.declared.state.State.TheVariants as state
 use Rattle.machine.specs.Machine.{HasItem}
-use Rattle.commit.specs.Steps.{Moves, LooksAgain}
+use Rattle.terms.specs.declared.put.Put.{Put}
+use Rattle.commit.specs.Steps.{Moves, LooksAgain, Wakes}
 use Rattle.instances.specs.declared.state.State.{State}
 use Rattle.terms.specs.declared.name.Inst.{Inst}
 use Rattle.vault.specs.declared.vault.Vault.{Vault}
@@ -109,6 +110,13 @@ moves_stay old new instance to moves = record { graph = moves.machine.graph; fac
 pub kept_moved : {D : Type 0} (Ran : List Commit → Core D → Type 0) → RanStays Ran → (opening : Opening) (passes : ℕ) (d : Desk) (old new : Core D) (instance : Inst) (to : State) → IsKept Ran opening passes d old → Moves old new instance to
     → IsKept Ran opening passes d new
 kept_moved Ran ran_stays opening passes d old new instance to kept moves = kept_on Ran ran_stays opening passes d old new kept (moves_stay old new instance to moves) moves.vault moves.in_doubt
+
+-- those that wait for an item are woken
+pub kept_woken : {D : Type 0} (Ran : List Commit → Core D → Type 0) → RanStays Ran → (opening : Opening) (passes : ℕ) (d : Desk) (old new : Core D) (puts : List Put) → IsKept Ran opening passes d old → Wakes old new puts
+    → IsKept Ran opening passes d new
+kept_woken Ran ran_stays opening passes d old new puts kept wakes =
+    kept_on Ran ran_stays opening passes d old new kept (record { graph = wakes.machine.graph; facts = wakes.machine.facts; environment = wakes.machine.environment; allowance = wakes.allowance; latest = wakes.latest })
+    wakes.vault wakes.in_doubt
 
 -- what a call says of the core that is kept, it says of the core that is seen, and of the event as it is named
 pub commits_as : {D T : Type 0} (files : D → Side → File) (moment : D → ℕ) (left_at : D → ℕ → Contents → Type 0) (failures refusals : D → ℕ) (honest : Type 0) (inside seen new : Core D) (why : Core D → Refusal → Type 0)

@@ -1,6 +1,6 @@
 //! Several claims, under the lock.
 ghost use Rattle.std.specs.Prelude.{◌≡◌, ◌≢◌, ◌↔◌, ◌≤◌, ◌<◌, true};
-ghost use Rattle.commit.specs.Steps.{running_count};
+ghost use Rattle.commit.specs.Steps.{Wakes, running_count};
 ghost use Rattle.passes.specs.Visits.{Shows};
 ghost use Rattle.hub.specs.Claims.{AddsClaimed, ClaimsOne, ClaimsSome};
 ghost use Rattle.hub.specs.Replies.{AddsNothing, Sees};
@@ -10,6 +10,7 @@ use commit::CoreError;
 use disk::Disk;
 use instances::Tasks;
 use passes::{Board, Naming};
+use terms::Put;
 use vault::VaultError;
 
 impl<J: Naming, D: Disk> Kept<J, D> {
@@ -62,6 +63,14 @@ impl<J: Naming, D: Disk> Kept<J, D> {
             }
         }
         Ok(self.runs_any())
+    }
+
+    /// As the core's `wake`.
+    pub fn wake(&mut self, puts: &[Put])
+        ensures core { Wakes self.old.core self.new.core puts.now }
+        ensures history { self.new.history ≡ self.old.history }
+    {
+        self.core.wake(puts);
     }
 
     // Whether an instance runs.

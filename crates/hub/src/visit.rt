@@ -5,6 +5,7 @@ use instances::{Task, Tasks};
 use machine::Ended;
 use passes::Naming;
 use std::sync::MutexGuard;
+use terms::Put;
 
 /// The lock of a hub, held for several calls: no other thread commits or claims between them. Whoever has it must make no call of the hub itself that waits.
 /// The lock is left once the visit is dropped.
@@ -61,6 +62,27 @@ impl<'h, J: Naming, D: Disk> Visit<'h, J, D> {
     {
         self.kept
             .claim_some(&self.hub.board, pass, tasks, most, self.hub.count)
+    }
+
+    /// Claims the instances that wait for an item which one of these puts puts, although the item may not be there: so that their bodies can be run over results that
+    /// are not committed yet. It adds the tasks of up to `most` of them to these; the others are ready. `Ok` says whether an instance runs then. If there is no memory for a
+    /// task, its instance is ready; the tasks before it were added.
+    pub fn claim_waiting(
+        &mut self,
+        pass: &mut WorkPass<J>,
+        tasks: &mut Tasks,
+        puts: &[Put],
+        most: usize,
+    ) -> Result<bool, CoreError>
+        ensures seen { Sees J.opening pass.old pass.new × AddsNothing pass.old pass.new }
+        ensures claimed { AddsClaimed J.opening pass.new most tasks.old tasks.new }
+        ensures refused { IfErr result RefusesClaims }
+    {
+        let ready = self.kept.core.ready();
+        self.kept.wake(puts);
+        let woken = self.kept.core.ready().saturating_sub(ready);
+        self.kept
+            .claim_some(&self.hub.board, pass, tasks, most.min(woken), 1)
     }
 
     /// As the hub's `release`.

@@ -1,5 +1,5 @@
 -- How many instances wait is counted as they move; and how many are done follows from what is counted.
-use Rattle.std.proofs.Common.{◌≡◌, ◌∙◌, ap, sym, refl, ℕ, ◌+◌, ◌-◌, ◌≤◌, ℤ, Bool, true, List, [], ◌∷◌, length, sum_by, Option, Some, None, arith}
+use Rattle.std.proofs.Common.{◌≡◌, ◌∙◌, ap, sym, refl, ℕ, ◌+◌, ◌-◌, ◌≤◌, ℤ, true, List, [], ◌∷◌, length, sum_by, Option, Some, None, arith}
 use Rattle.std.specs.FinMap.{FinMap, entries, get, insert}
 use Rattle.terms.specs.Key.{key_cmp}
 use Rattle.maps.specs.Keyed.{Keyed, Adds}

@@ -16,6 +16,8 @@ use terms::{Addr, Inst, StepCollection, Tag, TagCollection};
 pub struct Instances {
     pub(crate) tags: CollectionMap<bool>,
     steps: Vec<Step>,
+    // The number behind that of the step of which an instance was claimed last.
+    turn: usize,
 }
 
 impl Model for Instances {
@@ -56,7 +58,11 @@ impl Instances {
     {
         let tags = CollectionMap::new(alloc, tags)?;
         let steps = fresh_steps(alloc, prescribers)?;
-        Ok(Instances { tags, steps })
+        Ok(Instances {
+            tags,
+            steps,
+            turn: 0,
+        })
     }
 
     /// These tags, which it takes over, and the instances that they prescribe: as done if they are among `ended`, each by the number of its
@@ -71,7 +77,11 @@ impl Instances {
         ensures { IfOk result (IsRestored tags ended.now.items prescribers.now) }
     {
         let steps = restored_steps(alloc, &tags, ended, prescribers)?;
-        Ok(Instances { tags, steps })
+        Ok(Instances {
+            tags,
+            steps,
+            turn: 0,
+        })
     }
 
     /// The tags that are there, in order, each with a mark whether the environment put it.
@@ -252,8 +262,43 @@ impl Instances {
         }
     }
 
-    /// Lets one of the ready instances run, by its number among them.
+    /// Lets one of the ready instances run, by its number among them. For number 0 the steps take turns, so that none waits until all instances of another are done.
     pub fn claim(&mut self, at: usize) -> Option<Task>
+        ensures some { at < total is_ready self.old → IsSome result }
+        ensures none { total is_ready self.old ≤ at → (result ≡ None) × (self.new ≡ self.old) }
+        ensures claimed { IfSome result (λ task. (state_at self.old task ≡ Some Ready) × MovesOne self.old self.new task Running) }
+    {
+        if at == 0 {
+            if let Some(task) = self.claim_in_turn() {
+                return Some(task);
+            }
+        }
+        self.claim_at(at)
+    }
+
+    // Lets the first ready instance of a step run: of the first step that has one, from the one on whose turn it is. None if no step from there on has any.
+    fn claim_in_turn(&mut self) -> Option<Task>
+        ensures some { IsSome result → 0 < total is_ready self.old }
+        ensures none { result ≡ None → self.new ≡ self.old }
+        ensures claimed { IfSome result (λ task. (state_at self.old task ≡ Some Ready) × MovesOne self.old self.new task Running) }
+    {
+        for number in self.turn..self.steps.len() {
+            let ready = self.steps[number].instances.ready();
+            if ready > 0 {
+                let key = self.steps[number].instances.claim(0)?;
+                self.turn = number + 1;
+                let collection = StepCollection(number as u16);
+                return Some(Task {
+                    inst: Inst { collection, key },
+                });
+            }
+        }
+        self.turn = 0;
+        None
+    }
+
+    // Lets one of the ready instances run, by its number among them, step by step.
+    fn claim_at(&mut self, at: usize) -> Option<Task>
         ensures some { at < total is_ready self.old → IsSome result }
         ensures none { total is_ready self.old ≤ at → (result ≡ None) × (self.new ≡ self.old) }
         ensures claimed { IfSome result (λ task. (state_at self.old task ≡ Some Ready) × MovesOne self.old self.new task Running) }

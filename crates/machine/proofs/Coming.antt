@@ -193,6 +193,27 @@ module _ (a : Addr) where
       at false false is here =
           ap (λ b. waits_at c (cond b (Some Ready) (Some (Waiting other)))) is ∙ sym (ap (λ b. cond b false (is_same c other)) here)
 
+-- who is listed after those that wait at an address were woken and taken off its list
+module _ (old new : Memory) (a : Addr) (listed : AreListed old) (taken : new.items.waiting ≡ remove old.items.waiting (place a)) (wakes : Wakes old.instances new.instances (waiters_at old.items a)) where
+  pub woken_states : (i : Inst) → state_at new.instances i ≡ woken a (state_at old.instances i)
+  woken_states i = wakes.states i ∙ ap (λ b. cond b (Some Ready) (state_at old.instances i)) (listed.listed i a)
+
+  pub woken_listed : (i : Inst) (c : Addr) → is_one_of i (waiters_at new.items c) ≡ waits_at c (state_at new.instances i)
+  woken_listed i c =
+      ap (is_one_of i) (taken_at old.items new.items a taken c) ∙ none_of (is_same c a) ∙ ap (cond (is_same c a) false) (listed.listed i c) ∙ sym (waits_after a c (state_at old.instances i))
+      ∙ ap (waits_at c) (sym (woken_states i))
+    where
+      none_of : (b : Bool) → is_one_of i (cond b [] (waiters_at old.items c)) ≡ cond b false (is_one_of i (waiters_at old.items c))
+      none_of true = refl
+      none_of false = refl
+
+  pub woken_once : (c : Addr) → IsOnceEach (waiters_at new.items c)
+  woken_once c = subst IsOnceEach (sym (taken_at old.items new.items a taken c)) (few (is_same c a))
+    where
+      few : (b : Bool) → IsOnceEach (cond b [] (waiters_at old.items c))
+      few true = tt
+      few false = listed.once c
+
 -- ---- an item
 
 module _ (told : OneFact) (old new : Memory) (a : Addr) (value : ℤ) (by : Producer) where
@@ -205,7 +226,7 @@ module _ (told : OneFact) (old new : Memory) (a : Addr) (value : ℤ) (by : Prod
     items = put_at old.items new.items a value by adds
 
     states : (i : Inst) → state_at new.instances i ≡ woken a (state_at old.instances i)
-    states i = wakes.states i ∙ ap (λ b. cond b (Some Ready) (state_at old.instances i)) (listed.listed i a)
+    states = woken_states old new a listed taken wakes
 
     item_facts : (fact : Fact) → facts_of new fact ≡ with_facts (facts_of old) (item a value by ∷ []) fact
     item_facts (tag name) = ap (λ tags. is_some (get tags (name.collection.0, name.key))) (ap (λ (t : Numbered Bool). t.items) wakes.tags) ∙ sym (or_false _)
@@ -244,20 +265,10 @@ module _ (told : OneFact) (old new : Memory) (a : Addr) (value : ℤ) (by : Prod
 
     still_listed : AreListed new
     still_listed = record {
-      listed = λ i c.
-          ap (is_one_of i) (taken_at old.items new.items a taken c) ∙ none_of i c (is_same c a) ∙ ap (cond (is_same c a) false) (listed.listed i c)
-          ∙ sym (waits_after a c (state_at old.instances i)) ∙ ap (waits_at c) (sym (states i));
-      once = λ c. subst IsOnceEach (sym (taken_at old.items new.items a taken c)) (few c (is_same c a));
+      listed = woken_listed old new a listed taken wakes;
+      once = woken_once old new a listed taken wakes;
       absent = λ i c is. (still_waits new (state_at old.instances i) (state_at new.instances i) c (goes i) is).1;
     }
-      where
-        none_of : (i : Inst) (c : Addr) (b : Bool) → is_one_of i (cond b [] (waiters_at old.items c)) ≡ cond b false (is_one_of i (waiters_at old.items c))
-        none_of i c true = refl
-        none_of i c false = refl
-
-        few : (c : Addr) (b : Bool) → IsOnceEach (cond b [] (waiters_at old.items c))
-        few c true = tt
-        few c false = listed.once c
 
     room_of : (c : ItemCollection) (t : Bool) → nat_eq a.collection.0 c.0 ≡ t → 0 < room_for old.items a.collection → room_for old.items c ≤ room_for new.items c + ((if t then 1 else 0) + 0)
     room_of c true is room =

@@ -1,5 +1,6 @@
 pub mod Absent
 pub mod AlongItems
+pub mod Awake
 pub mod Beginning
 pub mod Coming
 pub mod DistinctCounted

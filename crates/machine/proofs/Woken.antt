@@ -1,5 +1,5 @@
 -- Waiting instances become ready one after another.
-use Rattle.std.proofs.Common.{◌≡◌, ◌≢◌, ◌∙◌, ap, sym, refl, subst, ℕ, zero, suc, ◌<◌, ◌≤◌, Bool, true, false, cond, ◌||◌, List, [], ◌∷◌, ◌+◌, take, drop, length, get_or, Option, Some, arith}
+use Rattle.std.proofs.Common.{◌≡◌, ◌≢◌, ◌∙◌, ap, sym, refl, subst, ℕ, zero, suc, ◌<◌, ◌≤◌, Bool, true, false, cond, ◌||◌, List, [], ◌∷◌, ◌+◌, take, drop, length, get_or, Option, Some, None, arith}
 use Rattle.std.proofs.lemmas.Bool.{false≢true}
 use Rattle.std.proofs.lemmas.List.Folds.{list_any_more}
 use Rattle.std.specs.FinMap.{IsAntisymmetric}
@@ -10,8 +10,8 @@ use Rattle.terms.specs.declared.name.Inst.{Inst}
 use Rattle.terms.specs.Name.{inst_cmp}
 use Rattle.items.specs.Once.{is_one_of}
 use Rattle.instances.specs.declared.state.State.{State}
-use Rattle.instances.specs.declared.state.State.TheVariants.{Ready}
-use Rattle.instances.specs.OfStep.{IsWaiting}
+use Rattle.instances.specs.declared.state.State.TheVariants.{Ready, Running, Waiting, Done}
+use Rattle.instances.specs.OfStep.{IsWaiting, is_running, one_if}
 use Rattle.instances.specs.Known.{Known, state_at, MovesOne}
 use Rattle.machine.specs.Waking.{EachWaits, Wakes}
 
@@ -30,7 +30,15 @@ left_none (suc n) (x ∷ xs) past = left_none n xs (omega (arith, past))
 
 -- nothing is woken
 pub wakes_none : (known : Known) → Wakes known known []
-wakes_none known = record { tags = refl; states = λ i. refl; prescribers = λ n. refl; room = λ c. refl }
+wakes_none known = record { tags = refl; states = λ i. refl; prescribers = λ n. refl; running = refl; room = λ c. refl }
+
+-- one that waits does not run
+runs_not : (state : Option State) → IsWaiting state → one_if is_running state ≡ 0
+runs_not None waits = absurd waits
+runs_not (Some Ready) waits = absurd waits
+runs_not (Some Running) waits = absurd waits
+runs_not (Some (Waiting address)) waits = refl
+runs_not (Some Done) waits = absurd waits
 
 -- if a disjunction is false, both its parts are
 neither : (a b : Bool) → (a || b) ≡ false → (a ≡ false) × (b ≡ false)
@@ -71,9 +79,9 @@ module _ (total : IsTotalOrder inst_cmp) (tie : IsAntisymmetric inst_cmp) where
       (behind.0, ap (λ b. b || is_one_of last (take k ws)) (unlike first last apart.1) ∙ behind.1, (waits.0, apart.0, behind.2))
 
   -- waking the last, and then those before it, is waking them all
-  pub wakes_more : (old mid new : Known) (k : ℕ) (ws : List Inst) (last : Inst) → k < length ws → last ≡ get_or ws k last → MovesOne old mid last Ready → Wakes mid new (take k ws)
-      → Wakes old new (take (suc k) ws)
-  wakes_more old mid new k ws last within is moves wakes = record {
+  pub wakes_more : (old mid new : Known) (k : ℕ) (ws : List Inst) (last : Inst) → k < length ws → last ≡ get_or ws k last → IsWaiting (state_at old last) → MovesOne old mid last Ready
+      → Wakes mid new (take k ws) → Wakes old new (take (suc k) ws)
+  wakes_more old mid new k ws last within is waits moves wakes = record {
     tags = wakes.tags ∙ moves.tags;
     states = λ i.
         wakes.states i
@@ -81,6 +89,7 @@ module _ (total : IsTotalOrder inst_cmp) (tie : IsAntisymmetric inst_cmp) where
         (λ other. moves.others i (λ same. false≢true (sym other ∙ ap (λ (j : Inst). eq_by_cmp inst_cmp j last) same ∙ itself last)))
         ∙ ap (λ b. cond b (Some Ready) (state_at old i)) (sym (one_more i k ws last within is));
     prescribers = λ n. wakes.prescribers n ∙ moves.prescribers n;
+    running = omega (arith, wakes.running, moves.counts is_running, runs_not (state_at old last) waits);
     room = λ c. wakes.room c ∙ moves.room c;
   }
     where

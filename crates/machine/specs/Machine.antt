@@ -14,7 +14,7 @@ use Rattle.terms.specs.Facts.{Fact, tag, bad, event_facts, environment_facts}
 use Rattle.terms.specs.Sets.{Facts, with_facts}
 use Rattle.steptree.specs.Nameable.{Collection}
 use Rattle.graph.specs.Graph.{Graph, EnvironmentMayPutItem, EnvironmentMayPutTag}
-use Rattle.graph.specs.Fits.{HasNoFault, IsAbsent, AddressIsOf, TagIsOf}
+use Rattle.graph.specs.Fits.{HasNoFault, IsAbsent, AddressIsOf, TagIsOf, addresses}
 use Rattle.items.specs.Held as items_held
 use Rattle.instances.specs.declared.state.State.{State}
 use Rattle.instances.specs.declared.state.State.TheVariants.{Ready, Running, Waiting, Done}
@@ -29,6 +29,7 @@ use Rattle.machine.specs.declared.end.End.TheVariants as end
 use Rattle.machine.specs.Meaning.{items}
 use Rattle.machine.specs.Putting.{items_to, tags_to, HasRoomFor}
 use Rattle.machine.specs.Memory.{facts_of, environment_of}
+use Rattle.machine.specs.Waking.{woken_among}
 
 pub record Machine : Type 0 where
   pub graph : Graph
@@ -133,6 +134,17 @@ pub record Moves (old new : Machine) (instance : Inst) (to : State) : Type 0 whe
 -- if the item is there by now, the instance is ready; otherwise it waits
 abbrev pub LooksAgain : Machine → Machine → Inst → Addr → Type 0
 LooksAgain old new instance address = (IsAbsent (facts old) address × Moves old new instance (Waiting address)) ⊎ (HasItem (facts old) address × Moves old new instance Ready)
+
+-- The instances that wait for an item that one of these puts puts are ready, although it may not be there. No fact, no other instance and no
+-- room has changed.
+pub record WakesFor (old new : Machine) (puts : List Put) : Type 0 where
+  pub graph : new.graph ≡ old.graph
+  pub facts : (fact : Fact) → facts new fact ≡ facts old fact
+  pub environment : (fact : Fact) → environment new fact ≡ environment old fact
+  pub states : (instance : Inst) → state_of new instance ≡ woken_among (addresses puts) (state_of old instance)
+  pub running : running_count new ≡ running_count old
+  pub item_room : (collection : ItemCollection) → item_room new collection ≡ item_room old collection
+  pub tag_room : (collection : TagCollection) → tag_room new collection ≡ tag_room old collection
 
 -- ---- room
 

@@ -20,12 +20,13 @@ impl Memory {
     ghost use Rattle.terms.specs.declared.put.TheConstants.{MOST_PUTS};
     ghost use Rattle.terms.specs.declared.put.Put.TheVariants.{Item, Tag as Name};
     ghost use Rattle.terms.specs.Facts.{item, tag as name, put_facts};
-    ghost use Rattle.graph.specs.Fits.{IsAbsent};
+    ghost use Rattle.graph.specs.Fits.{IsAbsent, addresses};
     ghost use Rattle.items.specs.Held.{IsOfCollection, room_for, waiters_at, with_waiter};
     ghost use Rattle.items.specs.Once.{is_one_of};
     ghost use Rattle.instances.specs.declared.state.State.TheVariants.{Ready, Running, Waiting};
     ghost use Rattle.instances.specs.Known.{MovesOne, room_for as tags_for, state_at};
     ghost use Rattle.machine.specs.Memory.{AreListed, facts_of};
+    ghost use Rattle.machine.specs.Waking.{Awakens};
     ghost use Rattle.machine.specs.Coming.{CanTake, CanTakeAll, Grows, IsNewTo, fact_of, given_by};
 
     /// Puts what an instance put, one put after the other.
@@ -69,6 +70,37 @@ impl Memory {
         let waiters = self.items.take_waiters(place);
         wake_all(&mut self.instances, &waiters);
         let _ = self.items.put(addr, value, producer);
+    }
+
+    /// Makes the instances ready that wait for an item which one of these puts puts.
+    pub(crate) fn wake_for(&mut self, puts: &[Put])
+        requires { AreListed self.old }
+        ensures { Awakens self.old self.new (addresses puts.now) }
+    {
+        for place in 0..puts.len() {
+            self.wake_by(&puts[place]);
+        }
+    }
+
+    // Makes the instances ready that wait for the item of a put, if it is of an item.
+    fn wake_by(&mut self, put: &Put)
+        requires { AreListed self.old }
+        ensures { Awakens self.old self.new (addresses (put.now ∷ [])) }
+    {
+        match put {
+            Put::Item(addr, _) => self.wake_at(*addr),
+            Put::Tag(_) => {}
+        }
+    }
+
+    // Makes the instances ready that wait at an address.
+    fn wake_at(&mut self, addr: Addr)
+        requires { AreListed self.old }
+        ensures { Awakens self.old self.new (addr ∷ []) }
+    {
+        orders_are_total();
+        let waiters = self.items.take_waiters(addr);
+        wake_all(&mut self.instances, &waiters);
     }
 
     /// Lets an instance that runs wait at an address, where it is listed. If memory is refused, it is ready.

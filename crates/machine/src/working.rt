@@ -1,14 +1,14 @@
 use crate::Machine;
 use instances::Task;
 use std::alloc::AllocError;
-use terms::{Addr, facts_are_told_apart, orders_are_total};
+use terms::{Addr, Put, facts_are_told_apart, orders_are_total};
 
 impl Machine {
     ghost use Rattle.std.specs.Prelude.{◌≡◌, ◌==◌, ◌<◌, ◌≤◌, IfSome, IsSome, OnErr, OnOk, None, Some, cond, is_some};
     ghost use Rattle.instances.specs.declared.state.State.TheVariants.{Ready, Running};
     ghost use Rattle.graph.specs.Fits.{IsAbsent, HasNoFault};
     ghost use Rattle.machine.specs.Legal.{Needs};
-    ghost use Rattle.machine.specs.Machine.{LooksAgain, Moves, facts, ready_count, state_of};
+    ghost use Rattle.machine.specs.Machine.{LooksAgain, Moves, WakesFor, facts, ready_count, state_of};
 
     /// Lets one of the ready instances run, by its index among them; which instance an index stands for is unspecified. `None`
     /// if the index is not below their number, or if a fault stopped the store.
@@ -52,5 +52,13 @@ impl Machine {
     {
         orders_are_total();
         self.memory.instances.release(task);
+    }
+
+    /// Makes the instances ready that wait for an item which one of these puts puts, although the item may not be there: so that their bodies can
+    /// be run over results that are not committed yet.
+    pub fn wake(&mut self, puts: &[Put])
+        ensures { WakesFor self.old self.new puts.now }
+    {
+        self.memory.wake_for(puts);
     }
 }

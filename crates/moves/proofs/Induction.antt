@@ -29,14 +29,14 @@ use Rattle.commit.specs.Outcome.{end_of}
 use Rattle.commit.specs.Runs.{in_one}
 use Rattle.commit.specs.Went.{GoesOn}
 use Rattle.commit.proofs.Ended.{end_is_told}
-use Rattle.moves.specs.Call.{Call, Does, Tries, acknowledged, puts_item, puts_tag, claims, parks, releases, finishes, finishes_all, turns, allows}
+use Rattle.moves.specs.Call.{Call, Does, Tries, acknowledged, puts_item, puts_tag, claims, parks, releases, wakes, finishes, finishes_all, turns, allows}
 use Rattle.moves.specs.Move.{Leads, LeadsAll, Move, Place, at_core, at_disk, whole, cut, goes_on, going_cut, crashes, gives_back, crashes_again, opens, opening_cut}
 use Rattle.moves.specs.Order.{Extends, ExtendsAll, HaltedBy, History, TriesNone, acknowledged_by, begun as begun_order}
 use Rattle.moves.specs.There.{IsThere, Leaves}
 use Rattle.moves.specs.Every.{Along, ForEverySchedule, IsKnown, Means}
 use Rattle.moves.proofs.Calls.{Leaving, LeavesAt, Stood, comes, leaving, rest_leaves, rests, turned, with_commit, with_doubt}
 use Rattle.moves.proofs.Going.{after_legal, leaving as leaving_in_part, part_legal, stood_after, with_commits, with_doubts}
-use Rattle.moves.proofs.Kept.{allowed, claimed, moved, parked}
+use Rattle.moves.proofs.Kept.{allowed, claimed, moved, parked, woken}
 use Rattle.moves.proofs.Known.{IsLegal}
 use Rattle.moves.proofs.Meant.{means, stands_within}
 use Rattle.moves.proofs.Openings.{crashed, created, cut_reading, only_read, opened_well, opens_or_errs}
@@ -155,6 +155,8 @@ module _
           stays_whole (parks instance address result) h old new refl (λ _ commit tries. tries) (rests files moment left_at failures refusals honest on both now reads held appends g h old new stood keeps (parked old new instance address result does)).0 legal
       by_call (releases instance) does =
           stays_whole (releases instance) h old new refl (λ _ commit tries. tries) (rests files moment left_at failures refusals honest on both now reads held appends g h old new stood keeps (moved old new instance Ready does)).0 legal
+      by_call (wakes puts) does =
+          stays_whole (wakes puts) h old new refl (λ _ commit tries. tries) (rests files moment left_at failures refusals honest on both now reads held appends g h old new stood keeps (woken old new puts does)).0 legal
       by_call (turns result) does =
           stays_whole (turns result) h old new refl (λ _ commit tries. tries) (turned files moment left_at failures refusals honest on both now reads held appends g h old new stood keeps result does).0 legal
       by_call (allows count result) does =
@@ -180,6 +182,8 @@ module _
           cut_still (parks instance address result) h old new disk (rests files moment left_at failures refusals honest on both now reads held appends g h old new stood keeps (parked old new instance address result does)).1 left legal
       by_cut (releases instance) disk does left =
           cut_still (releases instance) h old new disk (rests files moment left_at failures refusals honest on both now reads held appends g h old new stood keeps (moved old new instance Ready does)).1 left legal
+      by_cut (wakes puts) disk does left =
+          cut_still (wakes puts) h old new disk (rests files moment left_at failures refusals honest on both now reads held appends g h old new stood keeps (woken old new puts does)).1 left legal
       by_cut (turns result) disk does left =
           cut_still (turns result) h old new disk (turned files moment left_at failures refusals honest on both now reads held appends g h old new stood keeps result does).1 left legal
       by_cut (allows count result) disk does left =

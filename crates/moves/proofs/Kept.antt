@@ -1,7 +1,8 @@
 -- Calls that change nothing on the disk.
-use Rattle.std.proofs.Common.{◌≡◌, ap, refl, inl, inr, ℕ, Option, None, Some, Result, Ok, Err}
+use Rattle.std.proofs.Common.{◌≡◌, ap, refl, inl, inr, ℕ, List, Option, None, Some, Result, Ok, Err}
 use Rattle.terms.specs.declared.name.Addr.{Addr}
 use Rattle.terms.specs.declared.name.Inst.{Inst}
+use Rattle.terms.specs.declared.put.Put.{Put}
 use Rattle.instances.specs.declared.state.State.{State}
 use Rattle.instances.specs.declared.state.State.TheVariants.{Ready, Running, Waiting}
 use Rattle.commit.specs.declared.error.CoreError.{CoreError}
@@ -9,7 +10,7 @@ use Rattle.commit.specs.Calls.{KeepsStore, Stays}
 use Rattle.vault.specs.Store.{IsSame}
 use Rattle.commit.proofs.Same.{same_vault}
 use Rattle.commit.specs.Core.{Core, graph, facts, environment}
-use Rattle.commit.specs.Steps.{Claims, LooksAgain, Moves, Parks, SetsAllowance}
+use Rattle.commit.specs.Steps.{Claims, LooksAgain, Moves, Parks, SetsAllowance, Wakes}
 
 module _ {D : Type 0} (old new : Core D) where
   same_core : new ≡ old → KeepsStore old new
@@ -30,6 +31,16 @@ module _ {D : Type 0} (old new : Core D) where
     vault = same_vault old.vault new.vault moves.vault;
     in_doubt = moves.in_doubt;
     latest = moves.latest;
+  }
+
+  pub woken : (puts : List Put) → Wakes old new puts → KeepsStore old new
+  woken puts wakes = record {
+    graph = wakes.machine.graph;
+    facts = wakes.machine.facts;
+    environment = wakes.machine.environment;
+    vault = same_vault old.vault new.vault wakes.vault;
+    in_doubt = wakes.in_doubt;
+    latest = wakes.latest;
   }
 
   looked : (instance : Inst) (address : Addr) → LooksAgain old new instance address → KeepsStore old new

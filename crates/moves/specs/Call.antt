@@ -6,6 +6,7 @@ use Rattle.disk.specs.Time.{Contents}
 use Rattle.terms.specs.declared.name.Addr.{Addr}
 use Rattle.terms.specs.declared.name.Tag.{Tag}
 use Rattle.terms.specs.declared.name.Inst.{Inst}
+use Rattle.terms.specs.declared.put.Put.{Put}
 use Rattle.terms.specs.declared.event.Event.{Event}
 use Rattle.terms.specs.declared.event.Event.TheVariants.{EnvItem, EnvTag}
 use Rattle.terms.specs.Commits.{Commit}
@@ -21,16 +22,17 @@ use Rattle.commit.specs.Calls.{CommitsAs}
 use Rattle.commit.specs.Core.{Core, graph, facts}
 use Rattle.commit.specs.Outcome.{IsEndOf, end_of}
 use Rattle.commit.specs.Runs.{Ends}
-use Rattle.commit.specs.Steps.{Claims, Moves, Parks, SetsAllowance}
+use Rattle.commit.specs.Steps.{Claims, Moves, Parks, SetsAllowance, Wakes}
 use Rattle.commit.specs.Turning.{TurnsAs}
 
--- `put_item`, `put_tag`, `claim`, `park`, `release`, `finish`, `finish_all`, `turn` and `allow`
+-- `put_item`, `put_tag`, `claim`, `park`, `release`, `wake`, `finish`, `finish_all`, `turn` and `allow`
 pub data Call : Type 0 where
   puts_item : Addr → ℤ → Result (Unit {0}) CoreError → Call
   puts_tag : Tag → Result (Unit {0}) CoreError → Call
   claims : ℕ → Result (Option Inst) CoreError → Call
   parks : Inst → Addr → Result (Unit {0}) CoreError → Call
   releases : Inst → Call
+  wakes : List Put → Call
   finishes : Inst → Outcome → Result Committed CoreError → Call
   finishes_all : List Inst → (ends : List Event) → Result Ended CoreError → Call
   turns : Result ℕ CoreError → Call
@@ -46,6 +48,7 @@ module _ {D : Type 0} (files : D → Side → File) (moment : D → ℕ) (left_a
   Does (claims at result) old new = Claims old new at result
   Does (parks instance address result) old new = Parks old new instance address result
   Does (releases instance) old new = Moves old new instance Ready
+  Does (wakes puts) old new = Wakes old new puts
   Does (finishes instance outcome result) old new = Ends files moment left_at failures refusals honest old new instance outcome result
   Does (finishes_all tasks ends result) old new = EndsAll files moment left_at failures refusals honest old new tasks ends result
   Does (turns result) old new = TurnsAs files moment left_at failures refusals honest old new result
@@ -62,6 +65,7 @@ acknowledged (puts_tag name (Err error)) = []
 acknowledged (claims at result) = []
 acknowledged (parks instance address result) = []
 acknowledged (releases instance) = []
+acknowledged (wakes puts) = []
 acknowledged (finishes instance outcome (Ok committed)) = (end_of committed instance outcome ∷ []) ∷ []
 acknowledged (finishes instance outcome (Err error)) = []
 acknowledged (finishes_all tasks ends (Ok ended)) = cut ended ends ∷ []
@@ -76,6 +80,7 @@ Tries (puts_tag name result) commit = commit ≡ EnvTag name ∷ []
 Tries (claims at result) commit = ⊥
 Tries (parks instance address result) commit = ⊥
 Tries (releases instance) commit = ⊥
+Tries (wakes puts) commit = ⊥
 Tries (finishes instance outcome result) commit = (end : Event) × IsEndOf outcome instance end × (commit ≡ end ∷ [])
 Tries (finishes_all tasks ends result) commit = (0 < length commit) × ((ended : Ended) × (commit ≡ cut ended ends))
 Tries (turns result) commit = ⊥

@@ -7,7 +7,7 @@ ghost use Rattle.hub.specs.Running.{kept_of};
 ghost use Rattle.pool.specs.Worked.{AreClaimed};
 
 use crate::settling::settled;
-use crate::worker::{GROUP, MOST_KEPT};
+use crate::worker::{GROUP, MOST_KEPT, others_commit};
 use commit::{Batch, CoreError};
 use disk::Disk;
 use hub::{Hub, WorkPass};
@@ -25,6 +25,12 @@ const VISIT: u32 = 100;
 // A body is light if it makes fewer statements: then its commit takes longer than the body, and one worker alone takes about as long for such bodies as several.
 const LIGHT: u32 = 64;
 
+// For how many commits of others an instance is held, at most. Each of 64 workers may have to go on before.
+const MOST_HELD: u32 = 64;
+
+// After this number of instances in a row that were held in vain, no more are parked between them than after so many.
+const MOST_MISSED: u32 = 12;
+
 // A body looks for items among the results that are kept if these have at most this number of puts, since it goes through all of them.
 const FEW_PUTS: usize = 256;
 
@@ -38,6 +44,8 @@ pub(crate) struct Hand {
     spent: u32,
     // The puts of the results that are kept.
     puts: usize,
+    // Of the results that are kept, how many it has looked at for instances that wait for their items.
+    looked: usize,
     // Whether a group or more was ready at once so far.
     many: bool,
     // Whether the bodies that ran since then are light.
@@ -49,6 +57,9 @@ pub(crate) struct Hand {
     pub(crate) rested: u32,
     /// How often in a row it has found nothing to do.
     pub(crate) vain: u32,
+    // How often in a row it has held an instance in vain, and how many instances it parks before it holds one again.
+    missed: u32,
+    parks: u32,
 }
 
 impl Hand {
@@ -62,12 +73,15 @@ impl Hand {
             slow: true,
             spent: 0,
             puts: 0,
+            looked: 0,
             many: false,
             light: false,
             batches: 0,
             rests: false,
             rested: 0,
             vain: 0,
+            missed: 0,
+            parks: 0,
         })
     }
 
@@ -78,6 +92,7 @@ impl Hand {
         if !keeps {
             self.spent = 0;
             self.puts = 0;
+            self.looked = 0;
             self.light = true;
         }
         self.slow = statements >= LONG;
@@ -104,6 +119,47 @@ impl Hand {
             Some(batch) => Some(batch),
             None => None,
         }
+    }
+
+    /// How many commits of others the worker waits for before it parks the instance whose body waits now; 0 if it parks it at once. It holds it where bodies are
+    /// light and others run something, so that it need not run the body anew. `kept` is the number of results that it keeps, and `running` that of all instances that run.
+    pub(crate) fn holds(&mut self, kept: usize, running: usize) -> u32
+        ensures { self.new.claimed ≡ self.old.claimed }
+    {
+        let own = self.claimed.len().saturating_add(kept).saturating_add(1);
+        if !self.light || running <= own {
+            return 0;
+        }
+        if self.parks > 0 {
+            self.parks -= 1;
+            return 0;
+        }
+        MOST_HELD
+    }
+
+    /// Waits until others commit, with an instance that is held for up to `left` commits. Says whether they did. When nothing comes, or these were all, more instances are parked before the
+    /// next one is held: twice as many each time.
+    pub(crate) fn sees_commit<J: Naming, D: Disk>(
+        &mut self,
+        hub: &Hub<J, D>,
+        before: usize,
+        left: u32,
+    ) -> bool
+        ensures { self.new.claimed ≡ self.old.claimed }
+    {
+        let seen = others_commit(hub, before, self.claimed.len().saturating_add(1));
+        if !seen || left <= 1 {
+            self.parks = 1 << self.missed.min(MOST_MISSED);
+            self.missed = self.missed.saturating_add(1);
+        }
+        seen
+    }
+
+    /// Notes that an instance that was held has gone on.
+    pub(crate) fn note_held(&mut self)
+        ensures { self.new.claimed ≡ self.old.claimed }
+    {
+        self.missed = 0;
     }
 
     /// Before the worker with this number commits: it rests afterwards if others have committed since it did, bodies are light, and nothing else is claimed. Then a worker with a smaller number does
@@ -142,13 +198,14 @@ impl Hand {
 
     /// The next instance to run, if there is one: it was claimed before, or is now, with others of its group. Says whether an instance runs then. After
     /// a body that took long, what was claimed before it is given back, so that others can run it, and one instance is claimed alone. If the worker keeps
-    /// a group of results and fewer seem to be ready, or some and none seems to be, none is claimed: the results are committed first.
+    /// a group of results and fewer instances seem to be ready, or some and none seems to be, it claims those that wait for what it keeps; if there are none, the results are
+    /// committed first.
     pub(crate) fn next<J: Naming, D: Disk, R: Wait>(
         &mut self,
         rt: &R,
         hub: &Hub<J, D>,
         pass: &mut WorkPass<J>,
-        kept: usize,
+        kept: &Option<Batch<'_>>,
     ) -> Result<(Option<Task>, bool), CoreError>
         requires { AreClaimed J.opening self.old.claimed }
         ensures claimed { AreClaimed J.opening self.new.claimed }
@@ -156,15 +213,46 @@ impl Hand {
         ensures ahead { IsPrefix pass.old.seen pass.new.seen }
         ensures refused { IfErr result RefusesClaims }
     {
+        let count = count_of(kept);
         if self.slow {
             self.give_back(rt, hub, pass);
             return self.claim(rt, hub, pass, 1);
         }
         match self.claimed.take_first() {
             Some(task) => Ok((Some(task), true)),
-            None if commits_first(kept, hub.ready()) => Ok((None, true)),
-            None => self.claim(rt, hub, pass, MOST_KEPT.saturating_sub(kept)),
+            None if commits_first(count, hub.ready()) => self.claim_waiting(rt, hub, pass, kept),
+            None => self.claim(rt, hub, pass, MOST_KEPT.saturating_sub(count)),
         }
+    }
+
+    // Claims instances that wait for items which are kept, if bodies may read these, and takes the first of them.
+    fn claim_waiting<J: Naming, D: Disk, R: Wait>(
+        &mut self,
+        rt: &R,
+        hub: &Hub<J, D>,
+        pass: &mut WorkPass<J>,
+        kept: &Option<Batch<'_>>,
+    ) -> Result<(Option<Task>, bool), CoreError>
+        requires { AreClaimed J.opening self.old.claimed }
+        ensures claimed { AreClaimed J.opening self.new.claimed }
+        ensures task { IfOk result (λ next. IfSome next.0 (InstanceIsOf J.opening.graph)) }
+        ensures ahead { IsPrefix pass.old.seen pass.new.seen }
+        ensures refused { IfErr result RefusesClaims }
+    {
+        let Some(batch) = self.ahead(kept, hub.ready()) else {
+            return Ok((None, true));
+        };
+        let most = MOST_KEPT.saturating_sub(batch.len());
+        let mut visit = hub.visit(rt);
+        for number in self.looked..batch.len() {
+            let left = most.saturating_sub(self.claimed.len());
+            if left == 0 {
+                break;
+            }
+            visit.claim_waiting(pass, &mut self.claimed, batch.puts(number), left)?;
+            self.looked = number + 1;
+        }
+        Ok((self.claimed.take_first(), true))
     }
 
     // Claims up to `most` instances, and takes the first of them.
@@ -215,14 +303,25 @@ impl Hand {
             slow: _,
             spent: _,
             puts: _,
+            looked: _,
             many: _,
             light: _,
             batches: _,
             rests: _,
             rested: _,
             vain: _,
+            missed: _,
+            parks: _,
         } = self;
         claimed.end();
+    }
+}
+
+/// How many results are kept.
+pub(crate) fn count_of(kept: &Option<Batch<'_>>) -> usize {
+    match kept {
+        Some(batch) => batch.len(),
+        None => 0,
     }
 }
 

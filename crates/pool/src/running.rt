@@ -10,7 +10,7 @@ ghost use Rattle.pool.specs.declared.worker.Turned.TheVariants.{Ends};
 ghost use Rattle.pool.specs.Worked.{AreClaimed, AreKept, IsTurned};
 
 use crate::groups::{commit, commit_before, commit_kept, exchange};
-use crate::hand::Hand;
+use crate::hand::{Hand, count_of};
 use crate::settling::{finish, park, settled, stopped_by};
 use crate::worker::{MOST_KEPT, Met, Turned, ends, goes_on_unless};
 use crate::{Answer, Probe};
@@ -61,8 +61,9 @@ pub(crate) fn run_task<'a, J: Naming, D: Disk, P: Probe, R: Wait>(
         Ok(Ran::Waits(run, ahead)) => {
             hand.vain = 0;
             hand.note(run.statements(), 0, kept.is_some());
-            if ahead || hand.is_slow() || hand.has_many_puts() {
-                return wait_for_own(rt, alloc, hub, pass, hand, task, run, kept);
+            let held = hand.holds(count_of(&kept), hub.running());
+            if ahead || hand.is_slow() || hand.has_many_puts() || held > 0 {
+                return wait_for_own(rt, alloc, hub, pass, hand, task, run, kept, held);
             }
             park_beside(rt, alloc, hub, pass, hand, task, run, kept)
         }
@@ -103,8 +104,8 @@ fn park_beside<'a, J: Naming, D: Disk, R: Wait>(
     }
 }
 
-// The body waits, after it took long or has read items that are kept, or could not look among them: what is kept is committed first, and the same run goes on if its item is there then. Otherwise
-// the instance waits, and its body is run anew once the item is there.
+// The body waits, after it took long or has read items that are kept, or could not look among them; or it is held. What is kept is committed first, and the same run goes on if its item is there then,
+// or after one of up to `held` commits of others. Otherwise the instance waits, and its body is run anew once the item is there.
 fn wait_for_own<'a, J: Naming, D: Disk, R: Wait>(
     rt: &R,
     alloc: Global,
@@ -114,6 +115,7 @@ fn wait_for_own<'a, J: Naming, D: Disk, R: Wait>(
     task: Task,
     run: Run<'a>,
     kept: Option<Batch<'a>>,
+    held: u32,
 ) -> Turned<'a>
     requires run { WaitsIn J.opening.graph (facts_with (facts_behind J.opening pass.old.seen) kept) task run }
     requires claimed { AreClaimed J.opening hand.old.claimed }
@@ -126,12 +128,12 @@ fn wait_for_own<'a, J: Naming, D: Disk, R: Wait>(
     facts_go_on();
     results_are_meant();
     let Some(batch) = kept else {
-        return goes_on_unless(park(rt, hub, pass, task, run));
+        return go_on_alone(rt, alloc, hub, pass, hand, task, run, held);
     };
     let came = commit_before(rt, alloc, hub, pass, batch);
     hand.after_commit(hub.batches());
     match came {
-        Ok(true) => go_on_alone(rt, alloc, hub, pass, hand, task, run),
+        Ok(true) => go_on_alone(rt, alloc, hub, pass, hand, task, run, held),
         Ok(false) => {
             drop(run);
             goes_on_unless(settled(rt, hub.release(rt, pass, task)))
@@ -144,7 +146,7 @@ fn wait_for_own<'a, J: Naming, D: Disk, R: Wait>(
     }
 }
 
-// Lets a run go on if its item is there by now, when nothing is kept.
+// Lets a run go on if its item is there by now, or after one of up to `held` commits of others, when nothing is kept.
 fn go_on_alone<'a, J: Naming, D: Disk, R: Wait>(
     rt: &R,
     alloc: Global,
@@ -153,6 +155,7 @@ fn go_on_alone<'a, J: Naming, D: Disk, R: Wait>(
     hand: &mut Hand,
     task: Task,
     run: Run<'a>,
+    held: u32,
 ) -> Turned<'a>
     requires run { WaitsIn J.opening.graph (facts_behind J.opening pass.old.seen) task run }
     requires claimed { AreClaimed J.opening hand.old.claimed }
@@ -160,12 +163,19 @@ fn go_on_alone<'a, J: Naming, D: Disk, R: Wait>(
     ensures turned { IsTurned J.opening pass.new result }
     ensures asked { result ≡ Ends (Some MetAsked) → ⊥ }
 {
+    let before = hub.batches();
     match hub.resume(rt, pass, run) {
         Ok(Ran::Ended(outcome, statements)) => {
             hand.note(statements, puts_of(&outcome), false);
+            hand.note_held();
             keep(rt, alloc, hub, pass, hand, task, outcome, None)
         }
-        Ok(Ran::Waits(run, _)) => goes_on_unless(park(rt, hub, pass, task, run)),
+        Ok(Ran::Waits(run, _)) => {
+            if held > 0 && hand.sees_commit(hub, before, held) {
+                return go_on_alone(rt, alloc, hub, pass, hand, task, run, held - 1);
+            }
+            goes_on_unless(park(rt, hub, pass, task, run))
+        }
         Err(error) => {
             let _ = settled(rt, hub.release(rt, pass, task));
             Turned::Ends(Some(stopped_by(error)))

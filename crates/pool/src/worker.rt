@@ -73,6 +73,9 @@ const DOUBLINGS: u32 = 6;
 // How many of these looks come at once. Before each of the others the worker yields to other threads.
 const SPINS: u32 = 8;
 
+// How often a worker that holds an instance looks whether others have committed: some milliseconds, in which a commit on a disk comes.
+const PATIENCE: u32 = 4096;
+
 // How often a worker that rests looks whether others go on without it. Each rest in a row doubles this, up to `RESTS` times. If nothing was committed in the last
 // `QUIET` looks, once for its number, the worker is needed.
 const RESTING: u32 = 4096;
@@ -169,7 +172,7 @@ fn turn<'a, J: Naming, D: Disk, P: Probe, R: Wait>(
     if hand.rests {
         rest(hub, pass.number(), hand);
     }
-    match hand.next(rt, hub, pass, kept_of(&kept)) {
+    match hand.next(rt, hub, pass, &kept) {
         Ok((Some(task), _)) => run_task(rt, alloc, hub, pass, probe, hand, task, kept),
         Ok((None, busy)) => idle(rt, alloc, hub, pass, hand, kept, busy),
         Err(error) => ends(rt, alloc, hub, pass, stopped_by(error), kept),
@@ -225,14 +228,6 @@ pub(crate) fn ends<'a, J: Naming, D: Disk, R: Wait>(
     }
 }
 
-// How many results are kept.
-fn kept_of(kept: &Option<Batch<'_>>) -> usize {
-    match kept {
-        Some(batch) => batch.len(),
-        None => 0,
-    }
-}
-
 /// The worker goes on and keeps nothing, unless it met something.
 pub(crate) fn goes_on_unless<'a>(met: Option<Met>) -> Turned<'a>
     ensures { result ≡ turned_by met }
@@ -260,6 +255,28 @@ fn look_for_work<J: Naming, D: Disk>(hub: &Hub<J, D>, pass: &mut WorkPass<J>, va
             return;
         }
     }
+}
+
+/// Waits a little until others commit. Says whether more than `before` batches were committed by now. It takes no lock, and gives up if no more than `own` instances run.
+pub(crate) fn others_commit<J: Naming, D: Disk>(
+    hub: &Hub<J, D>,
+    before: usize,
+    own: usize,
+) -> bool {
+    for look in 0..PATIENCE {
+        if hub.batches() != before {
+            return true;
+        }
+        if hub.running() <= own {
+            return false;
+        }
+        if look < SPINS {
+            spin_loop();
+        } else {
+            yield_now();
+        }
+    }
+    false
 }
 
 // Leaves the work to others for a while, as long as they go on. It takes no lock.

@@ -1,4 +1,5 @@
 mod ByName
+mod Columns
 mod Lines
 mod Names
 mod OneReport

@@ -16,7 +16,13 @@ use Rattle.graph.specs.Graph.{Graph}
 use Rattle.steptree.specs.Names.{names_in}
 use Rattle.machine.specs.Counts.{AreCountsOf, AreItemsOf, AreSoMany}
 use Rattle.machine.specs.declared.counts.Counts.{Counts}
-use Rattle.report.specs.ReportText.{AreGot, AreItemLines, IsOnlyFault, IsReport, counts_text, fault_line, item_lines, line, name_cmp}
+use Rattle.report.specs.declared.format.Format.{Format}
+use Rattle.report.specs.declared.format.Format.TheVariants.{Text, Csv, Json}
+use Rattle.report.specs.Formats.{IsReportIn}
+use Rattle.report.specs.Named.{item_text}
+use Rattle.report.specs.ObjectLines.{counts_object, fault_object, item_object}
+use Rattle.report.specs.ReportText.{AreGot, AreItemsIn, AreLines, IsOnlyFault, IsReport, counts_text, fault_line, item_lines, line, name_cmp, stopped_text}
+use Rattle.report.specs.TableText.{IsTable, header, most_components, row_text}
 use Rattle.report.proofs.SameMembers.{same_members}
 
 -- ---- collections
@@ -60,11 +66,16 @@ module _ (addresses : IsTotalOrder addr_cmp) (addresses_tie : IsAntisymmetric ad
       same_option _ _
       (λ value. (λ is. (second.each address value).1 ((first.each address value).0 is), λ is. (first.each address value).1 ((second.each address value).0 is))))
 
-  lines_once : (g : Graph) (X : Facts) (collections : List ItemCollection) (one two : List ℕ) → AreItemLines g X collections one → AreItemLines g X collections two → one ≡ two
-  lines_once g X [] one two first second = first ∙ sym second
-  lines_once g X (collection ∷ more) one two first second =
-      first.4 ∙ ap (λ (items : List (Addr × ℤ)). item_lines g items ++ first.1) (items_once X collection first.0 second.0 first.2 second.2)
-      ∙ ap (λ (rest : List ℕ). item_lines g second.0 ++ rest) (lines_once g X more first.1 second.1 first.3 second.3) ∙ sym second.4
+  items_in_once : (X : Facts) (collections : List ItemCollection) (one two : List (Addr × ℤ)) → AreItemsIn X collections one → AreItemsIn X collections two → one ≡ two
+  items_in_once X [] one two first second = first ∙ sym second
+  items_in_once X (collection ∷ more) one two first second =
+      first.4 ∙ ap (λ (items : List (Addr × ℤ)). items ++ first.1) (items_once X collection first.0 second.0 first.2 second.2)
+      ∙ ap (λ (rest : List (Addr × ℤ)). second.0 ++ rest) (items_in_once X more first.1 second.1 first.3 second.3) ∙ sym second.4
+
+  -- the items that the environment may get
+  got_items_once : (g : Graph) (X : Facts) (collections others : List ItemCollection) (one two : List (Addr × ℤ)) → AreGot g collections → AreGot g others → AreItemsIn X collections one → AreItemsIn X others two → one ≡ two
+  got_items_once g X collections others one two got also first second =
+      items_in_once X others one two (subst (λ (of : List ItemCollection). AreItemsIn X of one) (got_once g collections others got also) first) second
 
   counts_once : (g : Graph) (X : Facts) (one two : Counts) → AreCountsOf g X one → AreCountsOf g X two → one ≡ two
   counts_once g X one two first second =
@@ -74,13 +85,27 @@ module _ (addresses : IsTotalOrder addr_cmp) (addresses_tie : IsAntisymmetric ad
       let done = many_once inst_cmp instances instances_tie _ one.done two.done first.done second.done in
       λ i. record { items = items i; tags = names i; prescribed = prescribed i; done = done i }
 
-  pub one_report : (g : Graph) (X : Facts) (one two : List ℕ) → IsReport g X one → IsReport g X two → one ≡ two
-  one_report g X one two first second =
-      let collections = got_once g first.collections second.collections first.got second.got in
-      let items =
-      lines_once g X second.collections first.items second.items (subst (λ (of : List ItemCollection). AreItemLines g X of first.items) collections first.listed) second.listed in
+  lines_once : (of_item : Addr → ℤ → List ℕ) (of_counts : Counts → List ℕ) (of_fault : Inst → FaultKind → List ℕ) (g : Graph) (X : Facts) (one two : List ℕ)
+      → AreLines of_item of_counts of_fault g X one → AreLines of_item of_counts of_fault g X two → one ≡ two
+  lines_once of_item of_counts of_fault g X one two first second =
+      let items = got_items_once g X first.collections second.collections first.items second.items first.got second.got first.listed second.listed in
       let counts = counts_once g X first.counts second.counts first.counted second.counted in
       let fault = fault_once X first.fault second.fault first.only second.only in
-      first.whole ∙ ap (λ (text : List ℕ). text ++ line (counts_text first.counts) ++ fault_line g first.fault) items
-      ∙ ap (λ (told : Counts). second.items ++ line (counts_text told) ++ fault_line g first.fault) counts
-      ∙ ap (λ (stopped : Option (Inst × FaultKind)). second.items ++ line (counts_text second.counts) ++ fault_line g stopped) fault ∙ sym second.whole
+      first.whole ∙ ap (λ (list : List (Addr × ℤ)). item_lines of_item list ++ line (of_counts first.counts) ++ fault_line of_fault first.fault) items
+      ∙ ap (λ (told : Counts). item_lines of_item second.items ++ line (of_counts told) ++ fault_line of_fault first.fault) counts
+      ∙ ap (λ (stopped : Option (Inst × FaultKind)). item_lines of_item second.items ++ line (of_counts second.counts) ++ fault_line of_fault stopped) fault ∙ sym second.whole
+
+  table_once : (g : Graph) (X : Facts) (one two : List ℕ) → IsTable g X one → IsTable g X two → one ≡ two
+  table_once g X one two first second =
+      let collections = got_once g first.collections second.collections first.got second.got in
+      let items = got_items_once g X first.collections second.collections first.items second.items first.got second.got first.listed second.listed in
+      first.whole ∙ ap (λ (of : List ItemCollection). line (header (most_components g of)) ++ item_lines (row_text g (most_components g of)) first.items) collections
+      ∙ ap (λ (list : List (Addr × ℤ)). line (header (most_components g second.collections)) ++ item_lines (row_text g (most_components g second.collections)) list) items ∙ sym second.whole
+
+  pub one_report : (g : Graph) (X : Facts) (one two : List ℕ) → IsReport g X one → IsReport g X two → one ≡ two
+  one_report g X one two first second = lines_once (item_text g) counts_text (stopped_text g) g X one two first second
+
+  pub one_in_format : (format : Format) (g : Graph) (X : Facts) (one two : List ℕ) → IsReportIn format g X one → IsReportIn format g X two → one ≡ two
+  one_in_format Text g X one two first second = one_report g X one two first second
+  one_in_format Csv g X one two first second = table_once g X one two first second
+  one_in_format Json g X one two first second = lines_once (item_object g) counts_object (fault_object g) g X one two first second

@@ -4,10 +4,19 @@ use Rattle.std.specs.Fmt.{signed_decimal}
 use Rattle.std.specs.List.{flat_map}
 use Rattle.terms.specs.declared.name.Addr.{Addr}
 use Rattle.terms.specs.declared.name.Inst.{Inst}
+use Rattle.terms.specs.declared.name.ItemCollection.{ItemCollection}
+use Rattle.terms.specs.declared.name.StepCollection.{StepCollection}
 use Rattle.graph.specs.Graph.{Graph}
 use Rattle.steptree.specs.Names.{names_in}
 use Rattle.graph.specs.Prescribed.{names_of_steps}
 use Rattle.graph.specs.Canonical.{in_brackets, in_rounds, with_colon}
+
+-- the name of an item collection, and that of a step; empty if the graph has none of this number
+abbrev pub name_of : Graph → ItemCollection → List ℕ
+name_of g collection = get_or (names_in g.items) collection.0 []
+
+abbrev pub step_name_of : Graph → StepCollection → List ℕ
+step_name_of g collection = get_or (names_of_steps g.steps) collection.0 []
 
 -- a name, and after a colon the components of a key; a name without components stands alone
 abbrev pub with_key : List ℕ → List ℤ → List ℕ
@@ -19,11 +28,11 @@ more_components components = flat_map (λ text. codes ", " ++ text) (map signed_
 
 -- `[c: k, ..]`
 abbrev pub address_text : Graph → Addr → List ℕ
-address_text g address = in_brackets (with_key (get_or (names_in g.items) address.collection.0 []) address.key)
+address_text g address = in_brackets (with_key (name_of g address.collection) address.key)
 
 -- `(s: k, ..)`
 abbrev pub instance_text : Graph → Inst → List ℕ
-instance_text g instance = in_rounds (with_key (get_or (names_of_steps g.steps) instance.collection.0 []) instance.key)
+instance_text g instance = in_rounds (with_key (step_name_of g instance.collection) instance.key)
 
 -- `[c: k, ..] = v`
 abbrev pub item_text : Graph → Addr → ℤ → List ℕ

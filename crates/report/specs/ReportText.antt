@@ -14,10 +14,9 @@ use Rattle.terms.specs.Fault.{fault_number}
 use Rattle.terms.specs.Facts.{bad}
 use Rattle.terms.specs.Sets.{Facts}
 use Rattle.graph.specs.Graph.{Graph}
-use Rattle.steptree.specs.Names.{names_in}
 use Rattle.machine.specs.Counts.{AreItemsOf, AreCountsOf}
 use Rattle.machine.specs.declared.counts.Counts.{Counts}
-use Rattle.report.specs.Named.{instance_text, item_text}
+use Rattle.report.specs.Named.{instance_text, item_text, name_of}
 
 -- a line
 abbrev pub line : List ℕ → List ℕ
@@ -27,22 +26,21 @@ line text = text ++ codes "\n"
 
 -- two collections by their names, in the order of the bytes
 abbrev pub name_cmp : Graph → ItemCollection → ItemCollection → Ordering
-name_cmp g one two = slice_cmp nat_cmp (get_or (names_in g.items) one.0 []) (get_or (names_in g.items) two.0 [])
+name_cmp g one two = slice_cmp nat_cmp (name_of g one) (name_of g two)
 
 -- these are the collections of which the environment may get items, in the order of their names
 pub record AreGot (g : Graph) (collections : List ItemCollection) : Type 0 where
   pub rises : IsStrictlySortedBy (name_cmp g) collections
   pub each : (collection : ItemCollection) → (list_any (λ other. collection.0 == other.0) collections ≡ true) ↔ (get_or g.environment_gets collection.0 false ≡ true)
 
--- a line for each of these items
-abbrev pub item_lines : Graph → List (Addr × ℤ) → List ℕ
-item_lines g items = flat_map (λ item. line (item_text g item.0 item.1)) items
+-- the items of these collections, collection by collection, and in each in the order of the keys
+abbrev pub AreItemsIn : Facts → List ItemCollection → List (Addr × ℤ) → Type 0
+AreItemsIn X [] items = items ≡ []
+AreItemsIn X (collection ∷ more) items = (first : List (Addr × ℤ)) × (rest : List (Addr × ℤ)) × AreItemsOf X collection first × AreItemsIn X more rest × (items ≡ first ++ rest)
 
--- the lines of the items of these collections, collection by collection, and in each in the order of the keys
-abbrev pub AreItemLines : Graph → Facts → List ItemCollection → List ℕ → Type 0
-AreItemLines g X [] text = text ≡ []
-AreItemLines g X (collection ∷ more) text = (items : List (Addr × ℤ)) × (rest : List ℕ) × AreItemsOf X collection items × AreItemLines g X more rest
-    × (text ≡ item_lines g items ++ rest)
+-- a line for each of these items, spelled so
+abbrev pub item_lines : (Addr → ℤ → List ℕ) → List (Addr × ℤ) → List ℕ
+item_lines spelled items = flat_map (λ item. line (spelled item.0 item.1)) items
 
 -- ---- counts and faults
 
@@ -58,24 +56,29 @@ stopped_text g instance kind = codes "stopped by fault " ++ decimal (fault_numbe
 abbrev pub IsOnlyFault : Facts → Option (Inst × FaultKind) → Type 0
 IsOnlyFault X fault = (instance : Inst) (kind : FaultKind) → (X (bad instance kind) ≡ true) ↔ (fault ≡ Some (instance, kind))
 
--- the line of the fault, if there is one
-abbrev pub fault_line : Graph → Option (Inst × FaultKind) → List ℕ
-fault_line g None = []
-fault_line g (Some fault) = line (stopped_text g fault.0 fault.1)
+-- the line of the fault, spelled so, if there is one
+abbrev pub fault_line : (Inst → FaultKind → List ℕ) → Option (Inst × FaultKind) → List ℕ
+fault_line spelled None = []
+fault_line spelled (Some fault) = line (spelled fault.0 fault.1)
 
 -- ---- the report
 
--- a line for each item that the environment may get, one with the counts of all that is there, and one for the fault, if there is one
-pub record IsReport (g : Graph) (X : Facts) (text : List ℕ) : Type 0 where
+-- A line for each item that the environment may get, by the name of its collection and then by key; one with the counts of all that is there; and one
+-- for the fault, if there is one. Each is spelled so.
+pub record AreLines (of_item : Addr → ℤ → List ℕ) (of_counts : Counts → List ℕ) (of_fault : Inst → FaultKind → List ℕ) (g : Graph) (X : Facts) (text : List ℕ) : Type 0 where
   pub collections : List ItemCollection
   pub got : AreGot g collections
-  pub items : List ℕ
-  pub listed : AreItemLines g X collections items
+  pub items : List (Addr × ℤ)
+  pub listed : AreItemsIn X collections items
   pub counts : Counts
   pub counted : AreCountsOf g X counts
   pub fault : Option (Inst × FaultKind)
   pub only : IsOnlyFault X fault
-  pub whole : text ≡ items ++ line (counts_text counts) ++ fault_line g fault
+  pub whole : text ≡ item_lines of_item items ++ line (of_counts counts) ++ fault_line of_fault fault
+
+-- the report as text, for people
+abbrev pub IsReport : Graph → Facts → List ℕ → Type 0
+IsReport g X text = AreLines (item_text g) counts_text (stopped_text g) g X text
 
 -- a graph and a set of facts have at most one report
 abbrev pub ReportsOnce : Type 0

@@ -1,10 +1,11 @@
 //! Addresses and instances by the names of their collections.
+ghost use Rattle.std.specs.Prelude.{◌≡◌};
 ghost use Rattle.std.specs.Fmt.{WritesOnOk};
-ghost use Rattle.report.specs.Named.{more_components};
+ghost use Rattle.report.specs.Named.{more_components, name_of, step_name_of};
 
 use graph::Graph;
 use std::fmt;
-use terms::{Addr, Inst, Key};
+use terms::{Addr, Inst, ItemCollection, Key, StepCollection};
 
 /// An address of a graph, as `[c: k, ..]`.
 #[derive(Clone, Copy)]
@@ -62,7 +63,7 @@ impl fmt::Display for NamedAddress<'_> {
     ghost output = { λ named. Some (address_text named.graph.now named.address) };
 
     fn fmt<W: fmt::Write>(&self, f: &mut fmt::Formatter<W>) -> fmt::Result {
-        let name = self.graph.item_name(self.address.collection).unwrap_or("");
+        let name = name_of(self.graph, self.address.collection);
         let key = &self.address.key;
         let named = WithKey { name, key };
         write!(f, "[{named}]")
@@ -76,9 +77,23 @@ impl fmt::Display for NamedInstance<'_> {
     ghost output = { λ named. Some (instance_text named.graph.now named.instance) };
 
     fn fmt<W: fmt::Write>(&self, f: &mut fmt::Formatter<W>) -> fmt::Result {
-        let name = self.graph.step_name(self.instance.collection).unwrap_or("");
+        let name = step_name_of(self.graph, self.instance.collection);
         let key = &self.instance.key;
         let named = WithKey { name, key };
         write!(f, "({named})")
     }
+}
+
+/// The name of an item collection; empty if the graph has no such collection.
+pub(crate) fn name_of(graph: &Graph, collection: ItemCollection) -> &str
+    ensures { result.now ≡ name_of graph.now collection }
+{
+    graph.item_name(collection).unwrap_or("")
+}
+
+/// The name of a step; empty if the graph has no such step.
+pub(crate) fn step_name_of(graph: &Graph, collection: StepCollection) -> &str
+    ensures { result.now ≡ step_name_of graph.now collection }
+{
+    graph.step_name(collection).unwrap_or("")
 }

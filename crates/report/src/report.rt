@@ -2,60 +2,24 @@
 ghost use Rattle.std.specs.Prelude.{◌≡◌, List, map, OnOk, ℕ};
 ghost use Rattle.std.specs.Io.KnownBytes.{Appends};
 ghost use Rattle.commit.specs.Core.{facts, graph};
-ghost use Rattle.report.specs.Named.{item_text};
-ghost use Rattle.report.specs.ReportText.{AreGot, AreItemLines, IsReport, counts_text, fault_line, item_lines, line};
+ghost use Rattle.report.specs.Formats.{IsReportIn};
+ghost use Rattle.report.specs.ReportText.{AreGot, IsReport, counts_text, fault_line, line, stopped_text};
 ghost use Rattle.report.specs.Sinks.{TellsFailure, TellsReport};
 ghost use Rattle.report.specs.declared.error.ReportError.TheVariants.{NoMemory};
 
 use crate::got::got_by_name;
-use crate::{NamedAddress, NamedInstance, ReportError, Sink, SinkFailed, WriterSink};
+use crate::item_lines::write_collections;
+use crate::objects::write_objects;
+use crate::spelling::Spelling;
+use crate::table::write_table;
+use crate::{Format, NamedInstance, ReportError, Sink, SinkFailed, WriterSink};
 use commit::Core;
 use disk::Disk;
 use graph::Graph;
-use machine::{Counts, ItemsOf};
+use machine::Counts;
 use std::alloc::Global;
 use std::io::Write;
-use terms::{Addr, FaultKind, Inst, ItemCollection};
-
-/// Writes a line for each of these items.
-fn write_items<S: Sink>(graph: &Graph, items: ItemsOf<'_>, out: &mut S) -> Result<(), SinkFailed>
-    ensures written { OnOk result (Appends (S.contents out.old) (S.contents out.new) (item_lines graph.now items.entry)) }
-    ensures fails { TellsFailure S.target S.has_failed out.old out.new result }
-{
-    for (address, value) in items {
-        write_item(graph, address, value, out)?;
-    }
-    Ok(())
-}
-
-/// Writes the line of an item.
-fn write_item<S: Sink>(
-    graph: &Graph,
-    address: Addr,
-    value: i64,
-    out: &mut S,
-) -> Result<(), SinkFailed>
-    ensures written { OnOk result (Appends (S.contents out.old) (S.contents out.new) (line (item_text graph.now address value))) }
-    ensures fails { TellsFailure S.target S.has_failed out.old out.new result }
-{
-    let named = NamedAddress { graph, address };
-    writeln!(out, "{named} = {value}")
-}
-
-/// Writes the lines of the items of these collections, one collection after another.
-fn write_collections<D: Disk, S: Sink>(
-    core: &Core<D>,
-    collections: &[(&str, ItemCollection)],
-    out: &mut S,
-) -> Result<(), SinkFailed>
-    ensures written { OnOk result ((text : List ℕ) × AreItemLines (graph core.now) (facts core.now) (map (λ one. one.1) collections.now) text × Appends (S.contents out.old) (S.contents out.new) text) }
-    ensures fails { TellsFailure S.target S.has_failed out.old out.new result }
-{
-    for one in collections {
-        write_items(core.graph(), core.items_of(one.1), out)?;
-    }
-    Ok(())
-}
+use terms::{FaultKind, Inst, ItemCollection};
 
 /// Writes the line of the counts.
 fn write_counts<S: Sink>(counts: Counts, out: &mut S) -> Result<(), SinkFailed>
@@ -81,7 +45,7 @@ fn write_fault<S: Sink>(
     fault: Option<(Inst, FaultKind)>,
     out: &mut S,
 ) -> Result<(), SinkFailed>
-    ensures written { OnOk result (Appends (S.contents out.old) (S.contents out.new) (fault_line graph.now fault)) }
+    ensures written { OnOk result (Appends (S.contents out.old) (S.contents out.new) (fault_line (stopped_text graph.now) fault)) }
     ensures fails { TellsFailure S.target S.has_failed out.old out.new result }
 {
     if let Some((instance, kind)) = fault {
@@ -102,10 +66,28 @@ fn write_lines<D: Disk, S: Sink>(
     ensures written { OnOk result ((text : List ℕ) × IsReport (graph core.now) (facts core.now) text × Appends (S.contents out.old) (S.contents out.new) text) }
     ensures fails { TellsFailure S.target S.has_failed out.old out.new result }
 {
-    write_collections(core, collections, out)?;
+    write_collections(core, Spelling::Plain, collections, out)?;
     write_counts(core.counts(), out)?;
     let fault = core.fault();
     write_fault(core.graph(), fault, out)
+}
+
+/// Writes the report in a format, of which these are the collections.
+fn write_in<D: Disk, S: Sink>(
+    core: &Core<D>,
+    format: Format,
+    collections: &[(&str, ItemCollection)],
+    out: &mut S,
+) -> Result<(), SinkFailed>
+    requires { AreGot (graph core.now) (map (λ one. one.1) collections.now) }
+    ensures written { OnOk result ((text : List ℕ) × IsReportIn format (graph core.now) (facts core.now) text × Appends (S.contents out.old) (S.contents out.new) text) }
+    ensures fails { TellsFailure S.target S.has_failed out.old out.new result }
+{
+    match format {
+        Format::Text => write_lines(core, collections, out),
+        Format::Csv => write_table(core, collections, out),
+        Format::Json => write_objects(core, collections, out),
+    }
 }
 
 /// Writes the report of a store: a line for each item that the environment may get, sorted by the name of its
@@ -125,8 +107,28 @@ pub fn send_report<D: Disk, S: Sink>(
     ensures fails { TellsReport S.target S.has_failed out.old out.new result }
     ensures unwritten { result ≡ Err NoMemory → S.contents out.new ≡ S.contents out.old }
 {
+    send_report_in(alloc, core, Format::Text, out)
+}
+
+/// Writes the report of a store in a format. A table has a header, and a row for each item that the environment may
+/// get, in the order of `send_report`; no counts, and no fault. JSON has an object for each line of `send_report`.
+///
+/// # Errors
+///
+/// - `Write`: the sink returned an error.
+/// - `NoMemory`: memory was refused. Nothing was written.
+pub fn send_report_in<D: Disk, S: Sink>(
+    alloc: Global,
+    core: &Core<D>,
+    format: Format,
+    out: &mut S,
+) -> Result<(), ReportError>
+    ensures written { OnOk result ((text : List ℕ) × IsReportIn format (graph core.now) (facts core.now) text × Appends (S.contents out.old) (S.contents out.new) text) }
+    ensures fails { TellsReport S.target S.has_failed out.old out.new result }
+    ensures unwritten { result ≡ Err NoMemory → S.contents out.new ≡ S.contents out.old }
+{
     match got_by_name(alloc, core.graph()) {
-        Ok(collections) => match write_lines(core, &collections, out) {
+        Ok(collections) => match write_in(core, format, &collections, out) {
             Ok(()) => Ok(()),
             Err(_) => Err(ReportError::Write),
         },
@@ -134,7 +136,7 @@ pub fn send_report<D: Disk, S: Sink>(
     }
 }
 
-/// The same, to a writer. After an error it is not known how much was written.
+/// The same as `send_report`, to a writer. After an error it is not known how much was written.
 pub fn write_report<D: Disk, W: Write>(
     alloc: Global,
     core: &Core<D>,
@@ -142,8 +144,20 @@ pub fn write_report<D: Disk, W: Write>(
 ) -> Result<(), ReportError>
     ensures { OnOk result ((text : List ℕ) × IsReport (graph core.now) (facts core.now) text × Appends (W.contents out.old) (W.contents out.new) text) }
 {
+    write_report_in(alloc, core, Format::Text, out)
+}
+
+/// The same as `send_report_in`, to a writer. After an error it is not known how much was written.
+pub fn write_report_in<D: Disk, W: Write>(
+    alloc: Global,
+    core: &Core<D>,
+    format: Format,
+    out: &mut W,
+) -> Result<(), ReportError>
+    ensures { OnOk result ((text : List ℕ) × IsReportIn format (graph core.now) (facts core.now) text × Appends (W.contents out.old) (W.contents out.new) text) }
+{
     let mut sink = WriterSink { out, failed: false };
-    let sent = send_report(alloc, core, &mut sink);
+    let sent = send_report_in(alloc, core, format, &mut sink);
     let WriterSink { out, failed: _ } = sink;
     // A proof reads from this use what the writer holds.
     let _ = &*out;

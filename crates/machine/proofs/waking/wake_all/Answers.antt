@@ -26,7 +26,7 @@ loop-number-preserved c =
     subst (λ n. EachWaits c.loop-number.instances (take n ws) × ((new : Known) → Wakes c.loop-number.instances new (take n ws) → Wakes c.args.instances.now new ws)) all c.loop-number.invariant in
     let waits = last_waits total tie c.loop-number.instances k ws last within c.index-waiters-number.is kept.0 in (
       still_wait total tie c.loop-number.instances c.wake.new.self last (take k ws) c.wake.ensures waits.1 waits.2,
-      λ new wakes. kept.1 new (wakes_more total tie c.loop-number.instances c.wake.new.self new k ws last within c.index-waiters-number.is c.wake.ensures wakes),
+      λ new wakes. kept.1 new (wakes_more total tie c.loop-number.instances c.wake.new.self new k ws last within c.index-waiters-number.is waits.0 c.wake.ensures wakes),
     )
 
 pub returns : goal.returns

@@ -1,4 +1,4 @@
-use Rattle.std.proofs.Common.{◌≡◌, arith, sym, subst}
+use Rattle.std.proofs.Common.{arith, sym, subst}
 use Rattle.commit.specs.Batch.{Batch, HaveOutcomes}
 use Rattle.hub.specs.Opening.{facts_behind}
 use Rattle.passes.proofs.Lists.{prefix_further}

@@ -1,4 +1,4 @@
-use Rattle.std.proofs.Common.{Option, None, Some, subst}
+use Rattle.std.proofs.Common.{Option, subst}
 use Rattle.commit.specs.Batch.{Batch, facts_with}
 use Rattle.commit.specs.Came.{IsOutcomeIn}
 use Rattle.hub.specs.Opening.{facts_behind}

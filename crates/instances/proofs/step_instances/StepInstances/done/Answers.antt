@@ -1,4 +1,4 @@
-use Rattle.std.proofs.Common.{◌≡◌, ◌+◌, ◌-◌, ◌≤◌, arith}
+use Rattle.std.proofs.Common.{arith}
 use Rattle.instances.proofs.Tallied.{all_kinds}
 use Rattle.instances.proofs.step_instances.StepInstances.done.Goals as goal
 

@@ -7,7 +7,7 @@ use Rattle.instances.specs.declared.step.Step.{Step}
 use Rattle.instances.specs.declared.instances.Instances.TheInside.{Inside}
 use Rattle.instances.specs.declared.state.State.TheVariants.{Running}
 use Rattle.instances.proofs.Moved.{moved_known, prescribed_known, state_known}
-use Rattle.instances.proofs.instances.Instances.claim.Goals as goal
+use Rattle.instances.proofs.instances.Instances.claim_at.Goals as goal
 
 abbrev seen : Inside → Known
 seen inside = record { tags = inside.tags; steps = inside.steps.items }
