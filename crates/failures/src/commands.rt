@@ -16,6 +16,7 @@
 //!   first seed with the first call that is not
 //! - `hiding N`: the same on a disk that hides its errors: so the program does not tell them
 use crate::calls::{Way, call};
+use crate::lengths::measured;
 use crate::stage::Stage;
 use crate::streams::Limits;
 use crate::trials::{Kind, Trial, tried};
@@ -107,11 +108,13 @@ fn aged<R: Threads + Wait + Sync>(stage: &Stage<'_, R>, line: &str) -> Result<St
 
 // Writes the greatest generation to the first file.
 fn age(disk: &mut MemDisk) -> Result<(), DiskError> {
-    if disk.len(Side::A)? < GENERATION {
-        return Err(DiskError::Device);
+    match measured(disk, Side::A) {
+        Some(count) if GENERATION <= count => {
+            disk.write_at(Side::A, GENERATION, &[255; 8])?;
+            disk.sync(Side::A)
+        }
+        _ => Err(DiskError::Device),
     }
-    disk.write_at(Side::A, GENERATION, &[255; 8])?;
-    disk.sync(Side::A)
 }
 
 // Where a file has the eight bytes of its generation.

@@ -14,6 +14,7 @@ mod crashes;
 mod failures;
 mod falling_disk;
 mod left;
+mod lengths;
 mod lies;
 mod lying_disk;
 mod puts;

@@ -1,5 +1,6 @@
 //! One put of which a call of the device fails.
 use crate::crashes::CHOICES;
+use crate::lengths::measured;
 use cases::Names;
 use commit::{Core, CoreError};
 use disk::{Choice, Disk, MemDisk, Side};
@@ -104,7 +105,7 @@ fn crashed(
     if disk.crash(fill).is_err() {
         return told.push_str("no such crash\n");
     }
-    let bytes = disk.len(Side::A).unwrap_or(0);
+    let bytes = measured(&mut disk, Side::A).unwrap_or(0);
     let gate = first_byte(&mut disk);
     let there = is_there(alloc, disk);
     writeln!(told, "{bytes} bytes, byte {GATE} is {gate}, {there}")
@@ -113,7 +114,7 @@ fn crashed(
 // The byte that opens the record; 0 if there is none.
 fn first_byte(disk: &mut MemDisk) -> u8 {
     let mut buffer = [0u8];
-    if let Ok(count) = disk.len(Side::A)
+    if let Some(count) = measured(disk, Side::A)
         && GATE < count
     {
         let _ = disk.read(Side::A, GATE, &mut buffer);

@@ -1,10 +1,10 @@
 //! A disk that makes the program over it a wrong one: the trials must find that.
-ghost use Rattle.std.specs.Prelude.{◌≡◌, ◌≤◌, ◌+◌, [], false, length, IsTrue, IfSome};
+ghost use Rattle.std.specs.Prelude.{◌≡◌, ◌≤◌, ◌+◌, [], false};
 ghost use Rattle.std.proofs.lemmas.Bool.{false≢true};
 ghost use Rattle.disk.specs.File.{settled};
-ghost use Rattle.disk.specs.MemDisk.{files_of};
 ghost use Rattle.disk.specs.Time.{HasCause, CountsRefusal};
 
+use crate::lengths::measured;
 use crate::streams::Countdown;
 use disk::{Disk, DiskError, MemDisk, Side};
 
@@ -98,16 +98,6 @@ impl WrongDisk {
                 Err(DiskError::NoMemory)
             }
         }
-    }
-}
-
-// The length of a file, by a second call if the first one fails.
-fn measured(disk: &mut MemDisk, side: Side) -> Option<u64>
-    ensures { IfSome result (λ count. count ≡ length (files_of disk.new side).content) }
-{
-    match disk.len(side) {
-        Ok(count) => Some(count),
-        Err(_) => disk.len(side).ok(),
     }
 }
 
