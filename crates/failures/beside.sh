@@ -2,13 +2,14 @@
 # Looks at a store while a run has it open. Another program reads both files all the time, which does no harm; `report`, `turn` and `run` of a second `cnc` say `device failed`
 # with status 5, and change nothing. The run then ends as it must, and so do a turnover and a report.
 #
-# usage: beside.sh CNC [N]
-#     N   the steps of a chain (4000)
+# usage: beside.sh CNC [N [FOLDER]]
+#     N        the steps of a chain (4000)
+#     FOLDER   where a new folder holds the store, and is removed (the directory for temporary files); not a file system in memory, on which the run ends too soon
 set -eu
 cnc=$(realpath "${1:?the program}")
 number=${2:-4000}
 here=$(realpath "$(dirname "$0")")
-room=$(mktemp -d)
+room=$(mktemp -d "${3:-${TMPDIR:-/tmp}}/beside.XXXXXX")
 trap 'rm -rf "$room"' EXIT
 cd "$room"
 . "$here/chains.sh"
@@ -42,5 +43,8 @@ test "$kind" = whole || wrong 'the run'
 "$cnc" turn store >turned
 grep -qx 'turned, generation [23]' turned
 "$cnc" report store | cmp -s - report
-test "$refused" -gt 0
+if [ "$refused" = 0 ]; then
+    echo 'the run ended before another program had looked: take more steps, or a slower disk' >&2
+    exit 1
+fi
 echo "$looks looks at both files, and $refused commands of a second program, all refused; the run, a turnover and the report are right"

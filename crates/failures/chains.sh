@@ -16,13 +16,12 @@ step add(chain, i) {
   write { put [sum: chain, i] = before + i; }
 }
 GRAPH
-{
-    seq 1 8 | sed 's/.*/put [sum: &, 0] = 0/'
-    for i in $(seq 1 "$number"); do
-        seq 1 8 | sed "s/.*/tag <n: &, $i>/"
-    done
-    echo run
-} >script
+awk -v number="$number" 'BEGIN {
+    for (chain = 1; chain <= 8; chain++) printf "put [sum: %d, 0] = 0\n", chain
+    for (i = 1; i <= number; i++)
+        for (chain = 1; chain <= 8; chain++) printf "tag <n: %d, %d>\n", chain, i
+    print "run"
+}' >script
 
 # The sum of the numbers up to i is i * (i + 1) / 2.
 awk -v number="$number" 'BEGIN {
