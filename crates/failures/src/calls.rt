@@ -54,17 +54,22 @@ impl Came {
         self.went_on = out.went_on();
         self.told.push_str(text_of(out.text()))
     }
+}
 
-    // Keeps the lines of the error output, and the status.
-    fn keep_end(&mut self, err: &[u8], status: u8) -> Result<(), AllocError> {
-        for line in text_of(err).lines() {
-            writeln!(self.told, "! {line}")?;
-        }
-        if status != 0 {
-            writeln!(self.told, "status {status}")?;
-        }
-        Ok(())
+// Writes the lines of the error output, and the status.
+fn tell_end(told: &mut String, err: &str, status: u8) -> Result<(), AllocError> {
+    tell_errors(told, err)?;
+    if status == 0 {
+        return Ok(());
     }
+    writeln!(told, "status {status}")
+}
+
+fn tell_errors(told: &mut String, err: &str) -> Result<(), AllocError> {
+    for line in err.lines() {
+        writeln!(told, "! {line}")?;
+    }
+    Ok(())
 }
 
 fn text_of(bytes: &[u8]) -> &str {
@@ -127,7 +132,7 @@ fn obeyed<D: Disk + Send + Drop, R: Threads + Wait + Sync>(
     let mut came = Came::new(stage.alloc);
     came.has_failed = reader.has_failed();
     came.keep(&out)?;
-    came.keep_end(err.as_slice(), status)?;
+    tell_end(&mut came.told, text_of(err.as_slice()), status)?;
     Ok((disk, came))
 }
 

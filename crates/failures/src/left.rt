@@ -1,7 +1,7 @@
 //! What a store has after a failure and a crash, and what the command does then. In the graphs of the cases each step puts one
 //! item and no tag, so the numbers of a report say how much the environment put.
 use crate::calls::Came;
-use crate::counts::{Counts, has_items};
+use crate::counts::{Counts, has_items, is_line};
 use crate::right::{Deed, Right, is_put};
 use crate::trials::Kind;
 
@@ -33,11 +33,16 @@ pub(crate) fn broken_by_crash(
 ) -> Option<&'static str> {
     match right.deed {
         Deed::Create if kind == Kind::Reader => same(after, NOT_A_STORE),
-        Deed::Create if kind != Kind::Writer && after == NOT_A_STORE => None,
+        Deed::Create if kind != Kind::Writer && is_refused(after) => None,
         Deed::Create | Deed::Report | Deed::Turn => same(after, right.report),
         Deed::Run if came.held.is_empty() => same(after, before),
         Deed::Run => broken_run(kind, right, before, came, after),
     }
+}
+
+// Whether the store is refused. A store whose creation failed may be one of which nothing is promised.
+fn is_refused(after: &str) -> bool {
+    after.starts_with("! store refused: ") && is_line(after, 1, "status 4")
 }
 
 fn same(after: &str, wanted: &str) -> Option<&'static str> {
