@@ -65,10 +65,12 @@ test "$(head -n 7000 "$room/fill.out" | sort -u)" = 'ok'
 after_fill=$(size)
 full=$(files)
 
-# A run on four workers is refused too, and writes nothing.
+# A run on four workers is refused too, with status 4, and writes nothing.
 echo run >"$room/again"
-replies again 4
-test "$(cat "$room/again.out")" = 'refused 7: full'
+status=0
+"$cnc" run "$room/store" "$room/again" --workers 4 >"$room/again.out" || status=$?
+test "$status" = 4
+test "$(head -n 1 "$room/again.out")" = 'refused 7: full'
 test "$(files)" = "$full"
 
 # Small puts fit until they don't; from then on each is refused, and so are the tags after some more.

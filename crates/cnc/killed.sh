@@ -3,16 +3,18 @@
 # steps run. Each line that was answered `ok` must be found by the next run, and the last report must be the right one. Eight chains of N steps each add the
 # numbers from 1 to N. It says how the steps were committed too: a record has at most eight.
 #
-# usage: killed.sh CNC [COUNT [N [WORKERS [FOLDER]]]]
+# usage: killed.sh CNC [COUNT [N [WORKERS [FOLDER [SIGNAL]]]]]
 #     COUNT    how often it is killed (300); 30 take some 10 seconds
 #     N        the steps of a chain (4000)
 #     WORKERS  the workers (8)
 #     FOLDER   a folder of the file system that is used; a new one in it holds the store, and is removed (the directory for temporary files)
+#     SIGNAL   how it is stopped (KILL); INT is what Ctrl-C sends, TERM what `kill` does
 set -eu
 cnc=${1:?the program}
 count=${2:-300}
 number=${3:-4000}
 workers=${4:-8}
+signal=${6:-KILL}
 room=$(mktemp -d "${5:-${TMPDIR:-/tmp}}/killed.XXXXXX")
 trap 'rm -rf "$room"' EXIT
 mkdir "$room/store"
@@ -83,11 +85,14 @@ while [ "$round" -lt "$count" ]; do
             exit 1
         fi
     fi
-    "$cnc" run "$room/store" "$script" --workers "$workers" >"$room/out" 2>"$room/err" &
+    # A shell lets a process in the background ignore SIGINT: here it is as in the foreground.
+    env --default-signal=INT "$cnc" run "$room/store" "$script" --workers "$workers" >"$room/out" 2>"$room/err" &
     process=$!
     sleep "0.$(awk -v seed="$round$$" 'BEGIN { srand(seed); printf "%03d", rand() * 250 }')"
-    if kill -9 "$process" 2>/dev/null; then killed=$((killed + 1)); fi
-    wait "$process" 2>/dev/null || true
+    kill -s "$signal" "$process" 2>/dev/null || true
+    status=0
+    wait "$process" 2>/dev/null || status=$?
+    if [ "$status" -gt 128 ]; then killed=$((killed + 1)); fi
     if [ -s "$room/err" ]; then
         echo "round $round: $(cat "$room/err")" >&2
         exit 1
@@ -117,4 +122,4 @@ case $together in
     exit 1
     ;;
 esac
-echo "$count runs on $workers workers, $killed of them killed, $answered lines answered: all found; $before steps done before the last run, and its report is right; $together"
+echo "$count runs on $workers workers, $killed of them stopped by $signal, $answered lines answered: all found; $before steps done before the last run, and its report is right; $together"
