@@ -8,7 +8,7 @@ use std::alloc::AllocError;
 use std::sync::Wait;
 use std::thread::Threads;
 
-/// Calls the program with each of these lines, one after another on one disk, for so many seeds. If the disk hides its errors, the program over it is
+/// Calls the program with each of these lines, one after another on one disk, for this number of seeds. If the disk hides its errors, the program over it is
 /// one that does not tell them.
 pub(crate) fn answer<R: Threads + Wait + Sync>(
     stage: &Stage<'_, R>,

@@ -21,7 +21,7 @@ enum Mood {
 pub(crate) struct LyingDisk {
     a: Vec<u8>,
     b: Vec<u8>,
-    // One call in so many is not answered honestly.
+    // Of this number of calls, about one is not answered honestly.
     rarity: u64,
     // What the next choice is made by.
     state: u64,
@@ -89,7 +89,7 @@ impl LyingDisk {
         }
     }
 
-    // Leaves of a file so many bytes, at most.
+    // Leaves at most this number of bytes of a file.
     fn shorten(&mut self, side: Side, count: u64)
         ensures failures { self.new.failures ≡ self.old.failures }
         ensures refusals { self.new.refusals ≡ self.old.refusals }

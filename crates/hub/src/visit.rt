@@ -64,9 +64,9 @@ impl<'h, J: Naming, D: Disk> Visit<'h, J, D> {
             .claim_some(&self.hub.board, pass, tasks, most, self.hub.count)
     }
 
-    /// Claims the instances that wait for an item which one of these puts puts, although the item may not be there: so that their bodies can be run over results that
-    /// are not committed yet. It adds the tasks of up to `most` of them to these; the others are ready. `Ok` says whether an instance runs then. If there is no memory for a
-    /// task, its instance is ready; the tasks before it were added.
+    /// Makes the instances ready that wait for an item which one of these puts puts, although the item may not be there, and claims as many ready ones as it woke, but no more than `most`:
+    /// so that their bodies can be run over results that are not committed yet. No clause says which are claimed; where nothing else is ready, it is those that it woke. `Ok` says
+    /// whether an instance runs then. If there is no memory for a task, its instance is ready; the tasks before it were added.
     pub fn claim_waiting(
         &mut self,
         pass: &mut WorkPass<J>,

@@ -16,7 +16,7 @@ use terms::{Addr, Inst, StepCollection, Tag, TagCollection};
 pub struct Instances {
     pub(crate) tags: CollectionMap<bool>,
     steps: Vec<Step>,
-    // The number behind that of the step of which an instance was claimed last.
+    // The step from which on the next claim looks for a ready instance.
     turn: usize,
 }
 
@@ -262,7 +262,7 @@ impl Instances {
         }
     }
 
-    /// Lets one of the ready instances run, by its number among them. For number 0 the steps take turns, so that none waits until all instances of another are done.
+    /// Lets one of the ready instances run, by its number among them. For number 0 the steps take turns.
     pub fn claim(&mut self, at: usize) -> Option<Task>
         ensures some { at < total is_ready self.old → IsSome result }
         ensures none { total is_ready self.old ≤ at → (result ≡ None) × (self.new ≡ self.old) }
