@@ -2,7 +2,7 @@ use crate::{Core, CoreError};
 use disk::Disk;
 use graph::Graph;
 use instances::{State, Task};
-use machine::{reached_and_quiet, reached_within};
+use machine::{Machine, reached_and_quiet, reached_within};
 use std::alloc::Global;
 use std::sync::Arc;
 use terms::{Addr, FaultKind, Inst};
@@ -80,6 +80,13 @@ impl<D: Disk> Core<D> {
         ensures { result.now.value ≡ graph self.now }
     {
         self.machine.graph()
+    }
+
+    /// What it holds in memory.
+    pub fn machine(&self) -> &Machine
+        ensures { result.now ≡ self.now.machine }
+    {
+        &self.machine
     }
 
     /// The instance at fault, if there is one.

@@ -352,6 +352,13 @@ impl Instances {
             .release(inst.key);
     }
 
+    /// Leaves the instance of a task running, and nobody ends it.
+    pub fn set_aside(&mut self, task: Task)
+        ensures { self.new ≡ self.old }
+    {
+        let _ = task.into_inst();
+    }
+
     /// Makes a waiting instance ready.
     pub fn wake(&mut self, inst: Inst)
         requires { IsWaiting (state_at self.old inst) }

@@ -64,8 +64,8 @@ impl Machine {
         self.is_working()
     }
 
-    // Whether the items of these puts are new; if not, one of them conflicts.
-    fn are_new(&mut self, puts: &[Put]) -> bool
+    /// Whether the items of these puts are new; if not, one of them conflicts. It allocates no memory.
+    pub fn are_new(&mut self, puts: &[Put]) -> bool
         requires { length puts.now ≤ MOST_PUTS }
         ensures new { MatchBool result (AreNew (facts self.old) puts.now) (Conflicts (facts self.old) puts.now) }
         ensures same { self.new ≡ self.old }

@@ -7,7 +7,7 @@
 //! instance. It checks whether an event is legal (`may_put_item`, `may_end`), makes room (`make_room`), and takes the event
 //! (`take_item`, `take_end`); `is_kept` states its invariant. `look_at_ends` says how far several ends come together,
 //! and `take_ends` takes them; `look_at_puts` and `take_puts` do so for puts of the environment. `image` lists what it holds, `image_source`
-//! spells that piece by piece, and `of_holdings` takes over what was read.
+//! spells that piece by piece, and `of_holdings` takes over what was read; `items`, `tags` and `done` go along it, one after another.
 #![tactic(auto)]
 
 mod absence;
@@ -22,6 +22,7 @@ mod examples;
 mod group;
 mod group_taking;
 mod growth;
+mod held;
 mod image_walk;
 mod imaging;
 mod items_of;
