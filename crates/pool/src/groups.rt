@@ -114,7 +114,8 @@ fn claim_next<J: Naming, D: Disk>(
     if hand.rests {
         return;
     }
-    let most = hand.most(hand.claimed.len());
+    let claimed = hand.claimed.len();
+    let most = hand.most(claimed);
     let _ = visit.claim_some(pass, &mut hand.claimed, most);
 }
 

@@ -267,10 +267,11 @@ impl Hand {
             visit.claim_waiting(pass, &mut self.claimed, batch.puts(number), left)?;
             self.looked = number + 1;
         }
-        if self.claimed.is_empty() && !commits {
-            let most = self.most(batch.len());
-            visit.claim_some(pass, &mut self.claimed, most)?;
+        if commits || !self.claimed.is_empty() {
+            return Ok((self.claimed.take_first(), true));
         }
+        let most = self.most(batch.len());
+        visit.claim_some(pass, &mut self.claimed, most)?;
         Ok((self.claimed.take_first(), true))
     }
 
