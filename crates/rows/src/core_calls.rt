@@ -1,8 +1,9 @@
 //! The calls of a store with its steps.
 
 use crate::bodies::tell_address;
-use crate::named::{address_of, tag_of, tell_named};
+use crate::named::{address_of, tag_of, tell_named, tell_tag};
 use crate::together;
+use audit::{VerifyError, verify};
 use commit::{Core, CoreError, CreateError, RunError, Status, Verdict};
 use disk::MemDisk;
 use machine::Ended;
@@ -29,6 +30,7 @@ pub(crate) fn take(
         "together" => finish_together(alloc, core, rest, told),
         "items" => tell_items(core, rest, told),
         "turn" => turn(alloc, core, told),
+        "verify" => tell_certificate(alloc, core, told),
         _ => told.push_str("no such call"),
     }
 }
@@ -85,6 +87,33 @@ fn turn(alloc: Global, core: &mut Core<MemDisk>, told: &mut String) -> Result<()
     match core.turn(alloc) {
         Ok(generation) => write!(told, "generation {generation}"),
         Err(error) => write!(told, "refused: {error}"),
+    }
+}
+
+// Writes whether the store is certified, or else where it is not.
+fn tell_certificate(
+    alloc: Global,
+    core: &Core<MemDisk>,
+    told: &mut String,
+) -> Result<(), AllocError> {
+    let Err(why) = verify(alloc, core) else {
+        return told.push_str("verified");
+    };
+    match why {
+        VerifyError::Instance(instance) => {
+            told.push_str("not verified at ")?;
+            tell_named(core.graph(), &instance, told)
+        }
+        VerifyError::Item(address) => {
+            told.push_str("not verified at ")?;
+            tell_address(core.graph(), &address, told)
+        }
+        VerifyError::Tag(tag) => {
+            told.push_str("not verified at ")?;
+            tell_tag(core.graph(), &tag, told)
+        }
+        VerifyError::NoMemory => told.push_str("no memory"),
+        VerifyError::Halted => told.push_str("halted"),
     }
 }
 

@@ -42,6 +42,14 @@ pub(crate) fn tell_named(
     out.push_str(")")
 }
 
+/// Writes a tag by the name of its collection.
+pub(crate) fn tell_tag(graph: &Graph, tag: &Tag, out: &mut String) -> Result<(), AllocError> {
+    let name = graph.tag_name(tag.collection).unwrap_or("none");
+    write!(out, "<{name}")?;
+    tell_key(out, &tag.key)?;
+    out.push_str(">")
+}
+
 // What is between two characters at the ends of a text.
 fn between(text: &str, open: char, close: char) -> Option<&str> {
     text.strip_prefix(open)?.strip_suffix(close)

@@ -1,0 +1,10 @@
+pub mod Beginning
+pub mod Came
+pub mod Comparing
+pub mod Counted
+pub mod Forged
+pub mod Genuine
+pub mod Left
+pub mod Moving
+pub mod Same
+pub mod Turning

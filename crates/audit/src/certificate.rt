@@ -1,0 +1,101 @@
+ghost use Rattle.std.specs.Prelude.{◌≡◌, ◌↔◌, false, true, Err, IfErr, OnOk};
+ghost use Rattle.machine.specs.Machine.{environment, facts};
+ghost use Rattle.machine.specs.State.{IsReached};
+ghost use Rattle.commit.specs.Core as core_of;
+ghost use Rattle.audit.specs.declared.certificate.VerifyError.TheVariants.{Halted, NoMemory};
+ghost use Rattle.audit.specs.Replayed.{AreLeftOut, IsReplayed, NoneIsReady};
+
+use crate::begin::begin;
+use crate::compare::{instance_left, item_left, tag_left};
+use crate::fault::is_at_fault;
+use crate::replay::replay;
+use commit::Core;
+use disk::Disk;
+use machine::{Machine, reached_goes_on};
+use std::alloc::{AllocError, Global};
+use std::sync::Arc;
+use steptree::ends_once;
+use terms::{Addr, Inst, Tag, facts_are_told_apart};
+
+/// Why a store is not certified. The first of these that holds is reported.
+#[derive(Clone, Copy, Debug, PartialEq, Eq)]
+pub enum VerifyError {
+    /// This instance is done, and its body does not give what the store says that it put; or it reads an item that was not replayed. It is the first of those, by step and then by key. If
+    /// there is none, and all else was replayed, it is the instance at fault, whose body is not at fault so.
+    Instance(Inst),
+    /// The producer of the item at this address did not put it. It is the first of those.
+    Item(Addr),
+    /// No instance that was replayed puts this tag, and neither did the environment. It is the first of those.
+    Tag(Tag),
+    /// Memory was refused.
+    NoMemory,
+    /// The core is halted.
+    Halted,
+}
+
+impl From<AllocError> for VerifyError {
+    ghost from_gives = { λ _ error. error ≡ NoMemory };
+
+    fn from(_: AllocError) -> Self {
+        VerifyError::NoMemory
+    }
+}
+
+/// Whether what a store holds is what its graph's steps can have come to: `Ok` exactly if some legal events lead there, unless memory is refused. It trusts no mark of the store:
+/// it runs the body of each instance that is done there once, or, where it has to wait for an item, up to that item and then anew.
+pub fn verify<D: Disk>(alloc: Global, core: &Core<D>) -> Result<(), VerifyError>
+    ensures certified { OnOk result (IsReached (core_of.graph core.now) (core_of.environment core.now) (core_of.facts core.now)) }
+    ensures genuine { core_of.is_halted core.now ≡ false → IsReached (core_of.graph core.now) (core_of.environment core.now) (core_of.facts core.now) → IfErr result (λ why. why ≡ NoMemory) }
+    ensures halted { (result ≡ Err Halted) ↔ (core_of.is_halted core.now ≡ true) }
+{
+    if core.status().is_err() {
+        return Err(VerifyError::Halted);
+    }
+    certify(alloc, core.machine())
+}
+
+// The same for what a store holds in memory.
+fn certify(alloc: Global, store: &Machine) -> Result<(), VerifyError>
+    ensures certified { OnOk result (IsReached store.now.graph (environment store.now) (facts store.now)) }
+    ensures genuine { IsReached store.now.graph (environment store.now) (facts store.now) → IfErr result (λ why. why ≡ NoMemory) }
+    ensures working { result ≡ Err Halted → ⊥ }
+{
+    let mut made = begin(alloc, store)?;
+    replay(alloc, store, &mut made)?;
+    compare(alloc, store, &mut made)
+}
+
+// Compares a store with what was replayed of it.
+fn compare(alloc: Global, store: &Machine, made: &mut Machine) -> Result<(), VerifyError>
+    requires replayed { IsReplayed store.now made.old }
+    requires left_out { AreLeftOut store.now made.old }
+    requires all { NoneIsReady made.old }
+    ensures certified { OnOk result (IsReached store.now.graph (environment store.now) (facts store.now)) }
+    ensures genuine { IsReached store.now.graph (environment store.now) (facts store.now) → IfErr result (λ why. why ≡ NoMemory) }
+    ensures working { result ≡ Err Halted → ⊥ }
+{
+    facts_are_told_apart();
+    reached_goes_on();
+    ends_once();
+    store.is_kept();
+    made.is_kept();
+    if let Some(inst) = instance_left(store, made) {
+        return Err(VerifyError::Instance(inst));
+    }
+    if let Some(addr) = item_left(store, made) {
+        return Err(VerifyError::Item(addr));
+    }
+    if let Some(tag) = tag_left(store, made) {
+        return Err(VerifyError::Tag(tag));
+    }
+    let Some((inst, kind)) = store.fault() else {
+        return Ok(());
+    };
+    let graph = Arc::clone(store.graph())?;
+    let at_fault = inst;
+    if is_at_fault(alloc, &graph, made, at_fault, kind)? {
+        Ok(())
+    } else {
+        Err(VerifyError::Instance(inst))
+    }
+}

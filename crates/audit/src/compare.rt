@@ -1,0 +1,67 @@
+//! What of a store was not replayed.
+ghost use Rattle.std.specs.Prelude.{◌≡◌, ℤ, true, false, IfSome, None};
+ghost use Rattle.terms.specs.declared.name.Addr.{Addr as Address};
+ghost use Rattle.terms.specs.declared.name.Inst.{Inst as Instance};
+ghost use Rattle.terms.specs.declared.name.Tag.{Tag as Name};
+ghost use Rattle.terms.specs.declared.producer.Producer.{Producer as Putter};
+ghost use Rattle.terms.specs.Facts.{done, item, tag as name};
+ghost use Rattle.machine.specs.Machine.{facts};
+ghost use Rattle.audit.specs.Replayed.{LacksItem};
+
+use machine::Machine;
+use terms::{Addr, Inst, Producer, Tag, facts_are_told_apart};
+
+/// The first instance that is done in the store and was not replayed.
+pub(crate) fn instance_left(store: &Machine, made: &Machine) -> Option<Inst>
+    ensures some { IfSome result (λ instance. (facts store.now (done instance) ≡ true) × (facts made.now (done instance) ≡ false)) }
+    ensures none { result ≡ None → (instance : Instance) → facts store.now (done instance) ≡ true → facts made.now (done instance) ≡ true }
+{
+    facts_are_told_apart();
+    store.is_kept();
+    for inst in store.done() {
+        let name = inst;
+        if !made.is_done(name) {
+            return Some(inst);
+        }
+    }
+    None
+}
+
+/// The address of the first item of the store that was not replayed.
+pub(crate) fn item_left(store: &Machine, made: &Machine) -> Option<Addr>
+    ensures some { IfSome result (LacksItem store.now made.now) }
+    ensures none { result ≡ None → (address : Address) (value : ℤ) (by : Putter) → facts store.now (item address value by) ≡ true → facts made.now (item address value by) ≡ true }
+{
+    facts_are_told_apart();
+    for (addr, (value, producer)) in store.items() {
+        let place = addr;
+        if !has_item(made, place, value, producer) {
+            return Some(addr);
+        }
+    }
+    None
+}
+
+/// The first tag of the store that was not replayed.
+pub(crate) fn tag_left(store: &Machine, made: &Machine) -> Option<Tag>
+    ensures some { IfSome result (λ tag. (facts store.now (name tag) ≡ true) × (facts made.now (name tag) ≡ false)) }
+    ensures none { result ≡ None → (tag : Name) → facts store.now (name tag) ≡ true → facts made.now (name tag) ≡ true }
+{
+    for (tag, _) in store.tags() {
+        let name = tag;
+        if made.mark(name).is_none() {
+            return Some(tag);
+        }
+    }
+    None
+}
+
+/// Whether an item is there with this value and by this producer.
+pub(crate) fn has_item(machine: &Machine, addr: Addr, value: i64, producer: Producer) -> bool
+    ensures { result ≡ facts machine.now (item addr value producer) }
+{
+    match machine.item(addr) {
+        Some((there, by)) => there == value && by.cmp(&producer).is_eq(),
+        None => false,
+    }
+}
