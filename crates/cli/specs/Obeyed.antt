@@ -1,5 +1,5 @@
 -- What a command did with a store, what it wrote, and what it came to.
-use Rattle.std.specs.Prelude.{◌≡◌, ◌⊎◌, ◌<◌, ◌↔◌, ℕ, true, List, ◌++◌, codes, Option, Result, Ok, Err, MatchResult, OnOk}
+use Rattle.std.specs.Prelude.{◌≡◌, ◌⊎◌, ◌<◌, ◌↔◌, ℕ, true, false, List, ◌++◌, codes, Option, Result, Ok, Err, IfErr, MatchResult, OnOk}
 use Rattle.std.specs.Fmt.{decimal}
 use Rattle.std.specs.Io.KnownBytes.{Appends}
 use Rattle.disk.specs.declared.side.Side.{Side}
@@ -12,15 +12,18 @@ use Rattle.graph.specs.Graph.{Graph}
 use Rattle.graph.specs.Reads.{HasCause, Reads}
 use Rattle.graph.specs.declared.fault.GraphFault.{GraphFault}
 use Rattle.graph.specs.declared.limits.TheConstants.{MOST_TEXT}
+use Rattle.audit.specs.declared.certificate.VerifyError.{VerifyError}
+use Rattle.audit.specs.declared.certificate.VerifyError.TheVariants as verify
 use Rattle.machine.specs.Counts.{AreCountsOf}
 use Rattle.machine.specs.declared.counts.Counts.{Counts}
+use Rattle.machine.specs.State.{IsReached}
 use Rattle.vault.specs.Opened.{IsOfOpening, OnlyReads, TellsWhy, contents_of}
 use Rattle.vault.specs.declared.error.VaultError.{VaultError}
 use Rattle.vault.specs.declared.error.VaultError.TheVariants as vault
 use Rattle.commit.specs.declared.creation.CreateError.TheVariants as creation
 use Rattle.commit.specs.declared.creation.NotCreated.{NotCreated}
 use Rattle.commit.specs.declared.error.CoreError.{CoreError}
-use Rattle.commit.specs.Core.{Core, facts, graph}
+use Rattle.commit.specs.Core.{Core, environment, facts, graph, is_halted}
 use Rattle.commit.specs.Created.{IsCreated, LeavesOthers, TellsCreation, answer_of, disk_of}
 use Rattle.commit.specs.Opened.{Finds, IsOpened}
 use Rattle.commit.specs.Turning.{TurnsAs}
@@ -35,7 +38,7 @@ use Rattle.session.specs.Fails.{Answers, IsAllOrTooLarge}
 use Rattle.cli.specs.declared.outcome.Failure.TheVariants as failure
 use Rattle.cli.specs.declared.outcome.Left.{Left}
 use Rattle.cli.specs.declared.outcome.Outcome.{Outcome}
-use Rattle.cli.specs.declared.outcome.Outcome.TheVariants.{Created, Ran, Reported, Turned, Drawn, Failed}
+use Rattle.cli.specs.declared.outcome.Outcome.TheVariants.{Created, Ran, Reported, Turned, Drawn, Verified, NotVerified, Failed}
 use Rattle.cli.specs.declared.words.Command.{Command}
 use Rattle.cli.specs.declared.words.Command.TheVariants as asked
 use Rattle.cli.specs.Outcomes.{failure_of_creation, failure_of_report, failure_of_session, failure_of_turn}
@@ -73,6 +76,13 @@ TellsReport core (Err error) outcome = outcome ≡ Failed (failure_of_report err
 abbrev pub TellsTurn : (before behind : Option (List ℕ)) → Result ℕ CoreError → Outcome → Type 0
 TellsTurn before behind (Ok generation) outcome = SaysOrFails before behind (codes "turned, generation " ++ decimal generation) (Turned generation) outcome
 TellsTurn before behind (Err error) outcome = (outcome ≡ Failed (failure_of_turn error)) × (behind ≡ before)
+
+-- The outcome of a certificate. Which place is wrong goes to the error output.
+abbrev pub TellsCertificate : (before behind : Option (List ℕ)) → Result (Unit {0}) VerifyError → Outcome → Type 0
+TellsCertificate before behind (Ok done) outcome = SaysOrFails before behind (codes "verified") Verified outcome
+TellsCertificate before behind (Err verify.NoMemory) outcome = (outcome ≡ Failed failure.NoMemory) × (behind ≡ before)
+TellsCertificate before behind (Err verify.Halted) outcome = (outcome ≡ Failed (failure.Store vault.Halted)) × (behind ≡ before)
+TellsCertificate before behind (Err why) outcome = (outcome ≡ NotVerified) × (behind ≡ before)
 
 -- the text was not read, and nothing was written
 abbrev pub IsNotRead : (before behind : Option (List ℕ)) → Outcome → Type 0
@@ -156,6 +166,16 @@ module _ {D : Type 0} (files : D → Side → File) (moment : D → ℕ) (left_a
     pub told : TellsTurn before behind answer outcome
     pub disk : new ≡ last.vault.disk
 
+  -- If it is verified, legal events lead to what the store holds; if some do, it is verified, or memory was refused. Nothing was committed.
+  pub record Verifies (before behind : Option (List ℕ)) (old new : D) (outcome : Outcome) : Type 0 where
+    pub core : Core D
+    pub opened : WasOpened old core
+    pub answer : Result (Unit {0}) VerifyError
+    pub certified : OnOk answer (IsReached (graph core) (environment core) (facts core))
+    pub genuine : is_halted core ≡ false → IsReached (graph core) (environment core) (facts core) → IfErr answer (λ why. why ≡ verify.NoMemory)
+    pub told : TellsCertificate before behind answer outcome
+    pub disk : new ≡ core.vault.disk
+
   -- the drawing was written, or the output failed, or memory was refused; the disk is as the opening left it
   pub record DrawsStore (old new : D) (outcome : Outcome) : Type 0 where
     pub core : Core D
@@ -171,5 +191,6 @@ module _ {D : Type 0} (files : D → Side → File) (moment : D → ℕ) (left_a
   Obeys drive (asked.Run directory script limit workers) input before behind old new outcome = IsNotOpened before behind old new outcome ⊎ Runs (record drive { most = limit }) input before behind old new outcome
   Obeys drive (asked.Report directory format) input before behind old new outcome = IsNotOpened before behind old new outcome ⊎ Reports format before behind old new outcome
   Obeys drive (asked.Turn directory) input before behind old new outcome = IsNotOpened before behind old new outcome ⊎ TurnsOver before behind old new outcome
+  Obeys drive (asked.Verify directory) input before behind old new outcome = IsNotOpened before behind old new outcome ⊎ Verifies before behind old new outcome
   Obeys drive (asked.Draw text) input before behind old new outcome = (new ≡ old) × Draws input before behind outcome
   Obeys drive (asked.DrawStore directory) input before behind old new outcome = IsNotOpened before behind old new outcome ⊎ DrawsStore old new outcome

@@ -23,7 +23,7 @@ use Rattle.cli.specs.declared.outcome.Failure.{Failure}
 use Rattle.cli.specs.declared.outcome.Failure.TheVariants as failure
 use Rattle.cli.specs.declared.outcome.Left.{Left}
 use Rattle.cli.specs.declared.outcome.Outcome.{Outcome}
-use Rattle.cli.specs.declared.outcome.Outcome.TheVariants.{Created, Ran, Reported, Turned, Drawn, Failed}
+use Rattle.cli.specs.declared.outcome.Outcome.TheVariants.{Created, Ran, Reported, Turned, Drawn, Verified, NotVerified, Failed}
 
 -- ---- statuses
 
@@ -59,6 +59,8 @@ abbrev pub status_of : Outcome → ℕ
 status_of Created = 0
 status_of (Turned generation) = 0
 status_of Drawn = 0
+status_of Verified = 0
+status_of NotVerified = 4
 status_of (Reported left) = report_status left
 status_of (Ran ending left) = run_status ending left
 status_of (Failed why) = failure_status why

@@ -5,7 +5,7 @@ use Rattle.clap.specs.declared.error.kind.ErrorKind.TheVariants as kind
 use Rattle.report.specs.declared.format.Format.{Format}
 use Rattle.report.specs.declared.format.Format.TheVariants.{Text, Csv, Json}
 use Rattle.cli.specs.declared.words.Command.{Command}
-use Rattle.cli.specs.declared.words.Command.TheVariants.{Create, Run, Report, Turn, Draw, DrawStore}
+use Rattle.cli.specs.declared.words.Command.TheVariants.{Create, Run, Report, Turn, Verify, Draw, DrawStore}
 use Rattle.cli.specs.declared.words.TheConstants.{MOST_LIMIT, MOST_WORKERS}
 
 -- the limit of a run is at most the greatest, and the number of its workers is from 1 to the greatest
@@ -14,6 +14,7 @@ IsInRange (Run directory script limit workers) = (limit ≤ MOST_LIMIT) × (1 �
 IsInRange (Create graph directory) = ⊤
 IsInRange (Report directory format) = ⊤
 IsInRange (Turn directory) = ⊤
+IsInRange (Verify directory) = ⊤
 IsInRange (Draw graph) = ⊤
 IsInRange (DrawStore directory) = ⊤
 

@@ -7,30 +7,32 @@ ghost use Rattle.commit.specs.Runs.{NoneRuns};
 ghost use Rattle.pool.specs.Driver.{may_be_asked, may_spawn};
 ghost use Rattle.session.specs.Answers.{drive_of};
 ghost use Rattle.session.specs.Fails.{Answers, IsAllOrTooLarge};
-ghost use Rattle.cli.specs.Obeyed.{CreatesOrNot, Draws, DrawsStore, IsDrawn, IsLeft, IsNotOpened, Obeys, Reports, Runs, SaysOrFails, TellsReport, TellsSession, TellsTurn, TurnsOver};
+ghost use Rattle.cli.specs.Obeyed.{CreatesOrNot, Draws, DrawsStore, IsDrawn, IsLeft, IsNotOpened, Obeys, Reports, Runs, SaysOrFails, TellsCertificate, TellsReport, TellsSession, TellsTurn, TurnsOver, Verifies};
 ghost use Rattle.cli.specs.Outcomes.{status_of};
 ghost use Rattle.cli.specs.declared.outcome.Failure.TheVariants as failure;
 ghost use Rattle.cli.specs.declared.outcome.Outcome.{Outcome as Came};
-ghost use Rattle.cli.specs.declared.outcome.Outcome.TheVariants.{Created, Failed, Turned};
+ghost use Rattle.cli.specs.declared.outcome.Outcome.TheVariants.{Created, Failed, Turned, Verified};
 ghost use Rattle.cli.specs.declared.words.TheConstants.{MOST_LIMIT};
 
 use crate::hints::{graph_hint, script_hint};
 use crate::outcome::NamedFailure;
 use crate::words::MOST_LIMIT;
 use crate::{Command, Failure, Left, Outcome};
+use audit::VerifyError;
 use commit::{Core, CoreError, CreateError, NotCreated};
 use disk::Disk;
 use drawing::{DrawError, draw_graph, draw_store};
 use graph::{Graph, MOST_TEXT, parse};
 use pool::{Driver, Probe};
-use report::{Format, ReportError, WriterSink, write_report_in};
+use report::{Format, NamedAddress, NamedInstance, ReportError, WriterSink, write_report_in};
 use session::{Ending, ReaderSource, SessionError, session};
 use std::alloc::Global;
-use std::io::{ErrorKind, Read, Write};
+use std::io::{self, ErrorKind, Read, Write};
 use std::marker::Sync;
 use std::sync::Wait;
 use std::thread::Threads;
-use vault::Refused;
+use terms::Tag;
+use vault::{Refused, VaultError};
 
 /// Where failures are reported.
 pub trait Errors: Write {
@@ -50,7 +52,7 @@ impl Errors for Vec<u8> {
 /// `err`; but nothing does if the output failed, or a reply ended the session. A store is opened before its script is
 /// read, and the driver runs its steps. The status is the first that holds: 2 if the graph or the script is refused or
 /// cannot be read; 5 if the device failed, memory or a thread was refused, the store is halted, or the output failed; 4
-/// if the store is refused, or a put or a run found it full; 3 if a fault stopped the store; 6 if the last `run` met its
+/// if the store is refused or not verified, or a put or a run found it full; 3 if a fault stopped the store; 6 if the last `run` met its
 /// limit; 1 if a prescribed instance is not done; else 0.
 pub fn obey<D: Disk + Send, R: Read, W: Write, E: Errors, H: Threads + Wait + Sync, P: Probe>(
     alloc: Global,
@@ -64,7 +66,7 @@ pub fn obey<D: Disk + Send, R: Read, W: Write, E: Errors, H: Threads + Wait + Sy
     ensures { (outcome : Came) × (result.1 ≡ status_of outcome)
         × Obeys D.files D.moment D.left_at D.failures D.refusals (IsTrue D.is_honest) (drive_of MOST_LIMIT (may_be_asked P.may_stop driver.now) (may_spawn driver.now) false) command.now (R.remaining input.old) (W.contents out.old) (W.contents out.new) disk result.0 outcome }
 {
-    let (disk, outcome) = obeyed(alloc, command, disk, input, out, driver);
+    let (disk, outcome) = obeyed(alloc, command, disk, input, out, err, driver);
     if let Outcome::Failed(failure) = &outcome {
         tell(failure, command.input(), err);
     }
@@ -72,12 +74,13 @@ pub fn obey<D: Disk + Send, R: Read, W: Write, E: Errors, H: Threads + Wait + Sy
 }
 
 // Does what a command asks for.
-fn obeyed<D: Disk + Send, R: Read, W: Write, H: Threads + Wait + Sync, P: Probe>(
+fn obeyed<D: Disk + Send, R: Read, W: Write, E: Errors, H: Threads + Wait + Sync, P: Probe>(
     alloc: Global,
     command: &Command<'_>,
     disk: D,
     input: &mut R,
     out: &mut W,
+    err: &mut E,
     driver: &Driver<'_, H, P>,
 ) -> (D, Outcome)
     ensures { Obeys D.files D.moment D.left_at D.failures D.refusals (IsTrue D.is_honest) (drive_of MOST_LIMIT (may_be_asked P.may_stop driver.now) (may_spawn driver.now) false) command.now (R.remaining input.old) (W.contents out.old) (W.contents out.new) disk result.0 result.1 }
@@ -87,6 +90,7 @@ fn obeyed<D: Disk + Send, R: Read, W: Write, H: Threads + Wait + Sync, P: Probe>
         Command::Run { limit, .. } => run(alloc, disk, input, out, driver, limit),
         Command::Report { format, .. } => report(alloc, disk, format, out),
         Command::Turn { .. } => turn(alloc, disk, out),
+        Command::Verify { .. } => verify(alloc, disk, out, err),
         Command::Draw { .. } => (disk, draw(alloc, input, out)),
         Command::DrawStore { .. } => draw_stored(alloc, disk, out),
     }
@@ -299,6 +303,82 @@ fn turn<D: Disk, W: Write>(alloc: Global, disk: D, out: &mut W) -> (D, Outcome)
             (disk, Outcome::Failed(Failure::Store(error)))
         }
     }
+}
+
+// Looks whether what a store holds is what its steps can have come to.
+fn verify<D: Disk, W: Write, E: Errors>(
+    alloc: Global,
+    disk: D,
+    out: &mut W,
+    err: &mut E,
+) -> (D, Outcome)
+    ensures { IsNotOpened D.files D.moment D.left_at D.failures D.refusals (IsTrue D.is_honest) (W.contents out.old) (W.contents out.new) disk result.0 result.1
+        ⊎ Verifies D.files D.moment D.left_at D.failures D.refusals (IsTrue D.is_honest) (W.contents out.old) (W.contents out.new) disk result.0 result.1 }
+{
+    match Core::open(alloc, disk) {
+        Ok(core) => {
+            let outcome = certified(&core, audit::verify(alloc, &core), out, err);
+            (core.into_disk(), outcome)
+        }
+        Err(refused) => {
+            let Refused { disk, error } = refused;
+            (disk, Outcome::Failed(Failure::Store(error)))
+        }
+    }
+}
+
+// What a certificate came to. If it is refused, the error output says at which place.
+fn certified<D: Disk, W: Write, E: Errors>(
+    core: &Core<D>,
+    answer: Result<(), VerifyError>,
+    out: &mut W,
+    err: &mut E,
+) -> Outcome
+    ensures { TellsCertificate (W.contents out.old) (W.contents out.new) answer result }
+{
+    let graph = core.graph();
+    // Where one of these lines cannot be written, the status still says it.
+    match answer {
+        Ok(()) => verified(out),
+        Err(VerifyError::Instance(instance)) => {
+            let named = NamedInstance { graph, instance };
+            let _ = writeln!(err, "not verified at {named}");
+            Outcome::NotVerified
+        }
+        Err(VerifyError::Item(address)) => {
+            let named = NamedAddress { graph, address };
+            let _ = writeln!(err, "not verified at {named}");
+            Outcome::NotVerified
+        }
+        Err(VerifyError::Tag(tag)) => {
+            let _ = write_tag(err, graph, &tag);
+            Outcome::NotVerified
+        }
+        Err(VerifyError::NoMemory) => Outcome::Failed(Failure::NoMemory),
+        Err(VerifyError::Halted) => Outcome::Failed(Failure::Store(VaultError::Halted)),
+    }
+}
+
+// Says that a store is verified.
+fn verified<W: Write>(out: &mut W) -> Outcome
+    ensures { SaysOrFails (W.contents out.old) (W.contents out.new) (codes "verified") Verified result }
+{
+    match writeln!(out, "verified") {
+        Ok(()) => Outcome::Verified,
+        Err(_) => Outcome::Failed(Failure::Output),
+    }
+}
+
+// Says that a store is not verified at a tag, by the name of its collection.
+fn write_tag<E: Errors>(err: &mut E, graph: &Graph, tag: &Tag) -> io::Result<()> {
+    let name = graph.tag_name(tag.collection).unwrap_or("");
+    write!(err, "not verified at <{name}")?;
+    let mut before = ": ";
+    for component in tag.key.components() {
+        write!(err, "{before}{component}")?;
+        before = ", ";
+    }
+    writeln!(err, ">")
 }
 
 // Draws a store.

@@ -36,6 +36,10 @@ pub enum Outcome {
     Turned(u64),
     /// The graph was drawn.
     Drawn,
+    /// What the store holds is what its steps can have come to.
+    Verified,
+    /// What the store holds is not what its steps can have come to.
+    NotVerified,
     /// The command failed.
     Failed(Failure),
 }
@@ -63,7 +67,8 @@ impl Outcome {
         ensures { result ≡ status_of self.now }
     {
         match self {
-            Outcome::Created | Outcome::Turned(_) | Outcome::Drawn => 0,
+            Outcome::Created | Outcome::Turned(_) | Outcome::Drawn | Outcome::Verified => 0,
+            Outcome::NotVerified => 4,
             Outcome::Ran(ending, left) => run_status(ending, left),
             Outcome::Reported(left) => report_status(left),
             Outcome::Failed(failure) => failure.status(),

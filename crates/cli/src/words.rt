@@ -53,6 +53,10 @@ pub enum Command<'a> {
     Turn {
         directory: &'a str,
     },
+    /// Verify the store in the directory: look whether what it holds is what its steps can have come to.
+    Verify {
+        directory: &'a str,
+    },
     /// Draw the graph in this file as Graphviz text. It needs no store.
     Draw {
         graph: &'a str,
@@ -71,6 +75,7 @@ impl<'a> Command<'a> {
             | Command::Run { directory, .. }
             | Command::Report { directory, .. }
             | Command::Turn { directory }
+            | Command::Verify { directory }
             | Command::DrawStore { directory } => directory,
             Command::Draw { .. } => "",
         }
@@ -92,7 +97,10 @@ impl<'a> Command<'a> {
         match self {
             Command::Create { graph, .. } | Command::Draw { graph } => graph,
             Command::Run { script, .. } => script,
-            Command::Report { .. } | Command::Turn { .. } | Command::DrawStore { .. } => "",
+            Command::Report { .. }
+            | Command::Turn { .. }
+            | Command::Verify { .. }
+            | Command::DrawStore { .. } => "",
         }
     }
 }
@@ -168,6 +176,7 @@ fn command_in<'a>(matches: &ArgMatches<'a>) -> Option<Command<'a>>
         }
         "report" => report_in(found, directory),
         "turn" => Some(Command::Turn { directory }),
+        "verify" => Some(Command::Verify { directory }),
         _ => None,
     }
 }
@@ -219,6 +228,7 @@ fn command_line<'a>(alloc: Global) -> Result<clap::Command<'a>, AllocError> {
     let line = with_command(line, run_line(alloc));
     let line = with_command(line, report_line(alloc));
     let line = with_command(line, turn_line(alloc));
+    let line = with_command(line, verify_line(alloc));
     with_command(line, draw_line(alloc))
 }
 
@@ -278,6 +288,13 @@ fn turn_line<'a>(alloc: Global) -> Result<clap::Command<'a>, AllocError> {
             "Write a store anew into its other file, without the records that led to what it holds",
         )
         .after_help("Example: cnc turn store");
+    with_argument(Ok(line), directory(alloc))
+}
+
+fn verify_line<'a>(alloc: Global) -> Result<clap::Command<'a>, AllocError> {
+    let line = clap::Command::new(alloc, "verify")
+        .about("Look whether what a store holds is what its steps can have come to")
+        .after_help("Example: cnc verify store");
     with_argument(Ok(line), directory(alloc))
 }
 
