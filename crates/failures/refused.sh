@@ -1,7 +1,7 @@
 #!/bin/sh
 # Runs the program with little memory and with few threads: first with so little memory that it does not start, then with some more each time, until four times in a row
 # nothing is refused; and then as a user who may have one thread, two, and so on. Each time it writes what is right; or right lines up to `refused 10: no memory`, and as
-# the reply to `run` also `refused 8: halted` or `refused: no thread`; or `no memory`, with status 5 (`error: out of memory` where it is refused while the words are read). After that the store opens and the script runs on, and each line that
+# the reply to `run` also `refused 8: halted` or `refused: no thread`; or `no memory`, with status 5. After that the store opens and the script runs on, and each line that
 # was answered is there. Some minutes, and some 20 MB in FOLDER.
 #
 # usage: refused.sh CNC [STEP [N [FOLDER]]]
@@ -54,10 +54,7 @@ is_whole_or_none() {
     if [ "$status" = 0 ] && cmp -s out wanted && [ ! -s err ]; then return 0; fi
     all=no
     test "$status" = 5 || wrong "$1 in $limit KiB"
-    case $(cat err) in
-    'no memory' | 'error: out of memory') ;;
-    *) wrong "$1 in $limit KiB" ;;
-    esac
+    test "$(cat err)" = 'no memory' || wrong "$1 in $limit KiB"
 }
 
 # Tries each command in so many KiB. Sets `all` to whether nothing was refused.
@@ -68,7 +65,7 @@ try() {
     come_to 'refused 10: no memory' 'refused 8: halted' 'refused: no thread' || wrong "run in $1 KiB"
     case $kind in
     whole) ;;
-    'no memory' | 'error: out of memory' | refused*) all=no ;;
+    'no memory' | refused*) all=no ;;
     *) wrong "run in $1 KiB" ;;
     esac
     count "$kind"

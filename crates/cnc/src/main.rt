@@ -7,6 +7,7 @@ mod console;
 mod progress;
 
 use clap::Error;
+use clap::error::ErrorKind;
 use cli::{Command, collect_words, obey, read_words, usage_status};
 use console::{Console, Kept, Place};
 use disk::{Disk, DiskError, FileDisk, MemDisk};
@@ -34,16 +35,22 @@ const FAILED: u8 = 5;
 fn main(rt: HostRuntime) -> ExitCode {
     let status = match run(&rt, &rt) {
         Ok(status) => status,
-        Err(error) => {
-            let status = usage_status(&error);
-            match error.print(&rt) {
-                // The help that was asked for could not be written.
-                Err(_) if status == 0 => FAILED,
-                _ => status,
-            }
-        }
+        Err(error) => without_command(&rt, &error),
     };
     ExitCode::from(status)
+}
+
+// Says why the words ask for no command, and returns the status of that.
+fn without_command(rt: &HostRuntime, error: &Error) -> u8 {
+    if error.kind() == ErrorKind::OutOfMemory {
+        return refused(rt, "no memory");
+    }
+    let status = usage_status(error);
+    match error.print(rt) {
+        // The help that was asked for could not be written.
+        Err(_) if status == 0 => FAILED,
+        _ => status,
+    }
 }
 
 /// Does what the words ask for, and returns the exit status.
