@@ -8,7 +8,7 @@ ghost use Rattle.pool.specs.Worked.{AreClaimed, AreKept, HasAll, Justifies};
 
 use crate::hand::Hand;
 use crate::settling::{settled, settled_all};
-use crate::worker::{GROUP, Met};
+use crate::worker::{GROUP, MOST_KEPT, Met};
 use commit::Batch;
 use disk::Disk;
 use hub::{Hub, Visit, WorkPass};
@@ -114,8 +114,7 @@ fn claim_next<J: Naming, D: Disk>(
     if hand.rests {
         return;
     }
-    let claimed = hand.claimed.len();
-    let most = hand.most(claimed);
+    let most = MOST_KEPT.saturating_sub(hand.claimed.len());
     let _ = visit.claim_some(pass, &mut hand.claimed, most);
 }
 

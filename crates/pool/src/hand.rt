@@ -25,9 +25,6 @@ const VISIT: u32 = 100;
 // A body is light if it makes fewer statements: then its commit takes longer than the body, and one worker alone takes about as long for such bodies as several.
 const LIGHT: u32 = 64;
 
-// Over how many of the last bodies the weight of bodies is taken, about.
-const LATELY: u32 = 32;
-
 // A body looks for items among the results that are kept if these have at most this number of puts, since it goes through all of them.
 const FEW_PUTS: usize = 256;
 
@@ -47,19 +44,15 @@ pub(crate) struct Hand {
     many: bool,
     // Whether the bodies that ran since then are light.
     light: bool,
-    // The statements of the last `LATELY` bodies that ended, about: of each body before them it counts less.
-    weight: u32,
-    // How many instances it claims at once. Each claim doubles it, up to `MOST_KEPT`; a body that waits after one that ended makes it 1.
-    at_once: usize,
-    // Whether a body has waited since the last one that ended.
-    waited: bool,
-    // Whether it gives back what it has claimed, since what is behind an instance that waits is likely to wait as well.
-    lets_go: bool,
+    // Whether the last body that ended is light, or none has ended.
+    light_lately: bool,
     // How many batches had been committed when it last committed one.
     batches: usize,
     /// Whether it leaves the work to others for a while, and how often in a row it has done so.
     pub(crate) rests: bool,
     pub(crate) rested: u32,
+    // Whether it has left the work to others since the last body that ended.
+    left: bool,
     /// How often in a row it has found nothing to do.
     pub(crate) vain: u32,
 }
@@ -78,13 +71,11 @@ impl Hand {
             looked: 0,
             many: false,
             light: false,
-            weight: 0,
-            at_once: MOST_KEPT,
-            waited: false,
-            lets_go: false,
+            light_lately: true,
             batches: 0,
             rests: false,
             rested: 0,
+            left: false,
             vain: 0,
         })
     }
@@ -93,32 +84,21 @@ impl Hand {
     pub(crate) fn note_end(&mut self, statements: u32)
         ensures { self.new.claimed ≡ self.old.claimed }
     {
-        self.weight = (self.weight - self.weight / LATELY).saturating_add(statements);
-        self.waited = false;
+        self.light_lately = statements < LIGHT;
+        self.left = false;
     }
 
-    /// Notes that a body waits. If one has ended before it, the worker gives back what else it has claimed, and claims one instance at once from then on, two after that, and so on. So while
-    /// the instance in front is with somebody else, not all that are behind it are begun in vain.
-    pub(crate) fn note_wait(&mut self)
-        ensures { self.new.claimed ≡ self.old.claimed }
-    {
-        if !self.waited {
-            self.at_once = 1;
-            self.lets_go = true;
-        }
-        self.waited = true;
-    }
-
-    /// Whether the worker with this number, whose body waits, leaves the work to others: if bodies were light lately and others run something. Then it rests. `kept` is the number of results that it
+    /// Whether the worker with this number, whose body waits, leaves the work to others: if bodies are light and others run something. Then it rests. `kept` is the number of results that it
     /// keeps, and `running` that of all instances that run. A worker that goes on would let one instance after another wait, and each would be woken and run anew by somebody else.
     pub(crate) fn leaves(&mut self, number: usize, kept: usize, running: usize) -> bool
         ensures { self.new.claimed ≡ self.old.claimed }
     {
         let own = self.claimed.len().saturating_add(kept).saturating_add(1);
-        if number == 0 || self.weight >= LATELY * LIGHT || running <= own {
+        if number == 0 || !self.light_lately || running <= own {
             return false;
         }
         self.rests = true;
+        self.left = true;
         true
     }
 
@@ -194,8 +174,8 @@ impl Hand {
 
     /// The next instance to run, if there is one: it was claimed before, or is now, with others of its group. Says whether an instance runs then. After
     /// a body that took long, what was claimed before it is given back, so that others can run it, and one instance is claimed alone. If the worker keeps
-    /// a group of results and fewer instances seem to be ready, or some and none seems to be, or a body waited a short while ago, it claims those that wait for what it keeps. If there are none,
-    /// it claims others where enough seem to be ready, and else the results are committed first.
+    /// a group of results and fewer instances seem to be ready, or some and none seems to be, it claims those that wait for what it keeps; if there are none, the results are
+    /// committed first.
     pub(crate) fn next<J: Naming, D: Disk, R: Wait>(
         &mut self,
         rt: &R,
@@ -209,47 +189,34 @@ impl Hand {
         ensures ahead { IsPrefix pass.old.seen pass.new.seen }
         ensures refused { IfErr result RefusesClaims }
     {
-        if self.slow || self.lets_go {
-            self.lets_go = false;
-            self.give_back(rt, hub, pass);
-        }
+        let count = count_of(kept);
         if self.slow {
+            self.give_back(rt, hub, pass);
             return self.claim(rt, hub, pass, 1);
         }
-        if let Some(task) = self.claimed.take_first() {
-            return Ok((Some(task), true));
+        match self.claimed.take_first() {
+            Some(task) => Ok((Some(task), true)),
+            None if commits_first(count, hub.ready()) => self.claim_waiting(rt, hub, pass, kept),
+            None => self.claim(rt, hub, pass, self.most(count)),
         }
-        let count = count_of(kept);
-        let commits = commits_first(count, hub.ready());
-        if (commits || self.at_once < MOST_KEPT) && count > 0 {
-            if let Some(batch) = self.ahead(kept, hub.ready()) {
-                return self.claim_over(rt, hub, pass, batch, commits);
-            }
-        }
-        if commits {
-            return Ok((None, true));
-        }
-        let most = self.most(count);
-        self.claim(rt, hub, pass, most)
     }
 
-    /// How many instances it claims now, if it keeps this number of results. The next time it is twice as many.
-    pub(crate) fn most(&mut self, kept: usize) -> usize
-        ensures { self.new.claimed ≡ self.old.claimed }
-    {
-        let most = self.at_once.min(MOST_KEPT.saturating_sub(kept));
-        self.at_once = self.at_once.saturating_mul(2).min(MOST_KEPT);
-        most
+    // How many instances it claims at once, if it keeps this number of results. A worker that left the work to others claims one, to see whether it can go on.
+    fn most(&self, kept: usize) -> usize {
+        if self.left {
+            1
+        } else {
+            MOST_KEPT.saturating_sub(kept)
+        }
     }
 
-    // Claims instances that wait for items of this batch, which is kept, and takes the first of them. If there are none, it claims others, unless the batch is committed first.
-    fn claim_over<J: Naming, D: Disk, R: Wait>(
+    // Claims instances that wait for items which are kept, if bodies may read these, and takes the first of them.
+    fn claim_waiting<J: Naming, D: Disk, R: Wait>(
         &mut self,
         rt: &R,
         hub: &Hub<J, D>,
         pass: &mut WorkPass<J>,
-        batch: &Batch<'_>,
-        commits: bool,
+        kept: &Option<Batch<'_>>,
     ) -> Result<(Option<Task>, bool), CoreError>
         requires { AreClaimed J.opening self.old.claimed }
         ensures claimed { AreClaimed J.opening self.new.claimed }
@@ -257,6 +224,9 @@ impl Hand {
         ensures ahead { IsPrefix pass.old.seen pass.new.seen }
         ensures refused { IfErr result RefusesClaims }
     {
+        let Some(batch) = self.ahead(kept, hub.ready()) else {
+            return Ok((None, true));
+        };
         let most = MOST_KEPT.saturating_sub(batch.len());
         let mut visit = hub.visit(rt);
         for number in self.looked..batch.len() {
@@ -267,11 +237,6 @@ impl Hand {
             visit.claim_waiting(pass, &mut self.claimed, batch.puts(number), left)?;
             self.looked = number + 1;
         }
-        if commits || !self.claimed.is_empty() {
-            return Ok((self.claimed.take_first(), true));
-        }
-        let most = self.most(batch.len());
-        visit.claim_some(pass, &mut self.claimed, most)?;
         Ok((self.claimed.take_first(), true))
     }
 
@@ -326,13 +291,11 @@ impl Hand {
             looked: _,
             many: _,
             light: _,
-            weight: _,
-            at_once: _,
-            waited: _,
-            lets_go: _,
+            light_lately: _,
             batches: _,
             rests: _,
             rested: _,
+            left: _,
             vain: _,
         } = self;
         claimed.end();

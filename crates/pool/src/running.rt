@@ -62,7 +62,6 @@ pub(crate) fn run_task<'a, J: Naming, D: Disk, P: Probe, R: Wait>(
         Ok(Ran::Waits(run, ahead)) => {
             hand.vain = 0;
             hand.note(run.statements(), 0, kept.is_some());
-            hand.note_wait();
             if hand.leaves(pass.number(), count_of(&kept), hub.running()) {
                 drop(run);
                 return leave(rt, alloc, hub, pass, hand, task, kept);
