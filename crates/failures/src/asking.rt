@@ -1,7 +1,6 @@
 //! A run whose probe asks for a stop.
 ghost use Rattle.cli.specs.Words.{IsInRange};
 
-use crate::calls::told_of;
 use crate::stage::Stage;
 use cli::{Command, obey, read_words};
 use disk::MemDisk;
@@ -25,7 +24,7 @@ impl Probe for AlwaysStop {
     }
 }
 
-/// What a command writes whose workers are asked to stop before the first step, as that of a call.
+/// What a command writes whose workers are asked to stop before the first step; then the status, if it is not 0.
 pub(crate) fn answer<R: Threads + Wait + Sync>(
     stage: &Stage<'_, R>,
     line: &str,
@@ -58,5 +57,10 @@ fn asked<R: Threads + Wait + Sync>(
         &mut err,
         &driver,
     );
-    told_of(stage.alloc, out.as_slice(), err.as_slice(), status)
+    let mut told = String::new(stage.alloc);
+    told.push_str(str::from_utf8(out.as_slice()).unwrap_or("no text\n"))?;
+    if status != 0 {
+        writeln!(told, "status {status}")?;
+    }
+    Ok(told)
 }
