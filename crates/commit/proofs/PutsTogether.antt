@@ -37,7 +37,15 @@ use Rattle.commit.proofs.Together.{halted, takes_in_turn, too_long, too_long_the
 
 -- nothing is given back
 pub none_back : (m : Machine) → GivesAllBack m m []
-none_back m = record { graph = refl; facts = λ _. refl; environment = λ _. refl; ready = tt; others = λ other never. refl }
+none_back m = record {
+  graph = refl;
+  facts = λ _. refl;
+  environment = λ _. refl;
+  ready = tt;
+  others = λ other never. refl;
+  item_room = λ collection. omega arith;
+  tag_room = λ collection. omega arith;
+}
 
 -- after puts no more instances run than before
 pub behind_puts : NoMoreRun → (m : Machine) (puts : List Event) (n : Machine) (allowance : ℕ) → AllByRecursion IsPut puts → TakesInTurn m puts n → running_count m ≤ allowance → running_count n ≤ allowance

@@ -143,6 +143,8 @@ module _ {D : Type 0} (old mid : Core D) (room : GivesRoom old mid) where
     environment = λ fact. it.environment fact ∙ room.machine.environment fact;
     ready = it.ready;
     others = λ other none. it.others other none ∙ room.machine.states other;
+    item_room = λ c. omega (arith, room.machine.item_room c, it.item_room c);
+    tag_room = λ c. omega (arith, room.machine.tag_room c, it.tag_room c);
   }
 
   pub gives_back : (new : Core D) (tasks : List Inst) → GivesBackAll mid new tasks → GivesBackAll old new tasks

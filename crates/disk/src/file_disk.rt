@@ -5,7 +5,7 @@ ghost use Rattle.disk.specs.Time.{HasCause, CountsRefusal};
 
 use crate::refusals::one_more;
 use crate::{Disk, DiskError, Side};
-use std::alloc::Global;
+use std::alloc::{AllocError, Global};
 use std::fs::{File, OpenOptions};
 use std::io;
 use std::os::unix::fs::FileExt;
@@ -20,7 +20,7 @@ const GREATEST_POSITION: u64 = i64::MAX as u64;
 /// Nothing is claimed about bytes: it is the user's premise that real files behave as those of an honest disk.
 /// A call returns `Device` if the system refuses what it asks, if a read meets the end of its file, or if a range ends
 /// past `2 ^ 63 - 1`, the greatest position that the system can count.
-/// While the disk lives, it holds an exclusive advisory lock on `A`.
+/// While the disk lives, it holds an advisory lock on `A`: an exclusive one, or a shared one if it was opened to be read.
 pub struct FileDisk {
     a: File,
     b: File,
@@ -28,6 +28,7 @@ pub struct FileDisk {
     failures: Vec<()>,
     // Changes with each call that returns `NoMemory`.
     refusals: u64,
+    cause: Option<io::Error>,
 }
 
 impl Drop for FileDisk {
@@ -38,6 +39,7 @@ impl Drop for FileDisk {
             b: _,
             failures: _,
             refusals: _,
+            cause: _,
         } = self;
     }
 }
@@ -56,19 +58,51 @@ impl FileDisk {
     ) -> Result<FileDisk, DiskError>
         ensures { IfOk result (λ disk. ⟦<FileDisk as Disk>⟧.failures disk ≡ 0) }
     {
-        // Units have no size, so there is room for as many as a `Vec` can hold: counting a failure allocates nothing.
-        let failures = Vec::with_capacity(alloc, isize::MAX as usize)?;
+        let failures = no_failures(alloc)?;
         let a = Path::new(directory).join(alloc, "A")?;
         let b = Path::new(directory).join(alloc, "B")?;
-        match open_both(rt, Path::new(directory), a.as_path(), b.as_path()) {
+        let files = open_both(rt, Path::new(directory), a.as_path(), b.as_path());
+        FileDisk::of(failures, files)
+    }
+
+    /// Opens the files `A` and `B` of a directory to be read: no file is created, and a call that would change a byte or a
+    /// length returns `Device`. The user needs no right to write.
+    ///
+    /// Several such disks may have the directory open, and no other then. It returns `NoMemory` if an allocation is refused. It returns `Device` if a file is
+    /// missing, if a call of the system fails, or if a disk that may write has the directory open.
+    pub fn open_to_read<R: Files<File = File>>(
+        alloc: Global,
+        rt: &R,
+        directory: &str,
+    ) -> Result<FileDisk, DiskError>
+        ensures { IfOk result (λ disk. ⟦<FileDisk as Disk>⟧.failures disk ≡ 0) }
+    {
+        let failures = no_failures(alloc)?;
+        let a = Path::new(directory).join(alloc, "A")?;
+        let b = Path::new(directory).join(alloc, "B")?;
+        let files = open_both_to_read(rt, a.as_path(), b.as_path());
+        FileDisk::of(failures, files)
+    }
+
+    // The disk of two files, if they were opened.
+    fn of(failures: Vec<()>, files: io::Result<(File, File)>) -> Result<FileDisk, DiskError>
+        ensures { IfOk result (λ disk. vec_len disk.failures ≡ vec_len failures) }
+    {
+        match files {
             Ok((a, b)) => Ok(FileDisk {
                 a,
                 b,
                 failures,
                 refusals: 0,
+                cause: None,
             }),
             Err(_) => Err(DiskError::Device),
         }
+    }
+
+    /// What the system returned for the last call that it refused, if it has refused one.
+    pub fn cause(&self) -> Option<io::Error> {
+        self.cause
     }
 
     fn file(&self, side: Side) -> &File {
@@ -94,7 +128,7 @@ impl FileDisk {
         }
     }
 
-    /// Returns what the system returned, and counts a failure if there was one.
+    /// Returns what the system returned, and counts and keeps a failure if there was one.
     fn outcome<T: Drop>(&mut self, answer: io::Result<T>) -> Result<T, DiskError>
         ensures cause { HasCause (vec_len self.old.failures) (vec_len self.new.failures) result }
         ensures refused { CountsRefusal self.old.refusals self.new.refusals result }
@@ -103,9 +137,19 @@ impl FileDisk {
     {
         match answer {
             Ok(value) => Ok(value),
-            Err(_) => self.fail(),
+            Err(error) => {
+                self.cause = Some(error);
+                self.fail()
+            }
         }
     }
+}
+
+// A count of no failures. Units have no size, so there is room for as many as a `Vec` can hold: counting a failure allocates nothing.
+fn no_failures(alloc: Global) -> Result<Vec<()>, AllocError>
+    ensures { IfOk result (λ failures. vec_len failures ≡ 0) }
+{
+    Vec::with_capacity(alloc, isize::MAX as usize)
 }
 
 /// Opens `A` and `B`, and touches `B` only after `A` is locked.
@@ -119,6 +163,18 @@ fn open_both<R: Files<File = File>>(
     let a = open_or_make(rt, &directory, a)?;
     a.try_lock()?;
     let b = open_or_make(rt, &directory, b)?;
+    Ok((a, b))
+}
+
+/// Opens `A` and `B` to be read, and touches `B` only after `A` is locked.
+fn open_both_to_read<R: Files<File = File>>(
+    rt: &R,
+    a: Path<'_>,
+    b: Path<'_>,
+) -> io::Result<(File, File)> {
+    let a = File::open(rt, a)?;
+    a.try_lock_shared()?;
+    let b = File::open(rt, b)?;
     Ok((a, b))
 }
 

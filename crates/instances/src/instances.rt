@@ -354,6 +354,7 @@ impl Instances {
 
     /// Leaves the instance of a task running, and nobody ends it.
     pub fn set_aside(&mut self, task: Task)
+        requires { state_at self.old task ≡ Some Running }
         ensures { self.new ≡ self.old }
     {
         let _ = task.into_inst();

@@ -11,7 +11,7 @@ use Rattle.terms.specs.Name.{inst_cmp}
 use Rattle.items.specs.Once.{is_one_of}
 use Rattle.instances.specs.declared.state.State.TheVariants.{Ready}
 use Rattle.machine.specs.Group.{AreRunning, GivesAllBack}
-use Rattle.machine.specs.Machine.{Machine, Moves, running_count}
+use Rattle.machine.specs.Machine.{Machine, Moves, item_room, running_count, tag_room}
 use Rattle.machine.proofs.StillRunning.{apart, one_given_back, still_running}
 
 -- nothing is in an empty list
@@ -60,6 +60,8 @@ module _ (total : IsTotalOrder inst_cmp) (tie : IsAntisymmetric inst_cmp) where
     others = λ other none.
         later.others other (λ behind. none (there_behind task left other behind))
         ∙ moves.others other (λ same. none (subst (Contains (task ∷ left)) (sym same) (there_in_front task left)));
+    item_room = λ collection. subst (λ (r : ℕ). r ≤ item_room new collection) (moves.item_room collection) (later.item_room collection);
+    tag_room = λ collection. subst (λ (r : ℕ). r ≤ tag_room new collection) (moves.tag_room collection) (later.tag_room collection);
   }
 
   pub given_back_on : (old : Machine) (instances : List Inst) (now next : Machine) (before left : List Inst) (task : Inst)
@@ -71,9 +73,12 @@ module _ (total : IsTotalOrder inst_cmp) (tie : IsAntisymmetric inst_cmp) where
         counted = counted_on (running_count next) (running_count now) (running_count old) (length instances) (length left) here.counted (one_given_back now next task here.running.each.0 moves);
       }
 
+not_less : (n : ℕ) → n ≤ n
+not_less n = omega arith
+
 -- nothing is given back, and nothing changes
 nothing_given_back : (m : Machine) → GivesAllBack m m []
-nothing_given_back m = record { graph = refl; facts = λ fact. refl; environment = λ fact. refl; ready = tt; others = λ other none. refl }
+nothing_given_back m = record { graph = refl; facts = λ fact. refl; environment = λ fact. refl; ready = tt; others = λ other none. refl; item_room = λ collection. not_less (item_room m collection); tag_room = λ collection. not_less (tag_room m collection) }
 
 pub all_given_back : (old new : Machine) (instances left : List Inst) → left ≡ [] → AreGivenBack old instances new left
     → GivesAllBack old new instances × (running_count new + length instances ≤ running_count old)

@@ -13,7 +13,7 @@ use Rattle.graph.specs.Graph.{Graph}
 use Rattle.items.specs.Once.{IsOnceEach}
 use Rattle.instances.specs.declared.state.State.TheVariants.{Ready, Running}
 use Rattle.machine.specs.declared.group.Ended.{Ended}
-use Rattle.machine.specs.Machine.{Ends, Machine, Takes, environment, facts, puts_of, state_of}
+use Rattle.machine.specs.Machine.{Ends, Machine, Takes, environment, facts, item_room, puts_of, state_of, tag_room}
 use Rattle.machine.specs.Meaning.{BodyFaults, BodyGives}
 use Rattle.machine.specs.State.{AreLegalFrom}
 
@@ -122,10 +122,12 @@ abbrev pub TakesInTurn : Machine → List Event → Machine → Type 0
 TakesInTurn old [] new = new ≡ old
 TakesInTurn old (event ∷ events) new = (mid : Machine) × Takes old mid event × TakesInTurn mid events new
 
--- each of these instances is ready again, and nothing else has changed
+-- each of these instances is ready again, and nothing else has changed, but that there may be more room
 pub record GivesAllBack (old new : Machine) (instances : List Inst) : Type 0 where
   pub graph : new.graph ≡ old.graph
   pub facts : (fact : Fact) → facts new fact ≡ facts old fact
   pub environment : (fact : Fact) → environment new fact ≡ environment old fact
   pub ready : AllByRecursion (λ instance. state_of new instance ≡ Some Ready) instances
   pub others : (other : Inst) → (Contains instances other → ⊥) → state_of new other ≡ state_of old other
+  pub item_room : (collection : ItemCollection) → item_room old collection ≤ item_room new collection
+  pub tag_room : (collection : TagCollection) → tag_room old collection ≤ tag_room new collection

@@ -56,6 +56,7 @@ impl Machine {
 
     /// Leaves the instance of a task running: nobody ends it any more, and it is not claimed again. That is for a state that is made to be looked at, and then let go.
     pub fn set_aside(&mut self, task: Task)
+        requires { state_of self.old task ≡ Some Running }
         ensures { self.new ≡ self.old }
     {
         self.memory.instances.set_aside(task);

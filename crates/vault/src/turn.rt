@@ -10,7 +10,7 @@ ghost use Rattle.vault.specs.Stands.{Stands, other_side};
 ghost use Rattle.vault.specs.Opened.{contents_of};
 ghost use Rattle.vault.specs.Store.{Holds, HasGates, IsReady, IsLast, IsTooLong, new_side};
 ghost use Rattle.vault.specs.Turned.{Rests, MayTurn};
-ghost use Rattle.vault.specs.declared.error.VaultError.TheVariants.{Full};
+ghost use Rattle.vault.specs.declared.error.VaultError.TheVariants.{Full, NoMemory};
 ghost use Rattle.sides.specs.declared.gate.TheConstants.{FORMAT};
 
 use crate::gates::{other, write_side};
@@ -58,6 +58,7 @@ impl<D: Disk> Vault<D> {
         ensures last { self.old.halted ≡ false → IsLast self.old.generation → IsErrOf result Full }
         ensures full { IsFullWhere self.old.halted (IsLast self.old.generation ⊎ IsTooLong (self.old.generation + 1) self.old.text.items (S.left source)) result }
         ensures halting { Halts D.failures D.refusals self.old self.new result }
+        ensures no_memory { IsErrOf result NoMemory → D.refusals self.new.disk ≢ D.refusals self.old.disk }
     {
         if self.halted {
             return Err(VaultError::Halted);
