@@ -41,9 +41,24 @@ impl From<AllocError> for VerifyError {
     }
 }
 
+/// Whoever is told how far a certificate has come.
+pub trait Progress {
+    /// One more of the instances that are done was replayed.
+    fn replayed(&mut self);
+}
+
+/// Nobody is told.
+impl Progress for () {
+    fn replayed(&mut self) {}
+}
+
 /// Whether what a store holds is what its graph's steps can have come to: `Ok` exactly if some legal events lead there, unless memory is refused. It trusts no mark of the store:
 /// it runs the body of each instance that is done there once, or, where it has to wait for an item, up to that item and then anew.
-pub fn verify<D: Disk>(alloc: Global, core: &Core<D>) -> Result<(), VerifyError>
+pub fn verify<D: Disk, P: Progress>(
+    alloc: Global,
+    core: &Core<D>,
+    progress: &mut P,
+) -> Result<(), VerifyError>
     ensures certified { OnOk result (IsReached (core_of.graph core.now) (core_of.environment core.now) (core_of.facts core.now)) }
     ensures genuine { core_of.is_halted core.now ≡ false → IsReached (core_of.graph core.now) (core_of.environment core.now) (core_of.facts core.now) → IfErr result (λ why. why ≡ NoMemory) }
     ensures halted { (result ≡ Err Halted) ↔ (core_of.is_halted core.now ≡ true) }
@@ -51,17 +66,17 @@ pub fn verify<D: Disk>(alloc: Global, core: &Core<D>) -> Result<(), VerifyError>
     if core.status().is_err() {
         return Err(VerifyError::Halted);
     }
-    certify(alloc, core.machine())
+    certify(alloc, core.machine(), progress)
 }
 
 // The same for what a store holds in memory.
-fn certify(alloc: Global, store: &Machine) -> Result<(), VerifyError>
+fn certify<P: Progress>(alloc: Global, store: &Machine, progress: &mut P) -> Result<(), VerifyError>
     ensures certified { OnOk result (IsReached store.now.graph (environment store.now) (facts store.now)) }
     ensures genuine { IsReached store.now.graph (environment store.now) (facts store.now) → IfErr result (λ why. why ≡ NoMemory) }
     ensures working { result ≡ Err Halted → ⊥ }
 {
     let mut made = begin(alloc, store)?;
-    replay(alloc, store, &mut made)?;
+    replay(alloc, store, &mut made, progress)?;
     compare(alloc, store, &mut made)
 }
 

@@ -12,4 +12,4 @@ mod fault;
 mod replay;
 mod steps;
 
-pub use certificate::{VerifyError, verify};
+pub use certificate::{Progress, VerifyError, verify};

@@ -2,6 +2,7 @@
 ghost use Rattle.std.specs.Prelude.{◌≡◌, true, false, Ok, OnOk};
 ghost use Rattle.audit.specs.Replayed.{AreLeftOut, IsReplayed, NoneIsReady, ReplaysOne};
 
+use crate::Progress;
 use crate::steps::replay_task;
 use graph::Graph;
 use machine::Machine;
@@ -10,7 +11,12 @@ use std::sync::Arc;
 use terms::facts_are_told_apart;
 
 /// Replays each instance of the store that can be replayed: it is done there, its items are replayed, and the store has what its body puts.
-pub(crate) fn replay(alloc: Global, store: &Machine, made: &mut Machine) -> Result<(), AllocError>
+pub(crate) fn replay<P: Progress>(
+    alloc: Global,
+    store: &Machine,
+    made: &mut Machine,
+    progress: &mut P,
+) -> Result<(), AllocError>
     requires replayed { IsReplayed store.now made.old }
     requires left_out { AreLeftOut store.now made.old }
     ensures replayed { OnOk result (IsReplayed store.now made.new) }
@@ -26,6 +32,7 @@ pub(crate) fn replay(alloc: Global, store: &Machine, made: &mut Machine) -> Resu
         if !replay_one(alloc, store, &graph, made)? {
             return Ok(());
         }
+        progress.replayed();
     }
 }
 

@@ -8,6 +8,7 @@
 mod hints;
 mod obeying;
 mod outcome;
+mod verifying;
 mod words;
 
 pub use obeying::{Errors, obey};

@@ -7,31 +7,30 @@ ghost use Rattle.commit.specs.Runs.{NoneRuns};
 ghost use Rattle.pool.specs.Driver.{may_be_asked, may_spawn};
 ghost use Rattle.session.specs.Answers.{drive_of};
 ghost use Rattle.session.specs.Fails.{Answers, IsAllOrTooLarge};
-ghost use Rattle.cli.specs.Obeyed.{CreatesOrNot, Draws, DrawsStore, IsDrawn, IsLeft, IsNotOpened, Obeys, Reports, Runs, SaysOrFails, TellsCertificate, TellsReport, TellsSession, TellsTurn, TurnsOver, Verifies};
+ghost use Rattle.cli.specs.Obeyed.{CreatesOrNot, Draws, DrawsStore, IsDrawn, IsLeft, IsNotOpened, Obeys, Reports, Runs, SaysOrFails, TellsReport, TellsSession, TellsTurn, TurnsOver};
 ghost use Rattle.cli.specs.Outcomes.{status_of};
 ghost use Rattle.cli.specs.declared.outcome.Failure.TheVariants as failure;
 ghost use Rattle.cli.specs.declared.outcome.Outcome.{Outcome as Came};
-ghost use Rattle.cli.specs.declared.outcome.Outcome.TheVariants.{Created, Failed, Turned, Verified};
+ghost use Rattle.cli.specs.declared.outcome.Outcome.TheVariants.{Created, Failed, Turned};
 ghost use Rattle.cli.specs.declared.words.TheConstants.{MOST_LIMIT};
 
 use crate::hints::{graph_hint, script_hint};
 use crate::outcome::NamedFailure;
+use crate::verifying::verify;
 use crate::words::MOST_LIMIT;
 use crate::{Command, Failure, Left, Outcome};
-use audit::VerifyError;
 use commit::{Core, CoreError, CreateError, NotCreated};
 use disk::Disk;
 use drawing::{DrawError, draw_graph, draw_store};
 use graph::{Graph, MOST_TEXT, parse};
 use pool::{Driver, Probe};
-use report::{Format, NamedAddress, NamedInstance, ReportError, WriterSink, write_report_in};
+use report::{Format, ReportError, WriterSink, write_report_in};
 use session::{Ending, ReaderSource, SessionError, session};
 use std::alloc::Global;
-use std::io::{self, ErrorKind, Read, Write};
+use std::io::{ErrorKind, Read, Write};
 use std::marker::Sync;
 use std::sync::Wait;
 use std::thread::Threads;
-use terms::Tag;
 use vault::{Refused, VaultError};
 
 /// Where failures are reported.
@@ -39,11 +38,23 @@ pub trait Errors: Write {
     /// Points at the fault that was reported: its line and column in the graph or the script, from 1, with column 0 if
     /// only the line is known; and what is wrong there, in a few words.
     fn point(&mut self, line: usize, column: usize, hint: &'static str);
+
+    /// Whether a person reads it, who is told what is wrong in a store that is not verified.
+    fn explains(&self) -> bool;
+
+    /// One more of the instances that are done, of which there are so many, was verified.
+    fn verified_one(&mut self, done: u64);
 }
 
 impl Errors for Vec<u8> {
     // Only the text is kept.
     fn point(&mut self, _line: usize, _column: usize, _hint: &'static str) {}
+
+    fn explains(&self) -> bool {
+        false
+    }
+
+    fn verified_one(&mut self, _done: u64) {}
 }
 
 /// Does what a command asks for on a disk, and returns the disk and the status.
@@ -303,82 +314,6 @@ fn turn<D: Disk, W: Write>(alloc: Global, disk: D, out: &mut W) -> (D, Outcome)
             (disk, Outcome::Failed(Failure::Store(error)))
         }
     }
-}
-
-// Looks whether what a store holds is what its steps can have come to.
-fn verify<D: Disk, W: Write, E: Errors>(
-    alloc: Global,
-    disk: D,
-    out: &mut W,
-    err: &mut E,
-) -> (D, Outcome)
-    ensures { IsNotOpened D.files D.moment D.left_at D.failures D.refusals (IsTrue D.is_honest) (W.contents out.old) (W.contents out.new) disk result.0 result.1
-        ⊎ Verifies D.files D.moment D.left_at D.failures D.refusals (IsTrue D.is_honest) (W.contents out.old) (W.contents out.new) disk result.0 result.1 }
-{
-    match Core::open(alloc, disk) {
-        Ok(core) => {
-            let outcome = certified(&core, audit::verify(alloc, &core), out, err);
-            (core.into_disk(), outcome)
-        }
-        Err(refused) => {
-            let Refused { disk, error } = refused;
-            (disk, Outcome::Failed(Failure::Store(error)))
-        }
-    }
-}
-
-// What a certificate came to. If it is refused, the error output says at which place.
-fn certified<D: Disk, W: Write, E: Errors>(
-    core: &Core<D>,
-    answer: Result<(), VerifyError>,
-    out: &mut W,
-    err: &mut E,
-) -> Outcome
-    ensures { TellsCertificate (W.contents out.old) (W.contents out.new) answer result }
-{
-    let graph = core.graph();
-    // Where one of these lines cannot be written, the status still says it.
-    match answer {
-        Ok(()) => verified(out),
-        Err(VerifyError::Instance(instance)) => {
-            let named = NamedInstance { graph, instance };
-            let _ = writeln!(err, "not verified at {named}");
-            Outcome::NotVerified
-        }
-        Err(VerifyError::Item(address)) => {
-            let named = NamedAddress { graph, address };
-            let _ = writeln!(err, "not verified at {named}");
-            Outcome::NotVerified
-        }
-        Err(VerifyError::Tag(tag)) => {
-            let _ = write_tag(err, graph, &tag);
-            Outcome::NotVerified
-        }
-        Err(VerifyError::NoMemory) => Outcome::Failed(Failure::NoMemory),
-        Err(VerifyError::Halted) => Outcome::Failed(Failure::Store(VaultError::Halted)),
-    }
-}
-
-// Says that a store is verified.
-fn verified<W: Write>(out: &mut W) -> Outcome
-    ensures { SaysOrFails (W.contents out.old) (W.contents out.new) (codes "verified") Verified result }
-{
-    match writeln!(out, "verified") {
-        Ok(()) => Outcome::Verified,
-        Err(_) => Outcome::Failed(Failure::Output),
-    }
-}
-
-// Says that a store is not verified at a tag, by the name of its collection.
-fn write_tag<E: Errors>(err: &mut E, graph: &Graph, tag: &Tag) -> io::Result<()> {
-    let name = graph.tag_name(tag.collection).unwrap_or("");
-    write!(err, "not verified at <{name}")?;
-    let mut before = ": ";
-    for component in tag.key.components() {
-        write!(err, "{before}{component}")?;
-        before = ", ";
-    }
-    writeln!(err, ">")
 }
 
 // Draws a store.

@@ -221,7 +221,7 @@ fn command_line<'a>(alloc: Global) -> Result<clap::Command<'a>, AllocError> {
         .about("Runs graphs of Concurrent Collections on stores that survive a crash")
         .version(VERSION)
         .after_help(
-            "Try: cnc create fib.graph store && cnc run store fib.script\n\nStatus: 0 all is done, 1 some step is not done, 2 a usage, graph or script fault, 3 a fault stopped the store,\n4 the store is refused or full, 5 the device, memory, a thread or the output failed, 6 the limit was met.",
+            "Try: cnc create fib.graph store && cnc run store fib.script\n\nStatus: 0 all is done, 1 some step is not done, 2 a usage, graph or script fault, 3 a fault stopped the store,\n4 the store is refused, not verified or full, 5 the device, memory, a thread or the output failed, 6 the limit was met.",
         )
         .subcommand_required(true);
     let line = with_command(Ok(line), create_line(alloc));

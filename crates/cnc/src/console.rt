@@ -1,7 +1,9 @@
 //! The error output on a terminal, and the text at which it points.
+use crate::progress::Certifying;
 use cli::Errors;
 use std::alloc::Global;
-use std::io::{self, Read, Stderr, Write};
+use std::io::{self, Eprint, Read, Stderr, Write};
+use std::time::Clock;
 
 // How many characters of a line are shown before the caret at most, and how many in all.
 const MOST_BEFORE: usize = 60;
@@ -16,18 +18,20 @@ pub(crate) struct Place {
     hint: &'static str,
 }
 
-/// The error output, with the place of the fault that was reported on it.
+/// The error output, with the place of the fault that was reported on it; on a terminal with the progress of a certificate.
 #[derive(Drop)]
-pub(crate) struct Console {
+pub(crate) struct Console<'a, H> {
     err: Stderr,
     place: Option<Place>,
+    certifying: Option<Certifying<'a, H>>,
 }
 
-impl Console {
-    pub(crate) fn new(rt: &HostRuntime) -> Self {
+impl<'a, H: Clock + Eprint> Console<'a, H> {
+    pub(crate) fn new(rt: &HostRuntime, certifying: Option<Certifying<'a, H>>) -> Self {
         Console {
             err: rt.stderr(),
             place: None,
+            certifying,
         }
     }
 
@@ -37,8 +41,11 @@ impl Console {
     }
 }
 
-impl Write for Console {
+impl<'a, H: Clock + Eprint> Write for Console<'a, H> {
     fn write(&mut self, buf: &[u8]) -> io::Result<usize> {
+        if let Some(certifying) = &self.certifying {
+            certifying.clear();
+        }
         self.err.write(buf)
     }
 
@@ -47,9 +54,19 @@ impl Write for Console {
     }
 }
 
-impl Errors for Console {
+impl<'a, H: Clock + Eprint> Errors for Console<'a, H> {
     fn point(&mut self, line: usize, column: usize, hint: &'static str) {
         self.place = Some(Place { line, column, hint });
+    }
+
+    fn explains(&self) -> bool {
+        self.certifying.is_some()
+    }
+
+    fn verified_one(&mut self, done: u64) {
+        if let Some(certifying) = &mut self.certifying {
+            certifying.count_one(done);
+        }
     }
 }
 

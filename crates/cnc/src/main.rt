@@ -9,13 +9,14 @@ mod progress;
 use clap::Error;
 use clap::error::ErrorKind;
 use cli::{Command, collect_words, obey, read_words, usage_status};
-use console::{Console, Kept, Place};
+use console::{Console, Kept};
 use disk::{Disk, DiskError, FileDisk, MemDisk};
 use pool::{AlwaysGo, Crew, Driver, Probe};
-use progress::{Cleared, Telling};
-use std::fs::{self, File};
-use std::io::{BufWriter, Eprint, IsTerminal, Read, Write};
+use progress::{Certifying, Cleared, Telling};
+use std::fs::{self, File, OpenOptions};
+use std::io::{self, BufWriter, Eprint, ErrorKind as Cause, IsTerminal, Read, Write};
 use std::marker::Sync;
+use std::path::Path;
 use std::process::ExitCode;
 use std::sync::Wait;
 use std::sync::atomic::AtomicU64;
@@ -26,6 +27,23 @@ use std::time::Clock;
 trait Handles: Threads + Wait + Sync + Clock + Eprint {}
 
 impl<H: Threads + Wait + Sync + Clock + Eprint> Handles for H {}
+
+/// A disk that may keep what the system returned for the last call that it refused.
+trait Refusing {
+    fn refused_for(&self) -> Option<io::Error>;
+}
+
+impl Refusing for FileDisk {
+    fn refused_for(&self) -> Option<io::Error> {
+        self.cause()
+    }
+}
+
+impl Refusing for MemDisk {
+    fn refused_for(&self) -> Option<io::Error> {
+        None
+    }
+}
 
 // The statuses: a file cannot be read; a device, memory or an output failed.
 const CANNOT_READ: u8 = 2;
@@ -96,16 +114,35 @@ fn with_disk<R: Read, H: Handles>(
         // If it is there already, or cannot be made, that is seen when it is opened.
         let _ = fs::create_dir(rt, directory);
     }
-    match FileDisk::open(rt.alloc(), rt, command.directory()) {
+    match opened(rt, command) {
         Ok(disk) => pointed(rt, threads, command, disk, input),
         Err(DiskError::Device) => no_directory(rt, command.directory()),
         Err(DiskError::NoMemory) => refused(rt, "no memory"),
     }
 }
 
-// Does a command on a disk, with a crew for its steps. If the error output is a terminal, it points at a fault, and
-// shows the progress of a long run.
-fn pointed<D: Disk + Send + Drop, R: Read, H: Handles>(
+// Opens the files of a command: to be read alone if it changes nothing, unless they are not there or another program has them open.
+fn opened(rt: &HostRuntime, command: &Command<'_>) -> Result<FileDisk, DiskError> {
+    let directory = command.directory();
+    if changes_nothing(command) {
+        if let Ok(disk) = FileDisk::open_to_read(rt.alloc(), rt, directory) {
+            return Ok(disk);
+        }
+    }
+    FileDisk::open(rt.alloc(), rt, directory)
+}
+
+// Whether a command leaves the files of a store as they are.
+fn changes_nothing(command: &Command<'_>) -> bool {
+    matches!(
+        command,
+        Command::Report { .. } | Command::Verify { .. } | Command::DrawStore { .. }
+    )
+}
+
+// Does a command on a disk, with a crew for its steps. If the error output is a terminal, it points at a fault, shows
+// the progress of a long run and of a long certificate, and says why the system refused a call.
+fn pointed<D: Disk + Refusing + Send + Drop, R: Read, H: Handles>(
     rt: &HostRuntime,
     threads: &H,
     command: &Command<'_>,
@@ -120,7 +157,8 @@ fn pointed<D: Disk + Send + Drop, R: Read, H: Handles>(
             return refused(rt, "no memory");
         };
         let driver = Driver::Crew(Crew::new(threads, workers, AlwaysGo));
-        return done(rt, command, disk, input, &mut out, &driver).0;
+        let mut err = Console::new(rt, None);
+        return done(rt, command, disk, input, &mut out, &mut err, &driver).0;
     }
     let shown = AtomicU64::new(0);
     let telling = Telling::new(threads, workers, &shown);
@@ -129,38 +167,66 @@ fn pointed<D: Disk + Send + Drop, R: Read, H: Handles>(
     let Ok(mut out) = BufWriter::new(rt.alloc(), Cleared::new(threads, rt.stdout(), &shown)) else {
         return refused(rt, "no memory");
     };
-    let (status, place) = done(rt, command, disk, &mut input, &mut out, &driver);
-    if let Some(place) = place {
+    let mut err = Console::new(rt, Some(Certifying::new(threads, &shown)));
+    let (status, cause) = done(rt, command, disk, &mut input, &mut out, &mut err, &driver);
+    if let Some(place) = err.place() {
         input.point(rt, place);
+    }
+    if let Some(cause) = cause {
+        let _ = writeln!(rt.stderr(), "  {cause}");
     }
     status
 }
 
-// Does a command, and returns its status and the place of its fault, if it has one.
-fn done<D: Disk + Send + Drop, R: Read, W: Write, H: Handles, P: Probe>(
+// Does a command, and returns its status and why the system refused a call, if it did.
+fn done<D: Disk + Refusing + Send + Drop, R: Read, W: Write, H: Handles, P: Probe>(
     rt: &HostRuntime,
     command: &Command<'_>,
     disk: D,
     input: &mut R,
     out: &mut W,
+    err: &mut Console<'_, H>,
     driver: &Driver<'_, H, P>,
-) -> (u8, Option<Place>) {
-    let mut err = Console::new(rt);
-    let (disk, status) = obey(rt.alloc(), command, disk, input, out, &mut err, driver);
+) -> (u8, Option<io::Error>) {
+    let (disk, status) = obey(rt.alloc(), command, disk, input, out, err, driver);
+    let cause = disk.refused_for();
     drop(disk);
-    (flushed(out, status), err.place())
+    (flushed(out, status), cause)
 }
 
 // Says that a directory could not be opened and, on a terminal, why that may be.
 fn no_directory(rt: &HostRuntime, directory: &str) -> u8 {
     let status = refused(rt, "device failed");
     if rt.stderr().is_terminal() {
-        let _ = writeln!(
-            rt.stderr(),
-            "  Is {directory} a directory that you may write to, and that no other program has open?"
-        );
+        tell_obstacle(rt, directory);
     }
     status
+}
+
+// Says what keeps a directory from being opened.
+fn tell_obstacle(rt: &HostRuntime, directory: &str) {
+    let mut err = rt.stderr();
+    let _ = match obstacle(rt, directory) {
+        Err(error) if error.kind() == Cause::WouldBlock => {
+            writeln!(err, "  Another program has {directory} open.")
+        }
+        Err(error) => writeln!(err, "  {directory}: {error}"),
+        Ok(()) => writeln!(err, "  Is {directory} a directory that you may write to?"),
+    };
+}
+
+// Meets what keeps a directory from being opened: it is not there, its first file may not be opened, or another program has locked that.
+fn obstacle(rt: &HostRuntime, directory: &str) -> io::Result<()> {
+    File::open(rt, directory)?;
+    let path = Path::new(directory)
+        .join(rt.alloc(), "A")
+        .map_err(|_| io::Error::from(Cause::OutOfMemory))?;
+    let file = OpenOptions::new()
+        .read(true)
+        .write(true)
+        .open(rt, path.as_path())?;
+    file.try_lock()?;
+    Ok(())
 }
 
 // Says why a command was not begun.

@@ -1,4 +1,4 @@
-//! The progress of a run, shown on a terminal.
+//! The progress of a run, and of a certificate, shown on a terminal.
 use pool::{Answer, Probe};
 use std::io::{self, Eprint, Write};
 use std::marker::Sync;
@@ -6,8 +6,19 @@ use std::sync::atomic::{AtomicU64, Ordering};
 use std::time::{Clock, Instant};
 use terms::Inst;
 
-// How many instances are run between two looks at the clock.
+// How many instances are run, or verified, between two looks at the clock.
 const BETWEEN: u64 = 64;
+
+// The milliseconds since a moment; 0 if the clock fails.
+fn milliseconds_since<R: Clock>(rt: &R, moment: &Option<Instant>) -> u64 {
+    let Some(moment) = moment else {
+        return 0;
+    };
+    match moment.elapsed(rt) {
+        Ok(elapsed) => u64::try_from(elapsed.as_millis()).unwrap_or(0),
+        Err(_) => 0,
+    }
+}
 
 /// Counts how often an instance is run. It prints the count, the number of workers, and the number in a second since the
 /// first: at most once a second, and only at every 64th.
@@ -38,15 +49,9 @@ impl<'a, R: Clock + Eprint> Telling<'a, R> {
         }
     }
 
-    // The milliseconds since it was made; 0 if the clock fails.
+    // The milliseconds since it was made.
     fn milliseconds(&self) -> u64 {
-        let Some(made) = &self.made else {
-            return 0;
-        };
-        match made.elapsed(self.rt) {
-            Ok(elapsed) => u64::try_from(elapsed.as_millis()).unwrap_or(0),
-            Err(_) => 0,
-        }
+        milliseconds_since(self.rt, &self.made)
     }
 
     // Prints the progress of the run, once a second.
@@ -81,7 +86,53 @@ impl<'a, R: Clock + Eprint + Sync> Probe for Telling<'a, R> {
     }
 }
 
-/// An output that clears the progress of a run from the screen before it writes.
+/// Counts the instances that a certificate has verified, and prints the count at most once a second.
+#[derive(Drop)]
+pub(crate) struct Certifying<'a, R> {
+    rt: &'a R,
+    made: Option<Instant>,
+    count: u64,
+    // The second in which the count was printed last.
+    told: u64,
+    // As that of `Telling`.
+    shown: &'a AtomicU64,
+}
+
+impl<'a, R: Clock + Eprint> Certifying<'a, R> {
+    pub(crate) fn new(rt: &'a R, shown: &'a AtomicU64) -> Self {
+        Certifying {
+            rt,
+            made: Instant::now(rt).ok(),
+            count: 0,
+            told: 0,
+            shown,
+        }
+    }
+
+    /// Counts one more, of `done`.
+    pub(crate) fn count_one(&mut self, done: u64) {
+        self.count = self.count.saturating_add(1);
+        if self.count % BETWEEN != 0 {
+            return;
+        }
+        let seconds = milliseconds_since(self.rt, &self.made) / 1000;
+        if seconds > self.told {
+            self.told = seconds;
+            let count = self.count;
+            let _ = eprint!(self.rt; "\r{count} of {done} instances verified\u{1b}[K");
+            self.shown.store(1, Ordering::Relaxed);
+        }
+    }
+
+    /// Clears the count from the screen.
+    pub(crate) fn clear(&self) {
+        if self.shown.swap(0, Ordering::Relaxed) > 0 {
+            let _ = eprint!(self.rt; "\r\u{1b}[K");
+        }
+    }
+}
+
+/// An output that clears the progress from the screen before it writes.
 #[derive(Drop)]
 pub(crate) struct Cleared<'a, R, W> {
     rt: &'a R,

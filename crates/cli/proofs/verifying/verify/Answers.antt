@@ -1,13 +1,13 @@
 use Rattle.std.proofs.Common.{inl, inr, refl}
-use Rattle.cli.proofs.obeying.verify.Goals as goal
+use Rattle.cli.proofs.verifying.verify.Goals as goal
 
 pub returns-in-Ok : goal.returns-in-Ok
 returns-in-Ok g c = inr (record {
   core = c.in-Ok.core;
   opened = record { opened = c.in-Ok.ensures.opened; finds = λ on. c.in-Ok.ensures.finds on; only_reads = λ on. c.in-Ok.ensures.only_reads on };
-  answer = c.verify.result;
-  certified = c.verify.ensures.certified;
-  genuine = c.verify.ensures.genuine;
+  answer = c.verified_by.result;
+  certified = c.verified_by.ensures.certified;
+  genuine = c.verified_by.ensures.genuine;
   told = c.certified-outcome.ensures;
   disk = c.into_disk.ensures;
 })
