@@ -70,6 +70,19 @@ first_taken opening (Some task) old new is are =
     let both = subst (AreClaimed opening) is are in
     (both.1, both.0)
 
+parts_of_both : (such : Inst → Type 0) (one two : List Inst) → AllByRecursion such (one ++ two) → AllByRecursion such one × AllByRecursion such two
+parts_of_both such [] two all = (tt, all)
+parts_of_both such (x ∷ one) two all =
+    let rest = parts_of_both such one two all.1 in
+    ((all.0, rest.0), rest.1)
+
+-- the last one is taken, if there is one
+pub last_taken : (opening : Opening) (last : Option Inst) (old new : List Inst) → MatchOption last ((old ≡ []) × (new ≡ [])) (λ task. old ≡ new ++ task ∷ []) → AreClaimed opening old → AreClaimed opening new × IfSome last (InstanceIsOf opening.graph)
+last_taken opening None old new is are = (subst (AreClaimed opening) (sym is.1) tt, tt)
+last_taken opening (Some task) old new is are =
+    let both = parts_of_both (InstanceIsOf opening.graph) new (task ∷ []) (subst (AreClaimed opening) is are) in
+    (both.0, both.1.0)
+
 -- ---- what is kept, further
 
 -- the outcomes of a batch with one more

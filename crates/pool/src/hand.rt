@@ -55,6 +55,14 @@ pub(crate) struct Hand {
     left: bool,
     /// How often in a row it has found nothing to do.
     pub(crate) vain: u32,
+    /// Whether it looks at what it gave back again once others have committed.
+    pub(crate) waits: bool,
+    /// Whether it has waited so in vain since the last body that ended.
+    pub(crate) in_vain: bool,
+    // Whether it looks for instances that wait for what it keeps before it goes on with those that it has claimed.
+    chases: bool,
+    // How many of the last of those that it has claimed it found so.
+    woken: usize,
 }
 
 impl Hand {
@@ -77,6 +85,10 @@ impl Hand {
             rested: 0,
             left: false,
             vain: 0,
+            waits: false,
+            in_vain: false,
+            chases: false,
+            woken: 0,
         })
     }
 
@@ -86,6 +98,7 @@ impl Hand {
     {
         self.light_lately = statements < LIGHT;
         self.left = false;
+        self.in_vain = false;
     }
 
     /// Whether the worker with this number, whose body waits, leaves the work to others: if bodies are light and others run something. Then it rests. `kept` is the number of results that it
@@ -100,6 +113,27 @@ impl Hand {
         self.rests = true;
         self.left = true;
         true
+    }
+
+    /// Whether the worker, whose body waits, gives back what it has claimed, and goes on with it once others have committed: if it keeps nothing, bodies are light, others run something, and it has not waited
+    /// so in vain. `running` is the number of all instances that run. What it claims next stands in the order of the queue then: if each of these instances waited, it would be woken and run anew
+    /// one by one.
+    pub(crate) fn stands_back(&mut self, kept: usize, running: usize) -> bool
+        ensures { self.new.claimed ≡ self.old.claimed }
+    {
+        let own = self.claimed.len().saturating_add(1);
+        if kept > 0 || !self.light_lately || self.in_vain || running <= own {
+            return false;
+        }
+        self.waits = true;
+        true
+    }
+
+    /// Notes that an instance waits, behind one whose result is kept: what waits for that result is run before the others that are claimed, most of which may come later.
+    pub(crate) fn note_wait(&mut self, keeps: bool)
+        ensures { self.new.claimed ≡ self.old.claimed }
+    {
+        self.chases = keeps && self.light_lately;
     }
 
     /// Notes how many statements and puts a body has made, and whether results are kept beside it.
@@ -155,6 +189,8 @@ impl Hand {
         ensures { self.new.claimed ≡ self.old.claimed }
     {
         self.batches = batches;
+        self.chases = false;
+        self.woken = 0;
     }
 
     /// Whether the last body took long.
@@ -194,11 +230,28 @@ impl Hand {
             self.give_back(rt, hub, pass);
             return self.claim(rt, hub, pass, 1);
         }
-        match self.claimed.take_first() {
+        if self.chases {
+            self.look_for_waiting(rt, hub, pass, kept)?;
+        }
+        match self.take_next::<J>() {
             Some(task) => Ok((Some(task), true)),
             None if commits_first(count, hub.ready()) => self.claim_waiting(rt, hub, pass, kept),
             None => self.claim(rt, hub, pass, self.most(count)),
         }
+    }
+
+    // Takes one of the instances that it has claimed: the last one, if it was found to wait for what is kept, else the first.
+    fn take_next<J: Naming>(&mut self) -> Option<Task>
+        requires { AreClaimed J.opening self.old.claimed }
+        ensures claimed { AreClaimed J.opening self.new.claimed }
+        ensures task { IfSome result (InstanceIsOf J.opening.graph) }
+    {
+        if self.woken > 0 {
+            self.woken -= 1;
+            return self.claimed.take_last();
+        }
+        self.chases = false;
+        self.claimed.take_first()
     }
 
     // How many instances it claims at once, if it keeps this number of results. A worker that left the work to others claims one, to see whether it can go on.
@@ -210,7 +263,7 @@ impl Hand {
         }
     }
 
-    // Claims instances that wait for items which are kept, if bodies may read these, and takes the first of them.
+    // Claims instances that wait for items which are kept, and takes the first of them.
     fn claim_waiting<J: Naming, D: Disk, R: Wait>(
         &mut self,
         rt: &R,
@@ -224,9 +277,31 @@ impl Hand {
         ensures ahead { IsPrefix pass.old.seen pass.new.seen }
         ensures refused { IfErr result RefusesClaims }
     {
+        self.look_for_waiting(rt, hub, pass, kept)?;
+        self.woken = 0;
+        Ok((self.claimed.take_first(), true))
+    }
+
+    // Claims instances that wait for items which are kept, if bodies may read these. Each result is looked at once.
+    fn look_for_waiting<J: Naming, D: Disk, R: Wait>(
+        &mut self,
+        rt: &R,
+        hub: &Hub<J, D>,
+        pass: &mut WorkPass<J>,
+        kept: &Option<Batch<'_>>,
+    ) -> Result<(), CoreError>
+        requires { AreClaimed J.opening self.old.claimed }
+        ensures claimed { AreClaimed J.opening self.new.claimed }
+        ensures ahead { IsPrefix pass.old.seen pass.new.seen }
+        ensures refused { IfErr result RefusesClaims }
+    {
         let Some(batch) = self.ahead(kept, hub.ready()) else {
-            return Ok((None, true));
+            return Ok(());
         };
+        if self.looked >= batch.len() {
+            return Ok(());
+        }
+        let before = self.claimed.len();
         let most = MOST_KEPT.saturating_sub(batch.len());
         let mut visit = hub.visit(rt);
         for number in self.looked..batch.len() {
@@ -237,7 +312,9 @@ impl Hand {
             visit.claim_waiting(pass, &mut self.claimed, batch.puts(number), left)?;
             self.looked = number + 1;
         }
-        Ok((self.claimed.take_first(), true))
+        let found = self.claimed.len().saturating_sub(before);
+        self.woken = self.woken.saturating_add(found);
+        Ok(())
     }
 
     // Claims up to `most` instances, and takes the first of them.
@@ -270,6 +347,7 @@ impl Hand {
         ensures none { self.new.claimed ≡ [] }
         ensures ahead { IsPrefix pass.old.seen pass.new.seen }
     {
+        self.woken = 0;
         if self.claimed.is_empty() {
             return;
         }
@@ -297,6 +375,10 @@ impl Hand {
             rested: _,
             left: _,
             vain: _,
+            waits: _,
+            in_vain: _,
+            chases: _,
+            woken: _,
         } = self;
         claimed.end();
     }

@@ -62,13 +62,16 @@ pub(crate) fn run_task<'a, J: Naming, D: Disk, P: Probe, R: Wait>(
         Ok(Ran::Waits(run, ahead)) => {
             hand.vain = 0;
             hand.note(run.statements(), 0, kept.is_some());
-            if hand.leaves(pass.number(), count_of(&kept), hub.running()) {
+            let count = count_of(&kept);
+            let running = hub.running();
+            if hand.leaves(pass.number(), count, running) || hand.stands_back(count, running) {
                 drop(run);
                 return leave(rt, alloc, hub, pass, hand, task, kept);
             }
             if ahead || hand.is_slow() || hand.has_many_puts() {
                 return wait_for_own(rt, alloc, hub, pass, hand, task, run, kept);
             }
+            hand.note_wait(kept.is_some());
             park_beside(rt, alloc, hub, pass, hand, task, run, kept)
         }
         Err(error) => {
@@ -78,7 +81,7 @@ pub(crate) fn run_task<'a, J: Naming, D: Disk, P: Probe, R: Wait>(
     }
 }
 
-// Leaves the work to others for a while: gives back what is claimed, in its order, and commits what is kept.
+// Leaves the work to others for a while, or until they commit: gives back what is claimed, in its order, and commits what is kept.
 fn leave<'a, J: Naming, D: Disk, R: Wait>(
     rt: &R,
     alloc: Global,

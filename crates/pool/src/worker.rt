@@ -169,6 +169,9 @@ fn turn<'a, J: Naming, D: Disk, P: Probe, R: Wait>(
     if hand.rests {
         rest(hub, pass.number(), hand);
     }
+    if hand.waits {
+        wait_for_others(hub, hand);
+    }
     match hand.next(rt, hub, pass, &kept) {
         Ok((Some(task), _)) => run_task(rt, alloc, hub, pass, probe, hand, task, kept),
         Ok((None, busy)) => idle(rt, alloc, hub, pass, hand, kept, busy),
@@ -252,6 +255,25 @@ fn look_for_work<J: Naming, D: Disk>(hub: &Hub<J, D>, pass: &mut WorkPass<J>, va
             return;
         }
     }
+}
+
+// Waits a little until others commit, or run nothing. It takes no lock.
+fn wait_for_others<J: Naming, D: Disk>(hub: &Hub<J, D>, hand: &mut Hand)
+    ensures { hand.new.claimed ≡ hand.old.claimed }
+{
+    hand.waits = false;
+    let before = hub.batches();
+    for look in 0..LOOKS {
+        if look < SPINS {
+            spin_loop();
+        } else {
+            yield_now();
+        }
+        if hub.batches() != before || hub.running() == 0 {
+            return;
+        }
+    }
+    hand.in_vain = true;
 }
 
 // Leaves the work to others for a while, as long as they go on. It takes no lock.

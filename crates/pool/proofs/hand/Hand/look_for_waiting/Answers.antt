@@ -1,6 +1,6 @@
 use Rattle.passes.proofs.Lists.{prefix_further}
 use Rattle.pool.proofs.Kept.{claimed_more}
-use Rattle.pool.proofs.hand.Hand.claim_waiting.Goals as goal
+use Rattle.pool.proofs.hand.Hand.look_for_waiting.Goals as goal
 
 pub returns-in_err-claim_waiting-clause-claimed : goal.returns-in_err-claim_waiting-clause-claimed
 returns-in_err-claim_waiting-clause-claimed g c =
