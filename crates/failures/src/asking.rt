@@ -1,6 +1,7 @@
 //! A run whose probe asks for a stop.
 ghost use Rattle.cli.specs.Words.{IsInRange};
 
+use crate::calls::told_of;
 use crate::stage::Stage;
 use cli::{Command, obey, read_words};
 use disk::MemDisk;
@@ -24,7 +25,7 @@ impl Probe for AlwaysStop {
     }
 }
 
-/// What a command writes whose workers are asked to stop before the first step; then the status, if it is not 0.
+/// What a command writes whose workers are asked to stop before the first step, as that of a call.
 pub(crate) fn answer<R: Threads + Wait + Sync>(
     stage: &Stage<'_, R>,
     line: &str,
@@ -57,10 +58,5 @@ fn asked<R: Threads + Wait + Sync>(
         &mut err,
         &driver,
     );
-    let mut told = String::new(stage.alloc);
-    told.push_str(str::from_utf8(out.as_slice()).unwrap_or("no text\n"))?;
-    if status != 0 {
-        writeln!(told, "status {status}")?;
-    }
-    Ok(told)
+    told_of(stage.alloc, out.as_slice(), err.as_slice(), status)
 }

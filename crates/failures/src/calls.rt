@@ -25,7 +25,6 @@ pub(crate) enum Way {
 }
 
 /// What came of a call.
-#[derive(Drop)]
 pub(crate) struct Came {
     /// What was written; then after `! ` what was written on the error output, and a line with the status if that is not 0. Of a
     /// session what it wrote alone.
@@ -38,31 +37,56 @@ pub(crate) struct Came {
     pub(crate) went_on: bool,
 }
 
-impl Came {
-    fn new(alloc: Global) -> Came {
-        Came {
-            told: String::new(alloc),
-            held: String::new(alloc),
-            has_failed: false,
-            went_on: false,
-        }
-    }
-
-    // Keeps what a writer has.
-    fn keep(&mut self, out: &FailingWriter) -> Result<(), AllocError> {
-        self.has_failed = self.has_failed || out.has_failed();
-        self.went_on = out.went_on();
-        self.told.push_str(text_of(out.text()))
+impl Drop for Came {
+    // By hand, so that dropping it is one call, wherever it is dropped.
+    fn drop(self) {
+        let Came {
+            told: _,
+            held: _,
+            has_failed: _,
+            went_on: _,
+        } = self;
     }
 }
 
-// Writes the lines of the error output, and the status.
-fn tell_end(told: &mut String, err: &str, status: u8) -> Result<(), AllocError> {
-    tell_errors(told, err)?;
-    if status == 0 {
-        return Ok(());
+impl Came {
+    /// What was written, alone.
+    pub(crate) fn into_told(self) -> String {
+        let Came {
+            told,
+            held: _,
+            has_failed: _,
+            went_on: _,
+        } = self;
+        told
     }
-    writeln!(told, "status {status}")
+}
+
+// What came of a session that wrote this, of a store that holds what this report says.
+fn held_of(alloc: Global, out: &FailingWriter, report: &[u8]) -> Result<Came, AllocError> {
+    let told = String::from_str(alloc, text_of(out.text()))?;
+    let held = String::from_str(alloc, text_of(report))?;
+    Ok(Came {
+        told,
+        held,
+        has_failed: out.has_failed(),
+        went_on: out.went_on(),
+    })
+}
+
+/// What was written; after `! ` each line of the error output; and a line with the status, if that is not 0.
+pub(crate) fn told_of(
+    alloc: Global,
+    out: &[u8],
+    err: &[u8],
+    status: u8,
+) -> Result<String, AllocError> {
+    let mut told = String::from_str(alloc, text_of(out))?;
+    tell_errors(&mut told, text_of(err))?;
+    if status != 0 {
+        writeln!(told, "status {status}")?;
+    }
+    Ok(told)
 }
 
 fn tell_errors(told: &mut String, err: &str) -> Result<(), AllocError> {
@@ -86,14 +110,31 @@ pub(crate) fn call<D: Disk + Send + Drop, R: Threads + Wait + Sync>(
     disk: D,
 ) -> Result<(D, Came), AllocError> {
     let words: Vec<&str> = line.split(' ').collect(stage.alloc)?;
-    match read_words(stage.alloc, words.as_slice()) {
+    called(stage, words.as_slice(), way, limits, disk)
+}
+
+// Calls the program with these words.
+fn called<D: Disk + Send + Drop, R: Threads + Wait + Sync>(
+    stage: &Stage<'_, R>,
+    words: &[&str],
+    way: Way,
+    limits: &Limits,
+    disk: D,
+) -> Result<(D, Came), AllocError> {
+    match read_words(stage.alloc, words) {
         Ok(command) => match way {
             Way::Whole => obeyed(stage, &command, limits, disk),
             Way::Held => held(stage, &command, limits, disk),
         },
-        Err(_) => {
-            let mut came = Came::new(stage.alloc);
-            came.told.push_str("no such words\n")?;
+        Err(error) => {
+            drop(error);
+            let told = String::from_str(stage.alloc, "no such words\n")?;
+            let came = Came {
+                told,
+                held: String::new(stage.alloc),
+                has_failed: false,
+                went_on: false,
+            };
             Ok((disk, came))
         }
     }
@@ -129,10 +170,13 @@ fn obeyed<D: Disk + Send + Drop, R: Threads + Wait + Sync>(
         &mut err,
         &driver,
     );
-    let mut came = Came::new(stage.alloc);
-    came.has_failed = reader.has_failed();
-    came.keep(&out)?;
-    tell_end(&mut came.told, text_of(err.as_slice()), status)?;
+    let told = told_of(stage.alloc, out.text(), err.as_slice(), status)?;
+    let came = Came {
+        told,
+        held: String::new(stage.alloc),
+        has_failed: reader.has_failed() || out.has_failed(),
+        went_on: out.went_on(),
+    };
     Ok((disk, came))
 }
 
@@ -156,9 +200,7 @@ fn held<D: Disk + Send + Drop, R: Threads + Wait + Sync>(
         &driver,
         disk,
     );
-    let mut came = Came::new(stage.alloc);
-    came.keep(&out)?;
-    came.held.push_str(text_of(report.as_slice()))?;
+    let came = held_of(stage.alloc, &out, report.as_slice())?;
     Ok((disk, came))
 }
 

@@ -10,12 +10,14 @@
 //!   that does not see that a write failed
 //! - `fails N WORDS`, `falls N WORDS`: the command on such a disk, whose N-th call fails, or is refused memory. The result is what it writes
 //! - `aged WORDS`: the same, on such a disk whose first file says that it has the greatest generation
+//! - `long WORDS`: the same, on such a disk that keeps only the first 65,536 bytes of each file: for a store that grows up to its limit
 //! - `asked WORDS`: the same, with workers that are asked to stop before the first step
 //! - `put N GRAPH`: one put on a new store of the graph, of which the N-th call fails, and each crash after it
 //! - `lying N`: the calls of the program that stand below, on a disk that is not honest, for N seeds. The result is 'as promised', or the
 //!   first seed with the first call that is not
 //! - `hiding N`: the same on a disk that hides its errors: so the program does not tell them
 use crate::calls::{Way, call};
+use crate::front_disk::FrontDisk;
 use crate::lengths::measured;
 use crate::stage::Stage;
 use crate::streams::Limits;
@@ -23,7 +25,7 @@ use crate::trials::{Kind, Trial, tried};
 use crate::wrong_disk::Wrong;
 use crate::{asking, failures, lies, puts};
 use cases::texts;
-use disk::{Disk, DiskError, MemDisk, Side};
+use disk::{Choice, Disk, DiskError, Fill, MemDisk, Side};
 use std::alloc::AllocError;
 use std::sync::Wait;
 use std::thread::Threads;
@@ -34,23 +36,43 @@ pub(crate) fn answer<R: Threads + Wait + Sync>(
     command: &str,
     input: &str,
 ) -> Result<String, AllocError> {
-    let text = texts::lines_of(stage.alloc, input)?;
     let (word, rest) = command.split_once(' ').unwrap_or((command, ""));
+    if word == "text" {
+        return name(stage, rest, input);
+    }
+    let text = texts::lines_of(stage.alloc, input)?;
+    if word == "begin" {
+        return stage.begin(text.as_str());
+    }
+    result(stage, word, command, text.as_str())
+}
+
+// Gives the name to a text.
+fn name<R>(stage: &mut Stage<'_, R>, name: &str, input: &str) -> Result<String, AllocError> {
+    let text = texts::lines_of(stage.alloc, input)?;
+    stage.names.give(name, text.into_bytes())?;
+    Ok(String::new(stage.alloc))
+}
+
+// The result of a command with this first word and this text, which changes neither the names nor how each disk begins.
+fn result<R: Threads + Wait + Sync>(
+    stage: &Stage<'_, R>,
+    word: &str,
+    command: &str,
+    text: &str,
+) -> Result<String, AllocError> {
+    let (_, rest) = command.split_once(' ').unwrap_or((command, ""));
     match word {
-        "text" => {
-            stage.names.give(rest, text.into_bytes())?;
-            Ok(String::new(stage.alloc))
-        }
-        "begin" => stage.begin(text.as_str()),
         "aged" => aged(stage, command),
+        "long" => long(stage, command),
         "asked" => asking::answer(stage, command),
-        "lying" => lies::answer(stage, rest, false, text.as_str()),
-        "hiding" => lies::answer(stage, rest, true, text.as_str()),
+        "lying" => lies::answer(stage, rest, false, text),
+        "hiding" => lies::answer(stage, rest, true, text),
         "put" => put(stage, rest),
         "fails" => once(stage, Kind::Device, rest),
         "falls" => once(stage, Kind::Memory, rest),
         _ => match kind_of(word) {
-            Some(kind) => failures::answer(stage, kind, command, text.as_str()),
+            Some(kind) => failures::answer(stage, kind, command, text),
             None => String::from_str(stage.alloc, "no such command\n"),
         },
     }
@@ -93,7 +115,7 @@ fn once<R: Threads + Wait + Sync>(
     let number = number.parse::<u64>().unwrap_or(0);
     let disk = stage.disk()?;
     let (_, came, _) = tried(stage, words, Way::Whole, Trial { kind, number }, disk)?;
-    Ok(came.told)
+    Ok(came.into_told())
 }
 
 // What a command writes where the first file has the greatest generation.
@@ -103,7 +125,16 @@ fn aged<R: Threads + Wait + Sync>(stage: &Stage<'_, R>, line: &str) -> Result<St
         return String::from_str(stage.alloc, "no first file\n");
     }
     let (_, came) = call(stage, line, Way::Whole, &Limits::none(), disk)?;
-    Ok(came.told)
+    Ok(came.into_told())
+}
+
+// What a command writes on a disk that keeps only the front of its files.
+fn long<R: Threads + Wait + Sync>(stage: &Stage<'_, R>, line: &str) -> Result<String, AllocError> {
+    let begun = stage.disk()?;
+    let Fill { a, b } = begun.fill(stage.alloc, Choice::Written)?;
+    let disk = FrontDisk::new(a, b);
+    let (_, came) = call(stage, line, Way::Whole, &Limits::none(), disk)?;
+    Ok(came.into_told())
 }
 
 // Writes the greatest generation to the first file.

@@ -11,16 +11,12 @@ pub(crate) struct Counts {
 impl Counts {
     /// The numbers of the report, if it has them.
     pub(crate) fn of(report: &str) -> Option<Counts> {
-        for line in report.lines() {
-            if line.ends_with(" steps done") {
-                return Some(Counts {
-                    items: number_at(line, 0),
-                    tags: number_at(line, 2),
-                    done: number_at(line, 4),
-                });
-            }
-        }
-        None
+        let line = report.lines().find(|line| line.ends_with(" steps done"))?;
+        Some(Counts {
+            items: number_at(line, 0),
+            tags: number_at(line, 2),
+            done: number_at(line, 4),
+        })
     }
 
     /// How much the environment put, where each step puts one item and no tag.
@@ -39,30 +35,26 @@ fn number_at(line: &str, place: usize) -> u64 {
     }
 }
 
-/// Whether each item of a report is in the other, with the same value.
-pub(crate) fn has_items(report: &str, items_of: &str) -> bool {
-    for line in items_of.lines() {
-        if line.starts_with("[") && !has_line(report, line) {
-            return false;
-        }
-    }
-    true
+/// Whether each item of a report is in the other, with the same value, and its fault too, if it has one.
+pub(crate) fn has_facts(report: &str, facts_of: &str) -> bool {
+    facts_of.lines().all(|line| !(line.starts_with("[") || line.starts_with(STOPPED))
+        || has_line(report, line))
 }
+
+/// The line of a report that has the fault, if it has one.
+pub(crate) fn fault_in(report: &str) -> Option<&str> {
+    report.lines().find(|line| line.starts_with(STOPPED))
+}
+
+// How the line of a fault begins.
+const STOPPED: &str = "stopped by fault ";
 
 // Whether a text has this line.
 fn has_line(text: &str, wanted: &str) -> bool {
-    for line in text.lines() {
-        if line == wanted {
-            return true;
-        }
-    }
-    false
+    text.lines().any(|line| line == wanted)
 }
 
 /// Whether this is the line at a place of a text.
 pub(crate) fn is_line(text: &str, place: usize, wanted: &str) -> bool {
-    match text.lines().nth(place) {
-        Some(line) => line == wanted,
-        None => false,
-    }
+    text.lines().nth(place) == Some(wanted)
 }

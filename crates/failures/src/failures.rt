@@ -46,9 +46,19 @@ pub(crate) fn answer<R: Threads + Wait + Sync>(
         report,
         writes: writes.as_str(),
     };
+    try_all(stage, kind, line, &right)
+}
+
+// A failure at the first call, at the second, and so on.
+fn try_all<R: Threads + Wait + Sync>(
+    stage: &Stage<'_, R>,
+    kind: Kind,
+    line: &str,
+    right: &Right<'_>,
+) -> Result<String, AllocError> {
     for number in 1..MOST {
         let trial = Trial { kind, number };
-        match find(stage, line, &right, trial)? {
+        match find(stage, line, right, trial)? {
             Found::Kept => {}
             Found::Over => return String::from_str(stage.alloc, "as promised\n"),
             Found::Told(what) => return said(stage.alloc, number, "", what),
@@ -98,9 +108,20 @@ fn find<R: Threads + Wait + Sync>(
     if let Some(what) = broken_by_text(trial.kind, right, &came, is_met) {
         return Ok(Found::Told(what));
     }
+    drop(came);
     if !is_met {
         return Ok(Found::Over);
     }
+    crash_each(stage, line, right, trial)
+}
+
+// Each crash after this failure.
+fn crash_each<R: Threads + Wait + Sync>(
+    stage: &Stage<'_, R>,
+    line: &str,
+    right: &Right<'_>,
+    trial: Trial,
+) -> Result<Found, AllocError> {
     for (choice, name) in CHOICES {
         if let Some(what) = crash(stage, line, right, trial, choice)? {
             return Ok(Found::Left(name, what));
@@ -124,15 +145,30 @@ fn crash<R: Threads + Wait + Sync>(
     };
     let begun = stage.disk()?;
     let first = begun.fill(stage.alloc, Choice::Written)?;
-    let (mut disk, came, _) = tried(stage, line, way, trial, begun)?;
+    let (disk, came, _) = tried(stage, line, way, trial, begun)?;
+    crashed(stage, line, right, trial.kind, choice, &first, &came, disk)
+}
+
+// A crash of a disk that began with these files. Returns what is broken then.
+fn crashed<R: Threads + Wait + Sync>(
+    stage: &Stage<'_, R>,
+    line: &str,
+    right: &Right<'_>,
+    kind: Kind,
+    choice: Choice,
+    first: &Fill,
+    came: &Came,
+    disk: MemDisk,
+) -> Result<Option<&'static str>, AllocError> {
+    let mut disk = disk;
     let fill = disk.fill(stage.alloc, choice)?;
-    if right.deed == Deed::Report && !are_same(&first, &fill) {
+    if right.deed == Deed::Report && !are_same(first, &fill) {
         return Ok(Some("the files have changed"));
     }
     if disk.crash(fill).is_err() {
         return Ok(Some("no such crash"));
     }
-    recover(stage, line, right, trial.kind, &came, disk)
+    recover(stage, line, right, kind, came, disk)
 }
 
 fn are_same(first: &Fill, second: &Fill) -> bool {
@@ -153,19 +189,21 @@ fn recover<R: Threads + Wait + Sync>(
     if let Some(what) = broken_by_crash(kind, right, before, came, after.told.as_str()) {
         return Ok(Some(what));
     }
-    again(stage, line, right, right.answered(came.told.as_str()), disk)
+    let answered = right.answered(came.told.as_str());
+    again(stage, line, right, answered, after.told.as_str(), disk)
 }
 
-// The command once more, and the report after it. Returns what is broken.
+// The command once more on a store of which a report said this, and the report after it. Returns what is broken.
 fn again<R: Threads + Wait + Sync>(
     stage: &Stage<'_, R>,
     line: &str,
     right: &Right<'_>,
     answered: usize,
+    found: &str,
     disk: MemDisk,
 ) -> Result<Option<&'static str>, AllocError> {
     let (disk, more) = call(stage, line, Way::Whole, &Limits::none(), disk)?;
-    if let Some(what) = broken_by_more(right, answered, more.told.as_str()) {
+    if let Some(what) = broken_by_more(right, answered, found, more.told.as_str()) {
         return Ok(Some(what));
     }
     let (_, last) = call(stage, "cnc report .", Way::Whole, &Limits::none(), disk)?;

@@ -1,7 +1,7 @@
 //! What a store has after a failure and a crash, and what the command does then. In the graphs of the cases each step puts one
-//! item and no tag, so the numbers of a report say how much the environment put.
+//! item and no tag, or stops by a fault, so the numbers of a report say how much the environment put.
 use crate::calls::Came;
-use crate::counts::{Counts, has_items, is_line};
+use crate::counts::{Counts, fault_in, has_facts, is_line};
 use crate::right::{Deed, Right, is_put};
 use crate::trials::Kind;
 
@@ -15,7 +15,7 @@ const LOST: &str = "something that was answered is lost";
 
 const CHANGED: &str = "the store has changed";
 
-const UNMEANT: &str = "an item that the graph does not mean";
+const UNMEANT: &str = "an item or a fault that the graph does not mean";
 
 const BEYOND: &str = "more or less than one commit in doubt";
 
@@ -60,10 +60,10 @@ fn broken_run(
     let held = came.held.as_str();
     match (Counts::of(before), Counts::of(held), Counts::of(after)) {
         (Some(first), Some(known), Some(found)) => {
-            if !has_items(right.report, after) {
+            if !has_facts(right.report, after) {
                 return Some(UNMEANT);
             }
-            if !has_items(after, held) {
+            if !has_facts(after, held) {
                 return Some(LOST);
             }
             let place = right.answered(came.told.as_str());
@@ -125,13 +125,11 @@ fn refused(
 
 // How many of the first replies are `ok`.
 fn oks(replies: &str, count: usize) -> u64 {
-    let mut found = 0u64;
-    for reply in replies.lines().take(count) {
-        if reply == "ok" {
-            found = found.saturating_add(1);
-        }
-    }
-    found
+    replies
+        .lines()
+        .take(count)
+        .filter(|reply| *reply == "ok")
+        .count() as u64
 }
 
 // How many lines of a script are committed together, from the one at this place on: one, or as many as are left of a row of more
@@ -163,17 +161,19 @@ fn of_row(row: u64, left: u64) -> u64 {
     }
 }
 
-/// Which promise is broken by what the command writes when it is called again, if one is; this many lines were answered before.
+/// Which promise is broken by what the command writes when it is called again, if one is; this many lines were answered before, and a report
+/// said this of the store.
 pub(crate) fn broken_by_more(
     right: &Right<'_>,
     answered: usize,
+    found: &str,
     told: &str,
 ) -> Option<&'static str> {
     let is_right = match right.deed {
         Deed::Create => told == right.writes || told == "! store refused: exists\nstatus 4\n",
         Deed::Turn => told.starts_with("turned, generation "),
         Deed::Report => told == right.writes,
-        Deed::Run => is_completed(right, answered, told),
+        Deed::Run => is_completed(right, answered, fault_in(found), told),
     };
     if is_right {
         None
@@ -182,31 +182,44 @@ pub(crate) fn broken_by_more(
     }
 }
 
-// Whether each line is answered as it must be when the script is run again, and the report is the right one.
-fn is_completed(right: &Right<'_>, answered: usize, told: &str) -> bool {
+// Whether each line is answered as it must be when the script is run again on a store that has this fault or none, and the rest is as it
+// is if nothing fails.
+fn is_completed(right: &Right<'_>, answered: usize, fault: Option<&str>, told: &str) -> bool {
     let mut replies = told.lines();
-    let mut usual = right.replies.lines();
-    for (place, line) in right.script.lines().enumerate() {
-        match (replies.next(), usual.next()) {
-            (Some(reply), Some(first)) => {
-                if !is_answer(line, first, reply, place < answered) {
+    let mut script = right.script.lines();
+    for (place, first) in right.writes.lines().enumerate() {
+        let line = script.next().unwrap_or("");
+        match replies.next() {
+            Some(reply) => {
+                if !is_answer(line, first, reply, place < answered, fault) {
                     return false;
                 }
             }
-            _ => return false,
-        }
-    }
-    for line in right.report.lines() {
-        match replies.next() {
-            Some(reply) if reply == line => {}
-            _ => return false,
+            None => return false,
         }
     }
     replies.next().is_none()
 }
 
 // Whether this is a reply to a line that has `first` as its reply if nothing fails.
-fn is_answer(line: &str, first: &str, reply: &str, was_answered: bool) -> bool {
+fn is_answer(
+    line: &str,
+    first: &str,
+    reply: &str,
+    was_answered: bool,
+    fault: Option<&str>,
+) -> bool {
+    if !is_put(line) {
+        return reply == first;
+    }
+    match fault {
+        Some(fault) => reply.strip_prefix("refused 5: ") == Some(fault),
+        None => is_answer_to_put(line, first, reply, was_answered),
+    }
+}
+
+// The same for a line that puts, in a store that no fault has stopped.
+fn is_answer_to_put(line: &str, first: &str, reply: &str, was_answered: bool) -> bool {
     if first != "ok" {
         return reply == first;
     }

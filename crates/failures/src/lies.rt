@@ -4,7 +4,7 @@ use crate::calls::{Way, call};
 use crate::lying_disk::LyingDisk;
 use crate::stage::Stage;
 use crate::streams::Limits;
-use std::alloc::AllocError;
+use std::alloc::{AllocError, Global};
 use std::sync::Wait;
 use std::thread::Threads;
 
@@ -19,15 +19,20 @@ pub(crate) fn answer<R: Threads + Wait + Sync>(
     let seeds = seeds.parse::<u64>().unwrap_or(0);
     for seed in 0..seeds {
         if let Some(number) = told(stage, seed, hides, lines)? {
-            let mut text = String::new(stage.alloc);
-            writeln!(
-                text,
-                "seed {seed}, call {number}: not the errors of the disk"
-            )?;
-            return Ok(text);
+            return said(stage.alloc, seed, number);
         }
     }
     String::from_str(stage.alloc, "as promised\n")
+}
+
+// The line for a seed and a call at which something else was told.
+fn said(alloc: Global, seed: u64, number: usize) -> Result<String, AllocError> {
+    let mut text = String::new(alloc);
+    writeln!(
+        text,
+        "seed {seed}, call {number}: not the errors of the disk"
+    )?;
+    Ok(text)
 }
 
 // The first line at which something else is told than what the disk answered, if there is one.
@@ -39,14 +44,25 @@ fn told<R: Threads + Wait + Sync>(
 ) -> Result<Option<usize>, AllocError> {
     let mut disk = LyingDisk::new(stage.alloc, seed, hides);
     for (number, line) in lines.lines().enumerate() {
-        let before = disk.errors();
-        let (next, came) = call(stage, line, Way::Whole, &Limits::none(), disk)?;
+        let (next, is_right) = tell(stage, line, disk)?;
         disk = next;
-        if !is_told(came.told.as_str(), disk.errors() != before) {
+        if !is_right {
             return Ok(Some(number));
         }
     }
     Ok(None)
+}
+
+// Calls the program with a line. Returns the disk, and whether the program told what the disk answered.
+fn tell<R: Threads + Wait + Sync>(
+    stage: &Stage<'_, R>,
+    line: &str,
+    disk: LyingDisk,
+) -> Result<(LyingDisk, bool), AllocError> {
+    let before = disk.errors();
+    let (disk, came) = call(stage, line, Way::Whole, &Limits::none(), disk)?;
+    let is_right = is_told(came.told.as_str(), disk.errors() != before);
+    Ok((disk, is_right))
 }
 
 // Whether an error of the disk is told exactly where there was one.

@@ -4,6 +4,7 @@ ghost use Rattle.std.proofs.lemmas.Bool.{false≢true};
 ghost use Rattle.disk.specs.File.{settled};
 ghost use Rattle.disk.specs.Time.{HasCause, CountsRefusal};
 
+use crate::contents::{give, written};
 use disk::{Disk, DiskError, Side};
 use std::alloc::Global;
 
@@ -17,7 +18,6 @@ enum Mood {
 
 /// A disk in memory that tells other lengths and gives other bytes than it has, and drops writes, cuts and syncs. Some of its
 /// calls fail. Which they are, a seed says. It may hide its errors: then it answers such a call like another one, and counts it.
-#[derive(Drop)]
 pub(crate) struct LyingDisk {
     a: Vec<u8>,
     b: Vec<u8>,
@@ -30,6 +30,21 @@ pub(crate) struct LyingDisk {
     failures: u64,
     // Changes with each call that returns `NoMemory`.
     refusals: u64,
+}
+
+impl Drop for LyingDisk {
+    fn drop(self) {
+        let LyingDisk {
+            a: _,
+            b: _,
+            rarity: _,
+            state: _,
+            hides: _,
+            hidden: _,
+            failures: _,
+            refusals: _,
+        } = self;
+    }
 }
 
 impl LyingDisk {
@@ -155,17 +170,6 @@ fn other_length(drawn: u64, count: u64) -> u64 {
     }
 }
 
-// Fills the buffer with the bytes from a place on, and with zeros past the end.
-fn give(file: &[u8], at: u64, buffer: &mut [u8]) {
-    let from = usize::try_from(at).unwrap_or(usize::MAX);
-    for (place, byte) in buffer.iter_mut().enumerate() {
-        *byte = match file.get(from.saturating_add(place)) {
-            Some(there) => *there,
-            None => 0,
-        };
-    }
-}
-
 // Fills the buffer with bytes from the seed.
 fn invent(drawn: u64, buffer: &mut [u8]) {
     let mut state = drawn;
@@ -173,22 +177,6 @@ fn invent(drawn: u64, buffer: &mut [u8]) {
         state = turned(state);
         *byte = ((state >> 40) % 256) as u8;
     }
-}
-
-// Writes the bytes from a place on, past the end too.
-fn written(file: &mut Vec<u8>, at: u64, bytes: &[u8]) -> Option<()> {
-    let from = usize::try_from(at).ok()?;
-    let to = from.checked_add(bytes.len())?;
-    if to > MOST {
-        return None;
-    }
-    if file.len() < to {
-        file.resize(to, 0).ok()?;
-    }
-    file.as_mut_slice()
-        .get_mut(from..to)?
-        .copy_from_slice(bytes);
-    Some(())
 }
 
 // How many bytes a file has, at most.
@@ -240,8 +228,8 @@ impl Disk for LyingDisk {
             Mood::Lying => Ok(()),
             Mood::Honest => {
                 let done = match side {
-                    Side::A => written(&mut self.a, at, bytes),
-                    Side::B => written(&mut self.b, at, bytes),
+                    Side::A => written(&mut self.a, at, bytes, MOST),
+                    Side::B => written(&mut self.b, at, bytes, MOST),
                 };
                 self.answer(done)
             }

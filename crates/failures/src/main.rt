@@ -9,10 +9,12 @@
 mod asking;
 mod calls;
 mod commands;
+mod contents;
 mod counts;
 mod crashes;
 mod failures;
 mod falling_disk;
+mod front_disk;
 mod left;
 mod lengths;
 mod lies;

@@ -29,7 +29,7 @@ impl Deed {
 #[derive(Clone, Copy)]
 pub(crate) struct Right<'a> {
     pub(crate) deed: Deed,
-    /// The lines of the script, if it runs one. Each has one line of the replies.
+    /// The lines of the script, if it runs one. Each has one line of the replies; the last one may have more.
     pub(crate) script: &'a str,
     /// What is written before the report.
     pub(crate) replies: &'a str,
@@ -42,15 +42,11 @@ pub(crate) struct Right<'a> {
 impl<'a> Right<'a> {
     /// How many lines were answered as they are if nothing fails, from the first one on.
     pub(crate) fn answered(&self, told: &str) -> usize {
-        let mut replies = self.replies.lines();
-        let mut count = 0usize;
-        for line in told.lines() {
-            match replies.next() {
-                Some(reply) if reply == line => count = count.saturating_add(1),
-                _ => return count,
-            }
-        }
-        count
+        self.replies
+            .lines()
+            .zip(told.lines())
+            .take_while(|(reply, line)| reply == line)
+            .count()
     }
 
     /// Whether a put or a tag is the line of the script at this place.

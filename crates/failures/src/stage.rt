@@ -1,5 +1,5 @@
 //! What all trials of a file have in common.
-use crate::calls::{Came, Way, call};
+use crate::calls::{Way, call};
 use crate::streams::Limits;
 use cases::Names;
 use disk::MemDisk;
@@ -34,22 +34,15 @@ impl<'a, R: Threads + Wait + Sync> Stage<'a, R> {
     /// Lets each disk begin with these calls of the program, and returns what a report says then.
     pub(crate) fn begin(&mut self, lines: &str) -> Result<String, AllocError> {
         self.beginning = String::from_str(self.alloc, lines)?;
-        let told = self.report()?;
-        self.before = String::from_str(self.alloc, told.as_str())?;
-        Ok(told)
+        self.before = self.report()?;
+        String::from_str(self.alloc, self.before.as_str())
     }
 
     // What a report says of a disk as each one begins.
     fn report(&self) -> Result<String, AllocError> {
         let disk = self.disk()?;
         let (_, came) = call(self, "cnc report .", Way::Whole, &Limits::none(), disk)?;
-        let Came {
-            told,
-            held: _,
-            has_failed: _,
-            went_on: _,
-        } = came;
-        Ok(told)
+        Ok(came.into_told())
     }
 
     /// A disk as each one begins.
