@@ -3,8 +3,8 @@ use disk::Disk;
 use std::alloc::Global;
 use vault::{VaultError, stores_go_on};
 
-/// The number of bytes of an image that a turnover writes at once.
-const PIECE: usize = 4096;
+/// The number of bytes of an image that a turnover writes at once, at most.
+const PIECE: usize = 1 << 16;
 
 impl<D: Disk> Core<D> {
     ghost use Rattle.std.specs.Prelude.{IsTrue};
