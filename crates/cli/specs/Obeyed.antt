@@ -193,4 +193,4 @@ module _ {D : Type 0} (files : D → Side → File) (moment : D → ℕ) (left_a
   Obeys drive (asked.Turn directory) input before behind old new outcome = IsNotOpened before behind old new outcome ⊎ TurnsOver before behind old new outcome
   Obeys drive (asked.Verify directory) input before behind old new outcome = IsNotOpened before behind old new outcome ⊎ Verifies before behind old new outcome
   Obeys drive (asked.Draw text) input before behind old new outcome = (new ≡ old) × Draws input before behind outcome
-  Obeys drive (asked.DrawStore directory) input before behind old new outcome = IsNotOpened before behind old new outcome ⊎ DrawsStore old new outcome
+  Obeys drive (asked.DrawStore directory all) input before behind old new outcome = IsNotOpened before behind old new outcome ⊎ DrawsStore old new outcome

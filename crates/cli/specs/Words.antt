@@ -16,7 +16,7 @@ IsInRange (Report directory format) = ⊤
 IsInRange (Turn directory) = ⊤
 IsInRange (Verify directory) = ⊤
 IsInRange (Draw graph) = ⊤
-IsInRange (DrawStore directory) = ⊤
+IsInRange (DrawStore directory all) = ⊤
 
 -- the word for a format of a report
 abbrev pub format_word : Format → List ℕ

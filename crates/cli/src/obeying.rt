@@ -103,7 +103,7 @@ fn obeyed<D: Disk + Send, R: Read, W: Write, E: Errors, H: Threads + Wait + Sync
         Command::Turn { .. } => turn(alloc, disk, out),
         Command::Verify { .. } => verify(alloc, disk, out, err),
         Command::Draw { .. } => (disk, draw(alloc, input, out)),
-        Command::DrawStore { .. } => draw_stored(alloc, disk, out),
+        Command::DrawStore { all, .. } => draw_stored(alloc, disk, all, out),
     }
 }
 
@@ -317,13 +317,13 @@ fn turn<D: Disk, W: Write>(alloc: Global, disk: D, out: &mut W) -> (D, Outcome)
 }
 
 // Draws a store.
-fn draw_stored<D: Disk, W: Write>(alloc: Global, disk: D, out: &mut W) -> (D, Outcome)
+fn draw_stored<D: Disk, W: Write>(alloc: Global, disk: D, all: bool, out: &mut W) -> (D, Outcome)
     ensures { IsNotOpened D.files D.moment D.left_at D.failures D.refusals (IsTrue D.is_honest) (W.contents out.old) (W.contents out.new) disk result.0 result.1
         ⊎ DrawsStore D.files D.moment D.left_at D.failures D.refusals (IsTrue D.is_honest) disk result.0 result.1 }
 {
     match Core::open(alloc, disk) {
         Ok(core) => {
-            let (disk, answer) = draw_store(alloc, core, out);
+            let (disk, answer) = draw_store(alloc, core, all, out);
             (disk, store_drawn(answer))
         }
         Err(refused) => {

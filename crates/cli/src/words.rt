@@ -6,7 +6,7 @@ ghost use Rattle.cli.specs.Words.{IsInRange, format_word, usage_status_of};
 
 use clap::builder::ValueParser;
 use clap::error::ErrorKind;
-use clap::{Arg, ArgMatches, Error};
+use clap::{Arg, ArgAction, ArgMatches, Error};
 use report::Format;
 use std::alloc::{AllocError, Global};
 use std::convert::AsStr;
@@ -61,9 +61,10 @@ pub enum Command<'a> {
     Draw {
         graph: &'a str,
     },
-    /// Draw the store in the directory as Graphviz text.
+    /// Draw the store in the directory as Graphviz text, with each instance that waits if `all` are asked for.
     DrawStore {
         directory: &'a str,
+        all: bool,
     },
 }
 
@@ -76,7 +77,7 @@ impl<'a> Command<'a> {
             | Command::Report { directory, .. }
             | Command::Turn { directory }
             | Command::Verify { directory }
-            | Command::DrawStore { directory } => directory,
+            | Command::DrawStore { directory, .. } => directory,
             Command::Draw { .. } => "",
         }
     }
@@ -207,7 +208,10 @@ fn drawing_in<'a>(found: &ArgMatches<'a>) -> Option<Command<'a>>
     ensures { IfSome result IsInRange }
 {
     match found.get_str("store") {
-        Some(directory) => Some(Command::DrawStore { directory }),
+        Some(directory) => {
+            let all = found.get_flag("all");
+            Some(Command::DrawStore { directory, all })
+        }
         None => {
             let graph = found.get_str("GRAPH")?;
             Some(Command::Draw { graph })
@@ -305,7 +309,8 @@ fn draw_line<'a>(alloc: Global) -> Result<clap::Command<'a>, AllocError> {
             "Example: cnc draw fib.graph | dot -Tsvg > fib.svg\n         cnc draw --store store | dot -Tsvg > store.svg",
         );
     let line = with_argument(Ok(line), drawn(alloc)?);
-    with_argument(line, store(alloc))
+    let line = with_argument(line, store(alloc));
+    with_argument(line, all(alloc)?)
 }
 
 fn graph<'a>(alloc: Global) -> Arg<'a> {
@@ -327,6 +332,14 @@ fn store<'a>(alloc: Global) -> Arg<'a> {
         .value_name("DIR")
         .value_parser(ValueParser::NonEmptyString)
         .help("Draw the store in this directory, with what it holds and what its steps wait for")
+}
+
+fn all<'a>(alloc: Global) -> Result<Arg<'a>, AllocError> {
+    Arg::new(alloc, "all")
+        .long("all")
+        .action(ArgAction::SetTrue)
+        .help("Draw each instance that waits by itself, also where there are more than 100")
+        .requires_arg("store")
 }
 
 fn directory<'a>(alloc: Global) -> Arg<'a> {

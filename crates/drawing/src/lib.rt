@@ -8,4 +8,4 @@ mod store;
 
 pub use drawn::draw_graph;
 pub use error::DrawError;
-pub use store::draw_store;
+pub use store::{MOST_DRAWN, draw_store};

@@ -8,19 +8,24 @@ use disk::Disk;
 use graph::Graph;
 use machine::Counts;
 use report::{NamedAddress, NamedInstance};
-use std::alloc::Global;
+use std::alloc::{AllocError, Global};
 use std::io::Write;
 use std::sync::Arc;
-use terms::{Addr, Inst, ItemCollection};
+use terms::{Addr, Inst, ItemCollection, StepCollection};
+
+/// How many instances that wait are drawn each by itself, unless all are asked for.
+pub const MOST_DRAWN: usize = 100;
 
 /// Writes a store as Graphviz text, and returns its disk unchanged. It writes the graph as `draw_graph` does, the counts
 /// and the fault of the report as a label, the number of items on each box, and each instance that waits, dashed, with
-/// an arrow from the item that it waits for.
+/// an arrow from the item that it waits for. If more than `MOST_DRAWN` wait, and not all are asked for, they are counted by their step and by the collection of
+/// what they wait for, and each count is drawn.
 ///
 /// Nothing is committed. To see what waits, it runs the body of each ready instance.
 pub fn draw_store<D: Disk, W: Write>(
     alloc: Global,
     core: Core<D>,
+    all: bool,
     out: &mut W,
 ) -> (D, Result<(), DrawError>)
     requires working { is_halted core ≡ false }
@@ -28,7 +33,7 @@ pub fn draw_store<D: Disk, W: Write>(
 {
     let mut core = core;
     let drawn = match park_all(alloc, &mut core) {
-        Ok(()) => write_store(alloc, &core, out),
+        Ok(()) => write_store(alloc, &core, all, out),
         Err(_) => Err(DrawError::NoMemory),
     };
     (core.into_disk(), drawn)
@@ -86,13 +91,14 @@ fn park<D: Disk>(
 fn write_store<D: Disk, W: Write>(
     alloc: Global,
     core: &Core<D>,
+    all: bool,
     out: &mut W,
 ) -> Result<(), DrawError> {
     writeln!(out, "digraph {{")?;
     write_totals(core, out)?;
     draw_collections(core.graph(), out)?;
     write_counts(core, out)?;
-    write_waiting(alloc, core, out)?;
+    write_waiting(alloc, core, all, out)?;
     writeln!(out, "}}")?;
     Ok(())
 }
@@ -140,18 +146,95 @@ fn count_of<D: Disk>(core: &Core<D>, items: ItemCollection) -> u64 {
     count
 }
 
-// The instances that wait, by step and then by key.
+// The instances that wait, by step and then by key; or how many there are.
 fn write_waiting<D: Disk, W: Write>(
     alloc: Global,
     core: &Core<D>,
+    all: bool,
     out: &mut W,
 ) -> Result<(), DrawError> {
     let Ok(waiting) = core.blocked(alloc) else {
         return Err(DrawError::NoMemory);
     };
+    if !all && waiting.len() > MOST_DRAWN {
+        return write_groups(alloc, core.graph(), &waiting, out);
+    }
     for entry in &waiting {
         write_wait(core.graph(), entry.0, entry.1, out)?;
     }
+    Ok(())
+}
+
+// How many instances of each step wait for items of each collection.
+fn write_groups<W: Write>(
+    alloc: Global,
+    graph: &Graph,
+    waiting: &[(Inst, Addr)],
+    out: &mut W,
+) -> Result<(), DrawError> {
+    let Ok(counts) = counts_of(alloc, graph, waiting) else {
+        return Err(DrawError::NoMemory);
+    };
+    for step in 0..graph.step_count() {
+        for items in 0..graph.item_count() {
+            let count = counts
+                .get(place_of(graph, step, items))
+                .copied()
+                .unwrap_or(0);
+            if count > 0 {
+                write_group(graph, step, items, count, out)?;
+            }
+        }
+    }
+    Ok(())
+}
+
+// The number of instances of each step that wait for items of each collection, at its place.
+fn counts_of(
+    alloc: Global,
+    graph: &Graph,
+    waiting: &[(Inst, Addr)],
+) -> Result<Vec<u64>, AllocError> {
+    let mut counts = Vec::new(alloc);
+    counts.resize(graph.step_count().saturating_mul(graph.item_count()), 0)?;
+    for entry in waiting {
+        let step = entry.0.collection.0 as usize;
+        let items = entry.1.collection.0 as usize;
+        if let Some(count) = counts.get_mut(place_of(graph, step, items)) {
+            *count = u64::saturating_add(*count, 1);
+        }
+    }
+    Ok(counts)
+}
+
+// The place of a step and a collection of items among all such pairs.
+fn place_of(graph: &Graph, step: usize, items: usize) -> usize {
+    step.saturating_mul(graph.item_count())
+        .saturating_add(items)
+}
+
+// So many instances of a step, which wait for items of a collection.
+fn write_group<W: Write>(
+    graph: &Graph,
+    step: usize,
+    items: usize,
+    count: u64,
+    out: &mut W,
+) -> Result<(), DrawError> {
+    let step = graph.step_name(StepCollection(step as u16)).unwrap_or("");
+    let items = graph.item_name(ItemCollection(items as u16)).unwrap_or("");
+    writeln!(
+        out,
+        "  \"({step}) waits for [{items}]\" [label=\"{count} of ({step})\\nwait for [{items}]\", shape=ellipse, style=dashed];"
+    )?;
+    writeln!(
+        out,
+        "  \"({step})\" -> \"({step}) waits for [{items}]\" [style=dotted];"
+    )?;
+    writeln!(
+        out,
+        "  \"[{items}]\" -> \"({step}) waits for [{items}]\" [style=dashed];"
+    )?;
     Ok(())
 }
 
