@@ -1,5 +1,5 @@
 #!/bin/bash
-# What a step takes in `cnc run`, and what programs that keep the same rows in SQLite and in LMDB take, and the bare writes and syncs of a group of eight steps: all in one
+# What a step takes in `cnc run`, and what programs that keep the same rows in SQLite and in LMDB take, and the bare writes and syncs of a group of steps: all in one
 # run, in alternating rounds, on the file system of one folder. It prints the median of the rounds, in microseconds a step, a line each.
 #
 # usage: peers.sh CNC [FOLDER [STEPS [SIDE [LINKS [ROUNDS]]]]]
@@ -20,13 +20,13 @@
 #     chain      LINKS instances, each of which reads what the one before it put
 #
 # Measured of SQLite: a program in C, below, on its own thread, with statements that were prepared before, in a new database with journal_mode=WAL and
-# synchronous=FULL, from the first BEGIN to the last COMMIT, with SQLite's own checkpoints. Eight steps are one transaction. A step inserts its item; or it inserts its
+# synchronous=FULL, from the first BEGIN to the last COMMIT, with SQLite's own checkpoints. Eight steps are one transaction, and then 64, as a worker of `cnc run` commits up to 64 at once. A step inserts its item; or it inserts its
 # item and the mark that it is done. Not in it: the start of the process, the tables, the graph, the tags, the choice of what runs next, the body of the step, and
 # the checkpoint when the database is closed. So it does less than `cnc run` does; it says what its writes and syncs take, not what a program with steps takes.
 #
 # Measured of LMDB: the same, in a new database with its own settings, by which a commit is on the disk when it returns: from the first transaction to the end of the last.
 #
-# Measured of the bare writes: 330 bytes, fdatasync, one byte in front of them, fdatasync, for each eight steps; and nothing else. Once at the end of a file that grows,
+# Measured of the bare writes: 330 bytes, fdatasync, one byte in front of them, fdatasync, for each eight steps, and then 2,640 bytes for each 64; and nothing else. Once at the end of a file that grows,
 # once over zeros that were written and synced before.
 set -eu
 cnc=${1:?the program}
@@ -53,7 +53,7 @@ cat >"$room/peer.c" <<'C'
 #include <time.h>
 #include <unistd.h>
 
-enum { TOGETHER = 8, RECORD = 330 };
+enum { EIGHT = 330, MOST = 8 * EIGHT };
 
 static double now(void) {
     struct timespec t;
@@ -88,7 +88,7 @@ static void ask(sqlite3 *db, const char *text, const char *answer) {
     sqlite3_finalize(statement);
 }
 
-static double database(const char *path, long steps, int marks) {
+static double database(const char *path, long steps, long together, int marks) {
     sqlite3 *db;
     need(sqlite3_open(path, &db) == SQLITE_OK, "no database");
     ask(db, "PRAGMA journal_mode=WAL", "wal");
@@ -101,14 +101,14 @@ static double database(const char *path, long steps, int marks) {
     sqlite3_stmt *done = prepared(db, "INSERT INTO done VALUES (0, ?1)");
     double start = now();
     for (long step = 0; step < steps; step++) {
-        if (step % TOGETHER == 0) run(begin);
+        if (step % together == 0) run(begin);
         sqlite3_bind_int64(item, 1, step);
         run(item);
         if (marks) {
             sqlite3_bind_int64(done, 1, step);
             run(done);
         }
-        if (step % TOGETHER == TOGETHER - 1 || step == steps - 1) run(commit);
+        if (step % together == together - 1 || step == steps - 1) run(commit);
     }
     double took = now() - start;
     char count[32];
@@ -127,7 +127,7 @@ static void keep(MDB_txn *within, MDB_dbi table, size_t key, long long value) {
     need(mdb_put(within, table, &k, &v, 0) == 0, "a put");
 }
 
-static double map(const char *path, long steps, int marks) {
+static double map(const char *path, long steps, long together, int marks) {
     MDB_env *env;
     MDB_txn *within;
     MDB_dbi item, done;
@@ -140,10 +140,10 @@ static double map(const char *path, long steps, int marks) {
     need(mdb_txn_commit(within) == 0, "no tables");
     double start = now();
     for (long step = 0; step < steps; step++) {
-        if (step % TOGETHER == 0) need(mdb_txn_begin(env, NULL, 0, &within) == 0, "no transaction");
+        if (step % together == 0) need(mdb_txn_begin(env, NULL, 0, &within) == 0, "no transaction");
         keep(within, item, step, step);
         if (marks) keep(within, done, step, 0);
-        if (step % TOGETHER == TOGETHER - 1 || step == steps - 1) need(mdb_txn_commit(within) == 0, "no commit");
+        if (step % together == together - 1 || step == steps - 1) need(mdb_txn_commit(within) == 0, "no commit");
     }
     double took = now() - start;
     need(mdb_txn_begin(env, NULL, MDB_RDONLY, &within) == 0 && mdb_stat(within, item, &found) == 0, "nothing there");
@@ -153,20 +153,21 @@ static double map(const char *path, long steps, int marks) {
     return took;
 }
 
-static double bare(const char *path, long steps, int over) {
+static double bare(const char *path, long steps, long together, int over) {
     int file = open(path, O_RDWR | O_CREAT | O_TRUNC, 0666);
-    char bytes[RECORD] = {0}, gate = 1;
+    char bytes[MOST] = {0}, gate = 1;
+    const ssize_t record = together * EIGHT / 8;
     need(file >= 0 && write(file, bytes, 1) == 1, "no file");
-    for (long step = 0; over && step < steps; step += TOGETHER) {
-        need(write(file, bytes, RECORD) == RECORD, "no zeros");
+    for (long step = 0; over && step < steps; step += together) {
+        need(write(file, bytes, record) == record, "no zeros");
     }
     need(fdatasync(file) == 0, "no sync");
     off_t end = 0;
     double start = now();
-    for (long step = 0; step < steps; step += TOGETHER) {
-        need(pwrite(file, bytes, RECORD, end + 1) == RECORD && fdatasync(file) == 0, "a record");
+    for (long step = 0; step < steps; step += together) {
+        need(pwrite(file, bytes, record, end + 1) == record && fdatasync(file) == 0, "a record");
         need(pwrite(file, &gate, 1, end) == 1 && fdatasync(file) == 0, "a gate");
-        end += RECORD;
+        end += record;
     }
     double took = now() - start;
     close(file);
@@ -174,16 +175,17 @@ static double bare(const char *path, long steps, int over) {
 }
 
 int main(int count, char **words) {
-    need(count == 4, "usage: peer one|two|put|puts|grown|over PATH STEPS");
+    need(count == 5, "usage: peer one|two|put|puts|grown|over PATH STEPS TOGETHER");
     const char *kind = words[1], *path = words[2];
-    long steps = atol(words[3]);
+    long steps = atol(words[3]), together = atol(words[4]);
+    need(together == 8 || together == 64, "8 or 64 together");
     double took;
     if (strcmp(kind, "one") == 0 || strcmp(kind, "two") == 0) {
-        took = database(path, steps, strcmp(kind, "two") == 0);
+        took = database(path, steps, together, strcmp(kind, "two") == 0);
     } else if (strcmp(kind, "put") == 0 || strcmp(kind, "puts") == 0) {
-        took = map(path, steps, strcmp(kind, "puts") == 0);
+        took = map(path, steps, together, strcmp(kind, "puts") == 0);
     } else {
-        took = bare(path, steps, strcmp(kind, "over") == 0);
+        took = bare(path, steps, together, strcmp(kind, "over") == 0);
     }
     printf("%.3f\n", took / steps);
     return 0;
@@ -320,9 +322,9 @@ of_cnc() {
     awk -v took="$took" -v count="$count" 'BEGIN { printf "%.3f\n", took / count }'
 }
 
-# The microseconds of each step by the program in C.
+# The microseconds of each step by the program in C, with so many in a transaction.
 of_peer() {
-    "$room/peer" "$1" "$room/database" "$steps"
+    "$room/peer" "$1" "$room/database" "$steps" "$2"
     rm -f "$room/database" "$room/database-wal" "$room/database-shm" "$room/database-lock"
 }
 
@@ -339,12 +341,14 @@ for ((round = 0; round < rounds; round++)); do
         measure "cnc run, wavefront, $workers workers" of_cnc wavefront $((side * side)) "$workers"
         measure "cnc run, chain, $workers workers" of_cnc chain "$links" "$workers"
     done
-    measure "SQLite, one insert a step" of_peer one
-    measure "SQLite, two inserts a step" of_peer two
-    measure "LMDB, one put a step" of_peer put
-    measure "LMDB, two puts a step" of_peer puts
-    measure "bare writes and syncs, a file that grows" of_peer grown
-    measure "bare writes and syncs, over zeros" of_peer over
+    for together in 8 64; do
+        measure "SQLite, one insert a step, $together together" of_peer one "$together"
+        measure "SQLite, two inserts a step, $together together" of_peer two "$together"
+        measure "LMDB, one put a step, $together together" of_peer put "$together"
+        measure "LMDB, two puts a step, $together together" of_peer puts "$together"
+        measure "bare writes and syncs, a file that grows, $together together" of_peer grown "$together"
+        measure "bare writes and syncs, over zeros, $together together" of_peer over "$together"
+    done
 done
 
 # ---- the medians
@@ -360,6 +364,8 @@ for workers in 1 4; do
         echo "$name: $(middle "$room/$name.times")"
     done
 done
-for name in "SQLite, one insert a step" "SQLite, two inserts a step" "LMDB, one put a step" "LMDB, two puts a step" "bare writes and syncs, a file that grows" "bare writes and syncs, over zeros"; do
-    echo "$name: $(middle "$room/$name.times")"
+for together in 8 64; do
+    for name in "SQLite, one insert a step" "SQLite, two inserts a step" "LMDB, one put a step" "LMDB, two puts a step" "bare writes and syncs, a file that grows" "bare writes and syncs, over zeros"; do
+        echo "$name, $together together: $(middle "$room/$name, $together together.times")"
+    done
 done

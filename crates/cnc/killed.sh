@@ -1,7 +1,7 @@
 #!/bin/sh
 # Kills `cnc run` on so many workers at random moments, COUNT times, and runs on each time: a third of the times while the items and tags are put, then while the
 # steps run. Each line that was answered `ok` must be found by the next run, and the last report must be the right one. Eight chains of N steps each add the
-# numbers from 1 to N. It says how the steps were committed too: a record has at most eight.
+# numbers from 1 to N. It says how the steps were committed too: a record has at most 64.
 #
 # usage: killed.sh CNC [COUNT [N [WORKERS [FOLDER [SIGNAL]]]]]
 #     COUNT    how often it is killed (300); 30 take some 10 seconds

@@ -30,7 +30,7 @@ const COUNTS: [u8; 3] = [1, 2, 4];
 const COPIES: u8 = 4;
 
 // How many steps a worker commits together, if it has as many.
-const TOGETHER: u16 = 8;
+const TOGETHER: u16 = 64;
 
 /// Measures `steps` empty steps in memory; a five-hundredth as many that take a millisecond each; and a fiftieth as many
 /// on the files A and B of the folder that this is run in, which it empties. They are run by the calling thread, and by 1,
@@ -166,9 +166,9 @@ fn put_tags<D: Disk>(core: &mut Core<D>, steps: u32) -> Result<(), Error> {
 // ---- on files
 
 /// Prints the microseconds of a step of each graph, on the files A and B of the folder that this is run in, which it
-/// empties: on the calling thread, which commits each step by itself, and on workers, each of which commits up to eight
-/// steps together. Beside the first stand records of one step, beside the others records of eight. On one worker all
-/// steps of `wide` are committed by eights; where steps wait for each other, they may be committed by fewer.
+/// empties: on the calling thread, which commits each step by itself, and on workers, each of which commits up to 64
+/// steps together. Beside the first stand records of one step, beside the others records of 64. On one worker all
+/// steps of `wide` are committed by 64; where steps wait for each other, they may be committed by fewer.
 pub(crate) fn on_files<R: Handles>(rt: &HostRuntime, threads: &R, steps: u32) -> Result<(), Error> {
     for load in LOADS {
         print!(rt; "alone, ")?;

@@ -20,8 +20,8 @@ use Rattle.commit.specs.declared.error.CoreError.TheVariants.{Store}
 use Rattle.vault.specs.declared.error.VaultError.TheVariants.{Full}
 use Rattle.commit.specs.declared.outcome.Outcome.{Outcome}
 use Rattle.commit.specs.declared.outcome.Outcome.TheVariants.{Gave, Fault}
-use Rattle.commit.proofs.Outcomes.{divided, in_both, more_within, outcome_within, outcomes_more, outcomes_within}
-use Rattle.commit.specs.Batch.{Batch, HaveOutcomes, IsDivided, end_said, ends_by, ends_said, facts_with}
+use Rattle.commit.proofs.Outcomes.{in_both, more_within, outcome_within, outcomes_more}
+use Rattle.commit.specs.Batch.{Batch, HaveOutcomes, end_said, ends_by, ends_said, facts_with}
 use Rattle.commit.specs.Came.{IsOutcomeIn}
 use Rattle.commit.specs.Runs.{IsEnd, MetFull}
 use Rattle.passes.specs.Known.{Known}
@@ -206,77 +206,6 @@ refused_full opening old known batch answer (Err one) some have refused full =
     value : (other : Met) → Some other ≡ Some met.Full → other ≡ met.Full
     value other same = cc
 
--- ---- a batch that was divided
-
-parted : AmongBoth → ReadsStay → (opening : Opening) (known : Known) (batch first rest : Batch) (size : ℕ) → IsDivided batch size first rest → HaveOutcomes opening.graph (facts_behind opening known.seen) batch.tasks batch.outcomes
-    → HaveOutcomes opening.graph (facts_behind opening known.seen) first.tasks first.outcomes × HaveOutcomes opening.graph (facts_with (facts_behind opening known.seen) (Some first)) rest.tasks rest.outcomes
-parted both stay opening known batch first rest size is have =
-    divided both stay opening.graph (facts_behind opening known.seen) first.tasks first.outcomes rest.tasks rest.outcomes
-    (subst (λ (at : List Inst × List Outcome). HaveOutcomes opening.graph (facts_behind opening known.seen) at.0 at.1) (λ i. (sym is.tasks i, sym is.outcomes i)) have)
-    (is.many_outcomes ∙ sym is.many_tasks)
-
--- the outcomes in front are over the state
-pub first_have : AmongBoth → ReadsStay → (opening : Opening) (known : Known) (batch first rest : Batch) (size : ℕ) → IsDivided batch size first rest → HaveOutcomes opening.graph (facts_behind opening known.seen) batch.tasks batch.outcomes
-    → HaveOutcomes opening.graph (facts_behind opening known.seen) first.tasks first.outcomes
-first_have both stay opening known batch first rest size is have = (parted both stay opening known batch first rest size is have).0
-
--- and the others over the state after those
-pub rest_have : AmongBoth → ReadsStay → (opening : Opening) (old mid : Known) (batch first rest : Batch) (size : ℕ) → IsDivided batch size first rest → HaveOutcomes opening.graph (facts_behind opening old.seen) batch.tasks batch.outcomes
-    → Within (facts_with (facts_behind opening old.seen) (Some first)) (facts_behind opening mid.seen) → HaveOutcomes opening.graph (facts_behind opening mid.seen) rest.tasks rest.outcomes
-rest_have both stay opening old mid batch first rest size is have within =
-    outcomes_within stay opening.graph (facts_with (facts_behind opening old.seen) (Some first)) (facts_behind opening mid.seen) within rest.tasks rest.outcomes (parted both stay opening old batch first rest size is have).1
-
-ends_joined : (front behind : List Inst) (came later : List Outcome) → length came ≡ length front → ends_by (front ++ behind) (came ++ later) ≡ ends_by front came ++ ends_by behind later
-ends_joined [] behind [] later even = refl
-ends_joined [] behind (outcome ∷ came) later even = absurd (omega (arith, even))
-ends_joined (task ∷ front) behind [] later even = absurd (omega (arith, even))
-ends_joined (task ∷ front) behind (outcome ∷ came) later even = ap (λ (list : List Event). end_said task outcome ∷ list) (ends_joined front behind came later (omega (arith, even)))
-
--- what all of it puts is there, or is put by the other part, once the part in front is there
-parts_there : AmongBoth → FactsGoOn → (X Y : Facts) (batch first rest : Batch) (size : ℕ) → IsDivided batch size first rest → Within (facts_with X (Some first)) Y → Within (facts_with X (Some batch)) (facts_with Y (Some rest))
-parts_there both go_on X Y batch first rest size is one fact there =
-    let ends : ends_said batch ≡ ends_said first ++ ends_said rest =
-    (λ i. ends_by (sym is.tasks i) (sym is.outcomes i)) ∙ ends_joined first.tasks rest.tasks first.outcomes rest.outcomes (is.many_outcomes ∙ sym is.many_tasks)
-    in
-    let said : (X fact || among (facts (ends_said first) ++ facts (ends_said rest)) fact) ≡ true =
-    sym (ap (λ (list : List Event). X fact || among (facts list) fact) ends ∙ ap (λ (list : List Fact). X fact || among list fact) (go_on (ends_said first) (ends_said rest))) ∙ there
-    in
-    let parts : (X fact || (among (facts (ends_said first)) fact || among (facts (ends_said rest)) fact)) ≡ true = sym (ap (λ b. X fact || b) (both (facts (ends_said first)) (facts (ends_said rest)) fact)) ∙ said in
-    later (X fact) (among (facts (ends_said first)) fact) (among (facts (ends_said rest)) fact) (Y fact) (one fact) parts
-  where
-    later : (a b c d : Bool) → ((a || b) ≡ true → d ≡ true) → (a || (b || c)) ≡ true → (d || c) ≡ true
-    later true b c d there is = ap (λ x. x || c) (there refl)
-    later false true c d there is = ap (λ x. x || c) (there refl)
-    later false false c d there is = or_right d c is
-
--- What is left of a batch, of which the groups in front were committed: its outcomes are over the state that the pass knows now, and with what it puts, all that the whole
--- batch puts is there.
-pub record IsLeft (opening : Opening) (old now : Known) (whole batch : Batch) : Type 0 where
-  pub begins : IsPrefix old.seen now.seen
-  pub have : HaveOutcomes opening.graph (facts_behind opening now.seen) batch.tasks batch.outcomes
-  pub all : Within (facts_with (facts_behind opening old.seen) (Some whole)) (facts_with (facts_behind opening now.seen) (Some batch))
-
-pub left_whole : (opening : Opening) (known : Known) (batch : Batch) → HaveOutcomes opening.graph (facts_behind opening known.seen) batch.tasks batch.outcomes → IsLeft opening known known batch batch
-left_whole opening known batch have = record { begins = prefix_self known.seen; have = have; all = λ fact there. there }
-
--- one group more was committed
-pub left_after : AmongBoth → FactsGoOn → ReadsStay → (opening : Opening) (old now mid : Known) (whole batch first rest : Batch) (size : ℕ) → IsLeft opening old now whole batch → IsDivided batch size first rest → IsPrefix now.seen mid.seen
-    → Within (facts_with (facts_behind opening now.seen) (Some first)) (facts_behind opening mid.seen) → IsLeft opening old mid whole rest
-left_after both go_on stay opening old now mid whole batch first rest size left is further within = record {
-  begins = prefix_further old.seen now.seen mid.seen left.begins further;
-  have = rest_have both stay opening now mid batch first rest size is left.have within;
-  all = λ fact there. parts_there both go_on (facts_behind opening now.seen) (facts_behind opening mid.seen) batch first rest size is within fact (left.all fact there);
-}
-
--- the last group was committed, and then all of it is there
-pub all_left : (opening : Opening) (old now new : Known) (whole batch : Batch) → IsLeft opening old now whole batch → Within (facts_with (facts_behind opening now.seen) (Some batch)) (facts_behind opening new.seen)
-    → Within (facts_with (facts_behind opening old.seen) (Some whole)) (facts_behind opening new.seen)
-all_left opening old now new whole batch left within fact there = within fact (left.all fact there)
-
--- fewer are left
-pub fewer_left : (batch first rest : Batch) (size : ℕ) → 1 ≤ size → IsDivided batch size first rest → length rest.tasks < length batch.tasks
-fewer_left batch first rest size some is = omega (arith, some, is.many_tasks, ap length is.tasks, length-append first.tasks rest.tasks)
-
 -- if no fault came, all did
 pub came_as_is : (opening : Opening) (ends : List Event) (old new : Known) (answer : Result Ended BatchError) → IfOk answer (AddsTogether opening ends old new) → came_after answer ≡ Ok true → (ended : Ended) × AddsTogether opening ends old new ended × (ended.stopped ≡ None)
 came_as_is opening ends old new (Ok ended) adds all = (ended, adds, none ended.stopped (same (not (is_some ended.stopped)) all))
@@ -295,6 +224,3 @@ came_as_is opening ends old new (Err (batch_error.Foreign back)) adds all = absu
       where
         value : (b : Bool) → ◌≡◌ {A = Result Bool Met} (Ok b) (Ok true) → b ≡ true
         value b same = cc
-
-pub all_came : (all : Bool) → all ≡ true → ◌≡◌ {A = Result Bool Met} (Ok all) (Ok true)
-all_came all is = ap (λ (b : Bool). Ok b) is

@@ -7,7 +7,7 @@ ghost use Rattle.hub.specs.Running.{kept_of};
 ghost use Rattle.pool.specs.Worked.{AreClaimed};
 
 use crate::settling::settled;
-use crate::worker::{GROUP, MOST_KEPT};
+use crate::worker::{FEW, MOST_KEPT};
 use commit::{Batch, CoreError};
 use disk::Disk;
 use hub::{Hub, WorkPass};
@@ -40,7 +40,7 @@ pub(crate) struct Hand {
     puts: usize,
     // Of the results that are kept, how many it has looked at for instances that wait for their items.
     looked: usize,
-    // Whether a group or more was ready at once so far.
+    // Whether so far `FEW` instances or more were ready at once.
     many: bool,
     // Whether the bodies that ran since then are light.
     light: bool,
@@ -152,7 +152,7 @@ impl Hand {
         self.spent = self.spent.saturating_add(statements).saturating_add(VISIT);
     }
 
-    /// What is kept, if a body may look for items there: if it has few puts, and a group or more of instances was ready at once so far, `ready` being those that are now. In a
+    /// What is kept, if a body may look for items there: if it has few puts, and `FEW` instances or more were ready at once so far, `ready` being those that are now. In a
     /// run that never has so many, a record has no more ends than it would have if each body read what is committed alone.
     pub(crate) fn ahead<'k, 'a>(
         &mut self,
@@ -162,7 +162,7 @@ impl Hand {
         ensures kept { (kept_of result ≡ None) ⊎ (kept_of result ≡ kept.now) }
         ensures claimed { self.new.claimed ≡ self.old.claimed }
     {
-        self.many = self.many || ready >= GROUP;
+        self.many = self.many || ready >= FEW;
         if self.has_many_puts() || !self.many {
             return None;
         }
@@ -208,9 +208,9 @@ impl Hand {
         self.spent >= LONG
     }
 
-    /// The next instance to run, if there is one: it was claimed before, or is now, with others of its group. Says whether an instance runs then. After
+    /// The next instance to run, if there is one: it was claimed before, or is now, with others. Says whether an instance runs then. After
     /// a body that took long, what was claimed before it is given back, so that others can run it, and one instance is claimed alone. If the worker keeps
-    /// a group of results and fewer instances seem to be ready, or some and none seems to be, it claims those that wait for what it keeps; if there are none, the results are
+    /// `FEW` results or more and fewer instances seem to be ready, or some and none seems to be, it claims those that wait for what it keeps; if there are none, the results are
     /// committed first.
     pub(crate) fn next<J: Naming, D: Disk, R: Wait>(
         &mut self,
@@ -394,5 +394,5 @@ pub(crate) fn count_of(kept: &Option<Batch<'_>>) -> usize {
 
 // Whether a worker that keeps this number of results commits them before it claims, where this number of instances seems to be ready.
 fn commits_first(kept: usize, ready: usize) -> bool {
-    kept > 0 && (ready == 0 || (kept >= GROUP && ready < GROUP))
+    kept > 0 && (ready == 0 || (kept >= FEW && ready < FEW))
 }

@@ -7,10 +7,10 @@
 //! more (`RunsWithin` of `commit`).
 #![tactic(auto)]
 
+mod committing;
 mod crew;
 mod driver;
 mod driving;
-mod groups;
 mod hand;
 mod probe;
 mod running;

@@ -9,7 +9,7 @@ ghost use Rattle.pool.specs.declared.worker.Met.TheVariants.{Asked as MetAsked};
 ghost use Rattle.pool.specs.declared.worker.Turned.TheVariants.{Ends};
 ghost use Rattle.pool.specs.Worked.{AreClaimed, AreKept, IsTurned};
 
-use crate::groups::{commit, commit_before, commit_kept, exchange};
+use crate::committing::{commit, commit_before, commit_kept, exchange};
 use crate::hand::{Hand, count_of};
 use crate::settling::{finish, park, settled, stopped_by};
 use crate::worker::{MOST_KEPT, Met, Turned, ends, goes_on_unless};
@@ -50,7 +50,7 @@ pub(crate) fn run_task<'a, J: Naming, D: Disk, P: Probe, R: Wait>(
         // Before the task is given back, so that no worker runs it meanwhile.
         hub.ask_stop(pass);
         let _ = settled(rt, hub.release(rt, pass, task));
-        return ends(rt, alloc, hub, pass, Met::Asked, kept);
+        return ends(rt, hub, pass, Met::Asked, kept);
     }
     match hub.run(rt, alloc, pass, &task, hand.ahead(&kept, hub.ready())) {
         Ok(Ran::Ended(outcome, statements)) => {
@@ -66,17 +66,17 @@ pub(crate) fn run_task<'a, J: Naming, D: Disk, P: Probe, R: Wait>(
             let running = hub.running();
             if hand.leaves(pass.number(), count, running) || hand.stands_back(count, running) {
                 drop(run);
-                return leave(rt, alloc, hub, pass, hand, task, kept);
+                return leave(rt, hub, pass, hand, task, kept);
             }
             if ahead || hand.is_slow() || hand.has_many_puts() {
                 return wait_for_own(rt, alloc, hub, pass, hand, task, run, kept);
             }
             hand.note_wait(kept.is_some());
-            park_beside(rt, alloc, hub, pass, hand, task, run, kept)
+            park_beside(rt, hub, pass, hand, task, run, kept)
         }
         Err(error) => {
             let _ = settled(rt, hub.release(rt, pass, task));
-            ends(rt, alloc, hub, pass, stopped_by(error), kept)
+            ends(rt, hub, pass, stopped_by(error), kept)
         }
     }
 }
@@ -84,7 +84,6 @@ pub(crate) fn run_task<'a, J: Naming, D: Disk, P: Probe, R: Wait>(
 // Leaves the work to others for a while, or until they commit: gives back what is claimed, in its order, and commits what is kept.
 fn leave<'a, J: Naming, D: Disk, R: Wait>(
     rt: &R,
-    alloc: Global,
     hub: &'a Hub<J, D>,
     pass: &mut WorkPass<J>,
     hand: &mut Hand,
@@ -102,13 +101,12 @@ fn leave<'a, J: Naming, D: Disk, R: Wait>(
     results_are_meant();
     hand.give_back(rt, hub, pass);
     let _ = settled(rt, hub.release(rt, pass, task));
-    goes_on_unless(commit_kept(rt, alloc, hub, pass, kept))
+    goes_on_unless(commit_kept(rt, hub, pass, kept))
 }
 
 // Lets the instance wait, and goes on with what is kept, unless that is to be committed now.
 fn park_beside<'a, J: Naming, D: Disk, R: Wait>(
     rt: &R,
-    alloc: Global,
     hub: &'a Hub<J, D>,
     pass: &mut WorkPass<J>,
     hand: &Hand,
@@ -127,11 +125,11 @@ fn park_beside<'a, J: Naming, D: Disk, R: Wait>(
     match park(rt, hub, pass, task, run) {
         None => {
             if hand.is_due() {
-                return goes_on_unless(commit_kept(rt, alloc, hub, pass, kept));
+                return goes_on_unless(commit_kept(rt, hub, pass, kept));
             }
             Turned::GoesOn(kept)
         }
-        Some(met) => ends(rt, alloc, hub, pass, met, kept),
+        Some(met) => ends(rt, hub, pass, met, kept),
     }
 }
 
@@ -160,7 +158,7 @@ fn wait_for_own<'a, J: Naming, D: Disk, R: Wait>(
     let Some(batch) = kept else {
         return goes_on_unless(park(rt, hub, pass, task, run));
     };
-    let came = commit_before(rt, alloc, hub, pass, batch);
+    let came = commit_before(rt, hub, pass, batch);
     hand.after_commit(hub.batches());
     match came {
         Ok(true) => go_on_alone(rt, alloc, hub, pass, hand, task, run),
@@ -237,20 +235,19 @@ fn keep<'a, J: Naming, D: Disk, R: Wait>(
     results_are_meant();
     let Some(mut batch) = kept else {
         return match Batch::new(alloc, task, outcome) {
-            Ok(batch) => go_on_with(rt, alloc, hub, pass, hand, batch),
+            Ok(batch) => go_on_with(rt, hub, pass, hand, batch),
             Err((task, outcome)) => goes_on_unless(finish(rt, hub, pass, task, outcome)),
         };
     };
     match batch.add(task, outcome) {
-        Ok(()) => go_on_with(rt, alloc, hub, pass, hand, batch),
-        Err((task, outcome)) => finish_after(rt, alloc, hub, pass, batch, task, outcome),
+        Ok(()) => go_on_with(rt, hub, pass, hand, batch),
+        Err((task, outcome)) => finish_after(rt, hub, pass, batch, task, outcome),
     }
 }
 
 // Commits a batch, and then an outcome by itself, which may be over what the batch puts.
 fn finish_after<'a, J: Naming, D: Disk, R: Wait>(
     rt: &R,
-    alloc: Global,
     hub: &'a Hub<J, D>,
     pass: &mut WorkPass<J>,
     batch: Batch<'a>,
@@ -263,7 +260,7 @@ fn finish_after<'a, J: Naming, D: Disk, R: Wait>(
     ensures asked { result ≡ Ends (Some MetAsked) → ⊥ }
 {
     results_are_meant();
-    match commit_before(rt, alloc, hub, pass, batch) {
+    match commit_before(rt, hub, pass, batch) {
         Ok(true) => goes_on_unless(finish(rt, hub, pass, task, outcome)),
         Ok(false) => {
             drop(outcome);
@@ -281,7 +278,6 @@ fn finish_after<'a, J: Naming, D: Disk, R: Wait>(
 // then the worker claims the next instances with the same visit of the lock.
 fn go_on_with<'a, J: Naming, D: Disk, R: Wait>(
     rt: &R,
-    alloc: Global,
     hub: &'a Hub<J, D>,
     pass: &mut WorkPass<J>,
     hand: &mut Hand,
@@ -294,10 +290,10 @@ fn go_on_with<'a, J: Naming, D: Disk, R: Wait>(
     ensures asked { result ≡ Ends (Some MetAsked) → ⊥ }
 {
     if hand.is_due() {
-        return goes_on_unless(commit(rt, alloc, hub, pass, batch));
+        return goes_on_unless(commit(rt, hub, pass, batch));
     }
     if batch.len() < MOST_KEPT {
         return Turned::GoesOn(Some(batch));
     }
-    goes_on_unless(exchange(rt, alloc, hub, pass, hand, batch))
+    goes_on_unless(exchange(rt, hub, pass, hand, batch))
 }

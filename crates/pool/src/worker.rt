@@ -5,7 +5,7 @@ ghost use Rattle.pool.specs.declared.worker.Turned.TheVariants.{Ends};
 ghost use Rattle.pool.specs.Worked.{AreClaimed, AreKept, IsTurned, Justifies, turned_by};
 
 use crate::Probe;
-use crate::groups::{commit_kept, exchange};
+use crate::committing::{commit_kept, exchange};
 use crate::hand::Hand;
 use crate::running::run_task;
 use crate::settling::stopped_by;
@@ -58,11 +58,11 @@ pub(crate) enum Turned<'a> {
     Ends(Option<Met>),
 }
 
-/// How many results a worker commits as one record, at most.
-pub(crate) const GROUP: usize = 8;
-
-/// How many instances a worker claims at once, at most. It keeps fewer results than that.
+/// How many instances a worker claims at once, at most, and how many results it commits as one record.
 pub(crate) const MOST_KEPT: usize = 64;
+
+/// If fewer instances are ready than this, others may wait for what a worker keeps, and it commits so many results before it claims more.
+pub(crate) const FEW: usize = 8;
 
 // How often a worker that found nothing to do looks beside the lock whether an instance is ready, before it takes the lock again to see. Each time that it finds nothing in a
 // row doubles this, up to `DOUBLINGS` times.
@@ -120,7 +120,7 @@ fn run_all<J: Naming, D: Disk, P: Probe, R: Wait>(
     met
 }
 
-// Takes one turn after another. The worker keeps results, and commits what it keeps when it has a group, when no instance is to be claimed, after a body
+// Takes one turn after another. The worker keeps results, and commits what it keeps when it is as many as it may keep, when no instance is to be claimed, after a body
 // that took long, and before it ends.
 fn take_turns<J: Naming, D: Disk, P: Probe, R: Wait>(
     rt: &R,
@@ -164,7 +164,7 @@ fn turn<'a, J: Naming, D: Disk, P: Probe, R: Wait>(
     facts_go_on();
     results_are_meant();
     if hub.stop_asked(pass) {
-        return Turned::Ends(commit_kept(rt, alloc, hub, pass, kept));
+        return Turned::Ends(commit_kept(rt, hub, pass, kept));
     }
     if hand.rests {
         rest(hub, pass.number(), hand);
@@ -174,15 +174,14 @@ fn turn<'a, J: Naming, D: Disk, P: Probe, R: Wait>(
     }
     match hand.next(rt, hub, pass, &kept) {
         Ok((Some(task), _)) => run_task(rt, alloc, hub, pass, probe, hand, task, kept),
-        Ok((None, busy)) => idle(rt, alloc, hub, pass, hand, kept, busy),
-        Err(error) => ends(rt, alloc, hub, pass, stopped_by(error), kept),
+        Ok((None, busy)) => idle(rt, hub, pass, hand, kept, busy),
+        Err(error) => ends(rt, hub, pass, stopped_by(error), kept),
     }
 }
 
 // No instance is to be claimed: what is kept is committed, and what may be claimed then is, with the same visit of the lock; or the worker waits a little for others; or it ends.
 fn idle<'a, J: Naming, D: Disk, R: Wait>(
     rt: &R,
-    alloc: Global,
     hub: &'a Hub<J, D>,
     pass: &mut WorkPass<J>,
     hand: &mut Hand,
@@ -196,7 +195,7 @@ fn idle<'a, J: Naming, D: Disk, R: Wait>(
     ensures asked { result ≡ Ends (Some MetAsked) → ⊥ }
 {
     match kept {
-        Some(batch) => goes_on_unless(exchange(rt, alloc, hub, pass, hand, batch)),
+        Some(batch) => goes_on_unless(exchange(rt, hub, pass, hand, batch)),
         None => {
             if !busy {
                 return Turned::Ends(None);
@@ -211,7 +210,6 @@ fn idle<'a, J: Naming, D: Disk, R: Wait>(
 /// The worker ends, since it met this, after what it keeps is committed.
 pub(crate) fn ends<'a, J: Naming, D: Disk, R: Wait>(
     rt: &R,
-    alloc: Global,
     hub: &'a Hub<J, D>,
     pass: &mut WorkPass<J>,
     met: Met,
@@ -222,7 +220,7 @@ pub(crate) fn ends<'a, J: Naming, D: Disk, R: Wait>(
     ensures turned { IsTurned J.opening pass.new result }
     ensures asked { result ≡ Ends (Some MetAsked) → met ≡ MetAsked }
 {
-    match commit_kept(rt, alloc, hub, pass, kept) {
+    match commit_kept(rt, hub, pass, kept) {
         Some(last) => Turned::Ends(Some(last)),
         None => Turned::Ends(Some(met)),
     }

@@ -65,8 +65,8 @@ pub(crate) fn try_row<R: Threads + Wait + Sync>(
             let core = idle(core)?;
             let (core, verdict) = drive(threads, alloc, core, workers, LIMIT, &AlwaysGo);
             // A new store with the two items, the tags, the ends, and the fault: 275 + 50 + 92 * 17 + 18 bytes beside the ends. Each has a record of its own at most, of
-            // 41 bytes; at least they are eleven groups of eight, of 8 + 8 * 36 bytes each, and one of three.
-            tell_within(rt, workers, core, verdict, 3, 5279, 5638)
+            // 41 bytes; at least they are a group of 64 and one of 27, of 8 + 64 * 36 and 8 + 27 * 36 bytes.
+            tell_within(rt, workers, core, verdict, 3, 5199, 5638)
         }
         Row::PutTwice => {
             let core = fibonacci(alloc, &[0, 1, 7], 2..3)?;

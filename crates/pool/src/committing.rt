@@ -1,4 +1,4 @@
-//! How a worker commits what it keeps: as one record, or as several, one after another, with one visit of the lock.
+//! How a worker commits what it keeps, as one record.
 ghost use Rattle.std.specs.Prelude.{◌≡◌, true, IfErr, None, Ok, Some};
 ghost use mathlib.Core.List.{IsPrefix};
 ghost use Rattle.commit.specs.Batch.{HaveOutcomes};
@@ -7,21 +7,19 @@ ghost use Rattle.pool.specs.declared.worker.Met.TheVariants.{Asked as MetAsked};
 ghost use Rattle.pool.specs.Worked.{AreClaimed, AreKept, HasAll, Justifies};
 
 use crate::hand::Hand;
-use crate::settling::{settled, settled_all};
-use crate::worker::{GROUP, MOST_KEPT, Met};
+use crate::settling::settled_all;
+use crate::worker::{MOST_KEPT, Met};
 use commit::Batch;
 use disk::Disk;
 use hub::{Hub, Visit, WorkPass};
 use machine::results_are_meant;
 use passes::Naming;
-use std::alloc::Global;
 use std::sync::Wait;
 use terms::{facts_are_told_apart, facts_go_on};
 
 /// Commits what is kept, if anything is.
 pub(crate) fn commit_kept<'a, J: Naming, D: Disk, R: Wait>(
     rt: &R,
-    alloc: Global,
     hub: &'a Hub<J, D>,
     pass: &mut WorkPass<J>,
     kept: Option<Batch<'a>>,
@@ -31,7 +29,7 @@ pub(crate) fn commit_kept<'a, J: Naming, D: Disk, R: Wait>(
     ensures full { Justifies J.opening result pass.new }
 {
     match kept {
-        Some(batch) => commit(rt, alloc, hub, pass, batch),
+        Some(batch) => commit(rt, hub, pass, batch),
         None => None,
     }
 }
@@ -39,7 +37,6 @@ pub(crate) fn commit_kept<'a, J: Naming, D: Disk, R: Wait>(
 /// Commits the outcomes of a batch.
 pub(crate) fn commit<'a, J: Naming, D: Disk, R: Wait>(
     rt: &R,
-    alloc: Global,
     hub: &'a Hub<J, D>,
     pass: &mut WorkPass<J>,
     batch: Batch<'a>,
@@ -48,7 +45,7 @@ pub(crate) fn commit<'a, J: Naming, D: Disk, R: Wait>(
     ensures asked { result ≡ Some MetAsked → ⊥ }
     ensures full { Justifies J.opening result pass.new }
 {
-    match commit_before(rt, alloc, hub, pass, batch) {
+    match commit_before(rt, hub, pass, batch) {
         Ok(_) => None,
         Err(met) => Some(met),
     }
@@ -57,7 +54,6 @@ pub(crate) fn commit<'a, J: Naming, D: Disk, R: Wait>(
 /// Commits the outcomes of a batch. Says whether all of them came as they are: if a fault did, the store is stopped.
 pub(crate) fn commit_before<'a, J: Naming, D: Disk, R: Wait>(
     rt: &R,
-    alloc: Global,
     hub: &'a Hub<J, D>,
     pass: &mut WorkPass<J>,
     batch: Batch<'a>,
@@ -68,15 +64,13 @@ pub(crate) fn commit_before<'a, J: Naming, D: Disk, R: Wait>(
     ensures asked { IfErr result (λ met. met ≡ MetAsked → ⊥) }
     ensures full { IfErr result (λ met. Justifies J.opening (Some met) pass.new) }
 {
-    let ahead = spelled_ahead(alloc, &batch);
     let mut visit = hub.visit(rt);
-    commit_groups(rt, alloc, &mut visit, pass, batch, &ahead)
+    commit_with(rt, &mut visit, pass, batch)
 }
 
 /// Commits the outcomes of a batch, and claims the next instances.
 pub(crate) fn exchange<'a, J: Naming, D: Disk, R: Wait>(
     rt: &R,
-    alloc: Global,
     hub: &'a Hub<J, D>,
     pass: &mut WorkPass<J>,
     hand: &mut Hand,
@@ -89,9 +83,8 @@ pub(crate) fn exchange<'a, J: Naming, D: Disk, R: Wait>(
     ensures full { Justifies J.opening result pass.new }
 {
     hand.before_commit(pass.number(), hub.batches());
-    let ahead = spelled_ahead(alloc, &batch);
     let mut visit = hub.visit(rt);
-    let came = commit_groups(rt, alloc, &mut visit, pass, batch, &ahead);
+    let came = commit_with(rt, &mut visit, pass, batch);
     hand.after_commit(hub.batches());
     match came {
         Ok(_) => {
@@ -118,55 +111,12 @@ fn claim_next<J: Naming, D: Disk>(
     let _ = visit.claim_some(pass, &mut hand.claimed, most);
 }
 
-// Commits the outcomes of a batch in groups, each as one record, with the bytes of those after the first, which may be laid with it.
-fn commit_groups<'a, J: Naming, D: Disk, R: Wait>(
-    rt: &R,
-    alloc: Global,
-    visit: &mut Visit<'_, J, D>,
-    pass: &mut WorkPass<J>,
-    batch: Batch<'a>,
-    ahead: &[u8],
-) -> Result<bool, Met>
-    requires { HaveOutcomes J.opening.graph (facts_behind J.opening pass.old.seen) batch.tasks batch.outcomes }
-    ensures ahead { IsPrefix pass.old.seen pass.new.seen }
-    ensures all { result ≡ Ok true → HasAll J.opening pass.old pass.new batch.entry }
-    ensures asked { IfErr result (λ met. met ≡ MetAsked → ⊥) }
-    ensures full { IfErr result (λ met. Justifies J.opening (Some met) pass.new) }
-{
-    facts_are_told_apart();
-    facts_go_on();
-    results_are_meant();
-    let mut batch = batch;
-    let mut ahead = ahead;
-    loop {
-        if batch.len() <= GROUP {
-            return commit_group(rt, visit, pass, batch, ahead);
-        }
-        match batch.split(alloc, GROUP) {
-            Err(whole) => return commit_group(rt, visit, pass, whole, &[]),
-            Ok((first, rest)) => match commit_group(rt, visit, pass, first, ahead) {
-                Ok(true) => batch = rest,
-                Ok(false) => {
-                    give_up(rt, visit, pass, rest);
-                    return Ok(false);
-                }
-                Err(met) => {
-                    give_up(rt, visit, pass, rest);
-                    return Err(met);
-                }
-            },
-        }
-        ahead = &[];
-    }
-}
-
-// Commits the outcomes of a batch as one record.
-fn commit_group<'a, J: Naming, D: Disk, R: Wait>(
+// Commits the outcomes of a batch.
+fn commit_with<'a, J: Naming, D: Disk, R: Wait>(
     rt: &R,
     visit: &mut Visit<'_, J, D>,
     pass: &mut WorkPass<J>,
     batch: Batch<'a>,
-    ahead: &[u8],
 ) -> Result<bool, Met>
     requires { HaveOutcomes J.opening.graph (facts_behind J.opening pass.old.seen) batch.tasks batch.outcomes }
     ensures ahead { IsPrefix pass.old.seen pass.new.seen }
@@ -178,31 +128,5 @@ fn commit_group<'a, J: Naming, D: Disk, R: Wait>(
     facts_go_on();
     // What is known of every batch: it has an instance.
     batch.len();
-    settled_all(rt, visit.finish_all(pass, batch, ahead))
-}
-
-// What may be laid ahead when the first group of these outcomes is committed: the records of the other groups. Nothing if there is no memory for it.
-fn spelled_ahead(alloc: Global, batch: &Batch<'_>) -> Vec<u8> {
-    let mut ahead = Vec::new(alloc);
-    if batch.len() > GROUP && batch.spell_ahead(GROUP, GROUP, &mut ahead).is_err() {
-        ahead.clear();
-    }
-    ahead
-}
-
-// Gives the instances of a batch back, which are ready then, the last one first.
-fn give_up<'a, J: Naming, D: Disk, R: Wait>(
-    rt: &R,
-    visit: &mut Visit<'_, J, D>,
-    pass: &mut WorkPass<J>,
-    batch: Batch<'a>,
-)
-    ensures { IsPrefix pass.old.seen pass.new.seen }
-{
-    let (task, outcome, rest) = batch.pop();
-    drop(outcome);
-    let _ = settled(rt, visit.release(pass, task));
-    if let Some(rest) = rest {
-        give_up(rt, visit, pass, rest);
-    }
+    settled_all(rt, visit.finish_all(pass, batch, &[]))
 }

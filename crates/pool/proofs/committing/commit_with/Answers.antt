@@ -1,7 +1,7 @@
 use Rattle.std.proofs.Common.{◌∙◌, arith, sym}
 use Rattle.commit.specs.Batch.{ends_said}
 use Rattle.pool.proofs.Kept.{all_there, came_as_is, refused_full}
-use Rattle.pool.proofs.groups.commit_group.Goals as goal
+use Rattle.pool.proofs.committing.commit_with.Goals as goal
 
 pub returns-clause-all : goal.returns-clause-all
 returns-clause-all g c is =
