@@ -1,5 +1,5 @@
 -- What a worker keeps, and what it knows of a refusal.
-use Rattle.std.proofs.Common.{◌≡◌, ◌∙◌, ◌⊎◌, ◌≤◌, ◌<◌, ◌++◌, ◌||◌, ℕ, zero, suc, Bool, true, false, arith, refl, List, [], ◌∷◌, length, take, drop, take-append-drop, length-append, Option, Some, None, IfSome, MatchOption, Result, Ok, Err, IfOk, IfErr, IsErrOf, ap, inl, inr, is_some, not, sym, subst}
+use Rattle.std.proofs.Common.{◌≡◌, ◌∙◌, ◌⊎◌, ◌≤◌, ◌++◌, ℕ, zero, suc, Bool, true, false, refl, List, [], ◌∷◌, length, take, drop, take-append-drop, Option, Some, None, IfSome, MatchOption, Result, Ok, Err, IfOk, IfErr, IsErrOf, ap, inl, inr, is_some, not, sym, subst}
 use Rattle.std.proofs.lemmas.Bool.{false≢true}
 use mathlib.Core.List.{IsPrefix}
 use Rattle.std.specs.List.{AllByRecursion}
@@ -9,13 +9,13 @@ use Rattle.terms.specs.declared.event.Event.TheVariants as event
 use Rattle.terms.specs.declared.fault.FaultKind.{FaultKind}
 use Rattle.terms.specs.Commits.{Commit}
 use Rattle.terms.specs.Facts.{Fact, FactsGoOn, facts}
-use Rattle.terms.specs.Sets.{AmongBoth, Facts, among, with_facts}
+use Rattle.terms.specs.Sets.{AmongBoth, Facts, with_facts}
 use Rattle.graph.specs.Fits.{InstanceIsOf}
 use Rattle.graph.specs.Graph.{Graph}
 use Rattle.machine.specs.declared.group.Ended.{Ended}
 use Rattle.machine.specs.Group.{StopsAt, cut, stop_at, stopped_as}
 use Rattle.machine.specs.Results.{ReadsStay}
-use Rattle.machine.proofs.Sets.{Within, or_right}
+use Rattle.machine.proofs.Sets.{Within}
 use Rattle.commit.specs.declared.error.CoreError.TheVariants.{Store}
 use Rattle.vault.specs.declared.error.VaultError.TheVariants.{Full}
 use Rattle.commit.specs.declared.outcome.Outcome.{Outcome}
