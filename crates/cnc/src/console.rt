@@ -18,20 +18,43 @@ pub(crate) struct Place {
     hint: &'static str,
 }
 
-/// The error output, with the place of the fault that was reported on it; on a terminal with the progress of a certificate.
+// What a terminal takes for the begin of a text in red, and for its end.
+const RED: &[u8] = b"\x1b[31m";
+
+const PLAIN: &[u8] = b"\x1b[0m";
+
+/// The error output, with the place of the fault that was reported on it; on a terminal with the progress of a certificate, and
+/// in red where colours are wanted.
 #[derive(Drop)]
 pub(crate) struct Console<'a, H> {
     err: Stderr,
     place: Option<Place>,
     certifying: Option<Certifying<'a, H>>,
+    colours: bool,
 }
 
 impl<'a, H: Clock + Eprint> Console<'a, H> {
-    pub(crate) fn new(rt: &HostRuntime, certifying: Option<Certifying<'a, H>>) -> Self {
+    /// The error output of a file or a pipe.
+    pub(crate) fn plain(rt: &HostRuntime) -> Self {
         Console {
             err: rt.stderr(),
             place: None,
-            certifying,
+            certifying: None,
+            colours: false,
+        }
+    }
+
+    /// The error output of a terminal.
+    pub(crate) fn on_terminal(
+        rt: &HostRuntime,
+        certifying: Certifying<'a, H>,
+        colours: bool,
+    ) -> Self {
+        Console {
+            err: rt.stderr(),
+            place: None,
+            certifying: Some(certifying),
+            colours,
         }
     }
 
@@ -46,7 +69,13 @@ impl<'a, H: Clock + Eprint> Write for Console<'a, H> {
         if let Some(certifying) = &self.certifying {
             certifying.clear();
         }
-        self.err.write(buf)
+        if !self.colours {
+            return self.err.write(buf);
+        }
+        self.err.write_all(RED)?;
+        let written = self.err.write(buf)?;
+        self.err.write_all(PLAIN)?;
+        Ok(written)
     }
 
     fn flush(&mut self) -> io::Result<()> {

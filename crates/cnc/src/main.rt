@@ -13,6 +13,7 @@ use console::{Console, Kept};
 use disk::{Disk, DiskError, FileDisk, MemDisk};
 use pool::{AlwaysGo, Crew, Driver, Probe};
 use progress::{Certifying, Cleared, Telling};
+use std::env;
 use std::fs::{self, File, OpenOptions};
 use std::io::{self, BufWriter, Eprint, ErrorKind as Cause, IsTerminal, Read, Write};
 use std::marker::Sync;
@@ -157,7 +158,7 @@ fn pointed<D: Disk + Refusing + Send + Drop, R: Read, H: Handles>(
             return refused(rt, "no memory");
         };
         let driver = Driver::Crew(Crew::new(threads, workers, AlwaysGo));
-        let mut err = Console::new(rt, None);
+        let mut err = Console::plain(rt);
         return done(rt, command, disk, input, &mut out, &mut err, &driver).0;
     }
     let shown = AtomicU64::new(0);
@@ -167,7 +168,8 @@ fn pointed<D: Disk + Refusing + Send + Drop, R: Read, H: Handles>(
     let Ok(mut out) = BufWriter::new(rt.alloc(), Cleared::new(threads, rt.stdout(), &shown)) else {
         return refused(rt, "no memory");
     };
-    let mut err = Console::new(rt, Some(Certifying::new(threads, &shown)));
+    let certifying = Certifying::new(threads, &shown);
+    let mut err = Console::on_terminal(rt, certifying, wants_colours(rt));
     let (status, cause) = done(rt, command, disk, &mut input, &mut out, &mut err, &driver);
     if let Some(place) = err.place() {
         input.point(rt, place);
@@ -176,6 +178,19 @@ fn pointed<D: Disk + Refusing + Send + Drop, R: Read, H: Handles>(
         let _ = writeln!(rt.stderr(), "  {cause}");
     }
     status
+}
+
+// Whether a terminal shows colours: unless the variable `NO_COLOR` has a text, or `TERM` says that it has none.
+fn wants_colours(rt: &HostRuntime) -> bool {
+    let refused = match env::var(rt, "NO_COLOR") {
+        Ok(text) => !text.is_empty(),
+        Err(_) => false,
+    };
+    let dumb = match env::var(rt, "TERM") {
+        Ok(name) => name.as_str() == "dumb",
+        Err(_) => true,
+    };
+    !refused && !dumb
 }
 
 // Does a command, and returns its status and why the system refused a call, if it did.

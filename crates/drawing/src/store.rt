@@ -181,6 +181,8 @@ fn write_groups<W: Write>(
                 .get(place_of(graph, step, items))
                 .copied()
                 .unwrap_or(0);
+            let step = StepCollection(step as u16);
+            let items = ItemCollection(items as u16);
             if count > 0 {
                 write_group(graph, step, items, count, out)?;
             }
@@ -216,13 +218,13 @@ fn place_of(graph: &Graph, step: usize, items: usize) -> usize {
 // So many instances of a step, which wait for items of a collection.
 fn write_group<W: Write>(
     graph: &Graph,
-    step: usize,
-    items: usize,
+    step: StepCollection,
+    items: ItemCollection,
     count: u64,
     out: &mut W,
 ) -> Result<(), DrawError> {
-    let step = graph.step_name(StepCollection(step as u16)).unwrap_or("");
-    let items = graph.item_name(ItemCollection(items as u16)).unwrap_or("");
+    let step = graph.step_name(step).unwrap_or("");
+    let items = graph.item_name(items).unwrap_or("");
     writeln!(
         out,
         "  \"({step}) waits for [{items}]\" [label=\"{count} of ({step})\\nwait for [{items}]\", shape=ellipse, style=dashed];"
