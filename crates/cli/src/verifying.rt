@@ -174,7 +174,8 @@ fn explain_instance<D: Disk, E: Errors>(
             "  The store says that it ended in a fault, and its body does not."
         );
     }
-    match run_body(alloc, machine, core.graph(), inst) {
+    let instance = inst;
+    match run_body(alloc, machine, core.graph(), instance) {
         Ok(Came::Ended(End::Gave(given))) => {
             explain_puts(core, inst, given.puts().as_slice(), err)
         }
@@ -207,7 +208,9 @@ fn explain_puts<D: Disk, E: Errors>(
     err: &mut E,
 ) -> io::Result<()> {
     for number in 0..puts.len() {
-        let by = Producer::By(inst, number as u32);
+        let instance = inst;
+        let number_of_put = u32::try_from(number).unwrap_or(u32::MAX);
+        let by = Producer::By(instance, number_of_put);
         if explain_put(core, by, &puts[number], err)? {
             return Ok(());
         }

@@ -5,9 +5,9 @@ pub returns-in-Ok : goal.returns-in-Ok
 returns-in-Ok g c = inr (record {
   core = c.in-Ok.core;
   opened = record { opened = c.in-Ok.ensures.opened; finds = λ on. c.in-Ok.ensures.finds on; only_reads = λ on. c.in-Ok.ensures.only_reads on };
-  answer = c.verified_by.result;
-  certified = c.verified_by.ensures.certified;
-  genuine = c.verified_by.ensures.genuine;
+  answer = c.verified_by-answer.result;
+  certified = c.verified_by-answer.ensures.certified;
+  genuine = c.verified_by-answer.ensures.genuine;
   told = c.certified-outcome.ensures;
   disk = c.into_disk.ensures;
 })
