@@ -11,14 +11,16 @@
 //! - `core NUMBERS`: a story of a store on a memory disk with its steps, once for each number (`cores`)
 //! - `crashes FIRST LAST SIDE`: such a story, cut off by a crash at each of these calls of the disk, and continued
 //!   (`crashes`)
+//! - `forged FIRST LAST NAMES`: random stores of these graphs, and one change of each: which of them are certified
+//!   (`forged`)
 //! - `first`: bytes that begin with a record (`journals`)
 //! - `store NUMBERS`: a story of a store on a memory disk, once for each number (`vault_stories`)
 ghost use Rattle.std.specs.Prelude.{◌≤◌};
 ghost use Rattle.terms.specs.declared.key.TheConstants.{MAX_COMPONENTS};
 
 use crate::{
-    bodies, bytes, codecs, cores, crashes, graphs, item_calls, journals, orders, states, stories,
-    vaults,
+    bodies, bytes, codecs, cores, crashes, forged, graphs, item_calls, journals, orders, states,
+    stories, vaults,
 };
 use cases::{Names, texts};
 use codecs::Spelled;
@@ -49,6 +51,7 @@ pub(crate) fn answer(
         },
         "core" => stories::answer::<cores::Store>(alloc, names, rest, input),
         "crashes" => crashes::answer(alloc, names, rest, input),
+        "forged" => forged::answer(alloc, names, rest),
         "machine" => states::answer(alloc, names, rest, input),
         "store" => stories::answer::<vaults::World>(alloc, names, rest, input),
         "rising" => orders::answer(alloc, names, rest, input),

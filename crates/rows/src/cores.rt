@@ -8,7 +8,7 @@ use crate::choosers::Chooser;
 use crate::stories::World;
 use crate::{core_calls as calls, disks};
 use cases::Names;
-use commit::{Core, CreateError, NotCreated, RunError, Verdict, run_with};
+use commit::{Choose, Core, CreateError, NotCreated, RunError, Verdict, run_with};
 use disk::MemDisk;
 use std::alloc::{AllocError, Global};
 use std::mem;
@@ -131,11 +131,11 @@ fn run(alloc: Global, store: &mut Store, words: &str, told: &mut String) -> Resu
     }
 }
 
-// The verdict of a run, if a store is open in which no instance runs.
-fn ran(
+/// The verdict of a run, if a store is open in which no instance runs.
+pub(crate) fn ran<C: Choose>(
     alloc: Global,
     store: &mut Store,
-    chooser: &mut Chooser,
+    chooser: &mut C,
     limit: u64,
 ) -> Option<Result<Verdict, RunError>> {
     match mem::replace(store, Store::Closed(MemDisk::new(alloc))).into_core() {
@@ -151,10 +151,10 @@ fn ran(
     }
 }
 
-fn ran_with(
+fn ran_with<C: Choose>(
     alloc: Global,
     core: Core<MemDisk>,
-    chooser: &mut Chooser,
+    chooser: &mut C,
     limit: u64,
 ) -> (Core<MemDisk>, Option<Result<Verdict, RunError>>) {
     if core.running() != 0 {
@@ -208,8 +208,8 @@ fn create(
     }
 }
 
-// Makes a store of the graph with this text, or returns why there is none.
-fn created(alloc: Global, store: &mut Store, text: &[u8]) -> Option<CreateError> {
+/// Makes a store of the graph with this text, or returns why there is none.
+pub(crate) fn created(alloc: Global, store: &mut Store, text: &[u8]) -> Option<CreateError> {
     match Core::create(alloc, store.disk(alloc), text) {
         Ok(core) => {
             *store = Store::Open(core);
@@ -230,8 +230,8 @@ fn open(alloc: Global, store: &mut Store, told: &mut String) -> Result<(), Alloc
     }
 }
 
-// Opens the store, or returns why it cannot be opened.
-fn opened(alloc: Global, store: &mut Store) -> Option<VaultError> {
+/// Opens the store, or returns why it cannot be opened.
+pub(crate) fn opened(alloc: Global, store: &mut Store) -> Option<VaultError> {
     match Core::open(alloc, store.disk(alloc)) {
         Ok(core) => {
             *store = Store::Open(core);

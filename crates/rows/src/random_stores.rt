@@ -1,0 +1,88 @@
+//! Stores that come about at random: the environment puts items and tags with small keys, so that they meet, and some steps
+//! run in between.
+use crate::cores::{Store, ran};
+use crate::random::Random;
+use graph::Graph;
+use std::alloc::Global;
+use terms::{Addr, ItemCollection, Key, MAX_COMPONENTS, Tag, TagCollection};
+
+/// Lets a store go on at random, for 5 to 40 actions.
+pub(crate) fn grow(alloc: Global, store: &mut Store, random: &mut Random) {
+    for _ in 0..5 + random.below(36) {
+        act(alloc, store, random);
+    }
+}
+
+// Puts an item or a tag, or lets at most four steps end. What is refused changes nothing.
+fn act(alloc: Global, store: &mut Store, random: &mut Random) {
+    match random.below(6) {
+        0 => run(alloc, store, random),
+        1 | 2 => put_tag(store, random),
+        _ => put_item(store, random),
+    }
+}
+
+fn run(alloc: Global, store: &mut Store, random: &mut Random) {
+    let limit = 1 + random.below(4) as u64;
+    let _ = ran(alloc, store, random, limit);
+}
+
+fn put_tag(store: &mut Store, random: &mut Random) {
+    if let Store::Open(core) = store {
+        if let Some(tag) = some_tag(core.graph(), random) {
+            let _ = core.put_tag(tag);
+        }
+    }
+}
+
+fn put_item(store: &mut Store, random: &mut Random) {
+    if let Store::Open(core) = store {
+        if let Some(address) = some_address(core.graph(), random) {
+            let _ = core.put_item(address, some_value(random));
+        }
+    }
+}
+
+/// An address of the graph, if it has any.
+pub(crate) fn some_address(graph: &Graph, random: &mut Random) -> Option<Addr> {
+    let count = graph.item_count();
+    if count == 0 {
+        return None;
+    }
+    let collection = ItemCollection(random.below(count) as u16);
+    let components = graph.item_components(collection)?;
+    let key = some_key(components, random);
+    Some(Addr { collection, key })
+}
+
+/// A tag of the graph, if it has any.
+pub(crate) fn some_tag(graph: &Graph, random: &mut Random) -> Option<Tag> {
+    let count = graph.tag_count();
+    if count == 0 {
+        return None;
+    }
+    let collection = TagCollection(random.below(count) as u16);
+    let components = graph.tag_components(collection)?;
+    let key = some_key(components, random);
+    Some(Tag { collection, key })
+}
+
+/// A key with this number of components, each from 0 to 5.
+pub(crate) fn some_key(count: usize, random: &mut Random) -> Key {
+    let components = [
+        random.below(6) as i64,
+        random.below(6) as i64,
+        random.below(6) as i64,
+        random.below(6) as i64,
+    ];
+    Key::new(&components[..count.min(MAX_COMPONENTS)])
+}
+
+/// A value: mostly a small one; else one of which a step may put too many, or whose square is too large.
+pub(crate) fn some_value(random: &mut Random) -> i64 {
+    match random.below(16) {
+        0 => 5000,
+        1 => 1 << 40,
+        _ => random.below(5) as i64,
+    }
+}
