@@ -2,6 +2,8 @@
 //! run in between.
 use crate::cores::{Store, ran};
 use crate::random::Random;
+use commit::Core;
+use disk::MemDisk;
 use graph::Graph;
 use std::alloc::Global;
 use terms::{Addr, ItemCollection, Key, MAX_COMPONENTS, Tag, TagCollection};
@@ -13,33 +15,34 @@ pub(crate) fn grow(alloc: Global, store: &mut Store, random: &mut Random) {
     }
 }
 
-// Puts an item or a tag, or lets at most four steps end. What is refused changes nothing.
+// Lets at most four steps end, or puts an item or a tag. What is refused changes nothing.
 fn act(alloc: Global, store: &mut Store, random: &mut Random) {
-    match random.below(6) {
-        0 => run(alloc, store, random),
-        1 | 2 => put_tag(store, random),
-        _ => put_item(store, random),
+    if random.below(4) == 0 {
+        let limit = 1 + random.below(4) as u64;
+        let _ = ran(alloc, store, random, limit);
+    } else if let Store::Open(core) = store {
+        put(core, random);
     }
 }
 
-fn run(alloc: Global, store: &mut Store, random: &mut Random) {
-    let limit = 1 + random.below(4) as u64;
-    let _ = ran(alloc, store, random, limit);
-}
-
-fn put_tag(store: &mut Store, random: &mut Random) {
-    if let Store::Open(core) = store {
-        if let Some(tag) = some_tag(core.graph(), random) {
-            let _ = core.put_tag(tag);
-        }
+// Puts an item, or, half of the times and where that is refused, a tag.
+fn put(core: &mut Core<MemDisk>, random: &mut Random) {
+    if random.below(2) == 0 || !put_item(core, random) {
+        put_tag(core, random);
     }
 }
 
-fn put_item(store: &mut Store, random: &mut Random) {
-    if let Store::Open(core) = store {
-        if let Some(address) = some_address(core.graph(), random) {
-            let _ = core.put_item(address, some_value(random));
-        }
+// Puts an item. Returns whether it was put.
+fn put_item(core: &mut Core<MemDisk>, random: &mut Random) -> bool {
+    match some_address(core.graph(), random) {
+        Some(address) => core.put_item(address, some_value(random)).is_ok(),
+        None => false,
+    }
+}
+
+fn put_tag(core: &mut Core<MemDisk>, random: &mut Random) {
+    if let Some(tag) = some_tag(core.graph(), random) {
+        let _ = core.put_tag(tag);
     }
 }
 
@@ -67,15 +70,21 @@ pub(crate) fn some_tag(graph: &Graph, random: &mut Random) -> Option<Tag> {
     Some(Tag { collection, key })
 }
 
-/// A key with this number of components, each from 0 to 5.
+/// A key with this number of components.
 pub(crate) fn some_key(count: usize, random: &mut Random) -> Key {
     let components = [
-        random.below(6) as i64,
-        random.below(6) as i64,
-        random.below(6) as i64,
-        random.below(6) as i64,
+        some_component(random),
+        some_component(random),
+        some_component(random),
+        some_component(random),
     ];
     Key::new(&components[..count.min(MAX_COMPONENTS)])
+}
+
+// A number from 0 to 5, and a smaller one more often.
+fn some_component(random: &mut Random) -> i64 {
+    let most = random.below(6);
+    random.below(most + 1) as i64
 }
 
 /// A value: mostly a small one; else one of which a step may put too many, or whose square is too large.
