@@ -15,10 +15,10 @@ pub(crate) fn grow(alloc: Global, store: &mut Store, random: &mut Random) {
     }
 }
 
-// Lets at most four steps end, or puts an item or a tag. What is refused changes nothing.
+// Lets at most six steps end, or puts an item or a tag. What is refused changes nothing.
 fn act(alloc: Global, store: &mut Store, random: &mut Random) {
-    if random.below(4) == 0 {
-        let limit = 1 + random.below(4) as u64;
+    if random.below(3) == 0 {
+        let limit = 1 + random.below(6) as u64;
         let _ = ran(alloc, store, random, limit);
     } else if let Store::Open(core) = store {
         put(core, random);
