@@ -137,11 +137,11 @@ fn change_tag(
     store: &mut Contents,
     random: &mut Random,
 ) -> Result<bool, AllocError> {
-    if store.tags.is_empty() || random.below(3) == 0 {
+    if store.tags.is_empty() || random.below(4) == 0 {
         return add_tag(graph, store, random);
     }
     let place = random.below(store.tags.len());
-    if random.below(2) == 0 {
+    if random.below(3) == 0 {
         store.tags.remove(place);
     } else {
         store.tags[place].1 = !store.tags[place].1;
