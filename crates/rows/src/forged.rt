@@ -142,7 +142,7 @@ fn try_core(
 
 // Whether a store is certified.
 fn is_certified(alloc: Global, core: &Core<MemDisk>) -> Result<bool, AllocError> {
-    match verify(alloc, core) {
+    match verify(alloc, core, &mut ()) {
         Ok(()) => Ok(true),
         Err(VerifyError::NoMemory) => Err(AllocError),
         Err(_) => Ok(false),
