@@ -8,7 +8,7 @@ use crate::trials::Kind;
 // How many lines are committed together, at most, and how many steps.
 const MOST_LINES: u64 = 64;
 
-const MOST_STEPS: u64 = 8;
+const MOST_STEPS: u64 = 64;
 
 // What is broken.
 const LOST: &str = "something that was answered is lost";
@@ -34,7 +34,7 @@ pub(crate) fn broken_by_crash(
     match right.deed {
         Deed::Create if kind == Kind::Reader => same(after, NOT_A_STORE),
         Deed::Create if kind != Kind::Writer && is_refused(after) => None,
-        Deed::Create | Deed::Report | Deed::Turn => same(after, right.report),
+        Deed::Create | Deed::Report | Deed::Verify | Deed::Turn => same(after, right.report),
         Deed::Run if came.held.is_empty() => same(after, before),
         Deed::Run => broken_run(kind, right, before, came, after),
     }
@@ -172,7 +172,7 @@ pub(crate) fn broken_by_more(
     let is_right = match right.deed {
         Deed::Create => told == right.writes || told == "! store refused: exists\nstatus 4\n",
         Deed::Turn => told.starts_with("turned, generation "),
-        Deed::Report => told == right.writes,
+        Deed::Report | Deed::Verify => told == right.writes,
         Deed::Run => is_completed(right, answered, fault_in(found), told),
     };
     if is_right {

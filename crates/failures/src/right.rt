@@ -10,6 +10,7 @@ pub(crate) enum Deed {
     Create,
     Run,
     Report,
+    Verify,
     Turn,
 }
 
@@ -19,6 +20,7 @@ impl Deed {
         match line.split(' ').nth(1).unwrap_or("") {
             "create" => Deed::Create,
             "run" => Deed::Run,
+            "verify" => Deed::Verify,
             "turn" => Deed::Turn,
             _ => Deed::Report,
         }
