@@ -42,7 +42,7 @@ pub trait Errors: Write {
     /// Whether a person reads it, who is told what is wrong in a store that is not verified.
     fn explains(&self) -> bool;
 
-    /// One more of the instances that are done, of which there are so many, was verified.
+    /// One more instance was verified, of the `done` ones that are finished.
     fn verified_one(&mut self, done: u64);
 }
 

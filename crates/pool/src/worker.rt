@@ -61,7 +61,7 @@ pub(crate) enum Turned<'a> {
 /// How many instances a worker claims at once, at most, and how many results it commits as one record.
 pub(crate) const MOST_KEPT: usize = 64;
 
-/// If fewer instances are ready than this, others may wait for what a worker keeps, and it commits so many results before it claims more.
+/// If fewer instances than this are ready, others may wait for what a worker keeps: once it keeps this number of results, it commits them before it claims more.
 pub(crate) const FEW: usize = 8;
 
 // How often a worker that found nothing to do looks beside the lock whether an instance is ready, before it takes the lock again to see. Each time that it finds nothing in a
