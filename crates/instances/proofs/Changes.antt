@@ -4,7 +4,7 @@ use Rattle.std.specs.Ordering.{eq_by_cmp}
 use Rattle.std.specs.FinMap.{FinMap, entries, get, insert}
 use Rattle.std.specs.List.Sorted.{IsPermutation}
 use Rattle.std.proofs.lemmas.List.{length_push}
-use Rattle.std.proofs.lemmas.List.Sorted.{length_permutation}
+use Rattle.std.proofs.lemmas.List.Sorted.{length_permutation, sum_by-IsPermutation}
 use Rattle.terms.specs.Key.{key_cmp}
 use Rattle.maps.specs.Keyed.{Keyed, Adds}
 use Rattle.instances.specs.declared.state.State.{State}
@@ -173,3 +173,12 @@ if_err (Err error) follows holds = follows holds
 pub moves_somewhere : {T E : Type 0} (r : Result T E) (old new : OfStep) (key : List ℤ) (one two : State) → OnOk r (Moves old new key one) → OnErr r (Moves old new key two) → (to : State) × Moves old new key to
 moves_somewhere (Ok done) old new key one two ok refused = (one, ok)
 moves_somewhere (Err error) old new key one two ok refused = (two, refused)
+
+-- the order in which the ready instances stand does not count
+pub in_any_order : (states : FinMap key_cmp State) (ready sorted : Keys) (running capacity : ℕ) → IsKept states ready running capacity → IsPermutation ready sorted → IsKept states sorted running capacity
+in_any_order states ready sorted running capacity is permuted = record {
+  listed = λ q. omega (arith, sum_by-IsPermutation (λ k. cond (eq_by_cmp key_cmp q k) 1 0) ready sorted permuted, is.listed q);
+  all_listed = omega (arith, length_permutation ready sorted permuted, is.all_listed);
+  counted = is.counted;
+  enough = is.enough;
+}

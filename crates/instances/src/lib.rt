@@ -16,6 +16,7 @@ mod instance_walk;
 mod instances;
 mod listing;
 mod prescribed;
+mod queue_order;
 mod restored;
 mod running;
 mod standing;

@@ -1,10 +1,12 @@
 use crate::State;
+use crate::queue_order::QueueOrder;
 use crate::standing::Standing;
 use crate::state_walk::StateWalk;
 use crate::states::States;
 use std::alloc::{AllocError, Global};
 use std::collections::VecDeque;
 use std::marker::Model;
+use std::mem;
 use terms::{Addr, Key};
 
 /// The instances of one step, each with its state. No later change of an instance needs memory, except that it begins to wait: its other room is
@@ -14,8 +16,10 @@ pub(crate) struct StepInstances {
     states: States,
     // The keys of the ready instances, with room for all instances. A new one goes to the end of the queue, and one
     // that already ran goes to its front. So they run in about the order in which they came, whether they had to wait
-    // or not. No promise is made about that order.
+    // or not; but if many have to wait, those that are ready are put in the order of their keys: where several workers run the steps that put the tags,
+    // these come out of order, and an instance often needs what one with a smaller key puts. No promise is made about that order.
     ready: VecDeque<Key>,
+    order: QueueOrder,
     running: usize,
     waiting: usize,
 }
@@ -49,6 +53,7 @@ impl StepInstances {
         StepInstances {
             states: States::new(alloc),
             ready: VecDeque::new(alloc),
+            order: QueueOrder::new(),
             running: 0,
             waiting: 0,
         }
@@ -148,6 +153,7 @@ impl StepInstances {
         requires room { 0 < self.old.room }
         ensures { AddsInstance self.old self.new key Ready }
     {
+        self.order.note(self.ready.back(), Some(&key));
         self.states.add(key, false);
         self.ready.push_back_reserved(key);
     }
@@ -201,11 +207,26 @@ impl StepInstances {
         ensures refused { OnErr result (Moves self.old self.new key Ready) }
     {
         match self.park(key, addr) {
-            Ok(()) => Ok(()),
+            Ok(()) => {
+                self.put_in_order();
+                Ok(())
+            }
             Err(error) => {
                 self.release(key);
                 Err(error)
             }
+        }
+    }
+
+    // Puts the ready instances in the order of their keys, if they are not and enough have begun to wait to make it worth while.
+    fn put_in_order(&mut self)
+        ensures { self.new ≡ self.old }
+    {
+        if self.order.is_due(self.ready.len()) {
+            let empty = VecDeque::new(*self.ready.allocator());
+            let mut keys = mem::replace(&mut self.ready, empty).into_vec();
+            keys.sort_unstable();
+            self.ready = VecDeque::from_vec(keys);
         }
     }
 
@@ -214,6 +235,7 @@ impl StepInstances {
         requires { get self.old.states key ≡ Some Running }
         ensures { Moves self.old self.new key Ready }
     {
+        self.order.note(Some(&key), self.ready.front());
         self.states.set(key, Standing::Ready);
         self.ready.push_front_reserved(key);
         self.running -= 1;
@@ -224,6 +246,7 @@ impl StepInstances {
         requires { IsWaiting (get self.old.states key) }
         ensures { Moves self.old self.new key Ready }
     {
+        self.order.note(Some(&key), self.ready.front());
         self.states.wake(key);
         self.ready.push_front_reserved(key);
         self.waiting -= 1;
