@@ -125,7 +125,7 @@ impl<'a> Machine<'a> {
     }
 
     // Runs one of two blocks, by a condition.
-    #[tactic(auto, using(crate::proofs::Unwound::unwound_faults, crate::proofs::Unwound::unwound_last))]
+    #[tactic(auto, using(crate::proofs::Unwound::unwound_faults))]
     fn choose(
         &mut self,
         condition: &Expression,
@@ -139,13 +139,34 @@ impl<'a> Machine<'a> {
     {
         match evaluate(condition, &self.variables) {
             Ok(value) => {
-                self.frames.reserve(1)?;
-                self.frames.push_reserved(Frame::Rest(rest));
-                self.block = if value == 0 { second } else { first };
-                Ok(Step::On)
+                if value == 0 {
+                    return self.enter(second, rest);
+                }
+                self.enter(first, rest)
             }
             Err(kind) => Ok(Step::Failed(kind)),
         }
+    }
+
+    // Goes on with a block, and then with the statements after it. It keeps no place where one of the two has no statement.
+    #[inline(always)]
+    #[tactic(auto, using(crate::proofs::Unwound::unwound_last))]
+    fn enter(&mut self, block: &'a Block, rest: &'a Block) -> Result<Step, AllocError>
+        ensures leads { IfOk result (λ step. LeadsFrom (λ reads. unwound self.old.frames.items (followed (run block.now (state_of self.old reads)) (run rest.now))) step self.new) }
+        ensures opens { IfOk result (λ step. OpensOne self.old step self.new) }
+    {
+        if let Statement::End = &block.first {
+            self.block = rest;
+            return Ok(Step::On);
+        }
+        if let Statement::End = &rest.first {
+            self.block = block;
+            return Ok(Step::On);
+        }
+        self.frames.reserve(1)?;
+        self.frames.push_reserved(Frame::Rest(rest));
+        self.block = block;
+        Ok(Step::On)
     }
 
     // Makes a turn of a loop with this value, which is below the end of the loop.

@@ -38,11 +38,17 @@ fn leaf(expression: &Expression, variables: &Variables) -> Option<i64>
 pub(crate) fn evaluate(expression: &Expression, variables: &Variables) -> Result<i64, FaultKind>
     ensures { result ≡ value_of expression.now variables.now }
 {
-    // An operation on two leaves needs no call.
-    if let Node::Operation(operator, operands) = &expression.node
-        && let Some(left) = leaf(&operands.0, variables)
-        && let Some(right) = leaf(&operands.1, variables)
-    {
+    // An operation needs a call only for an operand that is one itself.
+    if let Node::Operation(operator, operands) = &expression.node {
+        let (left, right) = &**operands;
+        let left = match leaf(left, variables) {
+            Some(value) => value,
+            None => evaluate_any(left, variables)?,
+        };
+        let right = match leaf(right, variables) {
+            Some(value) => value,
+            None => evaluate_any(right, variables)?,
+        };
         return operate(*operator, left, right);
     }
     evaluate_any(expression, variables)
