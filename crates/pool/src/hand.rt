@@ -51,7 +51,7 @@ pub(crate) struct Hand {
     /// Whether it leaves the work to others for a while, and how often in a row it has done so.
     pub(crate) rests: bool,
     pub(crate) rested: u32,
-    // Whether it has left the work to others since the last body that ended.
+    // Whether it has left the work to others, or given back what it had claimed, since the last body that ended.
     left: bool,
     /// How often in a row it has found nothing to do.
     pub(crate) vain: u32,
@@ -126,6 +126,7 @@ impl Hand {
             return false;
         }
         self.waits = true;
+        self.left = true;
         true
     }
 
@@ -254,7 +255,7 @@ impl Hand {
         self.claimed.take_first()
     }
 
-    // How many instances it claims at once, if it keeps this number of results. A worker that left the work to others claims one, to see whether it can go on.
+    // How many instances it claims at once, if it keeps this number of results. A worker that left the work to others, or gave back what it had claimed, claims one, to see whether it can go on.
     fn most(&self, kept: usize) -> usize {
         if self.left {
             1

@@ -73,6 +73,9 @@ const DOUBLINGS: u32 = 6;
 // How many of these looks come at once. Before each of the others the worker yields to other threads.
 const SPINS: u32 = 8;
 
+// How often a worker that gave back what it had claimed looks whether others have committed, before it lets instances wait. Others that run light bodies commit within that time.
+const PATIENCE: u32 = 1024;
+
 // How often a worker that rests looks whether others go on without it. Each rest in a row doubles this, up to `RESTS` times. If nothing was committed in the last
 // `QUIET` looks, once for its number, the worker is needed.
 const RESTING: u32 = 4096;
@@ -261,7 +264,7 @@ fn wait_for_others<J: Naming, D: Disk>(hub: &Hub<J, D>, hand: &mut Hand)
 {
     hand.waits = false;
     let before = hub.batches();
-    for look in 0..LOOKS {
+    for look in 0..PATIENCE {
         if look < SPINS {
             spin_loop();
         } else {
