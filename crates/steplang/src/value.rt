@@ -20,7 +20,7 @@ pub(crate) fn variables_of(key: Key) -> Variables
     variables
 }
 
-// The value of a number or a variable. Most operands are one of these, and then no call is needed.
+// The value of a number or a variable.
 #[inline(always)]
 fn leaf(expression: &Expression, variables: &Variables) -> Option<i64>
     ensures value { IfSome result (λ value. value_of expression.now variables.now ≡ Ok value) }
@@ -33,20 +33,37 @@ fn leaf(expression: &Expression, variables: &Variables) -> Option<i64>
     }
 }
 
+// The value of a leaf, or of an operation on two leaves. Most operands are one of these.
+#[inline(always)]
+fn shallow(expression: &Expression, variables: &Variables) -> Option<Result<i64, FaultKind>>
+    ensures { IfSome result (λ value. value_of expression.now variables.now ≡ value) }
+{
+    match &expression.node {
+        Node::Number(number) => Some(Ok(*number)),
+        Node::Variable(slot) => Some(Ok(variables[slot.place()])),
+        Node::Negation(_) => None,
+        Node::Operation(operator, operands) => {
+            let left = leaf(&operands.0, variables)?;
+            let right = leaf(&operands.1, variables)?;
+            Some(operate(*operator, left, right))
+        }
+    }
+}
+
 /// Evaluates an expression, its operands from the left.
 #[inline(always)]
 pub(crate) fn evaluate(expression: &Expression, variables: &Variables) -> Result<i64, FaultKind>
     ensures { result ≡ value_of expression.now variables.now }
 {
-    // An operation needs a call only for an operand that is one itself.
+    // An operation needs a call only for an operand that is not shallow.
     if let Node::Operation(operator, operands) = &expression.node {
         let (left, right) = &**operands;
-        let left = match leaf(left, variables) {
-            Some(value) => value,
+        let left = match shallow(left, variables) {
+            Some(value) => value?,
             None => evaluate_any(left, variables)?,
         };
-        let right = match leaf(right, variables) {
-            Some(value) => value,
+        let right = match shallow(right, variables) {
+            Some(value) => value?,
             None => evaluate_any(right, variables)?,
         };
         return operate(*operator, left, right);
@@ -67,12 +84,12 @@ fn evaluate_any(expression: &Expression, variables: &Variables) -> Result<i64, F
         }
         Node::Operation(operator, operands) => {
             let (left, right) = &**operands;
-            let left = match leaf(left, variables) {
-                Some(value) => value,
+            let left = match shallow(left, variables) {
+                Some(value) => value?,
                 None => evaluate_any(left, variables)?,
             };
-            let right = match leaf(right, variables) {
-                Some(value) => value,
+            let right = match shallow(right, variables) {
+                Some(value) => value?,
                 None => evaluate_any(right, variables)?,
             };
             operate(*operator, left, right)
