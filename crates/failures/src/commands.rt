@@ -24,11 +24,11 @@ use crate::streams::Limits;
 use crate::trials::{Kind, Trial, tried};
 use crate::wrong_disk::Wrong;
 use crate::{asking, failures, lies, puts};
-use cases::texts;
 use disk::{Choice, Disk, DiskError, Fill, MemDisk, Side};
 use std::alloc::AllocError;
 use std::sync::Wait;
 use std::thread::Threads;
+use test_cases::texts;
 
 /// The result of a command with its input.
 pub(crate) fn answer<R: Threads + Wait + Sync>(

@@ -27,10 +27,10 @@ mod trials;
 mod wrong_disk;
 
 use anyhow::{Error, bail};
-use cases::run_file;
 use commands::answer;
 use stage::Stage;
 use std::env;
+use test_cases::run_file;
 
 fn main(rt: HostRuntime) -> Result<(), Error> {
     let alloc = rt.alloc();

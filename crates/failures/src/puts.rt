@@ -1,11 +1,11 @@
 //! One put of which a call of the device fails.
 use crate::crashes::CHOICES;
 use crate::lengths::measured;
-use cases::Names;
 use commit::{Core, CoreError};
 use disk::{Choice, Disk, MemDisk, Side};
 use std::alloc::{AllocError, Global};
 use terms::{Addr, ItemCollection, Key};
+use test_cases::Names;
 use vault::{Refused, VaultError};
 
 // The first byte of the record that the put writes, of a graph whose text has 243 bytes.

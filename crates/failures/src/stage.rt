@@ -1,11 +1,11 @@
 //! What all trials of a file have in common.
 use crate::calls::{Way, call};
 use crate::streams::Limits;
-use cases::Names;
 use disk::MemDisk;
 use std::alloc::{AllocError, Global};
 use std::sync::Wait;
 use std::thread::Threads;
+use test_cases::Names;
 
 /// The names of a file, and how each disk begins.
 #[derive(Drop)]

@@ -1,0 +1,12 @@
+use Rattle.std.proofs.Common.{◌+◌}
+use Rattle.hub.specs.Opening.{opening_of}
+use Rattle.test_threads.proofs.rows.try_on.Given as goal
+
+abbrev pub ghosts-try_as : goal.ghosts-try_as
+ghosts-try_as g a = record {
+  table = a.blank.table;
+  passes = a.blank.envs + a.blank.workers;
+  envs = a.blank.envs;
+  opening = opening_of g.D.Disk.files g.D.Disk.moment g.D.Disk.failures g.D.Disk.refusals a.core;
+  left = g.D.Disk.left_at a.core.vault.disk;
+}
