@@ -16,7 +16,7 @@ use Rattle.instances.specs.Listed.{AreTheDone}
 use Rattle.machine.specs.Machine.{Machine, facts}
 use Rattle.machine.specs.Promise.{IsKept}
 use Rattle.audit.proofs.Counted.{done_is_listed, listed_is_done}
-use Rattle.audit.proofs.Left.{Left, item_is_listed, listed_is_item, listed_is_tag, tag_is_listed}
+use Rattle.audit.proofs.Left.{AllAre, Left, item_is_listed, listed_is_item, listed_is_tag, tag_is_listed}
 
 abbrev pub IsDoneIn : Machine → Inst → Type 0
 IsDoneIn m instance = facts m (done instance) ≡ true
@@ -51,6 +51,13 @@ module _ (told : OneFact) where
     there = λ it is. listed_is_item told store it is;
   }
 
+  -- what is listed is there
+  pub all_done_are : (made : Machine) (list : List Inst) → IsKept made → AreTheDone made.memory.instances list → AllAre (IsDoneIn made) list
+  all_done_are made list kept are instance is = listed_is_done told made kept list are instance is
+
+  pub all_items_are : (made : Machine) → AllAre (IsItemIn made) (map (λ (entry : Place × (ℤ × Producer)). (address_at entry.0, entry.1)) (entries made.memory.items.items.items))
+  all_items_are made it is = listed_is_item told made it is
+
 pub all_tags_left : (store : Machine) (Q : Marked → Type 0) → Left (IsMarkedIn store) Q (map (λ (entry : Place × Bool). (tag_at entry.0, entry.1)) (entries store.memory.instances.tags.items))
 all_tags_left store Q = record {
   rest = λ it is. inr (tag_is_listed store it.0 it.1 is);
@@ -67,3 +74,6 @@ not_there o is = ap is_some is
 
 pub is_there : (o : Option Bool) (mark : Bool) → o ≡ Some mark → is_some o ≡ true
 is_there o mark is = ap is_some is
+
+pub all_tags_are : (made : Machine) → AllAre (IsTagIn made) (map (λ (entry : Place × Bool). (tag_at entry.0, entry.1)) (entries made.memory.instances.tags.items))
+all_tags_are made it is = is_there (mark_of made.memory.instances it.0) it.1 (listed_is_tag made it is)
