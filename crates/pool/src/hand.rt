@@ -15,6 +15,7 @@ use instances::{Task, Tasks};
 use passes::Naming;
 use std::alloc::{AllocError, Global};
 use std::sync::Wait;
+use terms::StepCollection;
 
 // A body takes long if it makes this number of statements and turns of loops: some 60 microseconds, about as long as one of a commit's two syncs on a disk.
 const LONG: u32 = 10_000;
@@ -24,6 +25,9 @@ const VISIT: u32 = 100;
 
 // A body is light if it makes fewer statements: then its commit takes longer than the body, and one worker alone takes about as long for such bodies as several.
 const LIGHT: u32 = 64;
+
+// How many steps are told apart by whether their bodies are light.
+const STEPS: u16 = 64;
 
 // A body looks for items among the results that are kept if these have at most this number of puts, since it goes through all of them.
 const FEW_PUTS: usize = 256;
@@ -44,8 +48,8 @@ pub(crate) struct Hand {
     many: bool,
     // Whether the bodies that ran since then are light.
     light: bool,
-    // Whether the last body that ended is light, or none has ended.
-    light_lately: bool,
+    // The steps of which the last body that ended was not light: a bit each, by the step's number modulo `STEPS`.
+    heavy: u64,
     // How many batches had been committed when it last committed one.
     batches: usize,
     /// Whether it leaves the work to others for a while, and how often in a row it has done so.
@@ -79,7 +83,7 @@ impl Hand {
             looked: 0,
             many: false,
             light: false,
-            light_lately: true,
+            heavy: 0,
             batches: 0,
             rests: false,
             rested: 0,
@@ -92,22 +96,37 @@ impl Hand {
         })
     }
 
-    /// Notes that a body has ended, after this number of statements.
-    pub(crate) fn note_end(&mut self, statements: u32)
+    // Whether bodies of this step are light, as far as it has seen.
+    fn is_light(&self, step: StepCollection) -> bool {
+        self.heavy & bit_of(step) == 0
+    }
+
+    /// Notes that a body of this step has ended, after this number of statements.
+    pub(crate) fn note_end(&mut self, step: StepCollection, statements: u32)
         ensures { self.new.claimed ≡ self.old.claimed }
     {
-        self.light_lately = statements < LIGHT;
+        if statements < LIGHT {
+            self.heavy &= !bit_of(step);
+        } else {
+            self.heavy |= bit_of(step);
+        }
         self.left = false;
         self.in_vain = false;
     }
 
-    /// Whether the worker with this number, whose body waits, leaves the work to others: if bodies are light and others run something. Then it rests. `kept` is the number of results that it
+    /// Whether the worker with this number, whose body of this step waits, leaves the work to others: if the step's bodies are light and others run something. Then it rests. `kept` is the number of results that it
     /// keeps, and `running` that of all instances that run. A worker that goes on would let one instance after another wait, and each would be woken and run anew by somebody else.
-    pub(crate) fn leaves(&mut self, number: usize, kept: usize, running: usize) -> bool
+    pub(crate) fn leaves(
+        &mut self,
+        step: StepCollection,
+        number: usize,
+        kept: usize,
+        running: usize,
+    ) -> bool
         ensures { self.new.claimed ≡ self.old.claimed }
     {
         let own = self.claimed.len().saturating_add(kept).saturating_add(1);
-        if number == 0 || !self.light_lately || running <= own {
+        if number == 0 || !self.is_light(step) || running <= own {
             return false;
         }
         self.rests = true;
@@ -115,14 +134,14 @@ impl Hand {
         true
     }
 
-    /// Whether the worker, whose body waits, gives back what it has claimed, and goes on with it once others have committed: if it keeps nothing, bodies are light, others run something, and it has not waited
+    /// Whether the worker, whose body of this step waits, gives back what it has claimed, and goes on with it once others have committed: if it keeps nothing, the step's bodies are light, others run something, and it has not waited
     /// so in vain. `running` is the number of all instances that run. What it claims next stands in the order of the queue then: if each of these instances waited, it would be woken and run anew
     /// one by one.
-    pub(crate) fn stands_back(&mut self, kept: usize, running: usize) -> bool
+    pub(crate) fn stands_back(&mut self, step: StepCollection, kept: usize, running: usize) -> bool
         ensures { self.new.claimed ≡ self.old.claimed }
     {
         let own = self.claimed.len().saturating_add(1);
-        if kept > 0 || !self.light_lately || self.in_vain || running <= own {
+        if kept > 0 || !self.is_light(step) || self.in_vain || running <= own {
             return false;
         }
         self.waits = true;
@@ -130,11 +149,11 @@ impl Hand {
         true
     }
 
-    /// Notes that an instance waits, behind one whose result is kept: what waits for that result is run before the others that are claimed, most of which may come later.
-    pub(crate) fn note_wait(&mut self, keeps: bool)
+    /// Notes that an instance of this step waits, behind one whose result is kept: what waits for that result is run before the others that are claimed, most of which may come later.
+    pub(crate) fn note_wait(&mut self, step: StepCollection, keeps: bool)
         ensures { self.new.claimed ≡ self.old.claimed }
     {
-        self.chases = keeps && self.light_lately;
+        self.chases = keeps && self.is_light(step);
     }
 
     /// Notes how many statements and puts a body has made, and whether results are kept beside it.
@@ -370,7 +389,7 @@ impl Hand {
             looked: _,
             many: _,
             light: _,
-            light_lately: _,
+            heavy: _,
             batches: _,
             rests: _,
             rested: _,
@@ -383,6 +402,11 @@ impl Hand {
         } = self;
         claimed.end();
     }
+}
+
+// The bit of a step.
+fn bit_of(step: StepCollection) -> u64 {
+    1u64 << (step.0 % STEPS)
 }
 
 /// How many results are kept.

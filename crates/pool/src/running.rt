@@ -52,10 +52,11 @@ pub(crate) fn run_task<'a, J: Naming, D: Disk, P: Probe, R: Wait>(
         let _ = settled(rt, hub.release(rt, pass, task));
         return ends(rt, hub, pass, Met::Asked, kept);
     }
+    let step = task.inst().collection;
     match hub.run(rt, alloc, pass, &task, hand.ahead(&kept, hub.ready())) {
         Ok(Ran::Ended(outcome, statements)) => {
             hand.vain = 0;
-            hand.note_end(statements);
+            hand.note_end(step, statements);
             hand.note(statements, puts_of(&outcome), kept.is_some());
             keep(rt, alloc, hub, pass, hand, task, outcome, kept)
         }
@@ -64,14 +65,16 @@ pub(crate) fn run_task<'a, J: Naming, D: Disk, P: Probe, R: Wait>(
             hand.note(run.statements(), 0, kept.is_some());
             let count = count_of(&kept);
             let running = hub.running();
-            if hand.leaves(pass.number(), count, running) || hand.stands_back(count, running) {
+            if hand.leaves(step, pass.number(), count, running)
+                || hand.stands_back(step, count, running)
+            {
                 drop(run);
                 return leave(rt, hub, pass, hand, task, kept);
             }
             if ahead || hand.is_slow() || hand.has_many_puts() {
                 return wait_for_own(rt, alloc, hub, pass, hand, task, run, kept);
             }
-            hand.note_wait(kept.is_some());
+            hand.note_wait(step, kept.is_some());
             park_beside(rt, hub, pass, hand, task, run, kept)
         }
         Err(error) => {
@@ -192,7 +195,7 @@ fn go_on_alone<'a, J: Naming, D: Disk, R: Wait>(
 {
     match hub.resume(rt, pass, run) {
         Ok(Ran::Ended(outcome, statements)) => {
-            hand.note_end(statements);
+            hand.note_end(task.inst().collection, statements);
             hand.note(statements, puts_of(&outcome), false);
             keep(rt, alloc, hub, pass, hand, task, outcome, None)
         }
