@@ -55,6 +55,7 @@ fn found_of(alloc: Global, side: Side, generation: u64, standing: Standing) -> F
         graph,
         text,
         holdings,
+        start: _,
         end,
     } = standing;
     Found {
