@@ -3,6 +3,7 @@ use Rattle.std.specs.Prelude.{◌≡◌, ◌⊎◌, ◌<◌, ◌↔◌, ℕ, tru
 use Rattle.std.specs.Fmt.{decimal}
 use Rattle.std.specs.Io.KnownBytes.{Appends}
 use Rattle.disk.specs.declared.side.Side.{Side}
+use Rattle.disk.specs.declared.mem_disk.MemDisk.{MemDisk}
 use Rattle.disk.specs.File.{File}
 use Rattle.disk.specs.Time.{Contents, HasCauses, HasErred}
 use Rattle.terms.specs.Facts.{bad}
@@ -17,6 +18,7 @@ use Rattle.audit.specs.declared.certificate.VerifyError.TheVariants as verify
 use Rattle.machine.specs.Counts.{AreCountsOf}
 use Rattle.machine.specs.declared.counts.Counts.{Counts}
 use Rattle.machine.specs.State.{IsReached}
+use Rattle.vault.specs.LiveSides.{StoodAfter}
 use Rattle.vault.specs.Opened.{IsOfOpening, OnlyReads, TellsWhy, contents_of}
 use Rattle.vault.specs.declared.error.VaultError.{VaultError}
 use Rattle.vault.specs.declared.error.VaultError.TheVariants as vault
@@ -38,7 +40,8 @@ use Rattle.session.specs.Fails.{Answers, IsAllOrTooLarge}
 use Rattle.cli.specs.declared.outcome.Failure.TheVariants as failure
 use Rattle.cli.specs.declared.outcome.Left.{Left}
 use Rattle.cli.specs.declared.outcome.Outcome.{Outcome}
-use Rattle.cli.specs.declared.outcome.Outcome.TheVariants.{Created, Ran, Reported, Turned, Drawn, Verified, NotVerified, Failed}
+use Rattle.cli.specs.declared.outcome.Outcome.TheVariants.{Created, Ran, Reported, Logged, Turned, Drawn, Verified, NotVerified, Failed}
+use Rattle.cli.specs.Logged.{FailsToLog, IsLogOf}
 use Rattle.cli.specs.declared.words.Command.{Command}
 use Rattle.cli.specs.declared.words.Command.TheVariants as asked
 use Rattle.cli.specs.Outcomes.{failure_of_creation, failure_of_report, failure_of_session, failure_of_turn}
@@ -103,6 +106,14 @@ DrawsText text before behind outcome = ((g : Graph) × Reads text g × IsDrawn o
 abbrev pub Draws : (input before behind : Option (List ℕ)) → Outcome → Type 0
 Draws input before behind outcome = IsNotRead before behind outcome ⊎ ((text : List ℕ) × IsAllOrTooLarge MOST_TEXT input text × DrawsText text before behind outcome)
 
+-- ---- a report
+
+-- what a store held was written in this format; or it was not, and the outcome says why
+pub record WritesReport {D : Type 0} (core : Core D) (format : Format) (before behind : Option (List ℕ)) (outcome : Outcome) : Type 0 where
+  pub answer : Result (Unit {0}) ReportError
+  pub written : OnOk answer ((text : List ℕ) × IsReportIn format (graph core) (facts core) text × Appends before behind text)
+  pub told : TellsReport core answer outcome
+
 module _ {D : Type 0} (files : D → Side → File) (moment : D → ℕ) (left_at : D → ℕ → Contents → Type 0) (failures refusals : D → ℕ) (honest : Type 0) where
   -- ---- a creation
 
@@ -157,6 +168,18 @@ module _ {D : Type 0} (files : D → Side → File) (moment : D → ℕ) (left_a
     pub told : TellsReport core answer outcome
     pub disk : new ≡ core.vault.disk
 
+  -- The report is of a copy in memory, which has what the store had after its first commits; or there was no memory for the copy.
+  pub record ReportsAt (count : ℕ) (format : Format) (before behind : Option (List ℕ)) (old new : D) (outcome : Outcome) : Type 0 where
+    pub only_reads : honest → OnlyReads files moment left_at old new
+    pub told : ((copy : Core MemDisk) × (honest → StoodAfter count (contents_of (files old)) (graph copy) (environment copy) (facts copy))
+        × WritesReport copy format before behind outcome)
+        ⊎ ((outcome ≡ Failed failure.NoMemory) × (behind ≡ before))
+
+  -- The log was written, or the output failed, or memory was refused. The files were only read.
+  pub record Logs (before behind : Option (List ℕ)) (old new : D) (outcome : Outcome) : Type 0 where
+    pub only_reads : honest → OnlyReads files moment left_at old new
+    pub told : ((outcome ≡ Logged) × (honest → (text : List ℕ) × IsLogOf (contents_of (files old)) text × Appends before behind text)) ⊎ FailsToLog outcome
+
   pub record TurnsOver (before behind : Option (List ℕ)) (old new : D) (outcome : Outcome) : Type 0 where
     pub first : Core D
     pub last : Core D
@@ -190,6 +213,8 @@ module _ {D : Type 0} (files : D → Side → File) (moment : D → ℕ) (left_a
   Obeys drive (asked.Create text directory) input before behind old new outcome = CreatesOrNot input before behind old new outcome
   Obeys drive (asked.Run directory script limit workers) input before behind old new outcome = IsNotOpened before behind old new outcome ⊎ Runs (record drive { most = limit }) input before behind old new outcome
   Obeys drive (asked.Report directory format) input before behind old new outcome = IsNotOpened before behind old new outcome ⊎ Reports format before behind old new outcome
+  Obeys drive (asked.ReportAt directory format count) input before behind old new outcome = IsNotOpened before behind old new outcome ⊎ ReportsAt count format before behind old new outcome
+  Obeys drive (asked.Log directory) input before behind old new outcome = IsNotOpened before behind old new outcome ⊎ Logs before behind old new outcome
   Obeys drive (asked.Turn directory) input before behind old new outcome = IsNotOpened before behind old new outcome ⊎ TurnsOver before behind old new outcome
   Obeys drive (asked.Verify directory) input before behind old new outcome = IsNotOpened before behind old new outcome ⊎ Verifies before behind old new outcome
   Obeys drive (asked.Draw text) input before behind old new outcome = (new ≡ old) × Draws input before behind outcome

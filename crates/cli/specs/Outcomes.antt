@@ -23,7 +23,7 @@ use Rattle.cli.specs.declared.outcome.Failure.{Failure}
 use Rattle.cli.specs.declared.outcome.Failure.TheVariants as failure
 use Rattle.cli.specs.declared.outcome.Left.{Left}
 use Rattle.cli.specs.declared.outcome.Outcome.{Outcome}
-use Rattle.cli.specs.declared.outcome.Outcome.TheVariants.{Created, Ran, Reported, Turned, Drawn, Verified, NotVerified, Failed}
+use Rattle.cli.specs.declared.outcome.Outcome.TheVariants.{Created, Ran, Reported, Logged, Turned, Drawn, Verified, NotVerified, Failed}
 
 -- ---- statuses
 
@@ -57,6 +57,7 @@ run_status ending left = cond (is_some ending.stop) 5 (cond ending.is_full 4 (co
 
 abbrev pub status_of : Outcome → ℕ
 status_of Created = 0
+status_of Logged = 0
 status_of (Turned generation) = 0
 status_of Drawn = 0
 status_of Verified = 0

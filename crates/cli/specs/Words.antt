@@ -5,7 +5,7 @@ use Rattle.clap.specs.declared.error.kind.ErrorKind.TheVariants as kind
 use Rattle.report.specs.declared.format.Format.{Format}
 use Rattle.report.specs.declared.format.Format.TheVariants.{Text, Csv, Json}
 use Rattle.cli.specs.declared.words.Command.{Command}
-use Rattle.cli.specs.declared.words.Command.TheVariants.{Create, Run, Report, Turn, Verify, Draw, DrawStore}
+use Rattle.cli.specs.declared.words.Command.TheVariants.{Create, Run, Report, ReportAt, Log, Turn, Verify, Draw, DrawStore}
 use Rattle.cli.specs.declared.words.TheConstants.{MOST_LIMIT, MOST_WORKERS}
 
 -- the limit of a run is at most the greatest, and the number of its workers is from 1 to the greatest
@@ -13,6 +13,8 @@ abbrev pub IsInRange : Command → Type 0
 IsInRange (Run directory script limit workers) = (limit ≤ MOST_LIMIT) × (1 ≤ workers) × (workers ≤ MOST_WORKERS)
 IsInRange (Create graph directory) = ⊤
 IsInRange (Report directory format) = ⊤
+IsInRange (ReportAt directory format count) = ⊤
+IsInRange (Log directory) = ⊤
 IsInRange (Turn directory) = ⊤
 IsInRange (Verify directory) = ⊤
 IsInRange (Draw graph) = ⊤

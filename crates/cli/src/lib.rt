@@ -6,8 +6,11 @@
 #![tactic(auto)]
 
 mod hints;
+mod log_lines;
+mod logging;
 mod obeying;
 mod outcome;
+mod past;
 mod verifying;
 mod words;
 

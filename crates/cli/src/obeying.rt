@@ -15,7 +15,9 @@ ghost use Rattle.cli.specs.declared.outcome.Outcome.TheVariants.{Created, Failed
 ghost use Rattle.cli.specs.declared.words.TheConstants.{MOST_LIMIT};
 
 use crate::hints::{graph_hint, script_hint};
+use crate::logging::log;
 use crate::outcome::NamedFailure;
+use crate::past::report_at;
 use crate::verifying::verify;
 use crate::words::MOST_LIMIT;
 use crate::{Command, Failure, Left, Outcome};
@@ -100,6 +102,8 @@ fn obeyed<D: Disk + Send, R: Read, W: Write, E: Errors, H: Threads + Wait + Sync
         Command::Create { .. } => create(alloc, disk, input, out),
         Command::Run { limit, .. } => run(alloc, disk, input, out, driver, limit),
         Command::Report { format, .. } => report(alloc, disk, format, out),
+        Command::ReportAt { format, at, .. } => report_at(alloc, disk, format, at, out),
+        Command::Log { .. } => log(alloc, disk, out),
         Command::Turn { .. } => turn(alloc, disk, out),
         Command::Verify { .. } => verify(alloc, disk, out, err),
         Command::Draw { .. } => (disk, draw(alloc, input, out)),
@@ -203,7 +207,7 @@ fn ran<D: Disk>(core: &Core<D>, answer: Result<Ending, SessionError>) -> Outcome
 }
 
 // What a report came to.
-fn reported<D: Disk>(core: &Core<D>, answer: Result<(), ReportError>) -> Outcome
+pub(crate) fn reported<D: Disk>(core: &Core<D>, answer: Result<(), ReportError>) -> Outcome
     ensures { TellsReport core.now answer result }
 {
     match answer {

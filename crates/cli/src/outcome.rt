@@ -32,6 +32,8 @@ pub enum Outcome {
     Ran(Ending, Left),
     /// The report was written.
     Reported(Left),
+    /// The log was written.
+    Logged,
     /// The store was turned over, and has this generation.
     Turned(u64),
     /// The graph was drawn.
@@ -67,7 +69,11 @@ impl Outcome {
         ensures { result ≡ status_of self.now }
     {
         match self {
-            Outcome::Created | Outcome::Turned(_) | Outcome::Drawn | Outcome::Verified => 0,
+            Outcome::Created
+            | Outcome::Logged
+            | Outcome::Turned(_)
+            | Outcome::Drawn
+            | Outcome::Verified => 0,
             Outcome::NotVerified => 4,
             Outcome::Ran(ending, left) => run_status(ending, left),
             Outcome::Reported(left) => report_status(left),

@@ -11,7 +11,7 @@ use audit::{Progress, VerifyError};
 use commit::{Came, Core, Outcome as End, run_body};
 use disk::Disk;
 use graph::Graph;
-use report::{NamedAddress, NamedInstance};
+use report::{NamedAddress, NamedInstance, NamedTag};
 use std::alloc::Global;
 use std::io::{self, Write};
 use terms::{Addr, Inst, Producer, Put, Tag};
@@ -135,9 +135,9 @@ fn tell_item<E: Errors>(graph: &Graph, address: Addr, err: &mut E) -> io::Result
 
 // Says that a store is not verified at a tag.
 fn tell_tag<E: Errors>(graph: &Graph, tag: &Tag, err: &mut E) -> io::Result<()> {
-    write!(err, "not verified at ")?;
-    write_tag(graph, tag, err)?;
-    writeln!(err)?;
+    let tag = *tag;
+    let named = NamedTag { graph, tag };
+    writeln!(err, "not verified at {named}")?;
     if err.explains() {
         writeln!(
             err,
@@ -145,18 +145,6 @@ fn tell_tag<E: Errors>(graph: &Graph, tag: &Tag, err: &mut E) -> io::Result<()> 
         )?;
     }
     Ok(())
-}
-
-// Writes a tag, with the name of its collection.
-fn write_tag<E: Errors>(graph: &Graph, tag: &Tag, err: &mut E) -> io::Result<()> {
-    let name = graph.tag_name(tag.collection).unwrap_or("");
-    write!(err, "<{name}")?;
-    let mut before = ": ";
-    for component in tag.key.components() {
-        write!(err, "{before}{component}")?;
-        before = ", ";
-    }
-    write!(err, ">")
 }
 
 // Says what is wrong at an instance: what its body comes to over all that the store has, and what the store says that it came to.
@@ -234,9 +222,13 @@ fn explain_put<D: Disk, E: Errors>(
             if core.machine().mark(*tag).is_some() {
                 return Ok(false);
             }
-            write!(err, "  Its body puts ")?;
-            write_tag(core.graph(), tag, err)?;
-            writeln!(err, ", which the store does not have.")?;
+            let graph = core.graph();
+            let tag = *tag;
+            let named = NamedTag { graph, tag };
+            writeln!(
+                err,
+                "  Its body puts {named}, which the store does not have."
+            )?;
             Ok(true)
         }
     }

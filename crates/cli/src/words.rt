@@ -49,6 +49,17 @@ pub enum Command<'a> {
         directory: &'a str,
         format: Format,
     },
+    /// Print the report of the store in the directory, in this format, as the store was after this number of its commits since the last
+    /// turnover, or after all if there are no more.
+    ReportAt {
+        directory: &'a str,
+        format: Format,
+        at: u64,
+    },
+    /// Print the log of the store in the directory: its commits since the last turnover.
+    Log {
+        directory: &'a str,
+    },
     /// Turn over the store in the directory: write it anew, without the records that led to what it holds.
     Turn {
         directory: &'a str,
@@ -75,6 +86,8 @@ impl<'a> Command<'a> {
             Command::Create { directory, .. }
             | Command::Run { directory, .. }
             | Command::Report { directory, .. }
+            | Command::ReportAt { directory, .. }
+            | Command::Log { directory }
             | Command::Turn { directory }
             | Command::Verify { directory }
             | Command::DrawStore { directory, .. } => directory,
@@ -99,6 +112,8 @@ impl<'a> Command<'a> {
             Command::Create { graph, .. } | Command::Draw { graph } => graph,
             Command::Run { script, .. } => script,
             Command::Report { .. }
+            | Command::ReportAt { .. }
+            | Command::Log { .. }
             | Command::Turn { .. }
             | Command::Verify { .. }
             | Command::DrawStore { .. } => "",
@@ -176,6 +191,7 @@ fn command_in<'a>(matches: &ArgMatches<'a>) -> Option<Command<'a>>
             })
         }
         "report" => report_in(found, directory),
+        "log" => Some(Command::Log { directory }),
         "turn" => Some(Command::Turn { directory }),
         "verify" => Some(Command::Verify { directory }),
         _ => None,
@@ -187,7 +203,14 @@ fn report_in<'a>(found: &ArgMatches<'a>, directory: &'a str) -> Option<Command<'
     ensures { IfSome result IsInRange }
 {
     let format = format_of(found.get_str("format")?)?;
-    Some(Command::Report { directory, format })
+    match found.get_one::<u64>("at") {
+        Some(at) => Some(Command::ReportAt {
+            directory,
+            format,
+            at,
+        }),
+        None => Some(Command::Report { directory, format }),
+    }
 }
 
 // The format that a word asks for, if it is the word for one.
@@ -231,6 +254,7 @@ fn command_line<'a>(alloc: Global) -> Result<clap::Command<'a>, AllocError> {
     let line = with_command(Ok(line), create_line(alloc));
     let line = with_command(line, run_line(alloc));
     let line = with_command(line, report_line(alloc));
+    let line = with_command(line, log_line(alloc));
     let line = with_command(line, turn_line(alloc));
     let line = with_command(line, verify_line(alloc));
     with_command(line, draw_line(alloc))
@@ -280,10 +304,20 @@ fn report_line<'a>(alloc: Global) -> Result<clap::Command<'a>, AllocError> {
     let line = clap::Command::new(alloc, "report")
         .about("Print what a store holds")
         .after_help(
-            "Examples: cnc report store\n          cnc report store --format csv > items.csv",
+            "Examples: cnc report store\n          cnc report store --format csv > items.csv\n          cnc report store --at 3",
         );
     let line = with_argument(Ok(line), directory(alloc));
-    with_argument(line, format(alloc))
+    let line = with_argument(line, format(alloc));
+    with_argument(line, at(alloc))
+}
+
+fn log_line<'a>(alloc: Global) -> Result<clap::Command<'a>, AllocError> {
+    let line = clap::Command::new(alloc, "log")
+        .about(
+            "Print the commits of a store since its last turnover, in order, each with its number",
+        )
+        .after_help("Example: cnc log store");
+    with_argument(Ok(line), directory(alloc))
 }
 
 fn turn_line<'a>(alloc: Global) -> Result<clap::Command<'a>, AllocError> {
@@ -393,6 +427,14 @@ fn format<'a>(alloc: Global) -> Arg<'a> {
         .help(
             "How it is printed: text; csv, which has the items alone, without counts and fault; or json, an object a line",
         )
+}
+
+fn at<'a>(alloc: Global) -> Arg<'a> {
+    Arg::new(alloc, "at")
+        .long("at")
+        .value_name("N")
+        .value_parser(ValueParser::Unsigned(0, u64::MAX))
+        .help("Print the store as it was after its first N commits since the last turnover")
 }
 
 // A required argument.

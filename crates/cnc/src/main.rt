@@ -137,7 +137,11 @@ fn opened(rt: &HostRuntime, command: &Command<'_>) -> Result<FileDisk, DiskError
 fn changes_nothing(command: &Command<'_>) -> bool {
     matches!(
         command,
-        Command::Report { .. } | Command::Verify { .. } | Command::DrawStore { .. }
+        Command::Report { .. }
+            | Command::ReportAt { .. }
+            | Command::Log { .. }
+            | Command::Verify { .. }
+            | Command::DrawStore { .. }
     )
 }
 

@@ -6,14 +6,19 @@ use Rattle.terms.specs.declared.name.Addr.{Addr}
 use Rattle.terms.specs.declared.name.Inst.{Inst}
 use Rattle.terms.specs.declared.name.ItemCollection.{ItemCollection}
 use Rattle.terms.specs.declared.name.StepCollection.{StepCollection}
+use Rattle.terms.specs.declared.name.Tag.{Tag}
+use Rattle.terms.specs.declared.name.TagCollection.{TagCollection}
 use Rattle.graph.specs.Graph.{Graph}
 use Rattle.steptree.specs.Names.{names_in}
 use Rattle.graph.specs.Prescribed.{names_of_steps}
-use Rattle.graph.specs.Canonical.{in_brackets, in_rounds, with_colon}
+use Rattle.graph.specs.Canonical.{in_angles, in_brackets, in_rounds, with_colon}
 
--- the name of an item collection, and that of a step; empty if the graph has none of this number
+-- the name of an item collection, of a tag collection, and of a step; empty if the graph has none of this number
 abbrev pub name_of : Graph → ItemCollection → List ℕ
 name_of g collection = get_or (names_in g.items) collection.0 []
+
+abbrev pub tag_name_of : Graph → TagCollection → List ℕ
+tag_name_of g collection = get_or (names_in g.tags) collection.0 []
 
 abbrev pub step_name_of : Graph → StepCollection → List ℕ
 step_name_of g collection = get_or (names_of_steps g.steps) collection.0 []
@@ -29,6 +34,10 @@ more_components components = flat_map (λ text. codes ", " ++ text) (map signed_
 -- `[c: k, ..]`
 abbrev pub address_text : Graph → Addr → List ℕ
 address_text g address = in_brackets (with_key (name_of g address.collection) address.key)
+
+-- `<t: k, ..>`
+abbrev pub tag_text : Graph → Tag → List ℕ
+tag_text g tag = in_angles (with_key (tag_name_of g tag.collection) tag.key)
 
 -- `(s: k, ..)`
 abbrev pub instance_text : Graph → Inst → List ℕ

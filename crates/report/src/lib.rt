@@ -2,7 +2,7 @@
 //!
 //! `IsReport` is that text, `IsTable` and `AreObjects` are its other formats, and the laws `reports_once` and
 //! `formats_once` say that there is at most one of each. The layers above stand on `write_report_in` and
-//! `send_report`, which write it to a writer or to a `Sink`, and on `NamedAddress` and `NamedInstance`, which spell
+//! `send_report`, which write it to a writer or to a `Sink`, and on `NamedAddress`, `NamedTag` and `NamedInstance`, which spell
 //! names as it does.
 #![tactic(auto)]
 
@@ -22,6 +22,6 @@ mod table;
 pub use error::ReportError;
 pub use format::Format;
 pub use law::{formats_once, keys_have_columns, reports_once};
-pub use named::{NamedAddress, NamedInstance};
+pub use named::{NamedAddress, NamedInstance, NamedTag};
 pub use report::{send_report, send_report_in, write_report, write_report_in};
 pub use sink::{Sink, SinkFailed, WriterSink};

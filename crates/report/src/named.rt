@@ -1,17 +1,24 @@
-//! Addresses and instances by the names of their collections.
+//! Addresses, tags and instances by the names of their collections.
 ghost use Rattle.std.specs.Prelude.{◌≡◌};
 ghost use Rattle.std.specs.Fmt.{WritesOnOk};
-ghost use Rattle.report.specs.Named.{more_components, name_of, step_name_of};
+ghost use Rattle.report.specs.Named.{more_components, name_of, step_name_of, tag_name_of};
 
 use graph::Graph;
 use std::fmt;
-use terms::{Addr, Inst, ItemCollection, Key, StepCollection};
+use terms::{Addr, Inst, ItemCollection, Key, StepCollection, Tag, TagCollection};
 
 /// An address of a graph, as `[c: k, ..]`.
 #[derive(Clone, Copy)]
 pub struct NamedAddress<'a> {
     pub graph: &'a Graph,
     pub address: Addr,
+}
+
+/// A tag of a graph, as `<t: k, ..>`.
+#[derive(Clone, Copy)]
+pub struct NamedTag<'a> {
+    pub graph: &'a Graph,
+    pub tag: Tag,
 }
 
 /// An instance of a graph, as `(s: k, ..)`.
@@ -70,6 +77,20 @@ impl fmt::Display for NamedAddress<'_> {
     }
 }
 
+impl fmt::Display for NamedTag<'_> {
+    ghost use Rattle.std.specs.Prelude.{Some};
+    ghost use Rattle.report.specs.Named.{tag_text};
+
+    ghost output = { λ named. Some (tag_text named.graph.now named.tag) };
+
+    fn fmt<W: fmt::Write>(&self, f: &mut fmt::Formatter<W>) -> fmt::Result {
+        let name = tag_name_of(self.graph, self.tag.collection);
+        let key = &self.tag.key;
+        let named = WithKey { name, key };
+        write!(f, "<{named}>")
+    }
+}
+
 impl fmt::Display for NamedInstance<'_> {
     ghost use Rattle.std.specs.Prelude.{Some};
     ghost use Rattle.report.specs.Named.{instance_text};
@@ -89,6 +110,13 @@ pub(crate) fn name_of(graph: &Graph, collection: ItemCollection) -> &str
     ensures { result.now ≡ name_of graph.now collection }
 {
     graph.item_name(collection).unwrap_or("")
+}
+
+/// The name of a tag collection; empty if the graph has no such collection.
+fn tag_name_of(graph: &Graph, collection: TagCollection) -> &str
+    ensures { result.now ≡ tag_name_of graph.now collection }
+{
+    graph.tag_name(collection).unwrap_or("")
 }
 
 /// The name of a step; empty if the graph has no such step.

@@ -37,7 +37,7 @@ module _ (bytes : List ℕ) (g : Graph) (n : ℕ) (E X : Facts) (side : IsSide b
       (sym (ap (drop (start_of side)) in_two ∙ drop-append_seam (front side.format n g side.image) side.journal)) side.records
 
   -- other bytes that begin so
-  begins_so : (other : List ℕ) → take (start_of side) other ≡ take (start_of side) bytes → other ≡ 1 ∷ behind_gate side.format n (canonical g) (image_bytes side.image) (drop (start_of side) other)
+  pub begins_so : (other : List ℕ) → take (start_of side) other ≡ take (start_of side) bytes → other ≡ 1 ∷ behind_gate side.format n (canonical g) (image_bytes side.image) (drop (start_of side) other)
   begins_so other same =
       sym (take-append-drop (start_of side) other)
       ∙ ap (λ (begin : List ℕ). begin ++ drop (start_of side) other) (same ∙ ap (take (start_of side)) in_two ∙ take-append_seam (front side.format n g side.image) side.journal)

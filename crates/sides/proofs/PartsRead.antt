@@ -17,7 +17,7 @@ use Rattle.graph.specs.Canonical.{canonical}
 use Rattle.graph.specs.Reads.{Reads}
 use Rattle.graph.specs.Fits.{AllFit, FitsState}
 use Rattle.graph.specs.Textual.{OneReading}
-use Rattle.sides.specs.Side.{counted, behind_gate, HasGeneration, IsSide, end_of}
+use Rattle.sides.specs.Side.{counted, behind_gate, HasGeneration, IsSide, start_of, end_of}
 use Rattle.sides.specs.Reading.{IsCountedAt, HasNoneAt, IsTextOf, IsImageOf, AreCommits, IsReplayed}
 use Rattle.sides.proofs.Once.{parts_of, counted_once}
 use Rattle.terms.specs.declared.key.TheConstants.{MAX_COMPONENTS}
@@ -77,9 +77,12 @@ module _ (bytes : List ℕ) (n : ℕ) (has : HasGeneration bytes n) (format : ge
         facts = replayed.facts;
       }
 
+      pub starts_there : 14 + length text + 4 + length part ≡ start_of side_read
+      starts_there = sym (starts n text part) ∙ (λ i. length (1 ∷ behind_gate FORMAT n (sym is_text.1 i) (is_image.0.1 i) []))
+
       pub ends_there : 14 + length text + 4 + length part + end ≡ end_of side_read
       ends_there =
-          ap (λ (start : ℕ). start + end) (sym (starts n text part) ∙ (λ i. length (1 ∷ behind_gate FORMAT n (sym is_text.1 i) (is_image.0.1 i) [])))
+          ap (λ (start : ℕ). start + end) starts_there
           ∙ ap (λ (more : ℕ). length (1 ∷ behind_gate FORMAT n (canonical g) (image_bytes (image_of old)) []) + more) replayed.ends
 
 -- ---- what a side has there

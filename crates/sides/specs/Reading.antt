@@ -17,7 +17,7 @@ use Rattle.graph.specs.Fits.{AllFit, FitsState}
 use Rattle.sides.specs.declared.gate.Gate.{Gate}
 use Rattle.sides.specs.declared.gate.Gate.TheVariants.{Closed, Short, Open}
 use Rattle.sides.specs.declared.reading.Standing.{Standing}
-use Rattle.sides.specs.Side.{counted, IsOpen, HasGeneration, IsSide, end_of}
+use Rattle.sides.specs.Side.{counted, IsOpen, HasGeneration, IsSide, start_of, end_of}
 use Rattle.terms.specs.declared.key.TheConstants.{MAX_COMPONENTS}
 
 -- what the first ten bytes of a file say of its side, or all its bytes where it has fewer
@@ -63,9 +63,10 @@ pub record IsReplayed (g : Graph) (old new : Holdings) (bytes : List ℕ) (end :
   pub environment : (fact : Fact) → environment_in (image_of new) fact ≡ among (image_environment (image_of old) ++ environment (events_of commits)) fact
   pub counts : new.counts ≡ old.counts
 
--- the side's bytes stand for what was read from them, the text is its graph's, and the journal ends at the position given
+-- the side's bytes stand for what was read from them, the text is its graph's, and the journal begins and ends at the positions given
 pub record IsRead (bytes : List ℕ) (generation : ℕ) (standing : Standing) : Type 0 where
   pub is_side : IsSide bytes standing.graph generation (environment_in (image_of standing.holdings)) (facts_in (image_of standing.holdings))
+  pub starts : standing.start ≡ start_of is_side
   pub ends : standing.end ≡ end_of is_side
   pub text : standing.text.items ≡ canonical standing.graph
   pub numbered : AllByRecursion HasPutNumber (image_of standing.holdings).items

@@ -5,9 +5,11 @@
 #![tactic(auto)]
 
 mod error;
+mod first;
 mod fitting;
 mod gate;
 mod law;
+mod next;
 mod parts;
 mod reading;
 mod replay;
@@ -15,7 +17,9 @@ mod spelling;
 mod taking;
 
 pub use error::SideError;
+pub use first::close_behind;
 pub use gate::{FORMAT, Gate, HEAD, OPEN, gate_of};
 pub use law::{one_item_each, one_meaning_of_a_side, sides_go_on};
+pub use next::next_commit;
 pub use reading::{Standing, read_side};
 pub use spelling::spell_side;

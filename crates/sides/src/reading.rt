@@ -22,6 +22,8 @@ pub struct Standing {
     /// The canonical text of the graph.
     pub text: Vec<u8>,
     pub holdings: Holdings,
+    /// The position where the journal begins.
+    pub start: u64,
     /// The position of the closed gate that ends the journal.
     pub end: u64,
 }
@@ -61,6 +63,7 @@ pub fn read_side(alloc: Global, bytes: &[u8]) -> Result<Standing, SideError>
             graph,
             text: own,
             holdings,
+            start: start as u64,
             end: (start + end) as u64,
         }),
         Replay::Broken(place) => Err(SideError::Damaged((start + place) as u64)),

@@ -33,6 +33,15 @@ pub none_erred : {D T : Type 0} (failures refusals : D → ℕ) (old new : D) (v
 none_erred failures refusals old new value causes (inl failed) = ok_is_no_error value Device (causes.device.1 failed)
 none_erred failures refusals old new value causes (inr changed) = ok_is_no_error value NoMemory (causes.refused changed)
 
+-- what counts for one value counts for another
+pub causes_of_ok : {D S T : Type 0} (failures refusals : D → ℕ) (old new : D) (found : S) (value : T) → HasCauses failures refusals Device NoMemory old new (Ok found)
+    → HasCauses failures refusals Device NoMemory old new (Ok value)
+causes_of_ok failures refusals old new found value causes = record {
+  device = (λ is. absurd (ok_is_no_error value Device is), λ failed. absurd (ok_is_no_error found Device (causes.device.1 failed)));
+  refused = λ changed. absurd (ok_is_no_error found NoMemory (causes.refused changed));
+  later = causes.later;
+}
+
 -- ---- the result with its disk
 
 -- the same error, in a result of another type

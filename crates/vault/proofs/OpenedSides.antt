@@ -77,6 +77,7 @@ module _ (generation : StandsWithGeneration) where
     pub ahead_is_found : (contents : Contents) (side : Side) (bytes : List ℕ) (found : Found) → IsAhead contents side → bytes ≡ contents side → IsFoundIn side bytes found → IsFound contents found
     ahead_is_found contents side bytes found ahead is it = record {
       is_live = record { is_side = there.0; behind = subst (λ (n : ℕ). IsBehind (contents (other_side found.journal.side)) n) same front.behind };
+      kept = it.kept ∙ is ∙ ap contents (sym it.side_is);
       ends = there.1;
       text = it.text;
     }

@@ -1,6 +1,7 @@
 pub mod Calls
 pub mod Commits
 pub mod Errors
+pub mod LiveSides
 pub mod Opened
 pub mod Stands
 pub mod Store

@@ -14,7 +14,7 @@ use Rattle.holdings.specs.Holdings.{Holdings, IsFor, image_of}
 use Rattle.graph.specs.Fits.{FitsState, HasOneItemEach}
 use Rattle.sides.specs.declared.gate.Gate.TheVariants.{Short}
 use Rattle.sides.specs.Reading.{Tells}
-use Rattle.sides.specs.Side.{IsSide, IsOpen, HasGeneration, end_of}
+use Rattle.sides.specs.Side.{IsSide, IsOpen, HasGeneration, start_of, end_of}
 use Rattle.vault.specs.declared.found.Found.{Found}
 use Rattle.vault.specs.declared.error.VaultError.{VaultError}
 use Rattle.vault.specs.declared.error.VaultError.TheVariants.{NotAStore, Damaged, Full, Halted, Exists}
@@ -90,10 +90,12 @@ pub record IsSound (g : Graph) (held : Holdings) (generation end : ℕ) (text : 
   pub fits : FitsState g (environment_in (image_of held)) (facts_in (image_of held))
   pub one_item : HasOneItemEach (facts_in (image_of held))
 
--- the bytes of the side stand for what was found in them
+-- the bytes of the side stand for what was found in them, and are kept with it
 pub record IsFoundIn (side : Side) (bytes : List ℕ) (found : Found) : Type 0 where
   pub is_side : IsSide bytes found.graph found.generation (environment_in (image_of found.holdings)) (facts_in (image_of found.holdings))
+  pub kept : found.bytes.items ≡ bytes
   pub side_is : found.journal.side ≡ side
+  pub starts : found.start ≡ start_of is_side
   pub ends : found.journal.end ≡ end_of is_side
   pub text : found.text.items ≡ canonical found.graph
 
@@ -101,9 +103,10 @@ pub record IsFoundIn (side : Side) (bytes : List ℕ) (found : Found) : Type 0 w
 abbrev pub IsNoSide : List ℕ → Type 0
 IsNoSide bytes = (g : Graph) (generation : ℕ) (E X : Facts) → IsSide bytes g generation E X → ⊥
 
--- both files stand for what was found, and the live one gave it
+-- both files stand for what was found, and the live one gave it; its bytes are kept with it
 pub record IsFound (contents : Contents) (found : Found) : Type 0 where
   pub is_live : IsLive contents found.journal.side found.generation found.graph (environment_in (image_of found.holdings)) (facts_in (image_of found.holdings))
+  pub kept : found.bytes.items ≡ contents found.journal.side
   pub ends : found.journal.end ≡ end_of is_live.is_side
   pub text : found.text.items ≡ canonical found.graph
 

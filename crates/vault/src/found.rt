@@ -1,4 +1,4 @@
-ghost use Rattle.std.specs.Prelude.{◌≡◌, ◌≢◌, ℕ, List, IfOk, IfErr, IsErrOf};
+ghost use Rattle.std.specs.Prelude.{◌≡◌, ◌≢◌, ℕ, IfOk, IfErr, IsErrOf};
 ghost use Rattle.disk.specs.declared.side.Side.{Side};
 ghost use Rattle.sides.specs.Reading.{IsRead};
 ghost use Rattle.sides.specs.Side.{HasGeneration};
@@ -14,9 +14,12 @@ use journal::Journal;
 use sides::{Gate, SideError, Standing, gate_of, one_item_each, read_side, sides_go_on};
 use std::alloc::Global;
 
-// What was read from the bytes of a side.
+// What was read from the bytes of a side, and these bytes.
 #[derive(Drop)]
 pub(crate) struct Found {
+    pub(crate) bytes: Vec<u8>,
+    // The position where the journal begins.
+    pub(crate) start: u64,
     pub(crate) journal: Journal,
     pub(crate) generation: u64,
     pub(crate) text: Vec<u8>,
@@ -25,29 +28,31 @@ pub(crate) struct Found {
 }
 
 // Reads the bytes of a side.
-pub(crate) fn found_in(alloc: Global, side: Side, bytes: &[u8]) -> Result<Found, VaultError>
-    ensures found { IfOk result (IsFoundIn side bytes.now) }
+pub(crate) fn found_in(alloc: Global, side: Side, bytes: Vec<u8>) -> Result<Found, VaultError>
+    ensures found { IfOk result (IsFoundIn side bytes.items) }
+    ensures kept { IfOk result (λ found. IsFoundIn found.journal.side found.bytes.items found) }
     ensures sound { IfOk result (λ found. IsSound found.graph found.holdings found.generation found.journal.end found.text.items) }
-    ensures nothing { (generation : ℕ) → HasGeneration bytes.now generation → IfErr result (λ error. SaysNothing error → IsNoSide bytes.now) }
-    ensures cause { (generation : ℕ) → HasGeneration bytes.now generation → IfErr result (λ error. SaysNothing error → (place : ℕ) × (error ≡ Damaged side place)) }
+    ensures nothing { (generation : ℕ) → HasGeneration bytes.items generation → IfErr result (λ error. SaysNothing error → IsNoSide bytes.items) }
+    ensures cause { (generation : ℕ) → HasGeneration bytes.items generation → IfErr result (λ error. SaysNothing error → (place : ℕ) × (error ≡ Damaged side place)) }
     ensures others { IfErr result IsOfOpening }
     ensures device { IsErrOf result Device → ⊥ }
 {
     // The head of the file was open before: a disk that gives another one now is not honest.
-    let Gate::Open(generation) = gate_of(bytes) else {
+    let Gate::Open(generation) = gate_of(&bytes) else {
         return Err(VaultError::NotAStore);
     };
-    match read_side(alloc, bytes) {
-        Ok(standing) => Ok(found_of(alloc, side, generation, standing)),
+    match read_side(alloc, &bytes) {
+        Ok(standing) => Ok(found_of(alloc, side, generation, standing, bytes)),
         Err(SideError::Damaged(place)) => Err(VaultError::Damaged(side, place)),
         Err(SideError::NoMemory) => Err(VaultError::NoMemory),
     }
 }
 
 // What was read from a side of this generation.
-fn found_of(alloc: Global, side: Side, generation: u64, standing: Standing) -> Found
-    ensures found { (bytes : List ℕ) → IsRead bytes generation standing → IsFoundIn side bytes result }
-    ensures sound { (bytes : List ℕ) → IsRead bytes generation standing → IsSound result.graph result.holdings result.generation result.journal.end result.text.items }
+fn found_of(alloc: Global, side: Side, generation: u64, standing: Standing, bytes: Vec<u8>) -> Found
+    ensures found { IsRead bytes.items generation standing → IsFoundIn side bytes.items result }
+    ensures kept { IsRead bytes.items generation standing → IsFoundIn result.journal.side result.bytes.items result }
+    ensures sound { IsRead bytes.items generation standing → IsSound result.graph result.holdings result.generation result.journal.end result.text.items }
 {
     sides_go_on();
     one_item_each();
@@ -55,9 +60,12 @@ fn found_of(alloc: Global, side: Side, generation: u64, standing: Standing) -> F
         graph,
         text,
         holdings,
+        start,
         end,
     } = standing;
     Found {
+        bytes,
+        start,
         journal: Journal::ending(alloc, side, end),
         generation,
         text,

@@ -4,7 +4,7 @@ ghost use Rattle.disk.specs.File.{at_rest};
 ghost use Rattle.disk.specs.Time.{Contents, LeavesOnly, MayLeaveNow, HasCause, CountsRefusal, HasErred, HasCauses};
 ghost use Rattle.sides.specs.Side.{IsOpen};
 ghost use Rattle.vault.specs.Store.{Holds, IsReady, SaysNothing, disk_of_opening, answer_of};
-ghost use Rattle.vault.specs.Opened.{OnlyReads, IsFound, IsSound, HeadsFault, IsOfAhead, TellsWhy, StandsForNothing, IsOfOpening, contents_of};
+ghost use Rattle.vault.specs.Opened.{OnlyReads, IsFound, IsFoundIn, IsSound, HeadsFault, IsOfAhead, TellsWhy, StandsForNothing, IsOfOpening, contents_of};
 ghost use Rattle.vault.specs.declared.error.VaultError.{VaultError as Cause};
 ghost use Rattle.vault.specs.declared.error.VaultError.TheVariants.{Device, NoMemory};
 ghost use Rattle.disk.specs.declared.error.DiskError.TheVariants as DiskError;
@@ -60,6 +60,8 @@ pub fn open<D: Disk>(alloc: Global, disk: D) -> Result<Recovered<D>, Refused<D>>
     match recover(alloc, &mut disk) {
         Ok(found) => {
             let Found {
+                bytes: _,
+                start: _,
                 journal,
                 generation,
                 text,
@@ -87,8 +89,9 @@ pub fn open<D: Disk>(alloc: Global, disk: D) -> Result<Recovered<D>, Refused<D>>
 }
 
 // Syncs both files, and reads what they stand for.
-fn recover<D: Disk>(alloc: Global, disk: &mut D) -> Result<Found, VaultError>
+pub(crate) fn recover<D: Disk>(alloc: Global, disk: &mut D) -> Result<Found, VaultError>
     ensures found { IsTrue D.is_honest → IfOk result (IsFound (contents_of (D.files disk.old))) }
+    ensures kept { IfOk result (λ found. IsFoundIn found.journal.side found.bytes.items found) }
     ensures sound { IfOk result (λ found. IsSound found.graph found.holdings found.generation found.journal.end found.text.items) }
     ensures rests { IsTrue D.is_honest → OnOk result ((side : Side) → D.files disk.new side ≡ at_rest (D.files disk.old side).content) }
     ensures nothing { IsTrue D.is_honest → IfErr result (λ error. SaysNothing error → StandsForNothing (contents_of (D.files disk.old))) }
@@ -116,6 +119,7 @@ fn settle<D: Disk>(disk: &mut D) -> Result<(), DiskError>
 // Reads what the files stand for.
 fn look<D: Disk>(alloc: Global, disk: &mut D) -> Result<Found, VaultError>
     ensures found { IsTrue D.is_honest → IfOk result (IsFound (contents_of (D.files disk.old))) }
+    ensures kept { IfOk result (λ found. IsFoundIn found.journal.side found.bytes.items found) }
     ensures sound { IfOk result (λ found. IsSound found.graph found.holdings found.generation found.journal.end found.text.items) }
     ensures nothing { IsTrue D.is_honest → IfErr result (λ error. SaysNothing error → StandsForNothing (contents_of (D.files disk.old))) }
     ensures heads { IsTrue D.is_honest → (error : Cause) → HeadsFault (contents_of (D.files disk.old)) error → IsErrOf result error ⊎ HasErred D.failures D.refusals disk.old disk.new }
@@ -128,7 +132,7 @@ fn look<D: Disk>(alloc: Global, disk: &mut D) -> Result<Found, VaultError>
     one_meaning_of_a_side();
     let side = live_side(disk)?;
     let bytes = read_whole(alloc, disk, side)?;
-    found_in(alloc, side, &bytes)
+    found_in(alloc, side, bytes)
 }
 
 // All bytes of a file, as reads return them.

@@ -8,7 +8,7 @@ use Rattle.graph.specs.Canonical.{canonical}
 use Rattle.graph.specs.Graph.{Graph}
 use Rattle.holdings.specs.Holdings.{IsFor, image_of}
 use Rattle.sides.specs.Reading.{IsTextOf, IsImageOf, IsReplayed, AreCommits}
-use Rattle.sides.proofs.PartsRead.{side_read, ends_there, has_text, is_its_text, has_image, is_its_image, are_its_commits}
+use Rattle.sides.proofs.PartsRead.{side_read, starts_there, ends_there, has_text, is_its_text, has_image, is_its_image, are_its_commits}
 use Rattle.sides.proofs.reading.read_side.Goals as goal
 
 pub returns-in_default-clause-nothing : goal.returns-in_default-clause-nothing
@@ -53,6 +53,7 @@ returns-in-Ended-clause-read c n has =
     let numbered : AllByRecursion HasPutNumber (image_of new).items = rw c.in-Ended.is at c.in_ok-end.ensures.numbered in
     record {
       is_side = side_read bytes n has c.if-bytes-ne-FORMAT.false text part c.in-Some.ensures c.in-Some-counted_at.ensures graph old new end is_text is_image replayed;
+      starts = starts_there bytes n has c.if-bytes-ne-FORMAT.false text part c.in-Some.ensures c.in-Some-counted_at.ensures graph old new end is_text is_image replayed;
       ends = ends_there bytes n has c.if-bytes-ne-FORMAT.false text part c.in-Some.ensures c.in-Some-counted_at.ensures graph old new end is_text is_image replayed;
       text = both.1;
       numbered = numbered;

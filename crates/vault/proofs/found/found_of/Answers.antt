@@ -1,12 +1,29 @@
-use Rattle.std.proofs.Common.{◌∙◌}
+use Rattle.std.proofs.Common.{refl, ◌∙◌}
 use Rattle.vault.proofs.found.found_of.Goals as goal
 
 pub returns-clause-found : goal.returns-clause-found
-returns-clause-found c bytes read = record { is_side = read.is_side; side_is = c.ending.ensures.side; ends = c.ending.ensures.end ∙ read.ends; text = read.text }
+returns-clause-found c read = record {
+  is_side = read.is_side;
+  kept = refl;
+  side_is = c.ending.ensures.side;
+  starts = read.starts;
+  ends = c.ending.ensures.end ∙ read.ends;
+  text = read.text;
+}
+
+pub returns-clause-kept : goal.returns-clause-kept
+returns-clause-kept c read = record {
+  is_side = read.is_side;
+  kept = refl;
+  side_is = refl;
+  starts = read.starts;
+  ends = c.ending.ensures.end ∙ read.ends;
+  text = read.text;
+}
 
 pub returns-clause-sound : goal.returns-clause-sound
-returns-clause-sound c bytes read = record {
-  bytes = bytes;
+returns-clause-sound c read = record {
+  bytes = c.args.bytes.items;
   is_side = read.is_side;
   ends = c.ending.ensures.end ∙ read.ends;
   text_is = read.text;

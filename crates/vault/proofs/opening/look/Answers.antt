@@ -25,16 +25,16 @@ returns-clause-only_reads g c honest =
 pub returns-clause-found : goal.returns-clause-found
 returns-clause-found g c honest =
     let files = g.D.Disk.files in
-    let whole = c.deref.ensures.value ∙ c.in_ok-bytes.ensures.value honest ∙ ap (λ (f : File). f.content) (c.live_side.ensures.same honest c.in_ok-side.side) in
+    let whole = c.in_ok-bytes.ensures.value honest ∙ ap (λ (f : File). f.content) (c.live_side.ensures.same honest c.in_ok-side.side) in
     IfOk-weaker c.found_in.result _ _
-    (λ found it. ahead_is_found c.one_meaning_of_a_side.ensures.generation c.one_meaning_of_a_side.ensures.one_generation (contents_of (files c.args.disk.now)) c.in_ok-side.side c.deref.result.now found
+    (λ found it. ahead_is_found c.one_meaning_of_a_side.ensures.generation c.one_meaning_of_a_side.ensures.one_generation (contents_of (files c.args.disk.now)) c.in_ok-side.side c.in_ok-bytes.bytes.items found
     (c.in_ok-side.ensures.ahead honest) whole it)
     c.found_in.ensures.found
 
 pub returns-clause-nothing : goal.returns-clause-nothing
 returns-clause-nothing g c honest =
     let files = g.D.Disk.files in
-    let whole = c.deref.ensures.value ∙ c.in_ok-bytes.ensures.value honest ∙ ap (λ (f : File). f.content) (c.live_side.ensures.same honest c.in_ok-side.side) in
+    let whole = c.in_ok-bytes.ensures.value honest ∙ ap (λ (f : File). f.content) (c.live_side.ensures.same honest c.in_ok-side.side) in
     let ahead = c.in_ok-side.ensures.ahead honest in
     IfErr-weaker c.found_in.result _ _
     (λ error none says. ahead_is_none c.one_meaning_of_a_side.ensures.generation c.one_meaning_of_a_side.ensures.one_generation (contents_of (files c.args.disk.now)) c.in_ok-side.side ahead
@@ -69,7 +69,7 @@ returns-in_err-side-clause-cause g c honest =
 
 pub returns-clause-cause : goal.returns-clause-cause
 returns-clause-cause g c honest =
-    let whole = c.deref.ensures.value ∙ c.in_ok-bytes.ensures.value honest ∙ ap (λ (f : File). f.content) (c.live_side.ensures.same honest c.in_ok-side.side) in
+    let whole = c.in_ok-bytes.ensures.value honest ∙ ap (λ (f : File). f.content) (c.live_side.ensures.same honest c.in_ok-side.side) in
     let ahead = c.in_ok-side.ensures.ahead honest in
     IfErr-weaker c.found_in.result _ _ (λ error told says. let at = told says in inr (c.in_ok-side.side, at.0, ahead, at.1))
     (c.found_in.ensures.cause ahead.generation (subst (λ (bytes : List ℕ). HasGeneration bytes ahead.generation) (sym whole) ahead.has))

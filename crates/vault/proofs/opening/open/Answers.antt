@@ -1,7 +1,7 @@
 use Rattle.disk.specs.Time.{HasErred}
 use Rattle.vault.specs.Opened.{contents_of}
 use Rattle.vault.specs.declared.found.Found.{Found}
-use Rattle.vault.proofs.ErredCalls.{tells_ok, tells_err}
+use Rattle.vault.proofs.ErredCalls.{causes_of_ok, tells_ok, tells_err}
 use Rattle.vault.proofs.Ready.{held_is_ready}
 use Rattle.vault.proofs.opening.open.Goals as goal
 
@@ -26,3 +26,6 @@ pub returns-in-Err-clause-tells : goal.returns-in-Err-clause-tells
 returns-in-Err-clause-tells g c honest =
     tells_err {S = Found} (contents_of (g.D.Disk.files c.args.disk)) (HasErred g.D.Disk.failures g.D.Disk.refusals c.args.disk c.recover.new.disk) c.in-Err.error
     (c.in-Err.ensures.nothing honest) (c.in-Err.ensures.cause honest) (c.in-Err.ensures.heads honest)
+
+pub returns-in-Ok-clause-causes : goal.returns-in-Ok-clause-causes
+returns-in-Ok-clause-causes g c = causes_of_ok g.D.Disk.failures g.D.Disk.refusals c.args.disk c.recover.new.disk c.in-Ok.found _ c.in-Ok.ensures.causes

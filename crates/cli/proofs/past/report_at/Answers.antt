@@ -1,0 +1,24 @@
+use Rattle.std.proofs.Common.{inl, inr, refl}
+use Rattle.disk.specs.Time.{HasErred}
+use Rattle.vault.specs.Opened.{contents_of}
+use Rattle.cli.proofs.Copied.{reports_at}
+use Rattle.cli.proofs.Refused.{causes_carried, why_carried}
+use Rattle.cli.proofs.past.report_at.Goals as goal
+
+pub returns-in-Ok : goal.returns-in-Ok
+returns-in-Ok g c = inr (record {
+  only_reads = λ on. c.in-Ok.ensures.only_reads on;
+  told = reports_at _ (contents_of (g.D.Disk.files c.args.disk)) c.args.at c.in-Ok.live c.args.format (g.W.Write.contents c.args.out.now) (g.W.Write.contents c.report_side-outcome.new.out) c.report_side-outcome.result
+      (λ on. c.in-Ok.ensures.found on) c.report_side-outcome.ensures;
+})
+
+pub returns-in-Err : goal.returns-in-Err
+returns-in-Err g c = inl (record {
+  error = c.in-Err.error;
+  told = refl;
+  of_opening = c.in-Err.ensures.errors;
+  only_reads = λ on. c.in-Err.ensures.only_reads on;
+  why = λ on. why_carried (contents_of (g.D.Disk.files c.args.disk)) (HasErred g.D.Disk.failures g.D.Disk.refusals c.args.disk c.read_live.new.disk) c.in-Err.error (c.in-Err.ensures.tells on);
+  causes = causes_carried g.D.Disk.failures g.D.Disk.refusals c.args.disk c.read_live.new.disk c.in-Err.error c.in-Err.ensures.causes;
+  nothing_written = refl;
+})
