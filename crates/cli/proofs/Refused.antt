@@ -1,5 +1,5 @@
 -- The error of a refusal, in a result of another type.
-use Rattle.std.proofs.Common.{◌≡◌, ◌⊎◌, inl, inr, ℕ, Result, Err, ap}
+use Rattle.std.proofs.Common.{◌≡◌, ◌⊎◌, inl, inr, ℕ, Err, ap}
 use Rattle.std.specs.Prelude.{IsErrOf}
 use Rattle.disk.specs.Time.{Contents, HasCauses}
 use Rattle.vault.specs.Opened.{TellsWhy}

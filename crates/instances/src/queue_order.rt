@@ -1,6 +1,7 @@
 use terms::Key;
 
-// The ready instances are put in order once at least one for this number of them has begun to wait since they last were. A wait takes far longer than this number of comparisons.
+// The ready instances are put in order once at least one for this number of them has begun to wait since they last were. Then the sorts take no longer than the waits: a wait takes some microseconds, and
+// sorting some tenth of one for each instance.
 const WORTH: usize = 32;
 
 /// What a step knows of the order of its queue, in which its ready instances stand.

@@ -1,6 +1,6 @@
 use Rattle.std.proofs.Common.{List, subst}
 use Rattle.audit.proofs.Comparing.{IsItemIn, Item, all_items_are, all_items_left}
-use Rattle.audit.proofs.Left.{AllAre, Left, none_left}
+use Rattle.audit.proofs.Left.{Left, none_left}
 use Rattle.audit.proofs.compare.item_left.Goals as goal
 
 pub loop-addr-init : goal.loop-addr-init
