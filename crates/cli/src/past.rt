@@ -73,6 +73,7 @@ fn copied(alloc: Global, live: LiveSide, at: u64) -> Result<Core<MemDisk>, Alloc
     let disk = disk_of(alloc, &first)?;
     match Core::open(alloc, disk) {
         Ok(copy) => Ok(copy),
+        // The first commits of a side that was read are a side, so there is no memory.
         Err(_) => Err(AllocError),
     }
 }

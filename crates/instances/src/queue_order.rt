@@ -1,13 +1,12 @@
 use terms::Key;
 
-// The ready instances are put in order once at least one for this number of them has begun to wait since they last were. Then the sorts take no longer than the waits: a wait takes some microseconds, and
-// sorting some tenth of one for each instance.
+// The ready instances are put in order once at least one for this number of them has begun to wait since they last were, so that there are few sorts beside the waits.
 const WORTH: usize = 32;
 
 /// What a step knows of the order of its queue, in which its ready instances stand.
 #[derive(Clone, Copy)]
 pub(crate) struct QueueOrder {
-    // Whether some key may stand behind a greater one.
+    // Whether some key was put behind a greater one since the queue was last in order.
     mixed: bool,
     // How many instances have begun to wait since the queue was last put in order.
     waited: usize,
