@@ -37,7 +37,7 @@ as_many_joined standings addresses = ap length (entries_joined standings address
 joined_empty : (addresses : Addresses) → joined empty addresses ≡ empty
 joined_empty addresses = empty_of_len (joined empty addresses) (len-entries (joined empty addresses) ∙ as_many_joined empty addresses ∙ sym (len-entries empty) ∙ len-empty key_cmp Standing)
 
-abbrev with_address : Option Standing → Option Addr → Option State
+abbrev pub with_address : Option Standing → Option Addr → Option State
 with_address None address = None
 with_address (Some standing) address = Some (state_with standing address)
 

@@ -2,6 +2,7 @@ mod AllRestored
 mod Below
 mod Changes
 mod Counted
+mod DoneLeft
 mod Growing
 mod Joining
 mod Kept
@@ -14,6 +15,7 @@ mod Prescribing
 mod Quiet
 mod Restoring
 mod Runs
+mod Settling
 mod Stepwise
 mod Tallied
 mod Together

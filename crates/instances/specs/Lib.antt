@@ -4,6 +4,7 @@ pub mod Ended
 pub mod Known
 pub mod KnownCodes
 pub mod Listed
+pub mod MarkedDone
 pub mod Marks
 pub mod OfStep
 pub mod Restored

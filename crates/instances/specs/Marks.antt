@@ -1,5 +1,6 @@
 -- How an instance stands, as a small number, which maps keep.
 use Rattle.std.specs.Prelude.{◌≡◌, ℕ, zero, suc, ℤ, List, refl}
+use Rattle.std.specs.Coded.{Coded, code_by, coded_ℕ}
 use Rattle.maps.specs.declared.stored.Brief.{Brief}
 use Rattle.maps.specs.Stored.{no_words}
 use Rattle.instances.specs.declared.standing.Standing.{Standing}
@@ -28,3 +29,13 @@ same_standing Ready = refl
 same_standing Running = refl
 same_standing Waiting = refl
 same_standing Done = refl
+
+-- the same number is its code, for which the checker asks
+pub same_small : (standing : Standing) → standing_by (small_of standing) ≡ standing
+same_small Ready = refl
+same_small Running = refl
+same_small Waiting = refl
+same_small Done = refl
+
+abbrev pub standing_code : Coded Standing
+standing_code = code_by ℕ coded_ℕ small_of standing_by same_small

@@ -6,7 +6,7 @@ use crate::state_walk::StateWalk;
 use crate::step::Step;
 use crate::step_instances::StepInstances;
 use crate::{DoneWalk, InstanceWalk, State, TagWalk, Task, listing};
-use maps::CollectionMap;
+use maps::{CollectionMap, Hint};
 use std::alloc::{AllocError, Global};
 use std::marker::Model;
 use terms::{Addr, Inst, StepCollection, Tag, TagCollection};
@@ -15,7 +15,7 @@ use terms::{Addr, Inst, StepCollection, Tag, TagCollection};
 #[derive(Drop)]
 pub struct Instances {
     pub(crate) tags: CollectionMap<bool>,
-    steps: Vec<Step>,
+    pub(crate) steps: Vec<Step>,
     // The step from which on the next claim looks for a ready instance.
     turn: usize,
 }
@@ -244,6 +244,23 @@ impl Instances {
             .get(inst.collection.0 as usize)?
             .instances
             .state(inst.key)
+    }
+
+    /// The same as `mark`. It looks first where the hint says, and sets the hint to where the tag is or would be.
+    pub fn mark_near(&self, tag: Tag, hint: &mut Hint) -> Option<bool>
+        ensures { result ≡ mark_of self.now tag }
+    {
+        self.tags.get_near(tag.collection.0, tag.key, hint)
+    }
+
+    /// The same as `state`. It looks first where the hint says, and sets the hint to where the instance is or would be.
+    pub fn state_near(&self, inst: Inst, hint: &mut Hint) -> Option<State>
+        ensures { result ≡ state_at self.now inst }
+    {
+        self.steps
+            .get(inst.collection.0 as usize)?
+            .instances
+            .state_near(inst.key, hint)
     }
 
     /// Puts a tag that is not there, and with it the instances that it prescribes, as ready. There must be room for

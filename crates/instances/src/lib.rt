@@ -7,14 +7,18 @@
 //! The crate above relies on `prescribe`, which adds exactly the instances of a new tag; on `claim`; and on `finish`,
 //! `park`, `release` and `wake`, each of which moves one instance and changes nothing else. `restored` takes over the tags
 //! of a store that was closed before, with the instances that they prescribe; `walk` gives all instances with their
-//! states, and `done_walk` those that are done.
+//! states, and `done_walk` those that are done; `tag_marks` and `done_marks` lend them with marks.
 #![tactic(auto)]
 
+mod done_maps;
 mod done_walk;
 mod ended;
 mod instance_walk;
 mod instances;
 mod listing;
+mod marked_instances;
+mod marked_tags;
+mod marking;
 mod prescribed;
 mod queue_order;
 mod restored;
@@ -32,6 +36,8 @@ mod tasks;
 pub use done_walk::DoneWalk;
 pub use instance_walk::InstanceWalk;
 pub use instances::Instances;
+pub use marked_instances::MarkedInstances;
+pub use marked_tags::MarkedTags;
 pub use running::runs_are_counted;
 pub use state::State;
 pub use tag_walk::TagWalk;

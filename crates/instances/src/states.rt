@@ -3,9 +3,10 @@ ghost use Rattle.std.specs.Option.{option_copied};
 ghost use Rattle.instances.specs.Standings.{address_in, first_of, kept_in, state_with};
 
 use crate::State;
+use crate::done_maps::mark_others;
 use crate::standing::Standing;
 use crate::state_walk::StateWalk;
-use maps::KeyMap;
+use maps::{Hint, KeyMap, MarkedMap};
 use std::alloc::{AllocError, Global};
 use std::collections::BTreeMap;
 use std::marker::Model;
@@ -34,10 +35,11 @@ impl Model for States {
 }
 
 impl States {
-    ghost use Rattle.std.specs.Prelude.{◌≡◌, ◌<◌, ◌≤◌, IsSome, OnErr, OnOk, None, cond, length};
+    ghost use Rattle.std.specs.Prelude.{◌≡◌, ◌<◌, ◌≤◌, IfOk, IsSome, OnErr, OnOk, None, cond, length};
     ghost use Rattle.std.specs.FinMap.{entries, get, insert};
     ghost use Rattle.maps.specs.Keyed.{none, Adds};
     ghost use Rattle.instances.specs.declared.state.State.TheVariants.{Ready, Waiting, Done};
+    ghost use Rattle.instances.specs.MarkedDone.{MarksDone};
     ghost use Rattle.instances.specs.Standings.{state_with, IsPlain};
 
     /// No instances, and no room.
@@ -58,6 +60,14 @@ impl States {
         Some(state_of(standing, Some(&self.addresses), key))
     }
 
+    /// The same as `get`. It looks first where the hint says, and sets the hint to where the key is or would be.
+    pub(crate) fn get_near(&self, key: Key, hint: &mut Hint) -> Option<State>
+        ensures { result ≡ get self.now.items key }
+    {
+        let standing = self.standings.get_near(key, hint)?;
+        Some(state_of(standing, Some(&self.addresses), key))
+    }
+
     /// The instances with their states, in the order of their keys.
     pub(crate) fn walk(&self) -> StateWalk<'_>
         ensures { result ≡ entries self.now.items }
@@ -65,6 +75,20 @@ impl States {
         StateWalk {
             standings: self.standings.walk(),
             addresses: Some(&self.addresses),
+        }
+    }
+
+    /// The instances that are done, none of them marked.
+    pub(crate) fn done_marks(&self, alloc: Global) -> Result<MarkedMap<'_, Standing>, AllocError>
+        ensures { IfOk result (MarksDone self.now.items) }
+    {
+        match self.standings.marks(alloc) {
+            Ok(unmarked) => {
+                let mut marks = unmarked;
+                mark_others(&mut marks, self.standings.walk());
+                Ok(marks)
+            }
+            Err(error) => Err(error),
         }
     }
 

@@ -3,6 +3,7 @@ use crate::queue_order::QueueOrder;
 use crate::standing::Standing;
 use crate::state_walk::StateWalk;
 use crate::states::States;
+use maps::{Hint, MarkedMap};
 use std::alloc::{AllocError, Global};
 use std::collections::VecDeque;
 use std::marker::Model;
@@ -41,9 +42,10 @@ impl Model for StepInstances {
 }
 
 impl StepInstances {
-    ghost use Rattle.std.specs.Prelude.{◌≡◌, ◌+◌, ◌<◌, ◌≤◌, IfSome, IsSome, OnOk, OnErr, Some, None, cond, length};
+    ghost use Rattle.std.specs.Prelude.{◌≡◌, ◌+◌, ◌<◌, ◌≤◌, IfOk, IfSome, IsSome, OnOk, OnErr, Some, None, cond, length};
     ghost use Rattle.std.specs.FinMap.{empty, entries, get};
     ghost use Rattle.instances.specs.declared.state.State.TheVariants.{Ready, Running, Waiting, Done};
+    ghost use Rattle.instances.specs.MarkedDone.{MarksDone};
     ghost use Rattle.instances.specs.OfStep.{is_ready, is_running, is_waiting, is_done, how_many, IsWaiting, Moves, AddsInstance};
 
     /// No instances.
@@ -66,11 +68,25 @@ impl StepInstances {
         self.states.get(key)
     }
 
+    /// The same as `state`. It looks first where the hint says.
+    pub(crate) fn state_near(&self, key: Key, hint: &mut Hint) -> Option<State>
+        ensures { result ≡ get self.now.states key }
+    {
+        self.states.get_near(key, hint)
+    }
+
     /// The instances with their states, in the order of their keys.
     pub(crate) fn walk(&self) -> StateWalk<'_>
         ensures { result ≡ entries self.now.states }
     {
         self.states.walk()
+    }
+
+    /// The instances that are done, none of them marked.
+    pub(crate) fn done_marks(&self, alloc: Global) -> Result<MarkedMap<'_, Standing>, AllocError>
+        ensures { IfOk result (MarksDone self.now.states) }
+    {
+        self.states.done_marks(alloc)
     }
 
     /// The number of instances.

@@ -32,3 +32,6 @@ abbrev pub held_code : Coded Held
 held_code =
     code_by _ (coded× (numbered_code (coded× coded_ℤ producer_code)) (code (coded× coded_ℕ (coded_list coded_ℤ)) (coded_list inst_code)))
     (λ h. (h.items, h.waiting)) (λ p. record { items = p.0; waiting = p.1 }) (λ _. refl)
+
+abbrev pub item_code : Coded (ℤ × Producer)
+item_code = coded× coded_ℤ producer_code

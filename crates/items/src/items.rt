@@ -3,8 +3,8 @@ ghost use Rattle.std.specs.Ordering.{eq_by_cmp};
 ghost use Rattle.terms.specs.Name.{inst_cmp};
 ghost use Rattle.items.specs.Once.{is_one_of};
 
-use crate::{PutError, Walk};
-use maps::{CollectionMap, InsertError, Steps};
+use crate::{MarkedItems, PutError, Walk};
+use maps::{CollectionMap, Hint, InsertError, Steps};
 use std::alloc::{AllocError, Global};
 use std::collections::BTreeMap;
 use std::marker::Model;
@@ -38,6 +38,7 @@ impl Model for Items {
 impl Items {
     ghost use Rattle.std.specs.Prelude.{◌+◌, ◌*◌, ◌/◌, ◌<◌, ◌≤◌, ◌-◌, ◌^◌, ℕ, false, IfOk, IfErr, OnOk, OnErr, length, map, min, replicate};
     ghost use Rattle.std.specs.FinMap.{empty, entries};
+    ghost use Rattle.maps.specs.Marked.{AreUnmarked};
     ghost use Rattle.maps.specs.Numbered.{of_number, AddsAt, OnlyMakesRoom};
     ghost use Rattle.items.specs.Held.{
       item_at,
@@ -71,6 +72,13 @@ impl Items {
         self.items.get(addr.collection.0, addr.key)
     }
 
+    /// The same as `get`. It looks first where the hint says, and sets the hint to where the address is or would be.
+    pub fn get_near(&self, addr: Addr, hint: &mut Hint) -> Option<(i64, Producer)>
+        ensures { result ≡ item_at self.now addr }
+    {
+        self.items.get_near(addr.collection.0, addr.key, hint)
+    }
+
     /// The item at the address and who put it, if there is one. It compares keys by `Steps::compare` alone; if the collection
     /// has a number of items with `d` binary digits, it does so at most `d * (d + 1) / 2` times.
     pub fn find(&self, addr: Addr, steps: &mut Steps) -> Option<(i64, Producer)>
@@ -97,6 +105,16 @@ impl Items {
     {
         Walk {
             entries: self.items.walk_of(collection.0),
+        }
+    }
+
+    /// The same items, none of them marked.
+    pub fn marks(&self, alloc: Global) -> Result<MarkedItems<'_>, AllocError>
+        ensures { IfOk result (AreUnmarked self.now.items.items) }
+    {
+        match self.items.marks(alloc) {
+            Ok(marks) => Ok(MarkedItems { marks }),
+            Err(error) => Err(error),
         }
     }
 

@@ -9,8 +9,10 @@
 
 mod error;
 mod items;
+mod marked_items;
 mod walk;
 
 pub use error::PutError;
 pub use items::Items;
+pub use marked_items::MarkedItems;
 pub use walk::Walk;

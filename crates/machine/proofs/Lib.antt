@@ -23,6 +23,8 @@ pub mod InTurn
 pub mod Joined
 pub mod Kept
 pub mod Left
+mod MarkedFacts
+mod MarkedOne
 pub mod MixedRow
 pub mod Moved
 pub mod NewTogether

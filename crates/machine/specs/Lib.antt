@@ -11,6 +11,7 @@ pub mod Imaging
 pub mod Laws
 pub mod Legal
 pub mod Machine
+pub mod Marked
 pub mod Meaning
 pub mod Memory
 pub mod Mixed

@@ -1,6 +1,7 @@
 use crate::Machine;
 use instances::{DoneWalk, State, TagWalk};
 use items::Walk;
+use maps::Hint;
 use terms::{Addr, Inst, Producer, Tag};
 
 /// What a store holds, as whoever checks it looks at it. No call allocates memory.
@@ -32,6 +33,30 @@ impl Machine {
         ensures { result ≡ facts self.now (is_over inst) }
     {
         match self.memory.instances.state(inst) {
+            Some(State::Done) => true,
+            _ => false,
+        }
+    }
+
+    /// The same as `item`. It looks first where the hint says, and sets the hint to where the address is or would be. So do the next two.
+    pub fn item_near(&self, addr: Addr, hint: &mut Hint) -> Option<(i64, Producer)>
+        ensures { result ≡ item_at self.now.memory.items addr }
+    {
+        self.memory.items.get_near(addr, hint)
+    }
+
+    /// The same as `mark`.
+    pub fn mark_near(&self, tag: Tag, hint: &mut Hint) -> Option<bool>
+        ensures { result ≡ mark_of self.now.memory.instances tag }
+    {
+        self.memory.instances.mark_near(tag, hint)
+    }
+
+    /// The same as `is_done`.
+    pub fn is_done_near(&self, inst: Inst, hint: &mut Hint) -> bool
+        ensures { result ≡ facts self.now (is_over inst) }
+    {
+        match self.memory.instances.state_near(inst, hint) {
             Some(State::Done) => true,
             _ => false,
         }

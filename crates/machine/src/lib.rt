@@ -8,6 +8,7 @@
 //! (`take_item`, `take_end`); `is_kept` states its invariant. `look_at_ends` says how far several ends come together,
 //! and `take_ends` takes them; `look_at_puts` and `take_puts` do so for puts of the environment. `image` lists what it holds, `image_source`
 //! spells that piece by piece, and `of_holdings` takes over what was read; `items`, `tags` and `done` go along it, one after another.
+//! `marks` lends it with marks at its facts.
 #![tactic(auto)]
 
 mod absence;
@@ -30,6 +31,7 @@ mod keeping;
 mod laws;
 mod looks;
 mod machine;
+mod marks;
 mod memory;
 mod promise;
 mod puts_together;
@@ -62,6 +64,7 @@ pub use laws::{
     stays_within, stopped_is_not_clean,
 };
 pub use machine::Machine;
+pub use marks::Marks;
 pub use refusal::Refusal;
 pub use results::results_are_meant;
 pub use states::{reached_and_quiet, reached_goes_on, reached_within, unfinished_wait};

@@ -5,6 +5,8 @@ mod Entered
 mod Growing
 mod Halves
 mod Joined
+mod MarkedAll
+mod Marking
 mod OneCollection
 mod Places
 mod Refused

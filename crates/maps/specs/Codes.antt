@@ -1,8 +1,9 @@
 -- How these maps are written as numbers, pairs and lists: the checker asks for it, and no promise speaks of it.
 use Rattle.std.specs.Prelude.{List, refl}
-use Rattle.std.specs.Coded.{Coded, code_by, coded_ℕ, coded_ℤ, coded_list, coded×}
+use Rattle.std.specs.Coded.{Coded, code_by, coded_bool, coded_ℕ, coded_ℤ, coded_list, coded×}
 use Rattle.std.specs.FinMap.{code}
 use Rattle.maps.specs.Keyed.{Keyed}
+use Rattle.maps.specs.Marked.{Marked, MarkedPlaces}
 use Rattle.maps.specs.Paged.{Entry, Paged}
 use Rattle.maps.specs.Numbered.{Numbered}
 use Rattle.maps.specs.Marks.{Marks}
@@ -33,3 +34,9 @@ pages_code x = coded_list (coded_list (coded× (coded_list coded_ℤ) x))
 
 abbrev pub paged_code : {X : Type 0} → Coded X → Coded (Paged X)
 paged_code x = code_by _ (coded× (pages_code x) coded_ℕ) (λ s. (s.pages, s.room)) (λ p. record { pages = p.0; room = p.1 }) (λ _. refl)
+
+abbrev pub marked_code : {X : Type 0} → Coded X → Coded (Marked X)
+marked_code x = code (coded_list coded_ℤ) (coded× x coded_bool)
+
+abbrev pub marked_places_code : {X : Type 0} → Coded X → Coded (MarkedPlaces X)
+marked_places_code x = code (coded× coded_ℕ (coded_list coded_ℤ)) (coded× x coded_bool)

@@ -1,9 +1,11 @@
 pub mod Codes
 pub mod Insertion
 pub mod Keyed
+pub mod Marked
 pub mod Marks
 pub mod Numbered
 pub mod Paged
 pub mod PagesKept
 pub mod PlaceOrder
 pub mod Stored
+pub mod WithMark

@@ -1,7 +1,10 @@
 ghost use Rattle.std.specs.Prelude.{◌≡◌, IfOk, replicate};
 ghost use Rattle.maps.specs.Keyed.{none};
+ghost use Rattle.maps.specs.Marked.{AreUnmarkedLists};
 
-use crate::{Hint, InsertError, KeyMap, KeyWalk, Steps, Stored, Walk};
+use crate::{
+    Hint, InsertError, KeyMap, KeyWalk, MarkedCollections, MarkedMap, Steps, Stored, Walk,
+};
 use std::alloc::{AllocError, Global};
 use std::marker::Model;
 use terms::Key;
@@ -31,6 +34,7 @@ impl<V: Stored> CollectionMap<V> {
     ghost use Rattle.std.specs.Prelude.{◌≡◌, ◌<◌, ◌≤◌, ◌+◌, ◌-◌, ◌*◌, ◌/◌, ◌^◌, ℕ, IfOk, IfErr, IsSome, OnOk, OnErr, length, min, replicate};
     ghost use Rattle.std.specs.FinMap.{empty, entries, get, insert};
     ghost use Rattle.maps.specs.Insertion.{IsRefused};
+    ghost use Rattle.maps.specs.Marked.{AreUnmarked};
     ghost use Rattle.maps.specs.Numbered.{of_number, room_at, AddsAt, OnlyMakesRoom};
 
     /// A map without entries, for this number of collections.
@@ -106,6 +110,16 @@ impl<V: Stored> CollectionMap<V> {
         }
     }
 
+    /// The same entries, none of them marked. Their marks take one word for each page of entries.
+    pub fn marks(&self, alloc: Global) -> Result<MarkedCollections<'_, V>, AllocError>
+        ensures { IfOk result (AreUnmarked self.now.items) }
+    {
+        match unmarked_maps(alloc, &self.collections) {
+            Ok(maps) => Ok(MarkedCollections::of_maps(maps)),
+            Err(error) => Err(error),
+        }
+    }
+
     /// The number of entries, or the greatest `usize` if there are more.
     pub fn count(&self) -> usize
         ensures { result ≡ min (length (entries self.now.items)) (2 ^ 64 - 1) }
@@ -158,6 +172,23 @@ fn empty_maps<V: Stored>(alloc: Global, count: usize) -> Result<Vec<KeyMap<V>>, 
     let mut maps = Vec::with_capacity(alloc, count)?;
     for _map in 0..count {
         maps.push(KeyMap::new(alloc))?;
+    }
+    Ok(maps)
+}
+
+// The marks of several maps, none of whose entries is marked.
+fn unmarked_maps<V: Stored>(
+    alloc: Global,
+    collections: &[KeyMap<V>],
+) -> Result<Vec<MarkedMap<'_, V>>, AllocError>
+    ensures { IfOk result (λ maps. AreUnmarkedLists collections.now maps.items) }
+{
+    let mut maps = Vec::with_capacity(alloc, collections.len())?;
+    for collection in collections {
+        match collection.marks(alloc) {
+            Ok(marks) => maps.push_reserved(marks),
+            Err(error) => return Err(error),
+        }
     }
     Ok(maps)
 }

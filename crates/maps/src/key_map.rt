@@ -1,5 +1,5 @@
 use crate::pages::{Found, Pages};
-use crate::{Hint, InsertError, KeyWalk, Plain, Steps, Stored};
+use crate::{Hint, InsertError, KeyWalk, MarkedMap, Plain, Steps, Stored};
 use std::alloc::{AllocError, Global};
 use std::marker::Model;
 use terms::Key;
@@ -26,10 +26,11 @@ impl<V: Stored> Model for KeyMap<V> {
 }
 
 impl<V: Stored> KeyMap<V> {
-    ghost use Rattle.std.specs.Prelude.{◌≡◌, ◌+◌, ◌*◌, ◌/◌, ◌^◌, ◌<◌, ◌≤◌, ℕ, IfErr, OnOk, OnErr, length};
+    ghost use Rattle.std.specs.Prelude.{◌≡◌, ◌+◌, ◌*◌, ◌/◌, ◌^◌, ◌<◌, ◌≤◌, ℕ, IfErr, IfOk, OnOk, OnErr, length};
     ghost use Rattle.std.specs.FinMap.{entries, get};
     ghost use Rattle.maps.specs.Insertion.{IsRefused};
     ghost use Rattle.maps.specs.Keyed.{none, Adds};
+    ghost use Rattle.maps.specs.Marked.{AreUnmarked};
 
     /// A map without entries and without room.
     pub fn new(alloc: Global) -> Self
@@ -69,6 +70,13 @@ impl<V: Stored> KeyMap<V> {
         ensures { result ≡ entries self.now.items }
     {
         self.pages.walk()
+    }
+
+    /// The same entries, none of them marked. Their marks take one word for each page of entries.
+    pub fn marks(&self, alloc: Global) -> Result<MarkedMap<'_, V>, AllocError>
+        ensures { IfOk result (AreUnmarked self.now.items) }
+    {
+        MarkedMap::new(alloc, &self.pages)
     }
 
     /// The number of entries.

@@ -5,6 +5,8 @@
 //! `Pages` hold the entries of a collection, in order, in pages of at most 64. An entry is a `Mark` there, whose words stand with those of all
 //! entries of the collection. A value that a map keeps says by `Stored` which words it has.
 //!
+//! A `MarkedMap` is a map that is lent, with a mark at some of its entries; `MarkedCollections` are several.
+//!
 //! The crates above rely on `insert`: if there is room it never returns `NoMemory`, and an error changes nothing.
 #![tactic(auto)]
 
@@ -14,7 +16,11 @@ mod hint;
 mod key_map;
 mod key_walk;
 mod mark;
+mod marked_collections;
+mod marked_map;
 mod page;
+mod page_places;
+mod page_words;
 mod pages;
 mod steps;
 mod stored;
@@ -25,6 +31,8 @@ pub use error::InsertError;
 pub use hint::Hint;
 pub use key_map::KeyMap;
 pub use key_walk::KeyWalk;
+pub use marked_collections::MarkedCollections;
+pub use marked_map::MarkedMap;
 pub use steps::Steps;
 pub use stored::{Brief, Plain, Stored};
 pub use walk::Walk;

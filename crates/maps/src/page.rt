@@ -129,8 +129,8 @@ impl<V: Stored> Page<V> {
         Err(low)
     }
 
-    // The key at a place.
-    fn key(&self, place: usize, words: &[i64]) -> Key
+    /// The key at a place.
+    pub fn key(&self, place: usize, words: &[i64]) -> Key
         requires page { IsPage V.said V.MOST words.now self.now }
         requires place { place < length self.now.1 }
         ensures { (other : _) → result ≡ (get_or (entries_in V.said words.now self.now) place other).0 }

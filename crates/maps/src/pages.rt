@@ -27,9 +27,9 @@ pub(crate) enum Found {
 /// the places of the pages after it, 64 bytes each. The words of an entry stay where they were put.
 #[derive(Drop)]
 pub(crate) struct Pages<V: Stored> {
-    pages: Vec<Page<V>>,
+    pub(crate) pages: Vec<Page<V>>,
     // The words of all entries, in the order in which they came.
-    words: Vec<i64>,
+    pub(crate) words: Vec<i64>,
     // Empty pages, so that adding an entry allocates nothing.
     spare: Vec<Page<V>>,
     count: usize,
